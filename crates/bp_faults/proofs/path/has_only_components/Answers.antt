@@ -1,0 +1,12 @@
+use Rattle.std.proofs.Common.{rules, tests, lit<}
+use Rattle.std.proofs.lemmas.Iterator.Search.{all_from_yields_List}
+use Rattle.std.proofs.lemmas.Iterator.Splits.{YieldsList-from_str_split}
+use Rattle.bp_faults.specs.Paths.{is_component}
+use Rattle.bp_faults.proofs.path.has_only_components.Goals as goal
+
+-- the components come from the split, and each is tested
+pub returns : goal.returns
+returns c =
+    all_from_yields_List is_component _ _ c.all.result c.all.ensures.ran
+    (YieldsList-from_str_split 47 c.args.text.now (lit< tt) c.split.ensures.text c.split.ensures.has_more c.split.ensures.pattern)
+    (λ x b q k. search (rules, tests))

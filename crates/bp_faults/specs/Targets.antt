@@ -1,0 +1,12 @@
+-- The six targets by their names.
+use Rattle.std.specs.Prelude.{ℕ, List, codes}
+use Rattle.bp_faults.specs.declared.target.Target.{Target}
+use Rattle.bp_faults.specs.declared.target.Target.TheVariants.{AndroidArm64, AndroidArm, AndroidX86_64, AndroidX86, LinuxGlibcX86_64, LinuxGlibcX86}
+
+abbrev pub target_name : Target → List ℕ
+target_name AndroidArm64 = codes "android_arm64"
+target_name AndroidArm = codes "android_arm"
+target_name AndroidX86_64 = codes "android_x86_64"
+target_name AndroidX86 = codes "android_x86"
+target_name LinuxGlibcX86_64 = codes "linux_glibc_x86_64"
+target_name LinuxGlibcX86 = codes "linux_glibc_x86"

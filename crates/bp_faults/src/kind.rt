@@ -1,0 +1,137 @@
+ghost use Rattle.std.specs.Prelude.{◌≡◌};
+
+/// The kinds of fault. `docs/FAULTS.md` has the table of their numbers, texts, places and subjects.
+#[derive(Clone, Copy, Debug, PartialEq, Eq)]
+pub enum FaultKind {
+    NotUtf8,
+    BadChar,
+    OpenString,
+    OpenComment,
+    BadEscape,
+    BadNumber,
+    Expected,
+    TooNested,
+    DuplicateProperty,
+    UnknownVariable,
+    VariableSet,
+    NotLocal,
+    AfterUse,
+    BadSum,
+    UnknownType,
+    UnknownProperty,
+    WrongType,
+    MissingName,
+    BadName,
+    DuplicateName,
+    MissingModule,
+    NotDefaults,
+    Cycle,
+    MissingVariant,
+    BadSource,
+    BadValue,
+    BadPath,
+    DuplicateSource,
+    LinkTooLong,
+    TooMany,
+    NoFile,
+    FileTooLarge,
+    BadList,
+    OutputTooLarge,
+    NotReady,
+    OrderEnds,
+    NotBuilt,
+}
+
+impl FaultKind {
+    ghost use Rattle.bp_faults.specs.Kinds.{number_of, text_of};
+
+    /// The number of the fault table.
+    pub fn number(self) -> u32
+        ensures { result ≡ number_of self }
+    {
+        match self {
+            FaultKind::NotUtf8 => 1,
+            FaultKind::BadChar => 2,
+            FaultKind::OpenString => 3,
+            FaultKind::OpenComment => 4,
+            FaultKind::BadEscape => 5,
+            FaultKind::BadNumber => 6,
+            FaultKind::Expected => 7,
+            FaultKind::TooNested => 8,
+            FaultKind::DuplicateProperty => 9,
+            FaultKind::UnknownVariable => 10,
+            FaultKind::VariableSet => 11,
+            FaultKind::NotLocal => 12,
+            FaultKind::AfterUse => 13,
+            FaultKind::BadSum => 14,
+            FaultKind::UnknownType => 15,
+            FaultKind::UnknownProperty => 16,
+            FaultKind::WrongType => 17,
+            FaultKind::MissingName => 18,
+            FaultKind::BadName => 19,
+            FaultKind::DuplicateName => 20,
+            FaultKind::MissingModule => 21,
+            FaultKind::NotDefaults => 22,
+            FaultKind::Cycle => 23,
+            FaultKind::MissingVariant => 24,
+            FaultKind::BadSource => 25,
+            FaultKind::BadValue => 26,
+            FaultKind::BadPath => 27,
+            FaultKind::DuplicateSource => 28,
+            FaultKind::LinkTooLong => 29,
+            FaultKind::TooMany => 30,
+            FaultKind::NoFile => 31,
+            FaultKind::FileTooLarge => 32,
+            FaultKind::BadList => 33,
+            FaultKind::OutputTooLarge => 34,
+            FaultKind::NotReady => 35,
+            FaultKind::OrderEnds => 36,
+            FaultKind::NotBuilt => 37,
+        }
+    }
+
+    /// The text of the fault table.
+    pub fn text(self) -> &'static str
+        ensures { result.now ≡ text_of self }
+    {
+        match self {
+            FaultKind::NotUtf8 => "not UTF-8",
+            FaultKind::BadChar => "unexpected character",
+            FaultKind::OpenString => "unterminated string",
+            FaultKind::OpenComment => "unterminated comment",
+            FaultKind::BadEscape => "bad escape",
+            FaultKind::BadNumber => "number out of range",
+            FaultKind::Expected => "unexpected token",
+            FaultKind::TooNested => "nested too deeply",
+            FaultKind::DuplicateProperty => "duplicate property",
+            FaultKind::UnknownVariable => "unknown variable",
+            FaultKind::VariableSet => "variable is already set",
+            FaultKind::NotLocal => "variable is inherited",
+            FaultKind::AfterUse => "variable was already used",
+            FaultKind::BadSum => "cannot add",
+            FaultKind::UnknownType => "unknown module type",
+            FaultKind::UnknownProperty => "unknown property",
+            FaultKind::WrongType => "wrong type",
+            FaultKind::MissingName => "module without a name",
+            FaultKind::BadName => "bad module name",
+            FaultKind::DuplicateName => "duplicate module name",
+            FaultKind::MissingModule => "missing module",
+            FaultKind::NotDefaults => "not a defaults module",
+            FaultKind::Cycle => "dependency cycle",
+            FaultKind::MissingVariant => "missing variant",
+            FaultKind::BadSource => "bad source",
+            FaultKind::BadValue => "bad value",
+            FaultKind::BadPath => "bad path",
+            FaultKind::DuplicateSource => "duplicate source",
+            FaultKind::LinkTooLong => "link line is too long",
+            FaultKind::TooMany => "too many",
+            FaultKind::NoFile => "no such file",
+            FaultKind::FileTooLarge => "file is too large",
+            FaultKind::BadList => "bad path in list",
+            FaultKind::OutputTooLarge => "output is too large",
+            FaultKind::NotReady => "not ready",
+            FaultKind::OrderEnds => "order ends early",
+            FaultKind::NotBuilt => "not built yet",
+        }
+    }
+}
