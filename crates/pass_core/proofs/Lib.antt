@@ -1,0 +1,4 @@
+pub mod Unrolled
+pub mod Induction
+pub mod Unique
+pub mod InEdgesPlaced

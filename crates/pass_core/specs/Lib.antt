@@ -1,0 +1,7 @@
+pub mod Plans
+pub mod Heights
+pub mod Results
+pub mod Outcomes
+pub mod Orders
+pub mod InEdges
+pub mod Made

@@ -1,0 +1,8 @@
+ghost use Rattle.std.specs.Prelude.{◌≡◌};
+
+/// Nothing yet.
+pub fn nothing() -> u32
+    ensures { result ≡ 0 }
+{
+    0
+}

@@ -1,0 +1,20 @@
+//! The core of a pass: a plan of nodes is visited, each node after its predecessors, and every
+//! schedule comes to one outcome.
+//!
+//! A plan and a visitor flow in; the visitor's results by node number flow out, or the fault of the
+//! first node in serial order that has none. It is measured by `node_result` in `specs/Results.antt`
+//! and by `IsOutcome` in `specs/Outcomes.antt`.
+#![tactic(auto)]
+
+mod error;
+mod in_edges;
+mod laws;
+mod plan;
+mod published;
+mod serial;
+mod visit;
+
+pub use error::PassError;
+pub use plan::{Plan, PlanEdge};
+pub use published::Published;
+pub use visit::{Visit, VisitError};
