@@ -8,9 +8,13 @@ use Rattle.pass_core.specs.declared.plan.PlanEdge.{PlanEdge}
 abbrev pub in_edges : List PlanEdge → ℕ → List PlanEdge
 in_edges edges n = filter (λ (e : PlanEdge). e.to.0 == n) edges
 
--- The predecessors of a node, one for each of its in-edges: a predecessor stands once per edge.
+-- The sources of some edges, one per edge.
+abbrev pub sources : List PlanEdge → List ℕ
+sources edges = map (λ (e : PlanEdge). e.from.0) edges
+
+-- The predecessors of a node, one for each of its in-edges: a predecessor is counted once per edge.
 abbrev pub predecessors : List PlanEdge → ℕ → List ℕ
-predecessors edges n = map (λ (e : PlanEdge). e.from.0) (in_edges edges n)
+predecessors edges n = sources (in_edges edges n)
 
 -- The edges stand by their targets: none has a target below that of an edge before it.
 abbrev pub StandByTarget : List PlanEdge → Type 0

@@ -6,7 +6,7 @@ ghost use Rattle.pass_core.specs.InEdges.{AreStarts};
 ghost use Rattle.pass_core.specs.Made.{made_at, all_of, AreRight, AnswersVisit};
 ghost use Rattle.pass_core.specs.Orders.{IsSerial, numbers};
 ghost use Rattle.pass_core.specs.Outcomes.{AnswersPass};
-ghost use Rattle.pass_core.specs.Plans.{IsPlan, HasNoCycle, predecessors};
+ghost use Rattle.pass_core.specs.Plans.{IsPlan, HasNoCycle, predecessors, sources};
 ghost use Rattle.pass_core.specs.declared.plan.PlanEdge.{PlanEdge};
 ghost use Rattle.pass_core.specs.Results.{node_result};
 
@@ -25,7 +25,7 @@ fn gather<O: Drop>(
     made: &[Option<Arc<O>>],
 ) -> Result<Option<Vec<Arc<O>>>, OutOfMemory>
     requires { AllByRecursion (λ (e : PlanEdge). e.from.0 < length made.now) edges.now }
-    ensures { IfOk result (λ r. option_map (λ ins. map arc_value ins.items) r ≡ all_of (map (λ (e : PlanEdge). made_at made.now e.from.0) edges.now)) }
+    ensures { IfOk result (λ r. option_map (λ ins. map arc_value ins.items) r ≡ all_of (map (made_at made.now) (sources edges.now))) }
 {
     let mut ins = Vec::new(alloc);
     for edge in edges {
@@ -35,4 +35,85 @@ fn gather<O: Drop>(
         }
     }
     Ok(Some(ins))
+}
+
+/// Visits a node whose predecessors are made.
+fn visit_at<V: Visit>(
+    alloc: Global,
+    plan: &Plan,
+    v: &V,
+    starts: &[u32],
+    n: NodeId,
+    made: &[Option<Arc<V::Out>>],
+) -> Result<Arc<V::Out>, PassError>
+    requires plan { IsPlan plan.now }
+    requires free { HasNoCycle plan.now.edges }
+    requires takes { V.takes v.now n.0 (length (predecessors plan.now.edges n.0)) }
+    requires starts { AreStarts plan.now starts.now }
+    requires inside { n.0 < plan.now.count }
+    requires many { length made.now ≡ plan.now.count }
+    requires right { AreRight (node_result (V.meaning v.now) plan.now) made.now }
+    requires ready { AllByRecursion (λ m. IsSome (made_at made.now m)) (predecessors plan.now.edges n.0) }
+    ensures { AnswersVisit n.0 (node_result (V.meaning v.now) plan.now n.0) result }
+{
+    let Some(ins) = gather(alloc, edges_into(plan, starts, n), made)? else {
+        unreachable!()
+    };
+    match v.visit(alloc, n, &ins) {
+        Ok(out) => Ok(Arc::new(alloc, out)?),
+        Err(VisitError::Bad(fault)) => Err(PassError::At(n, fault)),
+        Err(VisitError::OutOfMemory) => Err(PassError::OutOfMemory),
+    }
+}
+
+/// A place for each node, still empty.
+fn empty_places<O: Drop>(alloc: Global, count: u32) -> Result<Vec<Option<Arc<O>>>, OutOfMemory>
+    ensures { IfOk result (λ made. made.items ≡ replicate count None) }
+{
+    let mut made = Vec::with_capacity(alloc, count as usize)?;
+    for _n in 0..count {
+        made.push(None)?;
+    }
+    Ok(made)
+}
+
+/// What stands in the places, where each is filled.
+fn unwrapped<O: Drop>(
+    alloc: Global,
+    made: Vec<Option<Arc<O>>>,
+) -> Result<Vec<Arc<O>>, OutOfMemory>
+    requires { All IsSome made.items }
+    ensures { IfOk result (λ outs. map Some outs.items ≡ made.items) }
+{
+    let mut outs = Vec::with_capacity(alloc, made.len())?;
+    for place in made {
+        match place {
+            Some(out) => outs.push(out)?,
+            None => unreachable!(),
+        }
+    }
+    Ok(outs)
+}
+
+/// Visits the nodes one after another in serial order.
+fn run_along<V: Visit>(
+    alloc: Global,
+    plan: &Plan,
+    v: &V,
+    starts: &[u32],
+    order: &[NodeId],
+) -> Result<Vec<Arc<V::Out>>, PassError>
+    requires plan { IsPlan plan.now }
+    requires free { HasNoCycle plan.now.edges }
+    requires takes { (n : ℕ) → n < plan.now.count → V.takes v.now n (length (predecessors plan.now.edges n)) }
+    requires starts { AreStarts plan.now starts.now }
+    requires serial { IsSerial plan.now (numbers order.now) }
+    ensures { AnswersPass (V.meaning v.now) plan.now result }
+{
+    let mut made = empty_places(alloc, plan.count)?;
+    for n in order {
+        let out = visit_at(alloc, plan, v, starts, *n, &made)?;
+        made[n.0 as usize] = Some(out);
+    }
+    Ok(unwrapped(alloc, made)?)
 }
