@@ -5,3 +5,4 @@ pub mod InEdgesPlaced
 pub mod Gathered
 pub mod Visited
 pub mod Legal
+pub mod Along
