@@ -1,5 +1,5 @@
 -- Induction along the edges of a plan, and what follows from it.
-use Rattle.std.proofs.Common.{◌≡◌, ◌<◌, ℕ, zero, suc, List, [], ◌∷◌, map, ap, arith, ◌∙◌, sym}
+use Rattle.std.proofs.Common.{◌≡◌, ◌<◌, ◌≤◌, ℕ, zero, suc, List, [], ◌∷◌, map, ap, arith, ◌∙◌, sym}
 use Rattle.std.specs.Prelude.{Result}
 use Rattle.std.specs.List.{AllByRecursion}
 use Rattle.pass_core.specs.declared.plan.PlanEdge.{PlanEdge}
@@ -7,11 +7,16 @@ use Rattle.bp_faults.specs.declared.fault.Fault.{Fault}
 use Rattle.pass_core.specs.declared.plan.Plan.{Plan}
 use Rattle.pass_core.specs.Plans.{predecessors, HaveEndsBelow, HasNoCycle}
 use Rattle.pass_core.specs.Results.{NodeResult, judged, outs_of, node_result}
-use Rattle.pass_core.proofs.Unrolled.{all_predecessors, all_map, map-same, result_equation}
+use Rattle.pass_core.specs.Heights.{above_all, height}
+use Rattle.pass_core.proofs.Unrolled.{all_predecessors, all_map, map-same, result_equation, height_equation, tight, tight_below, tight_rises}
 
 pub both : {A : Type 0} (P Q : A → Type 0) (xs : List A) → AllByRecursion P xs → AllByRecursion Q xs → AllByRecursion (λ x. P x × Q x) xs
 both P Q [] h k = tt
 both P Q (x ∷ xs) h k = ((h.0, k.0), both P Q xs h.1 k.1)
+
+above_at_most : (f : ℕ → ℕ) (k : ℕ) (ms : List ℕ) → AllByRecursion (λ m. f m < k) ms → above_all (map f ms) ≤ k
+above_at_most f k [] h = omega arith
+above_at_most f k (m ∷ ms) h = let rest = above_at_most f k ms h.1 in let here = h.0 in omega arith
 
 module _ (plan : Plan) (below : HaveEndsBelow plan.count plan.edges) (free : HasNoCycle plan.edges) where
   lower_predecessors : (n : ℕ) → AllByRecursion (λ m. (m < plan.count) × (free.rank m < free.rank n)) (predecessors plan.edges n)
@@ -32,3 +37,12 @@ module _ (plan : Plan) (below : HaveEndsBelow plan.count plan.edges) (free : Has
   pub result_unique : {O : Type 0} (mean : ℕ → List O → Result O Fault) (f : ℕ → NodeResult O) → ((n : ℕ) → n < plan.count → f n ≡ judged (mean n) (outs_of (map f (predecessors plan.edges n)))) → (n : ℕ) → n < plan.count → f n ≡ node_result mean plan n
   result_unique mean f meets = plan_induction (λ n. f n ≡ node_result mean plan n)
       (λ n lt same. meets n lt ∙ ap (λ rs. judged (mean n) (outs_of rs)) (map-same f (node_result mean plan) (predecessors plan.edges n) same) ∙ sym (result_equation plan below free mean n lt))
+
+  -- a height is below the count
+  pub height_below : (n : ℕ) → n < plan.count → height plan n < plan.count
+  height_below n lt =
+      let within = plan_induction (λ n. height plan n ≤ tight plan below free n)
+          (λ n lt small. rw (height_equation plan below free n lt) (above_at_most (height plan) (tight plan below free n) (predecessors plan.edges n)
+          (all_map (λ m. (height plan m ≤ tight plan below free m) × (tight plan below free m < tight plan below free n)) (λ m. height plan m < tight plan below free n) (λ m h. omega (arith, h.0, h.1)) (predecessors plan.edges n)
+          (both (λ m. height plan m ≤ tight plan below free m) (λ m. tight plan below free m < tight plan below free n) (predecessors plan.edges n) small (tight_rises plan below free n))))) n lt in
+      let less = tight_below plan below free n lt in omega arith

@@ -6,3 +6,4 @@ pub mod Gathered
 pub mod Visited
 pub mod Legal
 pub mod Along
+pub mod Climbing

@@ -61,7 +61,7 @@ below_top f [] = tt
 below_top f (m ∷ ms) = (omega arith, all_map (λ x. f x < above_all (map f ms)) (λ x. f x < max (suc (f m)) (above_all (map f ms))) (λ x h. omega arith) ms (below_top f ms))
 
 -- how many numbers below k have a rank below r
-abbrev lower : (ℕ → ℕ) → ℕ → ℕ → ℕ
+abbrev pub lower : (ℕ → ℕ) → ℕ → ℕ → ℕ
 lower rank r zero = 0
 lower rank r (suc k) = (if nat_lt (rank k) r then 1 else 0) + lower rank r k
 
@@ -89,13 +89,13 @@ lower_less rank r s m (suc k) lt a b =
 
 module _ (plan : Plan) (below : HaveEndsBelow plan.count plan.edges) (free : HasNoCycle plan.edges) where
   -- the same numbering, squeezed below the count
-  abbrev tight : ℕ → ℕ
+  abbrev pub tight : ℕ → ℕ
   tight n = lower free.rank (free.rank n) plan.count
 
-  tight_below : (n : ℕ) → n < plan.count → tight n < plan.count
+  pub tight_below : (n : ℕ) → n < plan.count → tight n < plan.count
   tight_below n lt = lower_miss free.rank (free.rank n) n plan.count lt (omega arith)
 
-  tight_rises : (n : ℕ) → AllByRecursion (λ m. tight m < tight n) (predecessors plan.edges n)
+  pub tight_rises : (n : ℕ) → AllByRecursion (λ m. tight m < tight n) (predecessors plan.edges n)
   tight_rises n = all_predecessors (λ m k. tight m < tight k) plan.edges n
       (all_with (λ (e : PlanEdge). (e.from.0 < plan.count) × (e.to.0 < plan.count)) (λ (e : PlanEdge). free.rank e.from.0 < free.rank e.to.0) (λ (e : PlanEdge). tight e.from.0 < tight e.to.0)
       (λ e a b. lower_less free.rank (free.rank e.from.0) (free.rank e.to.0) e.from.0 plan.count a.0 b (omega arith)) plan.edges below free.rises)

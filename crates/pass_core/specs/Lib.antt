@@ -5,3 +5,4 @@ pub mod Outcomes
 pub mod Orders
 pub mod InEdges
 pub mod Made
+pub mod Settling

@@ -7,6 +7,7 @@
 #![tactic(auto)]
 
 mod error;
+mod heights;
 mod in_edges;
 mod laws;
 mod plan;
