@@ -24,23 +24,8 @@ use Rattle.pass_core.specs.Results.{NodeResult, Done, Bad, IsDone, node_result}
 use Rattle.pass_core.specs.Outcomes.{IsFirstUndone, IsOutcome, AnswersPass}
 use Rattle.pass_core.specs.Made.{made_at, value_of, AreRight, AnswersVisit, IsMade}
 use Rattle.pass_core.proofs.Unrolled.{all_map}
+use Rattle.pass_core.proofs.Paths.{get_here, get_else, all_pushed}
 use Rattle.pass_core.proofs.Legal.{node_at, stands_before, predecessors_before}
-
-get_here : {X : Type 0} (xs : List X) (i : ℕ) (x : X) → i < length xs → slice_get (set xs i x) i ≡ Some x
-get_here [] i x lt = absurd (omega arith)
-get_here (y ∷ ys) zero x lt = refl
-get_here (y ∷ ys) (suc i) x lt = get_here ys i x (omega arith)
-
-get_else : {X : Type 0} (xs : List X) (i j : ℕ) (x : X) → j ≢ i → slice_get (set xs i x) j ≡ slice_get xs j
-get_else [] i j x ne = refl
-get_else (y ∷ ys) zero zero x ne = absurd (ne refl)
-get_else (y ∷ ys) zero (suc j) x ne = refl
-get_else (y ∷ ys) (suc i) zero x ne = refl
-get_else (y ∷ ys) (suc i) (suc j) x ne = get_else ys i j x (λ e. ne (ap suc e))
-
-all_pushed : {X : Type 0} (P : X → Type 0) (xs : List X) (x : X) → AllByRecursion P xs → P x → AllByRecursion P (xs ++ x ∷ [])
-all_pushed P [] x h p = (p, tt)
-all_pushed P (y ∷ ys) x h p = (h.0, all_pushed P ys x h.1 p)
 
 all_contained : {X : Type 0} (P : X → Type 0) (xs : List X) (x : X) → AllByRecursion P xs → Contains xs x → P x
 all_contained P xs x h c = subst P c.2 (All-from_recursion P xs h c.0 x c.1)

@@ -7,3 +7,4 @@ pub mod Visited
 pub mod Legal
 pub mod Along
 pub mod Climbing
+pub mod Paths

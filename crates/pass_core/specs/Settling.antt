@@ -1,6 +1,7 @@
 -- How far the heights of a plan are settled.
 use Rattle.std.specs.Prelude.{◌≡◌, ◌<◌, ◌+◌, ℕ, suc, List, [], ◌∷◌, map, length, take, drop, slice_get, Option, Some, None, IsSome, ⊤, ◌⊎◌}
 use Rattle.std.specs.List.{AllByRecursion}
+use Rattle.bp_faults.specs.declared.ids.NodeId.{NodeId}
 use Rattle.pass_core.specs.declared.plan.Plan.{Plan}
 use Rattle.pass_core.specs.declared.heights.Climb.{Climb}
 use Rattle.pass_core.specs.Plans.{predecessors}
@@ -19,6 +20,10 @@ pub record AreSettled (plan : Plan) (settled : List (Option ℕ)) : Type 0 where
   pub many : length settled ≡ plan.count
   pub right : (n h : ℕ) → settled_at settled n ≡ Some h → h ≡ height plan n
 
+-- The climb from a node, of which no in-edge was looked at.
+abbrev pub start_at : ℕ → Climb
+start_at n = record { node = record { 0 = n }; next = 0 }
+
 -- A node is on the path.
 abbrev pub IsOn : List Climb → ℕ → Type 0
 IsOn [] n = ⊥
@@ -32,6 +37,14 @@ IsDue settled path n = IsSome (settled_at settled n) ⊎ IsOn path n
 abbrev pub IsPath : Plan → List (Option ℕ) → List Climb → Type 0
 IsPath plan settled [] = ⊤
 IsPath plan settled (c ∷ cs) = (c.node.0 < plan.count) × AllByRecursion (IsDue settled cs) (take c.next (predecessors plan.edges c.node.0)) × IsPath plan settled cs
+
+abbrev pub sought : NodeId → Option ℕ → List Climb
+sought source None = (record { node = source; next = 0 }) ∷ []
+sought source (Some h) = []
+
+-- Where a climb goes next along an edge: it has looked at one edge more, and above it the source is sought unless it is settled.
+abbrev pub gone_up : List (Option ℕ) → Climb → NodeId → List Climb
+gone_up settled c source = (record { node = c.node; next = c.next + 1 }) ∷ (sought source (settled_at settled source.0))
 
 -- The sum of some numbers, each counted with one more.
 abbrev pub total : List ℕ → ℕ
@@ -53,3 +66,9 @@ pub record IsStep (plan : Plan) (settled : List (Option ℕ)) (path : List Climb
   pub on_path : IsPath plan after rest
   pub due : (n : ℕ) → IsDue settled path n → IsDue after rest n
   pub less : path_cost plan rest < path_cost plan path
+
+-- What is settled is right, and each node is settled or will be.
+pub record IsOnWay (plan : Plan) (settled : List (Option ℕ)) (path : List Climb) : Type 0 where
+  pub right : AreSettled plan settled
+  pub on_path : IsPath plan settled path
+  pub due : (n : ℕ) → n < plan.count → IsDue settled path n

@@ -1,10 +1,10 @@
-ghost use Rattle.std.specs.Prelude.{◌≡◌, ◌<◌, ◌++◌, ℕ, List, [], ◌∷◌, map, length, replicate, IfOk, OnOk, Some, None, IsSome};
+ghost use Rattle.std.specs.Prelude.{◌≡◌, ◌<◌, ◌+◌, ◌^◌, ◌++◌, ℕ, List, [], ◌∷◌, map, length, replicate, IfOk, OnOk, Some, None, IsSome};
 ghost use Rattle.std.specs.List.{AllByRecursion, range_with_len};
 ghost use Rattle.pass_core.specs.declared.heights.Climb.{Climb};
 ghost use Rattle.pass_core.specs.Heights.{height};
 ghost use Rattle.pass_core.specs.InEdges.{AreStarts};
 ghost use Rattle.pass_core.specs.Plans.{IsPlan, HasNoCycle, predecessors};
-ghost use Rattle.pass_core.specs.Settling.{settled_at, AreSettled, IsPath, IsStep};
+ghost use Rattle.pass_core.specs.Settling.{settled_at, AreSettled, IsPath, IsStep, gone_up, start_at};
 
 use crate::in_edges::{edges_into, starts_of};
 use crate::plan::Plan;
@@ -36,4 +36,100 @@ fn height_of(plan: &Plan, starts: &[u32], n: NodeId, settled: &[Option<u32>]) ->
         }
     }
     height
+}
+
+/// Goes up from a node to the next of its predecessors, which is put on the path unless it is settled.
+fn go_up(
+    path: &mut Vec<Climb>,
+    climb: Climb,
+    source: NodeId,
+    settled: &[Option<u32>],
+) -> Result<(), OutOfMemory>
+    requires fits { climb.next + 1 < 2 ^ 32 }
+    requires inside { source.0 < length settled.now }
+    ensures { OnOk result (path.new.items ≡ path.old.items ++ gone_up settled.now climb source) }
+{
+    path.push(Climb {
+        node: climb.node,
+        next: climb.next + 1,
+    })?;
+    if settled[source.0 as usize].is_none() {
+        path.push(Climb {
+            node: source,
+            next: 0,
+        })?;
+    }
+    Ok(())
+}
+
+/// Makes the step at the end of a path, from which the last climb was taken.
+fn step(
+    plan: &Plan,
+    starts: &[u32],
+    climb: Climb,
+    settled: &mut [Option<u32>],
+    path: &mut Vec<Climb>,
+) -> Result<(), OutOfMemory>
+    requires plan { IsPlan plan.now }
+    requires free { HasNoCycle plan.now.edges }
+    requires starts { AreStarts plan.now starts.now }
+    requires settled { AreSettled plan.now settled.old }
+    requires path { IsPath plan.now settled.old (path.old.items ++ climb ∷ []) }
+    ensures { OnOk result (IsStep plan.now settled.old (path.old.items ++ climb ∷ []) settled.new path.new.items) }
+{
+    let node = climb.node.0 as usize;
+    if settled[node].is_some() {
+        return Ok(());
+    }
+    let edges = edges_into(plan, starts, climb.node);
+    let next = climb.next as usize;
+    if next < edges.len() {
+        return go_up(path, climb, edges[next].from, settled);
+    }
+    settled[node] = Some(height_of(plan, starts, climb.node, settled));
+    Ok(())
+}
+
+/// A climb from each node.
+fn every_climb(alloc: Global, count: u32) -> Result<Vec<Climb>, OutOfMemory>
+    ensures { IfOk result (λ path. path.items ≡ map start_at (range_with_len 0 count)) }
+{
+    let mut path = Vec::with_capacity(alloc, count as usize)?;
+    for n in 0..count {
+        path.push(Climb {
+            node: NodeId(n),
+            next: 0,
+        })?;
+    }
+    Ok(path)
+}
+
+/// A place for each node's height, still empty.
+fn unsettled(alloc: Global, count: u32) -> Result<Vec<Option<u32>>, OutOfMemory>
+    ensures { IfOk result (λ settled. settled.items ≡ replicate count None) }
+{
+    let mut settled = Vec::with_capacity(alloc, count as usize)?;
+    for _n in 0..count {
+        settled.push(None)?;
+    }
+    Ok(settled)
+}
+
+/// Settles the height of each node: up from a node to its predecessors, and back once they are settled.
+fn settle(
+    alloc: Global,
+    plan: &Plan,
+    starts: &[u32],
+) -> Result<Vec<Option<u32>>, OutOfMemory>
+    requires plan { IsPlan plan.now }
+    requires free { HasNoCycle plan.now.edges }
+    requires starts { AreStarts plan.now starts.now }
+    ensures { IfOk result (λ settled. AreSettled plan.now settled.items × ((n : ℕ) → n < plan.now.count → IsSome (settled_at settled.items n))) }
+{
+    let mut settled = unsettled(alloc, plan.count)?;
+    let mut path = every_climb(alloc, plan.count)?;
+    while let Some(climb) = path.pop() {
+        step(plan, starts, climb, &mut settled, &mut path)?;
+    }
+    Ok(settled)
 }
