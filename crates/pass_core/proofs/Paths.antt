@@ -1,14 +1,15 @@
 -- A path of climbs, and what a step at its end leaves.
-use Rattle.std.proofs.Common.{◌≡◌, ◌≢◌, ◌+◌, ◌^◌, ◌<◌, ◌≤◌, ◌⊎◌, inl, inr, ⊎_elim, ℕ, zero, suc, List, [], ◌∷◌, ◌++◌, map, length, get_or, set, take, drop, refl, ap, arith, ◌∙◌, sym, subst, Option, Some, None, IsSome, length-set, append_assoc, append-nil, add-one, Bool, true, false, Result, Ok, Err, OnOk}
+use Rattle.std.proofs.Common.{◌≡◌, ◌≢◌, ◌+◌, ◌^◌, ◌<◌, ◌≤◌, ◌⊎◌, inl, inr, ⊎_elim, ℕ, zero, suc, List, [], ◌∷◌, ◌++◌, map, length, get_or, set, take, drop, refl, ap, arith, ◌∙◌, sym, subst, Option, Some, None, IsSome, length-set, append_assoc, append-nil, add-one, zero-add, Bool, true, false, replicate}
 use Rattle.std.specs.Prelude.{slice_get}
 use Rattle.std.specs.Option.{is_some}
 use Rattle.std.proofs.lemmas.Option.{slice_get-get_or}
 use Rattle.bp_faults.specs.declared.ids.NodeId.{NodeId}
-use Rattle.std.specs.List.{AllByRecursion}
+use Rattle.std.specs.List.{AllByRecursion, range_with_len}
 use Rattle.std.proofs.Math.Seq.{drop-cons}
-use Rattle.std.proofs.lemmas.List.{take_more, length-map}
+use Rattle.std.proofs.lemmas.List.{take_more, length-map, length-replicate}
 use Rattle.std.proofs.Math.ListN.{get_or-map}
 use Rattle.std.proofs.lemmas.Bool.Decides.{nat_tests}
+use Rattle.std.proofs.lemmas.List.FromFn.{fill_by_all}
 use mathlib.Core.Logic.{dite}
 use native.Mathlib.Decide.{ℕ_discrete}
 use Rattle.pass_core.specs.declared.plan.Plan.{Plan}
@@ -16,7 +17,7 @@ use Rattle.pass_core.specs.declared.plan.PlanEdge.{PlanEdge}
 use Rattle.pass_core.specs.declared.heights.Climb.{Climb}
 use Rattle.pass_core.specs.Plans.{in_edges, sources, predecessors, HaveEndsBelow, HasNoCycle, IsPlan}
 use Rattle.pass_core.specs.Heights.{height}
-use Rattle.pass_core.specs.Settling.{settled_at, joined, AreSettled, IsOn, IsDue, IsPath, total, cost, path_cost, IsStep, sought, gone_up}
+use Rattle.pass_core.specs.Settling.{settled_at, joined, AreSettled, IsOn, IsDue, IsPath, total, cost, path_cost, IsStep, sought, gone_up, start_at, IsOnWay}
 use Rattle.pass_core.proofs.Legal.{same_at}
 use Rattle.pass_core.proofs.Climbing.{source_below}
 use Rattle.pass_core.proofs.Unrolled.{all_map, unroll_equation, tight, tight_below, tight_rises}
@@ -42,10 +43,6 @@ take-past zero [] le = refl
 take-past zero (x ∷ xs) le = absurd (omega arith)
 take-past (suc i) [] le = refl
 take-past (suc i) (x ∷ xs) le = ap (λ (l : List _). x ∷ l) (take-past i xs (omega arith))
-
-pub on_ok : {T E : Type 0} {P Q : Type 0} (r : Result T E) → (P → Q) → OnOk r P → OnOk r Q
-on_ok (Ok x) f h = f h
-on_ok (Err e) f h = tt
 
 on_end : (cs ds : List Climb) (n : ℕ) → IsOn ds n → IsOn (cs ++ ds) n
 on_end [] ds n h = h
@@ -224,3 +221,37 @@ module _ (plan : Plan) (is_plan : IsPlan plan) (free : HasNoCycle plan.edges) wh
         pub gone_to : IsStep plan settled (cs ++ c ∷ []) settled (cs ++ gone_up settled c (get_or es c.next d).from)
         gone_to = step_up (get_or es c.next d).from source_inside
             (same_at (predecessors plan.edges c.node.0) c.next 0 d.from.0 (omega (arith, many_predecessors)) ∙ source_at_next) (omega (arith, many_predecessors))
+
+-- at the start nothing is settled, and there is a climb from each node
+all_on : (a n k : ℕ) → k < n → IsOn (map start_at (range_with_len a n)) (a + k)
+all_on a zero k lt = absurd (omega arith)
+all_on a (suc n) zero lt = inl (omega arith)
+all_on a (suc n) (suc k) lt = inr (subst (λ m. IsOn (map start_at (range_with_len (a + 1) n)) m) (omega arith) (all_on (a + 1) n k (omega arith)))
+
+start_path : (plan : Plan) (settled : List (Option ℕ)) (a n : ℕ) → a + n ≤ plan.count → IsPath plan settled (map start_at (range_with_len a n))
+start_path plan settled a zero le = tt
+start_path plan settled a (suc n) le = (omega arith, tt, start_path plan settled (a + 1) n (omega arith))
+
+none_settled : (n k : ℕ) → settled_at (replicate n None) k ≡ None
+none_settled zero k = refl
+none_settled (suc n) zero = refl
+none_settled (suc n) (suc k) = none_settled n k
+
+pub on_way_at_start : (plan : Plan) → IsOnWay plan (replicate plan.count None) (map start_at (range_with_len 0 plan.count))
+on_way_at_start plan = record {
+  right = record { many = length-replicate plan.count None; right = λ n h e. let none = none_settled plan.count n in cc };
+  on_path = start_path plan (replicate plan.count None) 0 plan.count (omega arith);
+  due = λ n lt. inr (subst (λ m. IsOn (map start_at (range_with_len 0 plan.count)) m) (zero-add n) (all_on 0 plan.count n lt));
+}
+
+some_at : (hs : List ℕ) (k : ℕ) → k < length hs → settled_at (map Some hs) k ≡ Some (get_or hs k 0)
+some_at [] k lt = absurd (omega arith)
+some_at (h ∷ hs) zero lt = refl
+some_at (h ∷ hs) (suc k) lt = some_at hs k (omega arith)
+
+-- where each place is filled, the heights stand there by node number
+pub heights_settled : (plan : Plan) (settled : List (Option ℕ)) → AreSettled plan settled → (hs : List ℕ) → map Some hs ≡ settled → hs ≡ map (height plan) (range_with_len 0 plan.count)
+heights_settled plan settled right hs same =
+    let many : length hs ≡ plan.count = sym (length-map hs Some) ∙ ap length same ∙ right.many in
+    fill_by_all (height plan) hs plan.count 0 many
+    (λ k lt. right.right k (get_or hs k 0) (ap (λ l. settled_at l k) (sym same) ∙ some_at hs k (omega arith)))

@@ -4,7 +4,7 @@ use Rattle.std.specs.List.{AllByRecursion, AllPairs, Contains}
 use Rattle.bp_faults.specs.declared.ids.NodeId.{NodeId}
 use Rattle.pass_core.specs.declared.plan.Plan.{Plan}
 use Rattle.pass_core.specs.Plans.{predecessors}
-use Rattle.pass_core.specs.Heights.{IsBefore}
+use Rattle.pass_core.specs.Heights.{height, IsBefore}
 
 -- The numbers of some nodes.
 abbrev pub numbers : List NodeId → List ℕ
@@ -25,3 +25,7 @@ pub record IsLegal (plan : Plan) (order : List ℕ) : Type 0 where
 pub record IsSerial (plan : Plan) (order : List ℕ) : Type 0 where
   pub each_once : HasEachOnce plan order
   pub sorted : AllPairs (IsBefore plan) order
+
+-- A node with its height.
+abbrev pub ranked : Plan → ℕ → ℕ × NodeId
+ranked plan n = (height plan n, record { 0 = n })

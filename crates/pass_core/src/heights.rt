@@ -1,4 +1,4 @@
-ghost use Rattle.std.specs.Prelude.{◌≡◌, ◌<◌, ◌+◌, ◌^◌, ◌++◌, ℕ, List, [], ◌∷◌, map, length, replicate, IfOk, OnOk, Some, None, IsSome};
+ghost use Rattle.std.specs.Prelude.{◌≡◌, ◌<◌, ◌+◌, ◌^◌, ◌++◌, ℕ, List, [], ◌∷◌, map, length, IfOk, OnOk, IsSome};
 ghost use Rattle.std.specs.List.{AllByRecursion, range_with_len};
 ghost use Rattle.pass_core.specs.declared.heights.Climb.{Climb};
 ghost use Rattle.pass_core.specs.Heights.{height};
@@ -7,6 +7,7 @@ ghost use Rattle.pass_core.specs.Plans.{IsPlan, HasNoCycle, predecessors};
 ghost use Rattle.pass_core.specs.Settling.{settled_at, AreSettled, IsPath, IsStep, gone_up, start_at};
 
 use crate::in_edges::{edges_into, starts_of};
+use crate::places::{empty_places, unwrapped};
 use crate::plan::Plan;
 use bp_faults::{NodeId, OutOfMemory};
 use std::alloc::Global;
@@ -104,17 +105,6 @@ fn every_climb(alloc: Global, count: u32) -> Result<Vec<Climb>, OutOfMemory>
     Ok(path)
 }
 
-/// A place for each node's height, still empty.
-fn unsettled(alloc: Global, count: u32) -> Result<Vec<Option<u32>>, OutOfMemory>
-    ensures { IfOk result (λ settled. settled.items ≡ replicate count None) }
-{
-    let mut settled = Vec::with_capacity(alloc, count as usize)?;
-    for _n in 0..count {
-        settled.push(None)?;
-    }
-    Ok(settled)
-}
-
 /// Settles the height of each node: up from a node to its predecessors, and back once they are settled.
 fn settle(
     alloc: Global,
@@ -126,10 +116,22 @@ fn settle(
     requires starts { AreStarts plan.now starts.now }
     ensures { IfOk result (λ settled. AreSettled plan.now settled.items × ((n : ℕ) → n < plan.now.count → IsSome (settled_at settled.items n))) }
 {
-    let mut settled = unsettled(alloc, plan.count)?;
+    let mut settled = empty_places(alloc, plan.count)?;
     let mut path = every_climb(alloc, plan.count)?;
     while let Some(climb) = path.pop() {
         step(plan, starts, climb, &mut settled, &mut path)?;
     }
     Ok(settled)
+}
+
+/// The height of each node, by node number: 0 without predecessors, else one more than the greatest
+/// predecessor's.
+pub fn heights(alloc: Global, plan: &Plan) -> Result<Vec<u32>, OutOfMemory>
+    requires plan { IsPlan plan.now }
+    requires free { HasNoCycle plan.now.edges }
+    ensures { IfOk result (λ hs. hs.items ≡ map (height plan.now) (range_with_len 0 plan.now.count)) }
+{
+    let starts = starts_of(alloc, plan)?;
+    let settled = settle(alloc, plan, &starts)?;
+    unwrapped(alloc, settled)
 }

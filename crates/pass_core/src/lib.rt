@@ -10,6 +10,8 @@ mod error;
 mod heights;
 mod in_edges;
 mod laws;
+mod order;
+mod places;
 mod plan;
 mod published;
 mod serial;

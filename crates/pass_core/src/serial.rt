@@ -1,4 +1,4 @@
-ghost use Rattle.std.specs.Prelude.{◌≡◌, ◌<◌, ◌≤◌, ℕ, length, map, IfOk, Some, None, IsSome, All, replicate};
+ghost use Rattle.std.specs.Prelude.{◌≡◌, ◌<◌, ◌≤◌, ℕ, length, map, IfOk, IsSome};
 ghost use Rattle.std.specs.Option.{option_map};
 ghost use Rattle.std.specs.List.{AllByRecursion};
 ghost use Rattle.std.specs.Arc.{arc_value};
@@ -12,6 +12,7 @@ ghost use Rattle.pass_core.specs.Results.{node_result};
 
 use crate::error::PassError;
 use crate::in_edges::edges_into;
+use crate::places::{empty_places, unwrapped};
 use crate::plan::{Plan, PlanEdge};
 use crate::visit::{Visit, VisitError};
 use bp_faults::{NodeId, OutOfMemory};
@@ -64,35 +65,6 @@ fn visit_at<V: Visit>(
         Err(VisitError::Bad(fault)) => Err(PassError::At(n, fault)),
         Err(VisitError::OutOfMemory) => Err(PassError::OutOfMemory),
     }
-}
-
-/// A place for each node, still empty.
-fn empty_places<O: Drop>(alloc: Global, count: u32) -> Result<Vec<Option<Arc<O>>>, OutOfMemory>
-    ensures { IfOk result (λ made. made.items ≡ replicate count None) }
-{
-    let mut made = Vec::with_capacity(alloc, count as usize)?;
-    for _n in 0..count {
-        made.push(None)?;
-    }
-    Ok(made)
-}
-
-/// What stands in the places, where each is filled.
-fn unwrapped<O: Drop>(
-    alloc: Global,
-    made: Vec<Option<Arc<O>>>,
-) -> Result<Vec<Arc<O>>, OutOfMemory>
-    requires { All IsSome made.items }
-    ensures { IfOk result (λ outs. map Some outs.items ≡ made.items) }
-{
-    let mut outs = Vec::with_capacity(alloc, made.len())?;
-    for place in made {
-        match place {
-            Some(out) => outs.push(out)?,
-            None => unreachable!(),
-        }
-    }
-    Ok(outs)
 }
 
 /// Visits the nodes one after another in serial order.
