@@ -8,3 +8,4 @@ pub mod Legal
 pub mod Along
 pub mod Climbing
 pub mod Paths
+pub mod Ranked

@@ -1,5 +1,5 @@
 -- The outcome of a pass, and what a call that runs one answers.
-use Rattle.std.specs.Prelude.{◌≡◌, ◌<◌, ℕ, List, map, Vec, Result, Ok, Err, ⊤}
+use Rattle.std.specs.Prelude.{◌≡◌, ◌<◌, ℕ, List, length, map, Vec, Result, Ok, Err, ⊤}
 use Rattle.std.specs.Global.{Global}
 use Rattle.std.specs.List.{range_with_len}
 use Rattle.std.specs.Arc.{arc_value}
@@ -8,8 +8,13 @@ use Rattle.bp_faults.specs.declared.fault.Fault.{Fault}
 use Rattle.pass_core.specs.declared.plan.Plan.{Plan}
 use Rattle.pass_core.specs.declared.error.PassError.{PassError}
 use Rattle.pass_core.specs.declared.error.PassError.TheVariants.{At, OutOfMemory}
+use Rattle.pass_core.specs.Plans.{predecessors}
 use Rattle.pass_core.specs.Heights.{IsBefore}
 use Rattle.pass_core.specs.Results.{NodeResult, Done, Bad, IsDone, node_result}
+
+-- A visitor takes each node of a plan with as many results as the node has in-edges.
+abbrev pub TakesPlan : (ℕ → ℕ → Type 0) → Plan → Type 0
+TakesPlan takes plan = (n : ℕ) → n < plan.count → takes n (length (predecessors plan.edges n))
 
 -- A node is the first in serial order whose result isn't done.
 pub record IsFirstUndone {O : Type 0} (results : ℕ → NodeResult O) (plan : Plan) (n : ℕ) : Type 0 where

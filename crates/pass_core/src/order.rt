@@ -22,17 +22,24 @@ fn ranked_nodes(alloc: Global, plan: &Plan) -> Result<Vec<(u32, NodeId)>, OutOfM
     Ok(nodes)
 }
 
+/// The nodes alone.
+fn nodes_of(alloc: Global, ranked: &[(u32, NodeId)]) -> Result<Vec<NodeId>, OutOfMemory>
+    ensures { IfOk result (λ nodes. nodes.items ≡ map (λ r. r.1) ranked.now) }
+{
+    let mut nodes = Vec::with_capacity(alloc, ranked.len())?;
+    for (_height, node) in ranked {
+        nodes.push(*node)?;
+    }
+    Ok(nodes)
+}
+
 /// The nodes of a plan by height, and then by number.
 pub fn serial_order(alloc: Global, plan: &Plan) -> Result<Vec<NodeId>, OutOfMemory>
     requires plan { IsPlan plan.now }
     requires free { HasNoCycle plan.now.edges }
     ensures { IfOk result (λ order. IsSerial plan.now (numbers order.items)) }
 {
-    let mut nodes = ranked_nodes(alloc, plan)?;
-    nodes.sort_unstable();
-    let mut order = Vec::with_capacity(alloc, nodes.len())?;
-    for (_height, node) in nodes {
-        order.push(node)?;
-    }
-    Ok(order)
+    let mut ranked = ranked_nodes(alloc, plan)?;
+    ranked.sort_unstable();
+    nodes_of(alloc, &ranked)
 }

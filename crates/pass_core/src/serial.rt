@@ -5,13 +5,14 @@ ghost use Rattle.std.specs.Arc.{arc_value};
 ghost use Rattle.pass_core.specs.InEdges.{AreStarts};
 ghost use Rattle.pass_core.specs.Made.{made_at, all_of, AreRight, AnswersVisit};
 ghost use Rattle.pass_core.specs.Orders.{IsSerial, numbers};
-ghost use Rattle.pass_core.specs.Outcomes.{AnswersPass};
+ghost use Rattle.pass_core.specs.Outcomes.{AnswersPass, TakesPlan};
 ghost use Rattle.pass_core.specs.Plans.{IsPlan, HasNoCycle, predecessors, sources};
 ghost use Rattle.pass_core.specs.declared.plan.PlanEdge.{PlanEdge};
 ghost use Rattle.pass_core.specs.Results.{node_result};
 
 use crate::error::PassError;
-use crate::in_edges::edges_into;
+use crate::in_edges::{edges_into, starts_of};
+use crate::order::serial_order;
 use crate::places::{empty_places, unwrapped};
 use crate::plan::{Plan, PlanEdge};
 use crate::visit::{Visit, VisitError};
@@ -77,7 +78,7 @@ fn run_along<V: Visit>(
 ) -> Result<Vec<Arc<V::Out>>, PassError>
     requires plan { IsPlan plan.now }
     requires free { HasNoCycle plan.now.edges }
-    requires takes { (n : ℕ) → n < plan.now.count → V.takes v.now n (length (predecessors plan.now.edges n)) }
+    requires takes { TakesPlan (V.takes v.now) plan.now }
     requires starts { AreStarts plan.now starts.now }
     requires serial { IsSerial plan.now (numbers order.now) }
     ensures { AnswersPass (V.meaning v.now) plan.now result }
@@ -88,4 +89,23 @@ fn run_along<V: Visit>(
         made[n.0 as usize] = Some(out);
     }
     Ok(unwrapped(alloc, made)?)
+}
+
+/// Visits each node of a plan after its predecessors, on one thread.
+///
+/// The results stand by node number. `PassError::At` is the first node in serial order whose result
+/// isn't done.
+pub fn run_serial<V: Visit>(
+    alloc: Global,
+    plan: &Plan,
+    v: &V,
+) -> Result<Vec<Arc<V::Out>>, PassError>
+    requires plan { IsPlan plan.now }
+    requires free { HasNoCycle plan.now.edges }
+    requires takes { TakesPlan (V.takes v.now) plan.now }
+    ensures { AnswersPass (V.meaning v.now) plan.now result }
+{
+    let starts = starts_of(alloc, plan)?;
+    let order = serial_order(alloc, plan)?;
+    run_along(alloc, plan, v, &starts, &order)
 }
