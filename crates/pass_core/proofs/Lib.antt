@@ -9,3 +9,5 @@ pub mod Along
 pub mod Climbing
 pub mod Paths
 pub mod Ranked
+pub mod Sorted
+pub mod Outcome

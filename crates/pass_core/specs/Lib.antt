@@ -6,3 +6,4 @@ pub mod Orders
 pub mod InEdges
 pub mod Made
 pub mod Settling
+pub mod Laws
