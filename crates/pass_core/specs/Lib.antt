@@ -7,3 +7,5 @@ pub mod InEdges
 pub mod Made
 pub mod Settling
 pub mod Laws
+pub mod Shown
+pub mod Examples

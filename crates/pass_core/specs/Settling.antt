@@ -3,7 +3,7 @@ use Rattle.std.specs.Prelude.{◌≡◌, ◌<◌, ◌+◌, ℕ, suc, List, [], �
 use Rattle.std.specs.List.{AllByRecursion}
 use Rattle.bp_faults.specs.declared.ids.NodeId.{NodeId}
 use Rattle.pass_core.specs.declared.plan.Plan.{Plan}
-use Rattle.pass_core.specs.declared.heights.Climb.{Climb}
+use Rattle.pass_core.specs.declared.height.Climb.{Climb}
 use Rattle.pass_core.specs.Plans.{predecessors}
 use Rattle.pass_core.specs.Heights.{unroll, height}
 

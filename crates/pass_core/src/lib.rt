@@ -7,9 +7,9 @@
 #![tactic(auto)]
 
 mod error;
-mod heights;
+mod height;
 mod in_edges;
-mod laws;
+pub mod laws;
 mod order;
 mod places;
 mod plan;
@@ -18,6 +18,13 @@ mod serial;
 mod visit;
 
 pub use error::PassError;
+pub use height::heights;
+pub use in_edges::{edges_into, starts_of};
+pub use order::serial_order;
 pub use plan::{Plan, PlanEdge};
 pub use published::Published;
+pub use serial::run_serial;
 pub use visit::{Visit, VisitError};
+
+#[cfg(test)]
+mod tests;

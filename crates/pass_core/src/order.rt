@@ -3,7 +3,7 @@ ghost use Rattle.std.specs.List.{range_with_len};
 ghost use Rattle.pass_core.specs.Orders.{IsSerial, numbers, ranked};
 ghost use Rattle.pass_core.specs.Plans.{IsPlan, HasNoCycle};
 
-use crate::heights::heights;
+use crate::height::heights;
 use crate::plan::Plan;
 use bp_faults::{NodeId, OutOfMemory};
 use std::alloc::Global;

@@ -4,7 +4,7 @@ use Rattle.pass_core.specs.declared.plan.PlanEdge.{PlanEdge}
 use Rattle.pass_core.specs.Plans.{in_edges, sources}
 use Rattle.pass_core.specs.Heights.{height, above_all}
 use Rattle.pass_core.proofs.Climbing.{source_below, source_lower, read_is, read_none, above_more, ord_max_is, height_whole}
-use Rattle.pass_core.proofs.heights.height_of.Goals as goal
+use Rattle.pass_core.proofs.height.height_of.Goals as goal
 
 abbrev zero_edge : PlanEdge
 zero_edge = record { from = record { 0 = 0 }; to = record { 0 = 0 } }

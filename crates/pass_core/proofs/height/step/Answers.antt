@@ -3,7 +3,7 @@ use Rattle.pass_core.specs.declared.plan.PlanEdge.{PlanEdge}
 use Rattle.pass_core.specs.Settling.{IsStep}
 use Rattle.std.proofs.lemmas.Result.{on_ok_weaker}
 use Rattle.pass_core.proofs.Paths.{node_inside, node_bound, step_settled, step_height, all_ready, next_fits, source_inside, gone_to}
-use Rattle.pass_core.proofs.heights.step.Goals as goal
+use Rattle.pass_core.proofs.height.step.Goals as goal
 
 abbrev zero_edge : PlanEdge
 zero_edge = record { from = record { 0 = 0 }; to = record { 0 = 0 } }

@@ -1,6 +1,6 @@
 use Rattle.std.proofs.Common.{◌++◌, [], ◌∷◌, ◌∙◌, ap}
 use Rattle.pass_core.proofs.Paths.{up_sought, up_settled}
-use Rattle.pass_core.proofs.heights.go_up.Goals as goal
+use Rattle.pass_core.proofs.height.go_up.Goals as goal
 
 pub returns-in_ok-push-2 : goal.returns-in_ok-push-2
 returns-in_ok-push-2 c =

@@ -1,7 +1,7 @@
 use Rattle.std.proofs.Common.{◌++◌, [], ◌∷◌, ◌∙◌, ap, sym, arith}
 use Rattle.std.proofs.lemmas.List.FromFn.{map-range_with_len_more}
 use Rattle.pass_core.specs.Settling.{start_at}
-use Rattle.pass_core.proofs.heights.every_climb.Goals as goal
+use Rattle.pass_core.proofs.height.every_climb.Goals as goal
 
 pub loop-n-preserved : goal.loop-n-preserved
 loop-n-preserved c =

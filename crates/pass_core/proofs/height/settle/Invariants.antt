@@ -1,6 +1,6 @@
 use Rattle.std.proofs.Common.{◌<◌, ℕ}
 use Rattle.pass_core.specs.Settling.{AreSettled, IsPath, IsDue, path_cost, IsOnWay}
-use Rattle.pass_core.proofs.heights.settle.Given as goal
+use Rattle.pass_core.proofs.height.settle.Given as goal
 
 abbrev pub invariant-loop-climb : goal.invariant-loop-climb
 invariant-loop-climb l = IsOnWay l.plan l.settled.items l.path.items

@@ -1,7 +1,7 @@
 use Rattle.std.proofs.Common.{sym, subst}
 use Rattle.pass_core.specs.Settling.{IsOnWay}
 use Rattle.pass_core.proofs.Paths.{on_way_at_start}
-use Rattle.pass_core.proofs.heights.settle.Goals as goal
+use Rattle.pass_core.proofs.height.settle.Goals as goal
 
 pub loop-climb-init : goal.loop-climb-init
 loop-climb-init c = rw (c.in_ok-settled.ensures, c.in_ok-path.ensures) (on_way_at_start c.args.plan.now)
