@@ -71,18 +71,18 @@ placed [] n by = refl
 placed (e ∷ es) n by = dite (dec_lt e.to.0 n)
     (λ less. rw (below_hit e es n less, below_hit e es (n + 1) (omega arith), sub_suc, ne_eqb e.to.0 n (λ same. omega arith)) (placed es n by.1))
     (λ other. dite (dec_lt n e.to.0)
-      (λ more. let none = none_below (n + 1) es (from_all (n + 1) e.to.0 es (omega arith) by.0) in let lower = none_below n es (from_all n e.to.0 es (omega arith) by.0) in
-        rw (below_miss e es n (omega arith), below_miss e es (n + 1) (omega arith), none, lower, none_into n (e ∷ es) (omega arith, from_all (n + 1) e.to.0 es (omega arith) by.0)) refl)
-      (λ both. let same : e.to.0 ≡ n = omega arith in let none = none_below n es (from_all n e.to.0 es (omega arith) by.0) in
-        rw (below_miss e es n (omega arith), below_hit e es (n + 1) (omega arith), none, eq-eqb e.to.0 n same)
-        (take_first (edges_below es (n + 1)) e es (in_edges es n) (subst (λ (k : ℕ). take (edges_below es (n + 1) - k) (drop k es) ≡ in_edges es n) none (placed es n by.1)))))
+    (λ more. let none = none_below (n + 1) es (from_all (n + 1) e.to.0 es (omega arith) by.0) in let lower = none_below n es (from_all n e.to.0 es (omega arith) by.0) in
+    rw (below_miss e es n (omega arith), below_miss e es (n + 1) (omega arith), none, lower, none_into n (e ∷ es) (omega arith, from_all (n + 1) e.to.0 es (omega arith) by.0)) refl)
+    (λ both. let same : e.to.0 ≡ n = omega arith in let none = none_below n es (from_all n e.to.0 es (omega arith) by.0) in
+    rw (below_miss e es n (omega arith), below_hit e es (n + 1) (omega arith), none, eq-eqb e.to.0 n same)
+    (take_first (edges_below es (n + 1)) e es (in_edges es n) (subst (λ (k : ℕ). take (edges_below es (n + 1) - k) (drop k es) ≡ in_edges es n) none (placed es n by.1)))))
 
 -- at the first edge that leads elsewhere the edges into a node end
 pub ends_here : (es : List PlanEdge) (n i : ℕ) (d : PlanEdge) → StandByTarget es → i < length es → edges_below es n ≤ i → i ≤ edges_below es (n + 1) → ((get_or es i d).to.0 ≡ n → ⊥) → i ≡ edges_below es (n + 1)
 ends_here es n i d by lt from to other = dite (dec_lt i (edges_below es (n + 1)))
     (λ inside. let here = below_if_stands es (n + 1) i d by inside in dite (dec_lt (get_or es i d).to.0 n)
-      (λ less. let early = stands_if_below es n i d by lt less in absurd (omega arith))
-      (λ same. absurd (other (omega arith))))
+    (λ less. let early = stands_if_below es n i d by lt less in absurd (omega arith))
+    (λ same. absurd (other (omega arith))))
     (λ past. omega arith)
 
 pub goes_on : (es : List PlanEdge) (n i : ℕ) (d : PlanEdge) → StandByTarget es → i < length es → (get_or es i d).to.0 ≡ n → i + 1 ≤ edges_below es (n + 1)

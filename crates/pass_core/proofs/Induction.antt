@@ -42,7 +42,7 @@ module _ (plan : Plan) (below : HaveEndsBelow plan.count plan.edges) (free : Has
   pub height_below : (n : ℕ) → n < plan.count → height plan n < plan.count
   height_below n lt =
       let within = plan_induction (λ n. height plan n ≤ tight plan below free n)
-          (λ n lt small. rw (height_equation plan below free n lt) (above_at_most (height plan) (tight plan below free n) (predecessors plan.edges n)
-          (all_map (λ m. (height plan m ≤ tight plan below free m) × (tight plan below free m < tight plan below free n)) (λ m. height plan m < tight plan below free n) (λ m h. omega (arith, h.0, h.1)) (predecessors plan.edges n)
-          (both (λ m. height plan m ≤ tight plan below free m) (λ m. tight plan below free m < tight plan below free n) (predecessors plan.edges n) small (tight_rises plan below free n))))) n lt in
+      (λ n lt small. rw (height_equation plan below free n lt) (above_at_most (height plan) (tight plan below free n) (predecessors plan.edges n)
+      (all_map (λ m. (height plan m ≤ tight plan below free m) × (tight plan below free m < tight plan below free n)) (λ m. height plan m < tight plan below free n) (λ m h. omega (arith, h.0, h.1)) (predecessors plan.edges n)
+      (both (λ m. height plan m ≤ tight plan below free m) (λ m. tight plan below free m < tight plan below free n) (predecessors plan.edges n) small (tight_rises plan below free n))))) n lt in
       let less = tight_below plan below free n lt in omega arith

@@ -30,10 +30,10 @@ module _ (plan : Plan) (order : List ℕ) (serial : IsSerial plan order) where
   stands_earlier m i k d li lk there before = dite (dec_lt k i)
       (λ less. less)
       (λ not_less. dite (dec_lt i k)
-        (λ more. absurd (never_both plan m (get_or order i d) before (subst (λ x. IsBefore plan (get_or order i d) x) (same_at order k d m lk ∙ there) (serial.sorted i k d more lk))))
-        (λ same. let e : k ≡ i = omega arith in
-          let here : m ≡ get_or order i d = sym there ∙ same_at order k m d lk ∙ ap (λ j. get_or order j d) e in
-          let itself : IsBefore plan m m = subst (λ x. IsBefore plan m x) (sym here) before in absurd (never_both plan m m itself itself)))
+      (λ more. absurd (never_both plan m (get_or order i d) before (subst (λ x. IsBefore plan (get_or order i d) x) (same_at order k d m lk ∙ there) (serial.sorted i k d more lk))))
+      (λ same. let e : k ≡ i = omega arith in
+      let here : m ≡ get_or order i d = sym there ∙ same_at order k m d lk ∙ ap (λ j. get_or order j d) e in
+      let itself : IsBefore plan m m = subst (λ x. IsBefore plan m x) (sym here) before in absurd (never_both plan m m itself itself)))
 
   pub stands_before : (m i d : ℕ) → m < plan.count → i < length order → IsBefore plan m (get_or order i d) → Contains (take i order) m
   stands_before m i d lm li before =

@@ -44,8 +44,8 @@ module _ {O : Type 0} where
     all_are_done : AllByRecursion (λ n. IsDone (node_result mean plan n)) order → (outcome : Result (List O) (ℕ × Fault)) × IsOutcome mean plan outcome
     all_are_done done =
         let each = recursion_from_All (λ n. IsDone (node_result mean plan n)) (range_with_len 0 plan.count)
-            (λ k d lt. all_contained (λ n. IsDone (node_result mean plan n)) order (get_or (range_with_len 0 plan.count) k d) done
-            (serial.each_once.each (get_or (range_with_len 0 plan.count) k d) (let many = length-range_with_len 0 plan.count in let e = get_or-range_with_len 0 plan.count k d (omega arith) in omega arith))) in
+        (λ k d lt. all_contained (λ n. IsDone (node_result mean plan n)) order (get_or (range_with_len 0 plan.count) k d) done
+        (serial.each_once.each (get_or (range_with_len 0 plan.count) k d) (let many = length-range_with_len 0 plan.count in let e = get_or-range_with_len 0 plan.count k d (omega arith) in omega arith))) in
         let outs = outs_of_done (node_result mean plan) (range_with_len 0 plan.count) each in
         (Ok outs.0, outs.1)
 

@@ -43,11 +43,11 @@ before_trans x y z a b =
 by_parts : (a b c d : ℕ) → is_lt (ordering_then (nat_cmp a b) (nat_cmp c d)) ≡ false → (b < a) ⊎ ((b ≡ a) × (d ≤ c))
 by_parts a b c d h = dite (dec_lt b a) (λ more. inl more)
     (λ not_more. dite (dec_lt a b)
-      (λ less. let first : is_lt (ordering_then (nat_cmp a b) (nat_cmp c d)) ≡ true = ap (λ o. is_lt (ordering_then o (nat_cmp c d))) (sym (nat_cmp_is a b Less less)) in cc)
-      (λ not_less. dite (dec_lt c d)
-        (λ fewer. let both : is_lt (ordering_then (nat_cmp a b) (nat_cmp c d)) ≡ true =
-          ap (λ o. is_lt (ordering_then o (nat_cmp c d))) (sym (nat_cmp_is a b Equal (omega arith))) ∙ ap (λ o. is_lt o) (sym (nat_cmp_is c d Less fewer)) in cc)
-        (λ not_fewer. inr (omega arith, omega arith))))
+    (λ less. let first : is_lt (ordering_then (nat_cmp a b) (nat_cmp c d)) ≡ true = ap (λ o. is_lt (ordering_then o (nat_cmp c d))) (sym (nat_cmp_is a b Less less)) in cc)
+    (λ not_less. dite (dec_lt c d)
+    (λ fewer. let both : is_lt (ordering_then (nat_cmp a b) (nat_cmp c d)) ≡ true =
+    ap (λ o. is_lt (ordering_then o (nat_cmp c d))) (sym (nat_cmp_is a b Equal (omega arith))) ∙ ap (λ o. is_lt o) (sym (nat_cmp_is c d Less fewer)) in cc)
+    (λ not_fewer. inr (omega arith, omega arith))))
 
 before_from_test : (x y : ℕ × NodeId) → is_lt (ordering_then (nat_cmp y.0 x.0) (nat_cmp y.1.0 x.1.0)) ≡ false → Before x y
 before_from_test x y h = by_parts y.0 x.0 y.1.0 x.1.0 h
@@ -87,7 +87,7 @@ module _ (plan : Plan) (rs : List (ℕ × NodeId)) (perm : IsPermutation (map (r
   apart : AllPairs (λ m n. m ≢ n) (numbers (map (λ (r : ℕ × NodeId). r.1) rs))
   apart i j d lt lj same =
       let test = apart_from_distinct eqb (numbers (map (λ (r : ℕ × NodeId). r.1) rs)) i j d
-          (IsDistinct-IsPermutation eqb eqb_flips (range_with_len 0 plan.count) (numbers (map (λ (r : ℕ × NodeId). r.1) rs)) perm_numbers (range_distinct 0 plan.count)) lt lj in
+      (IsDistinct-IsPermutation eqb eqb_flips (range_with_len 0 plan.count) (numbers (map (λ (r : ℕ × NodeId). r.1) rs)) perm_numbers (range_distinct 0 plan.count)) lt lj in
       grind (arith, nat_tests)
 
   pub ranked_each_once : HasEachOnce plan (numbers (map (λ (r : ℕ × NodeId). r.1) rs))

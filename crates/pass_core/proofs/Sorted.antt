@@ -146,8 +146,8 @@ module _ (plan : Plan) where
   same_list (x ∷ xs) (y ∷ ys) rx ry f g =
       let head = first_of_both x y xs ys rx ry (f x (contains_first x xs)) (g y (contains_first y ys)) in
       let tail = same_list xs ys rx.1 ry.1
-          (λ m c. ⊎_elim (λ same. absurd (never_same x m (all_has x xs m rx.0 c) (head ∙ same))) (λ later. later) (contains_cases y ys m (f m (contains_later x xs m c))))
-          (λ m c. ⊎_elim (λ same. absurd (never_same y m (all_has y ys m ry.0 c) (sym head ∙ same))) (λ later. later) (contains_cases x xs m (g m (contains_later y ys m c)))) in
+      (λ m c. ⊎_elim (λ same. absurd (never_same x m (all_has x xs m rx.0 c) (head ∙ same))) (λ later. later) (contains_cases y ys m (f m (contains_later x xs m c))))
+      (λ m c. ⊎_elim (λ same. absurd (never_same y m (all_has y ys m ry.0 c) (sym head ∙ same))) (λ later. later) (contains_cases x xs m (g m (contains_later y ys m c)))) in
       λ i. head i ∷ tail i
 
   has_nodes : (xs ys : List ℕ) → IsSerial plan xs → IsSerial plan ys → (m : ℕ) → Contains xs m → Contains ys m

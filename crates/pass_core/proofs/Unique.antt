@@ -75,13 +75,13 @@ module _ {O : Type 0} where
     pub bad_at_first : HaveEndsBelow plan.count plan.edges → HasNoCycle plan.edges → (n : ℕ) → IsFirstUndone (node_result mean plan) plan n → (fault : Fault) × (node_result mean plan n ≡ Bad fault)
     bad_at_first below free n first =
         let t = all_done (node_result mean plan) (predecessors plan.edges n)
-            (all_map (λ m. (m < plan.count) × IsBefore plan m n) (λ m. IsDone (node_result mean plan m)) (λ m h. first.first m h.0 h.1) (predecessors plan.edges n) (before_node plan below free n first.inside)) in
+        (all_map (λ m. (m < plan.count) × IsBefore plan m n) (λ m. IsDone (node_result mean plan m)) (λ m h. first.first m h.0 h.1) (predecessors plan.edges n) (before_node plan below free n first.inside)) in
         bad_if_undone (node_result mean plan n) (mean n t.0) (result_equation plan below free mean n first.inside ∙ ap (judged (mean n)) t.1) first.undone
 
     first_same : (m n : ℕ) → IsFirstUndone (node_result mean plan) plan m → IsFirstUndone (node_result mean plan) plan n → m ≡ n
     first_same m n a b =
         ⊎_elim (λ before. absurd (a.undone (b.first m a.inside before)))
-            (λ rest. ⊎_elim (λ before. absurd (b.undone (a.first n b.inside before))) (λ same. same) rest) (ordered plan m n)
+        (λ rest. ⊎_elim (λ before. absurd (b.undone (a.first n b.inside before))) (λ same. same) rest) (ordered plan m n)
 
     bad_same : (r : NodeResult O) (f g : Fault) → r ≡ Bad f → r ≡ Bad g → f ≡ g
     bad_same r f g a b = let e : Bad f ≡ Bad g = sym a ∙ b in cc

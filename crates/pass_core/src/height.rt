@@ -106,11 +106,7 @@ fn every_climb(alloc: Global, count: u32) -> Result<Vec<Climb>, OutOfMemory>
 }
 
 /// Settles the height of each node: up from a node to its predecessors, and back once they are settled.
-fn settle(
-    alloc: Global,
-    plan: &Plan,
-    starts: &[u32],
-) -> Result<Vec<Option<u32>>, OutOfMemory>
+fn settle(alloc: Global, plan: &Plan, starts: &[u32]) -> Result<Vec<Option<u32>>, OutOfMemory>
     requires plan { IsPlan plan.now }
     requires free { HasNoCycle plan.now.edges }
     requires starts { AreStarts plan.now starts.now }

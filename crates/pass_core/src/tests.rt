@@ -2,7 +2,9 @@ ghost use Rattle.std.specs.Prelude.{◌<◌, ◌^◌, IsTrue, ⊤};
 ghost use Rattle.pass_core.specs.Examples.{trail_of, counted_but};
 ghost use Rattle.pass_core.specs.Plans.{IsPlan, HasNoCycle};
 
-use crate::{PassError, Plan, PlanEdge, Visit, VisitError, heights, run_serial, serial_order};
+use crate::{
+    PassError, Plan, PlanEdge, Visit, VisitError, heights, run_serial, serial_order, starts_of,
+};
 use bp_faults::{Fault, FaultKind, NodeId, OutOfMemory, Place, Seq};
 use std::alloc::Global;
 use std::sync::Arc;
@@ -48,12 +50,7 @@ impl Visit for CountBut {
 
     ghost takes = { λ _ _ k. k < 2 ^ 32 };
 
-    fn visit(
-        &self,
-        alloc: Global,
-        n: NodeId,
-        ins: &[Arc<usize>],
-    ) -> Result<usize, VisitError> {
+    fn visit(&self, alloc: Global, n: NodeId, ins: &[Arc<usize>]) -> Result<usize, VisitError> {
         if n.0 == self.one || n.0 == self.other {
             let at = Place {
                 file: n.0,
@@ -95,6 +92,46 @@ fn plan(alloc: Global, count: u32, pairs: &[(u32, u32)]) -> Result<Plan, OutOfMe
     })
 }
 
+/// A chain of many nodes, each after the next, beside a layer in which each of a thousand nodes stands
+/// after two hundred.
+fn large(alloc: Global) -> Result<Plan, OutOfMemory> {
+    let mut edges = Vec::new(alloc);
+    for n in 0..99_999 {
+        edges.push(PlanEdge {
+            from: NodeId(n + 1),
+            to: NodeId(n),
+        })?;
+    }
+    for n in 100_000..101_000 {
+        for k in 101_000..101_200 {
+            edges.push(PlanEdge {
+                from: NodeId(k),
+                to: NodeId(n),
+            })?;
+        }
+    }
+    Ok(Plan {
+        count: 101_200,
+        edges: Seq::new(edges),
+    })
+}
+
+/// The answer of a pass that counts, as the node and the place of a fault, or as the sum of the counts.
+fn counted(alloc: Global, plan: &Plan, one: u32, other: u32) -> Result<usize, (u32, u32)>
+    requires plan { IsPlan plan.now }
+    requires free { HasNoCycle plan.now.edges }
+{
+    match run_serial(alloc, plan, &CountBut { one, other }) {
+        Ok(counts) => Ok(
+            counts
+                .iter()
+                .fold(0, |sum: usize, count| sum.wrapping_add(**count)),
+        ),
+        Err(PassError::At(n, fault)) => Err((n.0, fault.at.file)),
+        Err(PassError::OutOfMemory) => Err((u32::MAX, u32::MAX)),
+    }
+}
+
 const DIAMOND: [(u32, u32); 4] = [(1, 0), (2, 0), (3, 1), (3, 2)];
 
 #[test]
@@ -103,10 +140,72 @@ fn diamond(rt: HostRuntime) -> Result<(), Fail> {
     let plan = plan(alloc, 4, &DIAMOND)?;
     assert!(rt; falls(&plan));
     let trails = run_serial(alloc, &plan, &Trail)?;
-    assert_eq!(rt; trails.len(), 4);
-    assert_eq!(rt; trails[0].as_slice(), [3, 1, 3, 2, 0].as_slice());
-    assert_eq!(rt; trails[3].as_slice(), [3].as_slice());
+    let wants = [[3, 1, 3, 2, 0].as_slice(), &[3, 1], &[3, 2], &[3]];
+    assert_eq!(rt; trails.len(), wants.len());
+    for (trail, want) in trails.iter().zip(&wants) {
+        assert_eq!(rt; trail.as_slice(), *want);
+    }
     assert_eq!(rt; heights(alloc, &plan)?.as_slice(), [2, 1, 1, 0].as_slice());
-    assert_eq!(rt; serial_order(alloc, &plan)?.as_slice(), [NodeId(3), NodeId(1), NodeId(2), NodeId(0)].as_slice());
+    let order = serial_order(alloc, &plan)?;
+    assert_eq!(rt;
+        order.as_slice(),
+        [NodeId(3), NodeId(1), NodeId(2), NodeId(0)].as_slice()
+    );
+    Ok(())
+}
+
+#[test]
+fn a_repeated_edge_counts_each_time(rt: HostRuntime) -> Result<(), Fail> {
+    let alloc = rt.alloc();
+    let plan = plan(alloc, 2, &[(1, 0), (1, 0), (1, 0)])?;
+    assert!(rt; falls(&plan));
+    let starts = starts_of(alloc, &plan)?;
+    assert_eq!(rt; starts.as_slice(), [0, 3, 3].as_slice());
+    assert_eq!(rt;
+        run_serial(alloc, &plan, &Trail)?[0].as_slice(),
+        [1, 1, 1, 0].as_slice()
+    );
+    Ok(())
+}
+
+#[test]
+fn two_faults(rt: HostRuntime) -> Result<(), Fail> {
+    let alloc = rt.alloc();
+    let plan = plan(alloc, 4, &[(1, 0), (3, 0)])?;
+    assert!(rt; falls(&plan));
+    let cases = [
+        ((0, 2), Err((2, 2))),
+        ((0, 0), Err((0, 0))),
+        ((3, 1), Err((1, 1))),
+        ((9, 9), Ok(2)),
+    ];
+    for ((one, other), want) in cases {
+        assert!(rt;
+            counted(alloc, &plan, one, other) == want,
+            "at {one}, {other}"
+        );
+    }
+    Ok(())
+}
+
+#[test]
+fn an_empty_plan(rt: HostRuntime) -> Result<(), Fail> {
+    let alloc = rt.alloc();
+    let plan = plan(alloc, 0, &[])?;
+    assert!(rt; falls(&plan));
+    assert_eq!(rt; run_serial(alloc, &plan, &Trail)?.len(), 0);
+    assert_eq!(rt; heights(alloc, &plan)?.len(), 0);
+    Ok(())
+}
+
+#[test]
+fn a_long_chain_and_a_wide_layer(rt: HostRuntime) -> Result<(), Fail> {
+    let alloc = rt.alloc();
+    let plan = large(alloc)?;
+    assert!(rt; falls(&plan));
+    assert!(rt; counted(alloc, &plan, 200_000, 200_000) == Ok(299_999));
+    let heights = heights(alloc, &plan)?;
+    assert_eq!(rt; heights[0], 99_999);
+    assert_eq!(rt; heights[100_000], 1);
     Ok(())
 }

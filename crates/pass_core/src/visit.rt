@@ -4,10 +4,9 @@ ghost use Rattle.bp_faults.specs.declared.fault.Fault.{Fault};
 ghost use Rattle.bp_faults.specs.Answers.{Answers};
 
 use bp_faults::NodeId;
+pub use bp_faults::Refusal as VisitError;
 use std::alloc::Global;
 use std::sync::Arc;
-
-pub use bp_faults::Refusal as VisitError;
 
 /// What a pass does at each node.
 pub trait Visit {

@@ -16,7 +16,7 @@ pub overflow_add-below : goal.overflow_add-below
 overflow_add-below c =
     let lower = source_lower c.args.plan.now c.requires.plan c.requires.free c.args.n.0 c.requires.inside c.edges_into-edge-items.result.now c.edges_into-edge-items.ensures c.loop-edge.edge-index zero_edge c.loop-edge-test.true in
     let is = read_is c.args.plan.now c.requires.plan c.requires.free c.args.n.0 c.requires.inside c.edges_into-edge-items.result.now c.edges_into-edge-items.ensures c.loop-edge.edge-index zero_edge c.loop-edge-test.true
-        c.args.settled.now c.requires.settled c.in-Some.below c.in-Some.is in
+    c.args.settled.now c.requires.settled c.in-Some.below c.in-Some.is in
     omega arith
 
 pub unreachable-requires : goal.unreachable-requires
@@ -27,7 +27,7 @@ unreachable-requires c =
 pub loop-edge-preserved : goal.loop-edge-preserved
 loop-edge-preserved c =
     let is = read_is c.args.plan.now c.requires.plan c.requires.free c.args.n.0 c.requires.inside c.edges_into-edge-items.result.now c.edges_into-edge-items.ensures c.loop-edge.edge-index zero_edge c.loop-edge-test.true
-        c.args.settled.now c.requires.settled c.in-Some.below c.in-Some.is in
+    c.args.settled.now c.requires.settled c.in-Some.below c.in-Some.is in
     let more = above_more (height c.args.plan.now) c.edges_into-edge-items.result.now c.loop-edge.edge-index zero_edge c.loop-edge-test.true in
     let greatest = ord_max_is c.loop-edge.height (c.in-Some.below + 1) in
     c.max-height.ensures ∙ greatest ∙ ap (λ k. max k (c.in-Some.below + 1)) c.loop-edge.invariant

@@ -12,6 +12,6 @@ index-requires c =
 pub loop-n-preserved : goal.loop-n-preserved
 loop-n-preserved c =
     let here = c.index.ensures ∙ ap (λ hs. get_or hs c.loop-n.n c.index.result.now) c.in_ok-heights.ensures
-        ∙ get_or-map-range_with_len (height c.args.plan.now) 0 c.args.plan.now.count c.loop-n.n c.loop-n.n c.index.result.now c.loop-n-test.true (omega arith) in
+    ∙ get_or-map-range_with_len (height c.args.plan.now) 0 c.args.plan.now.count c.loop-n.n c.loop-n.n c.index.result.now c.loop-n-test.true (omega arith) in
     c.in_ok-push.ensures.items ∙ ap (λ h. c.loop-n.nodes.items ++ (h, record { 0 = c.loop-n.n }) ∷ []) here ∙ ap (λ l. l ++ ranked c.args.plan.now c.loop-n.n ∷ []) c.loop-n.invariant
     ∙ sym (map-range_with_len_more (ranked c.args.plan.now) 0 c.loop-n.n c.loop-n.n (omega arith))

@@ -30,6 +30,6 @@ returns-in-Ok g c =
 pub returns-in-Err-Bad : goal.returns-in-Err-Bad
 returns-in-Err-Bad g c =
     let is = result_is (g.V.Visit.meaning c.args.v.now) c.args.plan.now c.requires.plan c.requires.free c.args.n.0 c.requires.inside c.args.made.now c.requires.right c.requires.ready
-        c.in_ok-ins.field-0 c.edges_into.result.now c.edges_into.ensures c.in_ok-ins.ensures c.in-Some.ins c.in-Some.is c.deref.result.now c.deref.ensures.value
-        (Err c.in-Err-Bad.fault) (rw c.in-Err-Bad.field-0-is at c.in-Err-Bad.ensures) in
+    c.in_ok-ins.field-0 c.edges_into.result.now c.edges_into.ensures c.in_ok-ins.ensures c.in-Some.ins c.in-Some.is c.deref.result.now c.deref.ensures.value
+    (Err c.in-Err-Bad.fault) (rw c.in-Err-Bad.field-0-is at c.in-Err-Bad.ensures) in
     (refl, rw c.in-Err-Bad.field-0-is is)
