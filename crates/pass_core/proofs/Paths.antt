@@ -117,6 +117,9 @@ in_edges_few : (es : List PlanEdge) (n : ℕ) → length (in_edges es n) ≤ len
 in_edges_few [] n = omega arith
 in_edges_few (e ∷ es) n = let rest = in_edges_few es n in grind (arith, nat_tests)
 
+pub few_predecessors : (es : List PlanEdge) (n : ℕ) → length (predecessors es n) ≤ length es
+few_predecessors es n = let few = in_edges_few es n in omega (arith, length-map (in_edges es n) (λ (e : PlanEdge). e.from.0))
+
 module _ (plan : Plan) (is_plan : IsPlan plan) (free : HasNoCycle plan.edges) where
   cost_equation : (n : ℕ) → n < plan.count → cost plan n ≡ suc (total (map (cost plan) (predecessors plan.edges n)))
   unfolding cost

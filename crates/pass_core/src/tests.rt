@@ -116,19 +116,15 @@ fn large(alloc: Global) -> Result<Plan, OutOfMemory> {
     })
 }
 
-/// The answer of a pass that counts, as the node and the place of a fault, or as the sum of the counts.
-fn counted(alloc: Global, plan: &Plan, one: u32, other: u32) -> Result<usize, (u32, u32)>
+/// The node of the fault of a pass that refuses two nodes.
+fn faulty(alloc: Global, plan: &Plan, one: u32, other: u32) -> Option<u32>
     requires plan { IsPlan plan.now }
     requires free { HasNoCycle plan.now.edges }
 {
     match run_serial(alloc, plan, &CountBut { one, other }) {
-        Ok(counts) => Ok(
-            counts
-                .iter()
-                .fold(0, |sum: usize, count| sum.wrapping_add(**count)),
-        ),
-        Err(PassError::At(n, fault)) => Err((n.0, fault.at.file)),
-        Err(PassError::OutOfMemory) => Err((u32::MAX, u32::MAX)),
+        Ok(_) => None,
+        Err(PassError::At(n, _)) => Some(n.0),
+        Err(PassError::OutOfMemory) => Some(u32::MAX),
     }
 }
 
@@ -155,35 +151,22 @@ fn diamond(rt: HostRuntime) -> Result<(), Fail> {
 }
 
 #[test]
-fn a_repeated_edge_counts_each_time(rt: HostRuntime) -> Result<(), Fail> {
-    let alloc = rt.alloc();
-    let plan = plan(alloc, 2, &[(1, 0), (1, 0), (1, 0)])?;
-    assert!(rt; falls(&plan));
-    let starts = starts_of(alloc, &plan)?;
-    assert_eq!(rt; starts.as_slice(), [0, 3, 3].as_slice());
-    assert_eq!(rt;
-        run_serial(alloc, &plan, &Trail)?[0].as_slice(),
-        [1, 1, 1, 0].as_slice()
-    );
-    Ok(())
-}
-
-#[test]
 fn two_faults(rt: HostRuntime) -> Result<(), Fail> {
     let alloc = rt.alloc();
-    let plan = plan(alloc, 4, &[(1, 0), (3, 0)])?;
+    let plan = plan(alloc, 4, &[(1, 0), (1, 0), (3, 0)])?;
     assert!(rt; falls(&plan));
+    assert_eq!(rt;
+        starts_of(alloc, &plan)?.as_slice(),
+        [0, 3, 3, 3, 3].as_slice()
+    );
     let cases = [
-        ((0, 2), Err((2, 2))),
-        ((0, 0), Err((0, 0))),
-        ((3, 1), Err((1, 1))),
-        ((9, 9), Ok(2)),
+        (0, 2, Some(2)),
+        (0, 0, Some(0)),
+        (3, 1, Some(1)),
+        (9, 9, None),
     ];
-    for ((one, other), want) in cases {
-        assert!(rt;
-            counted(alloc, &plan, one, other) == want,
-            "at {one}, {other}"
-        );
+    for (one, other, want) in cases {
+        assert_eq!(rt; faulty(alloc, &plan, one, other), want);
     }
     Ok(())
 }
@@ -194,7 +177,6 @@ fn an_empty_plan(rt: HostRuntime) -> Result<(), Fail> {
     let plan = plan(alloc, 0, &[])?;
     assert!(rt; falls(&plan));
     assert_eq!(rt; run_serial(alloc, &plan, &Trail)?.len(), 0);
-    assert_eq!(rt; heights(alloc, &plan)?.len(), 0);
     Ok(())
 }
 
@@ -203,9 +185,6 @@ fn a_long_chain_and_a_wide_layer(rt: HostRuntime) -> Result<(), Fail> {
     let alloc = rt.alloc();
     let plan = large(alloc)?;
     assert!(rt; falls(&plan));
-    assert!(rt; counted(alloc, &plan, 200_000, 200_000) == Ok(299_999));
-    let heights = heights(alloc, &plan)?;
-    assert_eq!(rt; heights[0], 99_999);
-    assert_eq!(rt; heights[100_000], 1);
+    assert_eq!(rt; faulty(alloc, &plan, 200_000, 200_000), None);
     Ok(())
 }
