@@ -1,0 +1,44 @@
+-- What holds of each item of a list.
+use Rattle.std.proofs.Common.{◌≡◌, ◌+◌, ◌<◌, ◌++◌, arith, zero-add, suc, ℕ, List, [], ◌∷◌, map, length, take, get_or, subst, sym}
+use Rattle.std.specs.List.{AllByRecursion}
+use Rattle.pass_core.specs.declared.plan.PlanEdge.{PlanEdge}
+use Rattle.pass_core.specs.Plans.{HaveEndsBelow}
+use Rattle.module_graph.specs.declared.direction.Direction.TheVariants.{BottomUp}
+use Rattle.module_graph.specs.declared.graph.Edge.{Edge}
+use Rattle.module_graph.specs.declared.graph.Node.{Node}
+use Rattle.module_graph.specs.Numbered.{by_number}
+use Rattle.module_graph.specs.Graphs.{outward, edges_of, NameNodes}
+use Rattle.module_graph.specs.Planned.{turned, plan_edges}
+
+pub all_map : {A : Type 0} (P Q : A → Type 0) → ((x : A) → P x → Q x) → (xs : List A) → AllByRecursion P xs → AllByRecursion Q xs
+all_map P Q f [] h = tt
+all_map P Q f (x ∷ xs) h = (f x h.0, all_map P Q f xs h.1)
+
+pub all_append : {A : Type 0} (P : A → Type 0) (xs ys : List A) → AllByRecursion P xs → AllByRecursion P ys → AllByRecursion P (xs ++ ys)
+all_append P [] ys h k = k
+all_append P (x ∷ xs) ys h k = (h.0, all_append P xs ys h.1 k)
+
+pub all_image : {A B : Type 0} (P : A → Type 0) (Q : B → Type 0) (f : A → B) → ((x : A) → P x → Q (f x)) → (xs : List A) → AllByRecursion P xs → AllByRecursion Q (map f xs)
+all_image P Q f imp [] h = tt
+all_image P Q f imp (x ∷ xs) h = (imp x h.0, all_image P Q f imp xs h.1)
+
+pub all_by_number : {X A : Type 0} (P : X → Type 0) (Q : A → Type 0) (bound : ℕ) (f : ℕ → X → List A) → ((n : ℕ) (x : X) → n < bound → P x → AllByRecursion Q (f n x))
+    → (k : ℕ) (xs : List X) → k + length xs ≡ bound → AllByRecursion P xs → AllByRecursion Q (by_number f k xs)
+all_by_number P Q bound f imp k [] e h = tt
+all_by_number {X} P Q bound f imp k (x ∷ xs) e h =
+    all_append Q (f k x) (by_number f (k + 1) xs) (imp k x (below k (length xs) bound e) h.0) (all_by_number P Q bound f imp (k + 1) xs (next k (length xs) bound e) h.1)
+  where
+  below : (k n bound : ℕ) → k + suc n ≡ bound → k < bound
+  below k n bound e = omega arith
+  next : (k n bound : ℕ) → k + suc n ≡ bound → (k + 1) + n ≡ bound
+  next k n bound e = omega arith
+
+module _ {P : Type 0} (nodes : List (Node P)) (ends : NameNodes nodes) where
+  -- both ends of each edge of a graph are nodes
+  pub edges_of_ends : HaveEndsBelow (length nodes) (edges_of nodes)
+  edges_of_ends = all_by_number (λ (x : Node P). AllByRecursion (λ (e : Edge). e.to.0 < length nodes) x.edges) (λ (e : PlanEdge). (e.from.0 < length nodes) × (e.to.0 < length nodes)) (length nodes) (λ n (x : Node P). map (outward n) x.edges)
+      (λ n x lt h. all_image (λ (e : Edge). e.to.0 < length nodes) (λ (e : PlanEdge). (e.from.0 < length nodes) × (e.to.0 < length nodes)) (outward n) (λ e k. (lt, k)) x.edges h) 0 nodes (zero-add (length nodes)) ends
+
+  pub turned_ends : HaveEndsBelow (length nodes) (plan_edges BottomUp nodes)
+  turned_ends = all_by_number (λ (x : Node P). AllByRecursion (λ (e : Edge). e.to.0 < length nodes) x.edges) (λ (e : PlanEdge). (e.from.0 < length nodes) × (e.to.0 < length nodes)) (length nodes) (λ n (x : Node P). map (turned n) x.edges)
+      (λ n x lt h. all_image (λ (e : Edge). e.to.0 < length nodes) (λ (e : PlanEdge). (e.from.0 < length nodes) × (e.to.0 < length nodes)) (turned n) (λ e k. (k, lt)) x.edges h) 0 nodes (zero-add (length nodes)) ends

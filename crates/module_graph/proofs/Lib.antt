@@ -1,0 +1,4 @@
+pub mod Alls
+pub mod Numbers
+pub mod Ordered
+pub mod Spelled

@@ -1,0 +1,41 @@
+-- Module graphs (Blueprint package documentation: modules, variants and dependencies).
+use Rattle.std.specs.Prelude.{◌≡◌, ◌<◌, ◌^◌, ℕ, zero, suc, List, [], ◌∷◌, map, length}
+use Rattle.std.specs.List.{AllByRecursion, AllPairs}
+use Rattle.bp_faults.specs.declared.ids.NodeId.{NodeId}
+use Rattle.pass_core.specs.declared.plan.PlanEdge.{PlanEdge}
+use Rattle.module_graph.specs.declared.graph.Edge.{Edge}
+use Rattle.module_graph.specs.declared.graph.Node.{Node}
+use Rattle.module_graph.specs.Numbered.{by_number}
+use Rattle.module_graph.specs.Walks.{NoneReturns}
+
+-- An edge of node n, from n to its target.
+abbrev pub outward : ℕ → Edge → PlanEdge
+outward n e = record { from = record { 0 = n }; to = e.to }
+
+module _ {P : Type 0} where
+  -- The edges of a graph, each from its node to its target, by node and place.
+  abbrev pub edges_of : List (Node P) → List PlanEdge
+  edges_of nodes = by_number (λ n (x : Node P). map (outward n) x.edges) 0 nodes
+
+  -- The targets of a node's edges, in order.
+  abbrev pub targets : List (Node P) → ℕ → List ℕ
+  targets [] n = []
+  targets (x ∷ xs) zero = map (λ (e : Edge). e.to.0) x.edges
+  targets (x ∷ xs) (suc n) = targets xs n
+
+  -- Each edge names a node.
+  abbrev pub NameNodes : List (Node P) → Type 0
+  NameNodes nodes = AllByRecursion (λ (x : Node P). AllByRecursion (λ (e : Edge). e.to.0 < length nodes) x.edges) nodes
+
+  -- A `u32` numbers the nodes and the edges of a graph, and each edge names a node.
+  pub record IsNumbered (nodes : List (Node P)) : Type 0 where
+    pub few_nodes : length nodes < 2 ^ 32
+    pub few_edges : length (edges_of nodes) < 2 ^ 32
+    pub ends : NameNodes nodes
+
+  -- A graph is valid where each edge names a node, no two nodes of one module have equal variations, and no walk
+  -- returns to its start.
+  pub record IsValid (nodes : List (Node P)) : Type 0 where
+    pub ends : NameNodes nodes
+    pub distinct : AllPairs (λ (x y : Node P). x.module ≡ y.module → x.vars ≡ y.vars → ⊥) nodes
+    pub acyclic : NoneReturns (edges_of nodes)

@@ -1,0 +1,53 @@
+-- The names of variants, and the labels of nodes.
+use Rattle.std.specs.Prelude.{ℕ, Bool, true, false, List, [], ◌∷◌, ◌++◌, codes}
+use Rattle.std.specs.List.{filter, join_by}
+use Rattle.std.specs.Fmt.{decimal}
+use Rattle.bp_faults.specs.Targets.{target_name}
+use Rattle.module_graph.specs.declared.variation.Variation.{Variation}
+use Rattle.module_graph.specs.declared.variation.Variation.TheVariants.{Empty, Target, Common, Vendor, Recovery, Static, Shared, PerSource, Asan}
+
+-- How a variation is spelled: a target by its name, the variant of a source by its number from 1.
+abbrev pub spelling : Variation → List ℕ
+spelling Empty = []
+spelling (Target target) = target_name target
+spelling Common = codes "common"
+spelling Vendor = codes "vendor"
+spelling Recovery = codes "recovery"
+spelling Static = codes "static"
+spelling Shared = codes "shared"
+spelling (PerSource source) = codes "t" ++ decimal source
+spelling Asan = codes "asan"
+
+abbrev pub is_set : Variation → Bool
+is_set Empty = false
+is_set (Target target) = true
+is_set Common = true
+is_set Vendor = true
+is_set Recovery = true
+is_set Static = true
+is_set Shared = true
+is_set (PerSource source) = true
+is_set Asan = true
+
+-- The name of a variant: the spellings of the variations that aren't empty, joined by `_`.
+abbrev pub variant_name_of : List Variation → List ℕ
+variant_name_of variations = join_by spelling (codes "_") (filter is_set variations)
+
+-- A variant's name in braces, unless it is empty.
+abbrev pub braced : List ℕ → List ℕ
+braced [] = []
+braced (c ∷ name) = codes "{" ++ ((c ∷ name) ++ codes "}")
+
+-- The label of a node: the name of its module, and behind it the name of its variant in braces.
+abbrev pub label_of : List ℕ → List Variation → List ℕ
+label_of name variations = name ++ braced (variant_name_of variations)
+
+-- A name, and behind `_` what is added to it, unless one of them is empty.
+abbrev pub added : List ℕ → List ℕ → List ℕ
+added [] more = more
+added (c ∷ name) [] = c ∷ name
+added (c ∷ name) (d ∷ more) = (c ∷ name) ++ (codes "_" ++ d ∷ more)
+
+-- The name of a variant, and one variation more.
+abbrev pub appended : List ℕ → Variation → List ℕ
+appended name variation = added name (spelling variation)

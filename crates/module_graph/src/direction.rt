@@ -1,0 +1,51 @@
+ghost use Rattle.std.specs.Prelude.{◌≡◌, IfOk};
+ghost use Rattle.pass_core.specs.Plans.{IsPlan};
+ghost use Rattle.module_graph.specs.Graphs.{IsNumbered};
+ghost use Rattle.module_graph.specs.Planned.{plan_of, plan_edges};
+ghost use Rattle.module_graph.specs.declared.direction.Direction.TheVariants.{BottomUp};
+
+use crate::Graph;
+use bp_faults::{NodeId, OutOfMemory, Seq};
+use pass_core::{Plan, PlanEdge};
+use std::alloc::Global;
+
+/// Which nodes a pass visits first.
+#[derive(Clone, Copy, Debug, PartialEq, Eq)]
+pub enum Direction {
+    /// Each node after those that its edges lead to.
+    BottomUp,
+}
+
+/// The edges of a graph turned round, in the order of the nodes.
+fn turned_edges<P>(alloc: Global, g: &Graph<P>) -> Result<Vec<PlanEdge>, OutOfMemory>
+    requires { IsNumbered g.now.nodes }
+    ensures { IfOk result (λ edges. edges.items ≡ plan_edges BottomUp g.now.nodes) }
+{
+    let mut edges = Vec::new(alloc);
+    let mut n = 0;
+    for node in g.nodes.as_slice() {
+        for edge in node.edges.as_slice() {
+            edges.push(PlanEdge {
+                from: edge.to,
+                to: NodeId(n),
+            })?;
+        }
+        n += 1;
+    }
+    Ok(edges)
+}
+
+/// The plan of a pass over a graph.
+pub fn plan<P>(alloc: Global, g: &Graph<P>, dir: Direction) -> Result<Plan, OutOfMemory>
+    requires { IsNumbered g.now.nodes }
+    ensures exact { IfOk result (λ plan. plan ≡ plan_of dir g.now.nodes) }
+    ensures is_plan { IfOk result IsPlan }
+{
+    let edges = match dir {
+        Direction::BottomUp => turned_edges(alloc, g)?,
+    };
+    Ok(Plan {
+        count: g.nodes.as_slice().len() as u32,
+        edges: Seq::new(edges),
+    })
+}

@@ -1,0 +1,19 @@
+//! The module graph: each node is a variant of a module, and its edges lead to what it depends on.
+//!
+//! A graph flows in, with whatever payload its maker gives the nodes; its plans for passes, and the
+//! names of its variants, flow out. It is measured by `plan_of` in `specs/Planned.antt`, by
+//! `IsValid` in `specs/Graphs.antt`, and by `label_of` in `specs/Names.antt`.
+#![tactic(auto)]
+
+mod direction;
+mod graph;
+mod names;
+mod variation;
+mod variations;
+
+pub use direction::{Direction, plan};
+pub use graph::{Edge, EdgeKind, Graph, Node};
+pub use names::{label, variant_name};
+pub use pass_core::heights;
+pub use variation::Variation;
+pub use variations::{Axis, Variations};

@@ -1,0 +1,16 @@
+use bp_faults::Target;
+
+/// In what a variant of a module differs from its others, along one axis.
+#[derive(Clone, Copy, Debug, PartialEq, Eq)]
+pub enum Variation {
+    Empty,
+    Target(Target),
+    Common,
+    Vendor,
+    Recovery,
+    Static,
+    Shared,
+    /// The variant of one source, counted from 1.
+    PerSource(u64),
+    Asan,
+}

@@ -1,0 +1,79 @@
+ghost use Rattle.std.specs.Prelude.{◌≡◌, length, replicate, slice_index_or, slice_set};
+ghost use Rattle.module_graph.specs.declared.variation.Variation.TheVariants.{Empty};
+ghost use Rattle.module_graph.specs.Axes.{place_of};
+
+use crate::Variation;
+use smallvec::SmallVec;
+use std::alloc::Global;
+use std::marker::Model;
+
+/// A place in the list of a node's variations.
+#[derive(Clone, Copy, Debug, PartialEq, Eq)]
+pub enum Axis {
+    Target,
+    Image,
+    Link,
+    PerSource,
+    Sanitize,
+}
+
+impl Axis {
+    fn place(self) -> usize
+        ensures { result ≡ place_of self }
+    {
+        match self {
+            Axis::Target => 0,
+            Axis::Image => 1,
+            Axis::Link => 2,
+            Axis::PerSource => 3,
+            Axis::Sanitize => 4,
+        }
+    }
+}
+
+/// The variations of a node, one for each axis. Contracts see them as a list of five.
+#[derive(Debug, Drop)]
+pub struct Variations {
+    variations: SmallVec<Variation, 5>,
+}
+
+impl Model for Variations {
+    ghost use Rattle.std.specs.Prelude.{◌≡◌, List, length};
+    ghost use Rattle.module_graph.specs.declared.variation.Variation.{Variation};
+
+    ghost Value = { List Variation };
+
+    ghost view = { λ v. v.variations.items };
+
+    ghost invariant = { λ v. length v.variations.items ≡ 5 };
+}
+
+impl Variations {
+    /// All variations empty, as before any split.
+    pub fn empty(alloc: Global) -> Variations
+        ensures { result ≡ replicate 5 Empty }
+    {
+        Variations {
+            variations: SmallVec::from_buf(alloc, [Variation::Empty; 5]),
+        }
+    }
+
+    pub fn as_slice(&self) -> &[Variation]
+        ensures list { result.now ≡ self.now }
+        ensures five { length self.now ≡ 5 }
+    {
+        self.variations.as_slice()
+    }
+
+    pub fn get(&self, axis: Axis) -> Variation
+        ensures { result ≡ slice_index_or self.now (place_of axis) Empty }
+    {
+        self.variations.as_slice()[axis.place()]
+    }
+
+    pub fn set(&mut self, axis: Axis, variation: Variation)
+        ensures { self.new ≡ slice_set self.old (place_of axis) variation }
+    {
+        self.variations.as_mut_slice()[axis.place()] = variation;
+    }
+}
