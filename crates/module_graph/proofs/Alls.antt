@@ -28,10 +28,11 @@ all_by_number P Q bound f imp k [] e h = tt
 all_by_number {X} P Q bound f imp k (x ∷ xs) e h =
     all_append Q (f k x) (by_number f (k + 1) xs) (imp k x (below k (length xs) bound e) h.0) (all_by_number P Q bound f imp (k + 1) xs (next k (length xs) bound e) h.1)
   where
-  below : (k n bound : ℕ) → k + suc n ≡ bound → k < bound
-  below k n bound e = omega arith
-  next : (k n bound : ℕ) → k + suc n ≡ bound → (k + 1) + n ≡ bound
-  next k n bound e = omega arith
+    below : (k n bound : ℕ) → k + suc n ≡ bound → k < bound
+    below k n bound e = omega arith
+
+    next : (k n bound : ℕ) → k + suc n ≡ bound → (k + 1) + n ≡ bound
+    next k n bound e = omega arith
 
 module _ {P : Type 0} (nodes : List (Node P)) (ends : NameNodes nodes) where
   -- both ends of each edge of a graph are nodes

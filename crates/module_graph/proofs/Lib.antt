@@ -2,3 +2,10 @@ pub mod Alls
 pub mod Numbers
 pub mod Ordered
 pub mod Spelled
+pub mod Buckets
+pub mod Sorted
+pub mod PlanOf
+pub mod Targets
+pub mod Walking
+pub mod Ranked
+pub mod Turned

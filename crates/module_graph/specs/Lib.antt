@@ -4,3 +4,4 @@ pub mod Numbered
 pub mod Graphs
 pub mod Walks
 pub mod Planned
+pub mod Laws

@@ -5,6 +5,7 @@ ghost use Rattle.module_graph.specs.Planned.{plan_of, plan_edges};
 ghost use Rattle.module_graph.specs.declared.direction.Direction.TheVariants.{BottomUp};
 
 use crate::Graph;
+use crate::by_target::edges_by_target;
 use bp_faults::{NodeId, OutOfMemory, Seq};
 use pass_core::{Plan, PlanEdge};
 use std::alloc::Global;
@@ -14,9 +15,11 @@ use std::alloc::Global;
 pub enum Direction {
     /// Each node after those that its edges lead to.
     BottomUp,
+    /// Each node after those whose edges lead to it.
+    TopDown,
 }
 
-/// The edges of a graph turned round, in the order of the nodes.
+/// The edges of a graph turned round, by node and place.
 fn turned_edges<P>(alloc: Global, g: &Graph<P>) -> Result<Vec<PlanEdge>, OutOfMemory>
     requires { IsNumbered g.now.nodes }
     ensures { IfOk result (λ edges. edges.items ≡ plan_edges BottomUp g.now.nodes) }
@@ -35,15 +38,23 @@ fn turned_edges<P>(alloc: Global, g: &Graph<P>) -> Result<Vec<PlanEdge>, OutOfMe
     Ok(edges)
 }
 
+fn edges_for<P>(alloc: Global, g: &Graph<P>, dir: Direction) -> Result<Vec<PlanEdge>, OutOfMemory>
+    requires { IsNumbered g.now.nodes }
+    ensures { IfOk result (λ edges. edges.items ≡ plan_edges dir g.now.nodes) }
+{
+    match dir {
+        Direction::BottomUp => turned_edges(alloc, g),
+        Direction::TopDown => edges_by_target(alloc, g),
+    }
+}
+
 /// The plan of a pass over a graph.
 pub fn plan<P>(alloc: Global, g: &Graph<P>, dir: Direction) -> Result<Plan, OutOfMemory>
     requires { IsNumbered g.now.nodes }
     ensures exact { IfOk result (λ plan. plan ≡ plan_of dir g.now.nodes) }
     ensures is_plan { IfOk result IsPlan }
 {
-    let edges = match dir {
-        Direction::BottomUp => turned_edges(alloc, g)?,
-    };
+    let edges = edges_for(alloc, g, dir)?;
     Ok(Plan {
         count: g.nodes.as_slice().len() as u32,
         edges: Seq::new(edges),

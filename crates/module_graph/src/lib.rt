@@ -5,8 +5,10 @@
 //! `IsValid` in `specs/Graphs.antt`, and by `label_of` in `specs/Names.antt`.
 #![tactic(auto)]
 
+mod by_target;
 mod direction;
 mod graph;
+pub mod laws;
 mod names;
 mod variation;
 mod variations;
