@@ -1,6 +1,7 @@
 -- What holds of each item of a list.
-use Rattle.std.proofs.Common.{◌≡◌, ◌+◌, ◌<◌, ◌++◌, arith, zero-add, suc, ℕ, List, [], ◌∷◌, map, length, take, get_or, subst, sym}
+use Rattle.std.proofs.Common.{◌≡◌, ◌+◌, ◌<◌, ◌≤◌, ◌++◌, arith, zero-add, suc, ℕ, List, [], ◌∷◌, map, length, take, get_or, subst, sym}
 use Rattle.std.specs.List.{AllByRecursion}
+use Rattle.std.proofs.lemmas.List.{take_more, take_all}
 use Rattle.pass_core.specs.declared.plan.PlanEdge.{PlanEdge}
 use Rattle.pass_core.specs.Plans.{HaveEndsBelow}
 use Rattle.module_graph.specs.declared.direction.Direction.TheVariants.{BottomUp}
@@ -17,6 +18,14 @@ all_map P Q f (x ∷ xs) h = (f x h.0, all_map P Q f xs h.1)
 pub all_append : {A : Type 0} (P : A → Type 0) (xs ys : List A) → AllByRecursion P xs → AllByRecursion P ys → AllByRecursion P (xs ++ ys)
 all_append P [] ys h k = k
 all_append P (x ∷ xs) ys h k = (h.0, all_append P xs ys h.1 k)
+
+-- one item more
+pub all_taken : {A : Type 0} (P : A → Type 0) (xs : List A) (i : ℕ) (d : A) → i < length xs → AllByRecursion P (take i xs) → P (get_or xs i d) → AllByRecursion P (take (i + 1) xs)
+all_taken P xs i d lt h here = subst (λ l. AllByRecursion P l) (sym (take_more xs i d lt)) (all_append P (take i xs) (get_or xs i d ∷ []) h (here, tt))
+
+-- all items
+pub all_of_taken : {A : Type 0} (P : A → Type 0) (xs : List A) (i : ℕ) → length xs ≤ i → AllByRecursion P (take i xs) → AllByRecursion P xs
+all_of_taken P xs i le h = subst (λ l. AllByRecursion P l) (take_all i xs le) h
 
 pub all_image : {A B : Type 0} (P : A → Type 0) (Q : B → Type 0) (f : A → B) → ((x : A) → P x → Q (f x)) → (xs : List A) → AllByRecursion P xs → AllByRecursion Q (map f xs)
 all_image P Q f imp [] h = tt

@@ -9,7 +9,7 @@ use Rattle.bp_faults.specs.declared.target.Target.TheVariants.{AndroidArm64, And
 use Rattle.bp_faults.specs.Targets.{target_name}
 use Rattle.module_graph.specs.declared.variation.Variation.{Variation}
 use Rattle.module_graph.specs.declared.variation.Variation.TheVariants.{Empty, Target as ForTarget, Common, Vendor, Recovery, Static, Shared, PerSource, Asan}
-use Rattle.module_graph.specs.Names.{spelling, is_set, added, appended, variant_name_of}
+use Rattle.module_graph.specs.Names.{spelling, is_set, added, variant_name_of}
 
 target_named : (t : Target) → target_name t ≢ []
 target_named AndroidArm64 = λ e. cc
@@ -52,7 +52,7 @@ joined_set (w ∷ vs) all v set =
     added_both (joined (w ∷ vs)) (spelling v) (not_empty (spelling w) (flat_map (λ y. codes "_" ++ spelling y) vs) (spelled w (all 0 w (omega arith)))) (spelled v set)
     ∙ flat_map_more (λ y. codes "_" ++ spelling y) (spelling w) vs v
 
-joined_more : (vs : List Variation) → All (λ v. is_set v ≡ true) vs → (v : Variation) → appended (joined vs) v ≡ joined (vs ++ filter is_set (v ∷ []))
+joined_more : (vs : List Variation) → All (λ v. is_set v ≡ true) vs → (v : Variation) → added (joined vs) (spelling v) ≡ joined (vs ++ filter is_set (v ∷ []))
 joined_more vs all Empty = added_none (joined vs) ∙ sym (ap joined (append-nil vs))
 joined_more vs all (ForTarget t) = joined_set vs all (ForTarget t) refl
 joined_more vs all Common = joined_set vs all Common refl
@@ -64,7 +64,7 @@ joined_more vs all (PerSource k) = joined_set vs all (PerSource k) refl
 joined_more vs all Asan = joined_set vs all Asan refl
 
 -- one variation more
-pub name_more : (vs : List Variation) (i : ℕ) (d : Variation) → i < length vs → appended (variant_name_of (take i vs)) (get_or vs i d) ≡ variant_name_of (take (i + 1) vs)
+pub name_more : (vs : List Variation) (i : ℕ) (d : Variation) → i < length vs → added (variant_name_of (take i vs)) (spelling (get_or vs i d)) ≡ variant_name_of (take (i + 1) vs)
 name_more vs i d lt =
     joined_more (filter is_set (take i vs)) (filter_passes is_set (take i vs)) (get_or vs i d)
     ∙ ap joined (sym (filter-append is_set (take i vs) (get_or vs i d ∷ []))) ∙ ap variant_name_of (sym (take_more vs i d lt))

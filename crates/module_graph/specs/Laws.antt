@@ -10,17 +10,17 @@ use Rattle.module_graph.specs.Planned.{plan_edges}
 use Rattle.module_graph.specs.Walks.{NoneReturns}
 
 -- No walk along some edges returns to its start exactly where a numbering of the nodes rises along each edge.
-abbrev pub AcyclicMeansNumbered : Type 0
-AcyclicMeansNumbered = (count : ℕ) (edges : List PlanEdge) → HaveEndsBelow count edges → NoneReturns edges ↔ HasNoCycle edges
+abbrev pub NoneReturnsWhereNumberingRises : Type 0
+NoneReturnsWhereNumberingRises = (count : ℕ) (edges : List PlanEdge) → HaveEndsBelow count edges → NoneReturns edges ↔ HasNoCycle edges
 
 module _ (P : Type 0) where
   -- No walk in a graph returns to its start exactly where its plan has no cycle, in either direction.
-  abbrev pub AcyclicMeansPlanned : Type 0
-  AcyclicMeansPlanned = (nodes : List (Node P)) (dir : Direction) → NameNodes nodes → NoneReturns (edges_of nodes) ↔ HasNoCycle (plan_edges dir nodes)
+  abbrev pub NoneReturnsWherePlansHaveNoCycle : Type 0
+  NoneReturnsWherePlansHaveNoCycle = (nodes : List (Node P)) (dir : Direction) → NameNodes nodes → NoneReturns (edges_of nodes) ↔ HasNoCycle (plan_edges dir nodes)
 
   -- The plan of a valid graph has no cycle, in either direction.
-  abbrev pub ValidMeansPlanned : Type 0
-  ValidMeansPlanned = (nodes : List (Node P)) (dir : Direction) → IsValid nodes → HasNoCycle (plan_edges dir nodes)
+  abbrev pub ValidPlansHaveNoCycle : Type 0
+  ValidPlansHaveNoCycle = (nodes : List (Node P)) (dir : Direction) → IsValid nodes → HasNoCycle (plan_edges dir nodes)
 
   -- From the bottom up the predecessors of a node are the targets of its edges, in order.
   abbrev pub PredecessorsAreTargets : Type 0

@@ -20,14 +20,7 @@ spelling Asan = codes "asan"
 
 abbrev pub is_set : Variation → Bool
 is_set Empty = false
-is_set (Target target) = true
-is_set Common = true
-is_set Vendor = true
-is_set Recovery = true
-is_set Static = true
-is_set Shared = true
-is_set (PerSource source) = true
-is_set Asan = true
+is_set variation = true
 
 -- The name of a variant: the spellings of the variations that aren't empty, joined by `_`.
 abbrev pub variant_name_of : List Variation → List ℕ
@@ -42,12 +35,8 @@ braced (c ∷ name) = codes "{" ++ ((c ∷ name) ++ codes "}")
 abbrev pub label_of : List ℕ → List Variation → List ℕ
 label_of name variations = name ++ braced (variant_name_of variations)
 
--- A name, and behind `_` what is added to it, unless one of them is empty.
+-- A name with one part more, behind `_` where both aren't empty.
 abbrev pub added : List ℕ → List ℕ → List ℕ
-added [] more = more
+added [] part = part
 added (c ∷ name) [] = c ∷ name
-added (c ∷ name) (d ∷ more) = (c ∷ name) ++ (codes "_" ++ d ∷ more)
-
--- The name of a variant, and one variation more.
-abbrev pub appended : List ℕ → Variation → List ℕ
-appended name variation = added name (spelling variation)
+added (c ∷ name) (d ∷ part) = (c ∷ name) ++ (codes "_" ++ d ∷ part)

@@ -1,20 +1,20 @@
 //! What holds of every graph and its plans: each law is the contract of a function that does nothing.
 
-ghost use Rattle.module_graph.specs.Laws.{AcyclicMeansNumbered, AcyclicMeansPlanned, ValidMeansPlanned, PredecessorsAreTargets, PredecessorsAreSources};
+ghost use Rattle.module_graph.specs.Laws.{NoneReturnsWhereNumberingRises, NoneReturnsWherePlansHaveNoCycle, ValidPlansHaveNoCycle, PredecessorsAreTargets, PredecessorsAreSources};
 
 /// No walk along some edges returns exactly where a numbering of the nodes rises along each of them.
-pub fn acyclic_means_numbered()
-    ensures { AcyclicMeansNumbered }
+pub fn none_returns_where_numbering_rises()
+    ensures { NoneReturnsWhereNumberingRises }
 {}
 
 /// No walk in a graph returns exactly where its plans have no cycle.
-pub fn acyclic_means_planned<P>()
-    ensures { AcyclicMeansPlanned P }
+pub fn none_returns_where_plans_have_no_cycle<P>()
+    ensures { NoneReturnsWherePlansHaveNoCycle P }
 {}
 
 /// The plans of a valid graph have no cycle.
-pub fn valid_means_planned<P>()
-    ensures { ValidMeansPlanned P }
+pub fn valid_plans_have_no_cycle<P>()
+    ensures { ValidPlansHaveNoCycle P }
 {}
 
 /// From the bottom up a node's predecessors are the targets of its edges.

@@ -19,3 +19,6 @@ pub use names::{label, variant_name};
 pub use pass_core::heights;
 pub use variation::Variation;
 pub use variations::{Axis, Variations};
+
+#[cfg(test)]
+mod tests;

@@ -1,0 +1,195 @@
+ghost use Rattle.std.specs.Prelude.{◌<◌, IsTrue};
+ghost use Rattle.std.specs.List.{AllByRecursion};
+ghost use Rattle.pass_core.specs.Plans.{IsPlan, HasNoCycle};
+ghost use Rattle.module_graph.specs.declared.graph.Edge.{Edge};
+ghost use Rattle.module_graph.specs.Graphs.{IsNumbered};
+
+use crate::{
+    Axis, Direction, Edge, EdgeKind, Graph, Node, Variation, Variations, heights, label, plan,
+    variant_name,
+};
+use bp_faults::{ModuleId, NodeId, OutOfMemory, Place, Seq, Target, Text};
+use pass_core::Plan;
+use std::alloc::Global;
+use std::test::Fail;
+
+/// Edges to nodes, in order.
+fn edges_to(alloc: Global, targets: &[u32]) -> Result<Seq<Edge>, OutOfMemory> {
+    let at = Place {
+        file: 1,
+        line: 1,
+        col: 1,
+    };
+    let mut edges = Vec::new(alloc);
+    for to in targets {
+        edges.push(Edge {
+            kind: EdgeKind::Static,
+            to: NodeId(*to),
+            at,
+        })?;
+    }
+    Ok(Seq::new(edges))
+}
+
+/// A graph by the targets of each node's edges.
+fn graph(alloc: Global, targets: &[&[u32]]) -> Result<Graph<bool>, OutOfMemory> {
+    let mut nodes = Vec::new(alloc);
+    let mut module = 0;
+    for targets in targets {
+        nodes.push(Node {
+            module: ModuleId(module),
+            vars: Variations::empty(alloc),
+            payload: false,
+            edges: edges_to(alloc, targets)?,
+        })?;
+        module = module.wrapping_add(1);
+    }
+    Ok(Graph {
+        nodes: Seq::new(nodes),
+    })
+}
+
+fn lead_inside(edges: &[Edge], count: usize) -> bool
+    ensures { IsTrue result → AllByRecursion (λ (e : Edge). e.to.0 < count) edges.now }
+{
+    for edge in edges {
+        if edge.to.0 as usize >= count {
+            return false;
+        }
+    }
+    true
+}
+
+/// Whether a graph may be planned.
+fn is_numbered(g: &Graph<bool>) -> bool
+    ensures { IsTrue result → IsNumbered g.now.nodes }
+{
+    let nodes = g.nodes.as_slice();
+    let mut many = 0;
+    for node in nodes {
+        let edges = node.edges.as_slice();
+        if !lead_inside(edges, nodes.len()) || edges.len() >= (1 << 32) - many {
+            return false;
+        }
+        many += edges.len();
+    }
+    nodes.len() < 1 << 32
+}
+
+/// Whether each edge leads to a lesser node.
+fn falls(plan: &Plan) -> bool
+    requires { IsPlan plan.now }
+    ensures { IsTrue result → HasNoCycle plan.now.edges }
+{
+    for edge in plan.edges.as_slice() {
+        if edge.from.0 <= edge.to.0 {
+            return false;
+        }
+    }
+    true
+}
+
+/// The ends of the edges of a graph's plan.
+fn ends(alloc: Global, g: &Graph<bool>, dir: Direction) -> Result<Vec<(u32, u32)>, OutOfMemory>
+    requires { IsNumbered g.now.nodes }
+{
+    let plan = plan(alloc, g, dir)?;
+    let mut ends = Vec::new(alloc);
+    for edge in plan.edges.as_slice() {
+        ends.push((edge.from.0, edge.to.0))?;
+    }
+    Ok(ends)
+}
+
+const DIAMOND: [&[u32]; 4] = [&[1, 2], &[3], &[3, 3], &[]];
+
+#[test]
+fn plans_of_a_diamond(rt: HostRuntime) -> Result<(), Fail> {
+    let alloc = rt.alloc();
+    let g = graph(alloc, &DIAMOND)?;
+    assert!(rt; is_numbered(&g));
+    let up = ends(alloc, &g, Direction::BottomUp)?;
+    assert_eq!(rt;
+        up.as_slice(),
+        [(1, 0), (2, 0), (3, 1), (3, 2), (3, 2)].as_slice()
+    );
+    let down = ends(alloc, &g, Direction::TopDown)?;
+    assert_eq!(rt;
+        down.as_slice(),
+        [(0, 1), (0, 2), (1, 3), (2, 3), (2, 3)].as_slice()
+    );
+    Ok(())
+}
+
+#[test]
+fn heights_of_a_diamond(rt: HostRuntime) -> Result<(), Fail> {
+    let alloc = rt.alloc();
+    let g = graph(alloc, &DIAMOND)?;
+    assert!(rt; is_numbered(&g));
+    let plan = plan(alloc, &g, Direction::BottomUp)?;
+    assert!(rt; falls(&plan));
+    assert_eq!(rt; heights(alloc, &plan)?.as_slice(), [2, 1, 1, 0].as_slice());
+    Ok(())
+}
+
+#[test]
+fn names_of_variants(rt: HostRuntime) -> Result<(), Fail> {
+    let alloc = rt.alloc();
+    let module = Text::from_str(alloc, "a")?;
+    let mut variations = Variations::empty(alloc);
+    assert_eq!(rt; variant_name(alloc, &variations)?.as_str(), "");
+    assert_eq!(rt; label(alloc, &module, &variations)?.as_str(), "a");
+    let steps = [
+        (Axis::Link, Variation::Static, "a{static}"),
+        (
+            Axis::Target,
+            Variation::Target(Target::AndroidArm64),
+            "a{android_arm64_static}",
+        ),
+        (
+            Axis::Image,
+            Variation::Vendor,
+            "a{android_arm64_vendor_static}",
+        ),
+        (
+            Axis::PerSource,
+            Variation::PerSource(12),
+            "a{android_arm64_vendor_static_t12}",
+        ),
+        (
+            Axis::Sanitize,
+            Variation::Asan,
+            "a{android_arm64_vendor_static_t12_asan}",
+        ),
+        (
+            Axis::Target,
+            Variation::Common,
+            "a{common_vendor_static_t12_asan}",
+        ),
+        (
+            Axis::Image,
+            Variation::Recovery,
+            "a{common_recovery_static_t12_asan}",
+        ),
+        (
+            Axis::Link,
+            Variation::Shared,
+            "a{common_recovery_shared_t12_asan}",
+        ),
+        (
+            Axis::Target,
+            Variation::Empty,
+            "a{recovery_shared_t12_asan}",
+        ),
+    ];
+    for (axis, variation, want) in steps {
+        variations.set(axis, variation);
+        assert!(rt; variations.get(axis) == variation);
+        assert_eq!(rt; label(alloc, &module, &variations)?.as_str(), want);
+    }
+    assert_eq!(rt;
+        variant_name(alloc, &variations)?.as_str(),
+        "recovery_shared_t12_asan"
+    );
+    Ok(())
+}
