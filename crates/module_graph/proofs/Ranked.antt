@@ -1,7 +1,7 @@
 -- Where no walk returns there is a numbering that rises along every edge: the length of the longest walk to a node.
-use Rattle.std.proofs.Common.{◌≡◌, ◌≢◌, ◌+◌, ◌<◌, ◌≤◌, ◌==◌, ℕ, zero, suc, List, [], ◌∷◌, length, map, refl, ap, ◌∙◌, sym, subst, arith, get_or, ◌⊎◌, inl, inr, ⊎_elim, Bool, true, false, ne_eqb}
+use Rattle.std.proofs.Common.{◌≡◌, ◌<◌, ◌≤◌, ◌==◌, ℕ, zero, suc, List, [], ◌∷◌, length, map, refl, ap, ◌∙◌, sym, subst, arith, get_or, ◌⊎◌, inl, inr, ⊎_elim, true, false, ne_eqb}
 use Rattle.std.specs.List.{AllByRecursion, list_any, IsDistinct}
-use Rattle.std.specs.Prelude.{Contains, max, All}
+use Rattle.std.specs.Prelude.{Contains, max}
 use Rattle.std.proofs.lemmas.List.Elements.{All-from_recursion, All-contains, recursion_from_All, All-contains_itself, Contains-get_or}
 use Rattle.std.proofs.lemmas.Map.Steps.{length-le_from_distinct_below}
 use mathlib.Core.Logic.{dite}
@@ -10,7 +10,7 @@ use Rattle.std.proofs.Math.Decide.{dec_lt}
 use Rattle.pass_core.specs.declared.plan.PlanEdge.{PlanEdge}
 use Rattle.pass_core.specs.Plans.{in_edges, predecessors, HasNoCycle, HaveEndsBelow}
 use Rattle.pass_core.specs.Heights.{above_all, unroll}
-use Rattle.module_graph.specs.Walks.{Leads, Walk, Returns, NoneReturns}
+use Rattle.module_graph.specs.Walks.{Leads, Walk, NoneReturns}
 use Rattle.module_graph.proofs.Alls.{all_map, all_image}
 use Rattle.module_graph.proofs.Sorted.{all_into, all_of_into}
 use Rattle.module_graph.proofs.Walking.{at_step, walk_push}

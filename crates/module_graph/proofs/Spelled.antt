@@ -1,5 +1,5 @@
 -- The name of a variant grows by one variation.
-use Rattle.std.proofs.Common.{◌≡◌, ◌≢◌, ◌+◌, ◌<◌, ◌++◌, ℕ, Bool, true, false, List, [], ◌∷◌, length, get_or, take, refl, ap, ◌∙◌, sym, append-nil, append_assoc, arith}
+use Rattle.std.proofs.Common.{◌≡◌, ◌≢◌, ◌+◌, ◌<◌, ◌++◌, ℕ, true, List, [], ◌∷◌, length, get_or, take, refl, ap, ◌∙◌, sym, append-nil, arith}
 use Rattle.std.specs.Prelude.{codes}
 use Rattle.std.specs.List.{All, filter, flat_map, join_by}
 use Rattle.std.proofs.lemmas.List.{take_more, flat_map_more}

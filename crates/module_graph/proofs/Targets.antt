@@ -1,6 +1,6 @@
 -- From the bottom up the predecessors of a node are the targets of its edges.
-use Rattle.std.proofs.Common.{◌≡◌, ◌≢◌, ◌+◌, ◌<◌, ◌==◌, ◌++◌, ℕ, zero, suc, List, [], ◌∷◌, map, length, refl, ap, ◌∙◌, sym, arith, append-nil, eq-eqb, ne_eqb, add-zero, zero-add}
-use Rattle.std.proofs.lemmas.List.{map-append}
+use Rattle.std.proofs.Common.{◌≡◌, ◌≢◌, ◌+◌, ◌<◌, ◌++◌, ℕ, zero, suc, List, [], ◌∷◌, map, length, get_or, refl, ap, ◌∙◌, sym, arith, append-nil, eq-eqb, ne_eqb, add-zero, zero-add}
+use Rattle.std.proofs.lemmas.List.{map-append, length-map}
 use Rattle.std.proofs.lemmas.List.Elements.{filter-append}
 use Rattle.pass_core.specs.declared.plan.PlanEdge.{PlanEdge}
 use Rattle.pass_core.specs.Plans.{predecessors}
@@ -52,3 +52,13 @@ module _ {P : Type 0} where
 
   pub predecessors_targets : (nodes : List (Node P)) (n : ℕ) → predecessors (plan_edges BottomUp nodes) n ≡ targets nodes n
   predecessors_targets nodes n = ap (predecessors (plan_edges BottomUp nodes)) (sym (zero-add n)) ∙ from_number nodes 0 n
+
+  -- the targets of a node's edges are those of the node that stands there
+  pub targets_at : (nodes : List (Node P)) (n : ℕ) (x : Node P) → n < length nodes → targets nodes n ≡ map (λ (e : Edge). e.to.0) (get_or nodes n x).edges
+  targets_at [] n x lt = absurd (omega arith)
+  targets_at (y ∷ ys) zero x lt = refl
+  targets_at (y ∷ ys) (suc n) x lt = targets_at ys n x (omega arith)
+
+  -- a node has as many predecessors as edges
+  pub many_predecessors : (nodes : List (Node P)) (n : ℕ) (x : Node P) → n < length nodes → length (predecessors (plan_edges BottomUp nodes) n) ≡ length (get_or nodes n x).edges
+  many_predecessors nodes n x lt = ap length (predecessors_targets nodes n ∙ targets_at nodes n x lt) ∙ length-map (get_or nodes n x).edges (λ (e : Edge). e.to.0)

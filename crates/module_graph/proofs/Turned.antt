@@ -1,5 +1,5 @@
 -- The plan from the bottom up is the graph's edges turned round, and that from the top down the same edges by target: walks return in all three or in none.
-use Rattle.std.proofs.Common.{◌≡◌, ◌+◌, ◌<◌, ◌++◌, ℕ, zero, suc, List, [], ◌∷◌, map, length, refl, ap, ◌∙◌, sym, subst, get_or, arith}
+use Rattle.std.proofs.Common.{◌≡◌, ◌+◌, ◌<◌, ◌++◌, ℕ, zero, suc, List, [], ◌∷◌, map, length, refl, ap, ◌∙◌, sym, subst, get_or}
 use Rattle.std.specs.Prelude.{Contains}
 use Rattle.std.specs.List.{AllByRecursion}
 use Rattle.std.proofs.lemmas.List.{map-append}
@@ -13,7 +13,7 @@ use Rattle.module_graph.specs.declared.graph.Node.{Node}
 use Rattle.module_graph.specs.Numbered.{by_number}
 use Rattle.module_graph.specs.Graphs.{outward, edges_of, NameNodes}
 use Rattle.module_graph.specs.Planned.{turned, by_target, plan_edges}
-use Rattle.module_graph.specs.Walks.{Leads, Walk, Returns, NoneReturns}
+use Rattle.module_graph.specs.Walks.{Leads, Walk, NoneReturns}
 use Rattle.module_graph.proofs.Alls.{all_map, all_image, edges_of_ends, turned_ends}
 use Rattle.module_graph.proofs.Sorted.{all_by_target, into_by_target, all_into, all_of_into}
 use Rattle.module_graph.proofs.Walking.{at_step, none_returns, walk_push}

@@ -1,11 +1,10 @@
 -- Along a walk a rising numbering rises.
-use Rattle.std.proofs.Common.{◌≡◌, ◌+◌, ◌<◌, ◌≤◌, ℕ, zero, suc, List, [], ◌∷◌, refl, ap, sym, subst, arith}
-use Rattle.std.specs.Prelude.{Contains}
+use Rattle.std.proofs.Common.{◌+◌, ◌<◌, ◌≤◌, ℕ, zero, suc, List, refl, ap, sym, subst, arith}
 use Rattle.std.specs.List.{AllByRecursion}
 use Rattle.std.proofs.lemmas.List.Elements.{All-from_recursion, All-contains}
 use Rattle.pass_core.specs.declared.plan.PlanEdge.{PlanEdge}
 use Rattle.pass_core.specs.Plans.{HasNoCycle}
-use Rattle.module_graph.specs.Walks.{Leads, Walk, Returns, NoneReturns}
+use Rattle.module_graph.specs.Walks.{Leads, Walk, NoneReturns}
 
 -- what holds of the ends of each edge holds of the ends of a step
 pub at_step : (Q : ℕ → ℕ → Type 0) (edges : List PlanEdge) → AllByRecursion (λ (e : PlanEdge). Q e.from.0 e.to.0) edges → (n m : ℕ) → Leads edges n m → Q n m

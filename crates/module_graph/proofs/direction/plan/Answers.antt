@@ -1,4 +1,4 @@
-use Rattle.std.proofs.Common.{◌∙◌, ap, sym, subst, length, List}
+use Rattle.std.proofs.Common.{◌∙◌, ap, sym, subst, length}
 use Rattle.pass_core.specs.declared.plan.Plan.{Plan}
 use Rattle.pass_core.specs.Plans.{IsPlan}
 use Rattle.module_graph.proofs.PlanOf.{plan_of_is_plan}

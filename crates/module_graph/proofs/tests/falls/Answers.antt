@@ -1,7 +1,7 @@
 use Rattle.std.proofs.Common.{◌<◌, ◌-◌, List, ℕ, [], ◌∷◌, subst, arith}
 use Rattle.std.specs.List.{AllByRecursion}
 use Rattle.pass_core.specs.declared.plan.PlanEdge.{PlanEdge}
-use Rattle.pass_core.specs.Plans.{HaveEndsBelow, HasNoCycle}
+use Rattle.pass_core.specs.Plans.{HaveEndsBelow}
 use Rattle.module_graph.proofs.Alls.{all_taken, all_of_taken}
 use Rattle.module_graph.proofs.tests.falls.Goals as goal
 

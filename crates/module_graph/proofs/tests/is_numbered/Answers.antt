@@ -1,20 +1,14 @@
-use Rattle.std.proofs.Common.{◌≡◌, ◌∙◌, ◌+◌, ◌<◌, ◌≤◌, ◌^◌, List, ℕ, Bool, IsTrue, ap, sym, subst, arith, map, take, length, get_or, length-append}
+use Rattle.std.proofs.Common.{◌≡◌, ◌∙◌, ◌+◌, ◌<◌, ◌≤◌, ◌^◌, List, ℕ, Bool, ap, subst, arith, take, length, get_or}
 use Rattle.std.specs.List.{AllByRecursion}
-use Rattle.std.proofs.lemmas.List.{length-map, take_all}
+use Rattle.std.proofs.lemmas.List.{take_all}
 use Rattle.std.proofs.lemmas.Bool.Decides.{nat_tests}
 use Rattle.module_graph.specs.declared.graph.Edge.{Edge}
 use Rattle.module_graph.specs.declared.graph.Node.{Node}
-use Rattle.module_graph.specs.Graphs.{outward, edges_of, IsNumbered}
+use Rattle.module_graph.specs.Graphs.{edges_of, IsNumbered}
 use Rattle.module_graph.proofs.Alls.{all_taken}
-use Rattle.module_graph.proofs.Numbers.{by_number_step}
+use Rattle.module_graph.proofs.Numbers.{edges_more}
 use Rattle.module_graph.proofs.tests.is_numbered.Invariants.{IsNumberedSoFar}
 use Rattle.module_graph.proofs.tests.is_numbered.Goals as goal
-
-edges_more : (nodes : List (Node Bool)) (i : ℕ) (x : Node Bool) → i < length nodes → x ≡ get_or nodes i x → length (edges_of (take (i + 1) nodes)) ≡ length (edges_of (take i nodes)) + length x.edges
-edges_more nodes i x lt read =
-    ap length (by_number_step (λ n (y : Node Bool). map (outward n) y.edges) nodes i x lt)
-    ∙ length-append (edges_of (take i nodes)) (map (outward i) (get_or nodes i x).edges)
-    ∙ ap (λ k. length (edges_of (take i nodes)) + k) (length-map (get_or nodes i x).edges (outward i) ∙ ap (λ (y : Node Bool). length y.edges) (sym read))
 
 so_far_more : (nodes : List (Node Bool)) (i many : ℕ) (x : Node Bool) (es : List Edge) → i < length nodes → x ≡ get_or nodes i x → es ≡ x.edges → IsNumberedSoFar (take i nodes) (length nodes) many
     → AllByRecursion (λ (e : Edge). e.to.0 < length nodes) es → many + length es < 2 ^ 32 → IsNumberedSoFar (take (i + 1) nodes) (length nodes) (many + length es)
