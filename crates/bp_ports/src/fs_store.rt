@@ -1,5 +1,6 @@
 ghost use Rattle.std.specs.Prelude.{◌≡◌, ◌≤◌, None, IfOk, length};
 
+use crate::replace::replace;
 use crate::{Failed, ReadError, Store};
 use bp_faults::Text;
 use std::alloc::Global;
@@ -73,7 +74,7 @@ impl<R: Files + Drop> Store for FsStore<R> {
         ensures reads { failed_reads self.new ≡ failed_reads self.old }
         ensures raised { failed_writes self.new ≡ count_after result (failed_writes self.old) }
     {
-        match fs::write(&self.rt, path.as_str(), bytes) {
+        match replace(&self.rt, path.as_str(), bytes) {
             Ok(()) => Ok(()),
             Err(_) => {
                 self.write_faults = self.write_faults.saturating_add(1);

@@ -16,6 +16,7 @@ mod fs_store;
 mod gate;
 mod mem_sink;
 mod mem_store;
+mod replace;
 mod sink;
 mod std_sink;
 mod store;
