@@ -32,3 +32,6 @@ pub use mem_store::MemStore;
 pub use sink::Sink;
 pub use std_sink::StdSink;
 pub use store::{ReadError, Store};
+
+#[cfg(test)]
+mod tests;
