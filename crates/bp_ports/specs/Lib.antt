@@ -2,8 +2,9 @@ pub mod Causes
 pub mod Files
 pub mod Calls
 pub mod Written
-pub mod Held
-pub mod Sunk
-pub mod FreeFiles
-pub mod FreeBytes
-pub mod Real
+pub mod MemStore
+pub mod MemSink
+pub mod FreeStore
+pub mod FreeSink
+pub mod FsStore
+pub mod StdSink

@@ -1,6 +1,6 @@
 ghost use Rattle.std.specs.Prelude.{◌≡◌, ℕ, ◌+◌, ◌≤◌, ◌<◌, ◌++◌, [], length, Some, IfOk, IsOk, IfSome, IsSome, IsNone, IsTrue, ◌↔◌};
 ghost use Rattle.std.specs.Option.{option_map};
-ghost use Rattle.bp_ports.specs.Sunk.{puts_of};
+ghost use Rattle.bp_ports.specs.MemSink.{puts_of};
 
 use crate::{Failed, MemSink, Sink};
 use bp_faults::OutOfMemory;
@@ -15,7 +15,7 @@ pub struct FreeSink {
 }
 
 impl FreeSink {
-    ghost use Rattle.bp_ports.specs.FreeBytes.{told_bytes, BeginsWith};
+    ghost use Rattle.bp_ports.specs.FreeSink.{told_bytes, BeginsWith};
 
     /// A sink for so many bytes, whose room is taken now.
     pub fn new(alloc: Global, room: u32) -> Result<FreeSink, OutOfMemory>
@@ -45,7 +45,7 @@ impl FreeSink {
 impl Sink for FreeSink {
     ghost use Rattle.bp_ports.specs.Causes.{HasCause};
     ghost use Rattle.bp_ports.specs.Files.{WhereTold, PutLeaves};
-    ghost use Rattle.bp_ports.specs.FreeBytes.{told_bytes, room_for_bytes};
+    ghost use Rattle.bp_ports.specs.FreeSink.{told_bytes, room_for_bytes};
 
     ghost bytes = { λ s. told_bytes s };
 

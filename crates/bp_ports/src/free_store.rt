@@ -1,6 +1,6 @@
-ghost use Rattle.std.specs.Prelude.{◌≡◌, ℕ, ◌+◌, ◌≤◌, ◌<◌, [], length, Some, IfOk, IsOk, IsErrOf, IfSome, IsSome, IsNone, IsSomeAnd, IsTrue, min, ◌-◌, ◌^◌, ◌↔◌};
+ghost use Rattle.std.specs.Prelude.{◌≡◌, ℕ, ◌+◌, ◌≤◌, ◌<◌, [], length, Some, IfOk, IsOk, IsErrOf, IfSome, IsSome, IsNone, IsSomeAnd, IsTrue, ◌↔◌};
 ghost use Rattle.std.specs.Option.{option_copied, option_map};
-ghost use Rattle.bp_ports.specs.Held.{calls_of};
+ghost use Rattle.bp_ports.specs.MemStore.{calls_of};
 
 use crate::{Failed, MemStore, ReadError, Store};
 use bp_faults::{OutOfMemory, Text};
@@ -16,8 +16,8 @@ pub struct FreeStore {
 
 impl FreeStore {
     ghost use Rattle.std.specs.FinMap.{get};
-    ghost use Rattle.bp_ports.specs.Held.{given_files};
-    ghost use Rattle.bp_ports.specs.FreeFiles.{told_files, calls_made, BeginsWith};
+    ghost use Rattle.bp_ports.specs.MemStore.{given_files};
+    ghost use Rattle.bp_ports.specs.FreeStore.{told_files, calls_so_far, BeginsWith};
 
     /// A store that holds these files, of two with one path the first. The room for writes is taken
     /// now.
@@ -36,7 +36,7 @@ impl FreeStore {
 
     /// How many calls there were, reads and writes together.
     pub fn calls(&self) -> u32
-        ensures { result ≡ calls_made self.now }
+        ensures { result ≡ calls_so_far self.now }
     {
         self.store.calls()
     }
@@ -58,9 +58,10 @@ impl FreeStore {
 
 impl Store for FreeStore {
     ghost use Rattle.std.specs.FinMap.{get, insert};
+    ghost use Rattle.bp_ports.specs.Calls.{next_number};
     ghost use Rattle.bp_ports.specs.Causes.{HasCause, HasCauseAt};
     ghost use Rattle.bp_ports.specs.Files.{WhereTold, ReadGives, WriteLeaves};
-    ghost use Rattle.bp_ports.specs.FreeFiles.{told_files, room_for_writes, calls_made};
+    ghost use Rattle.bp_ports.specs.FreeStore.{told_files, room_for_writes, calls_so_far};
     ghost use Rattle.bp_ports.specs.Written.{need_of};
 
     ghost files = { λ s. told_files s };
@@ -78,7 +79,7 @@ impl Store for FreeStore {
         // No call fails, and memory is wanted only for what is given.
         ensures not_failed { ¬ IsErrOf result ReadError.Failed }
         ensures memory { IsErrOf result ReadError.OutOfMemory → IfSome (told_files self.old) (λ held. IsSomeAnd (get held path.now) (λ bytes. length bytes ≤ limit)) }
-        ensures counted { calls_made self.new ≡ min (calls_made self.old + 1) (2 ^ 32 - 1) }
+        ensures counted { calls_so_far self.new ≡ next_number (calls_so_far self.old) }
         ensures room { room_for_writes self.new ≡ room_for_writes self.old }
     {
         self.store.read(alloc, path, limit)
@@ -94,7 +95,7 @@ impl Store for FreeStore {
         ensures ended { room_for_writes self.old < need_of path.now bytes.now → IsNone (told_files self.new) }
         ensures spent { need_of path.now bytes.now ≤ room_for_writes self.old → room_for_writes self.new + need_of path.now bytes.now ≡ room_for_writes self.old }
         ensures saved { room_for_writes self.old < need_of path.now bytes.now → room_for_writes self.new ≡ room_for_writes self.old }
-        ensures counted { calls_made self.new ≡ min (calls_made self.old + 1) (2 ^ 32 - 1) }
+        ensures counted { calls_so_far self.new ≡ next_number (calls_so_far self.old) }
     {
         if self.store.write(path, bytes).is_err() {
             self.told = false;

@@ -17,8 +17,9 @@ pub struct FsStore<R> {
 }
 
 impl<R: Files + Drop> FsStore<R> {
-    ghost use Rattle.bp_ports.specs.Real.{failed_reads, failed_writes};
+    ghost use Rattle.bp_ports.specs.FsStore.{failed_reads, failed_writes};
 
+    /// A store over the files of this runtime.
     pub fn new(rt: R) -> FsStore<R>
         ensures reads { failed_reads result ≡ 0 }
         ensures writes { failed_writes result ≡ 0 }
@@ -41,7 +42,7 @@ impl<R: Files + Drop> FsStore<R> {
 
 impl<R: Files + Drop> Store for FsStore<R> {
     ghost use Rattle.bp_ports.specs.Causes.{HasCause, HasCauseAt, count_after, read_count_after};
-    ghost use Rattle.bp_ports.specs.Real.{failed_reads, failed_writes};
+    ghost use Rattle.bp_ports.specs.FsStore.{failed_reads, failed_writes};
 
     ghost files = { λ s. None };
 

@@ -16,7 +16,7 @@ pub struct MemSink {
 }
 
 impl MemSink {
-    ghost use Rattle.bp_ports.specs.Sunk.{sunk, room_left, puts_of, failed_puts, BeginsWith};
+    ghost use Rattle.bp_ports.specs.MemSink.{bytes_so_far, room_left, puts_of, failed_puts, BeginsWith};
 
     /// A sink for so many bytes, whose room is taken now. The puts that fail are counted from 1.
     pub fn new(alloc: Global, room: u32, failing: Vec<u32>) -> Result<MemSink, OutOfMemory>
@@ -32,7 +32,7 @@ impl MemSink {
 
     /// The bytes so far.
     pub fn bytes(&self) -> &[u8]
-        ensures { result.now ≡ sunk self.now }
+        ensures { result.now ≡ bytes_so_far self.now }
     {
         self.bytes.as_slice()
     }
@@ -40,7 +40,7 @@ impl MemSink {
     // Appends bytes for which there is room.
     fn append(&mut self, more: &[u8])
         requires room { length more.now ≤ room_left self.old }
-        ensures bytes { sunk self.new ≡ sunk self.old ++ more.now }
+        ensures bytes { bytes_so_far self.new ≡ bytes_so_far self.old ++ more.now }
         ensures room { room_left self.new + length more.now ≡ room_left self.old }
         ensures puts { puts_of self.new ≡ puts_of self.old }
         ensures faults { failed_puts self.new ≡ failed_puts self.old }
@@ -54,20 +54,20 @@ impl Sink for MemSink {
     ghost use Rattle.bp_ports.specs.Calls.{FailsNext, one_later};
     ghost use Rattle.bp_ports.specs.Causes.{HasCause, count_after};
     ghost use Rattle.bp_ports.specs.Files.{PutLeaves};
-    ghost use Rattle.bp_ports.specs.Sunk.{sunk, room_left, puts_of, failed_puts, fitting_half};
+    ghost use Rattle.bp_ports.specs.MemSink.{bytes_so_far, room_left, puts_of, failed_puts, fitting_half};
 
-    ghost bytes = { λ s. Some (sunk s) };
+    ghost bytes = { λ s. Some (bytes_so_far s) };
 
     ghost faults = { λ s. failed_puts s };
 
     fn put(&mut self, more: &[u8]) -> Result<(), Failed>
-        ensures contents { PutLeaves more.now result (sunk self.old) (sunk self.new) }
+        ensures contents { PutLeaves more.now result (bytes_so_far self.old) (bytes_so_far self.new) }
         ensures cause { HasCause (failed_puts self.old) (failed_puts self.new) result }
 
         // The put fails exactly where it is listed or the bytes don't fit, and appends half of them then.
         ensures exactly { IsErr result ↔ (FailsNext (puts_of self.old) ⊎ room_left self.old < length more.now) }
-        ensures half { OnErr result (sunk self.new ≡ sunk self.old ++ fitting_half (room_left self.old) more.now) }
-        ensures room { length (sunk self.new) + room_left self.new ≡ length (sunk self.old) + room_left self.old }
+        ensures half { OnErr result (bytes_so_far self.new ≡ bytes_so_far self.old ++ fitting_half (room_left self.old) more.now) }
+        ensures room { length (bytes_so_far self.new) + room_left self.new ≡ length (bytes_so_far self.old) + room_left self.old }
         ensures counted { puts_of self.new ≡ one_later (puts_of self.old) }
         ensures raised { failed_puts self.new ≡ count_after result (failed_puts self.old) }
     {

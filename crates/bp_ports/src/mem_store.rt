@@ -4,7 +4,7 @@ ghost use Rattle.std.specs.Ordering.{nat_cmp};
 ghost use Rattle.std.specs.Cmp.Lexicographic.{slice_cmp};
 ghost use Rattle.std.specs.FinMap.{find};
 ghost use Rattle.bp_ports.specs.Files.{ReadGives};
-ghost use Rattle.bp_ports.specs.Held.{entries_of};
+ghost use Rattle.bp_ports.specs.MemStore.{entries_of};
 
 use crate::calls::Calls;
 use crate::writes::{Writes, is_same};
@@ -53,7 +53,7 @@ fn given<'a>(files: &'a [(Text, Vec<u8>)], path: &str) -> Option<&'a [u8]>
 
 impl MemStore {
     ghost use Rattle.std.specs.FinMap.{get};
-    ghost use Rattle.bp_ports.specs.Held.{given_files, held, calls_of, BeginsWith};
+    ghost use Rattle.bp_ports.specs.MemStore.{given_files, held, calls_so_far, BeginsWith};
 
     /// A store that holds these files, of two with one path the first. The room for writes is taken
     /// now; the calls that fail are counted from 1, reads and writes together.
@@ -76,7 +76,7 @@ impl MemStore {
 
     /// How many calls there were, reads and writes together.
     pub fn calls(&self) -> u32
-        ensures { result ≡ (calls_of self.now).count }
+        ensures { result ≡ calls_so_far self.now }
     {
         self.calls.count
     }
@@ -94,7 +94,7 @@ impl Store for MemStore {
     ghost use Rattle.bp_ports.specs.Calls.{FailsNext, one_later};
     ghost use Rattle.bp_ports.specs.Causes.{HasCause, HasCauseAt, count_after, read_count_after};
     ghost use Rattle.bp_ports.specs.Files.{WriteLeaves};
-    ghost use Rattle.bp_ports.specs.Held.{held, room_left, calls_of, failed_reads, failed_writes};
+    ghost use Rattle.bp_ports.specs.MemStore.{held, room_left, calls_of, failed_reads, failed_writes};
     ghost use Rattle.bp_ports.specs.Written.{need_of};
 
     ghost files = { λ s. Some (held s) };

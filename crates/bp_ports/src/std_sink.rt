@@ -13,7 +13,7 @@ pub struct StdSink<W> {
 }
 
 impl StdSink<Stdout> {
-    ghost use Rattle.bp_ports.specs.Real.{failed_puts};
+    ghost use Rattle.bp_ports.specs.StdSink.{failed_puts};
 
     /// Standard output.
     pub fn out(rt: HostRuntime) -> StdSink<Stdout>
@@ -27,7 +27,7 @@ impl StdSink<Stdout> {
 }
 
 impl StdSink<Stderr> {
-    ghost use Rattle.bp_ports.specs.Real.{failed_puts};
+    ghost use Rattle.bp_ports.specs.StdSink.{failed_puts};
 
     /// Standard error.
     pub fn err(rt: HostRuntime) -> StdSink<Stderr>
@@ -48,7 +48,7 @@ fn write_through<W: Write>(stream: &mut W, bytes: &[u8]) -> io::Result<()> {
 
 impl<W: Write + Drop> Sink for StdSink<W> {
     ghost use Rattle.bp_ports.specs.Causes.{HasCause, count_after};
-    ghost use Rattle.bp_ports.specs.Real.{failed_puts};
+    ghost use Rattle.bp_ports.specs.StdSink.{failed_puts};
 
     ghost bytes = { λ s. None };
 

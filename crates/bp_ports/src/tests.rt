@@ -45,7 +45,7 @@ fn puts<K: Sink>(sink: &mut K, bytes: &[u8]) -> Result<(), Failed> {
     sink.put(bytes)
 }
 
-fn enters<G: Gate>(gate: &G) {
+fn enters<G: Gate + Sync>(gate: &G) {
     gate.enter(1, NodeId(0));
 }
 

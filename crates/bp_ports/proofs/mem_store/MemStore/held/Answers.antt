@@ -1,5 +1,5 @@
 use Rattle.bp_ports.proofs.WrittenLemmas.{get-held}
-use Rattle.bp_ports.specs.Held.{entries_of}
+use Rattle.bp_ports.specs.MemStore.{entries_of}
 use Rattle.bp_ports.proofs.mem_store.MemStore.held.Goals as goal
 
 pub returns : goal.returns

@@ -28,6 +28,10 @@ room_left s = s.writes.room
 abbrev pub calls_of : MemStore → Calls
 calls_of s = s.calls
 
+-- How many calls there were, up to the last value of 32 bits.
+abbrev pub calls_so_far : MemStore → ℕ
+calls_so_far s = (calls_of s).count
+
 -- How many reads failed.
 abbrev pub failed_reads : MemStore → ℕ
 failed_reads s = s.read_faults

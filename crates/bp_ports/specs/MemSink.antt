@@ -6,8 +6,8 @@ use Rattle.bp_ports.specs.declared.calls.Calls.{Calls}
 use Rattle.bp_ports.specs.declared.mem_sink.MemSink.{MemSink}
 
 -- The bytes so far.
-abbrev pub sunk : MemSink → List ℕ
-sunk s = s.bytes.items
+abbrev pub bytes_so_far : MemSink → List ℕ
+bytes_so_far s = s.bytes.items
 
 -- The room that is left for bytes.
 abbrev pub room_left : MemSink → ℕ
@@ -27,7 +27,7 @@ fitting_half room bytes = take (min room (length bytes / 2)) bytes
 
 -- A new sink has the room and the failing puts that it was given, no bytes, and nothing was counted.
 pub record BeginsWith (room : ℕ) (failing : Vec ℕ Global) (s : MemSink) : Type 0 where
-  pub bytes : sunk s ≡ []
+  pub bytes : bytes_so_far s ≡ []
   pub space : room_left s ≡ room
   pub puts : puts_of s ≡ none_yet failing
   pub faults : failed_puts s ≡ 0
