@@ -1,4 +1,5 @@
-ghost use Rattle.std.specs.Prelude.{◌≡◌, None};
+ghost use Rattle.std.specs.Prelude.{◌≡◌, None, OnOk};
+ghost use Rattle.std.specs.Io.KnownBytes.{Appends};
 
 use crate::{Failed, Sink};
 use std::io;
@@ -41,14 +42,16 @@ impl StdSink<Stderr> {
 }
 
 // Writes the bytes through to the system.
-fn write_through<W: Write>(stream: &mut W, bytes: &[u8]) -> io::Result<()> {
+fn write_through<W: Write>(stream: &mut W, bytes: &[u8]) -> io::Result<()>
+    ensures { OnOk result (Appends (W.contents stream.old) (W.contents stream.new) bytes.now) }
+{
     stream.write_all(bytes)?;
     stream.flush()
 }
 
 impl<W: Write + Drop> Sink for StdSink<W> {
     ghost use Rattle.bp_ports.specs.Causes.{HasCause, count_after};
-    ghost use Rattle.bp_ports.specs.StdSink.{failed_puts};
+    ghost use Rattle.bp_ports.specs.StdSink.{stream_of, failed_puts};
 
     ghost bytes = { λ s. None };
 
@@ -56,6 +59,9 @@ impl<W: Write + Drop> Sink for StdSink<W> {
 
     fn put(&mut self, more: &[u8]) -> Result<(), Failed>
         ensures cause { HasCause (failed_puts self.old) (failed_puts self.new) result }
+
+        // What was put is with the writer, and a failure is counted once.
+        ensures through { OnOk result (Appends (W.contents (stream_of self.old)) (W.contents (stream_of self.new)) more.now) }
         ensures raised { failed_puts self.new ≡ count_after result (failed_puts self.old) }
     {
         match write_through(&mut self.stream, more) {
