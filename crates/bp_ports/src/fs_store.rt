@@ -1,12 +1,27 @@
-ghost use Rattle.std.specs.Prelude.{◌≡◌, ◌≤◌, None, IfOk, length};
+ghost use Rattle.std.specs.Prelude.{◌≡◌, ◌≤◌, Some, None, IfOk, IfSome, length};
+ghost use Rattle.bp_ports.specs.Files.{ReadGives};
 
 use crate::replace::replace;
 use crate::{Failed, ReadError, Store};
 use bp_faults::Text;
 use std::alloc::Global;
+use std::fs;
 use std::io::{ErrorKind, Read};
 use std::rt::Files;
-use std::{fs, io};
+
+// What a reader has left, where that is at most so many bytes.
+fn contents<F: Read + Drop>(alloc: Global, reader: F, limit: u64) -> Result<Vec<u8>, ReadError>
+    ensures gives { IfSome (F.remaining reader) (λ held. ReadGives (Some held) limit result) }
+    ensures bound { IfOk result (λ bytes. length bytes.items ≤ limit) }
+{
+    let mut bytes = Vec::new(alloc);
+    match reader.take(limit.saturating_add(1)).read_to_end(&mut bytes) {
+        Ok(_) if bytes.len() as u64 > limit => Err(ReadError::TooLarge),
+        Ok(_) => Ok(bytes),
+        Err(error) if error.kind() == ErrorKind::OutOfMemory => Err(ReadError::OutOfMemory),
+        Err(_) => Err(ReadError::Failed),
+    }
+}
 
 /// The files of the system. It tells nothing of them.
 #[derive(Drop)]
@@ -31,12 +46,15 @@ impl<R: Files + Drop> FsStore<R> {
         }
     }
 
-    // The bytes of a file, and one past the limit if there are more.
-    fn bytes(&self, alloc: Global, path: &Text, limit: u64) -> io::Result<Vec<u8>> {
-        let file = fs::open(&self.rt, path.as_str())?;
-        let mut bytes = Vec::new(alloc);
-        file.take(limit.saturating_add(1)).read_to_end(&mut bytes)?;
-        Ok(bytes)
+    // The file's bytes, at most so many.
+    fn bytes(&self, alloc: Global, path: &str, limit: u64) -> Result<Vec<u8>, ReadError>
+        ensures { IfOk result (λ bytes. length bytes.items ≤ limit) }
+    {
+        match fs::open(&self.rt, path) {
+            Ok(file) => contents(alloc, file, limit),
+            Err(error) if error.kind() == ErrorKind::NotFound => Err(ReadError::Absent),
+            Err(_) => Err(ReadError::Failed),
+        }
     }
 }
 
@@ -56,17 +74,12 @@ impl<R: Files + Drop> Store for FsStore<R> {
         ensures writes { failed_writes self.new ≡ failed_writes self.old }
         ensures raised { failed_reads self.new ≡ read_count_after result (failed_reads self.old) }
     {
-        match self.bytes(alloc, path, limit) {
-            Ok(bytes) if bytes.len() as u64 > limit => Err(ReadError::TooLarge),
-            Ok(bytes) => Ok(bytes),
-            Err(error) => match error.kind() {
-                ErrorKind::NotFound => Err(ReadError::Absent),
-                ErrorKind::OutOfMemory => Err(ReadError::OutOfMemory),
-                _ => {
-                    self.read_faults = self.read_faults.saturating_add(1);
-                    Err(ReadError::Failed)
-                }
-            },
+        match self.bytes(alloc, path.as_str(), limit) {
+            Err(ReadError::Failed) => {
+                self.read_faults = self.read_faults.saturating_add(1);
+                Err(ReadError::Failed)
+            }
+            answer => answer,
         }
     }
 
