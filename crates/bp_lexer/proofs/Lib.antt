@@ -1,0 +1,6 @@
+mod Chars
+mod Places
+mod TokenKinds
+mod Scan
+mod Cover
+pub mod OneMeaning
