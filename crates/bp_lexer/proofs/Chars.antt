@@ -24,10 +24,10 @@ count_encode c =
     cond_both (ltb c 128) _ _ P
     (λ e. omega (arith, low c (ltb-true c 128 e)))
     (λ e1. cond_both (ltb c 2048) _ _ P
-        (λ e. omega (arith, high (192 + c / 64) (omega arith), inside c))
-        (λ e2. cond_both (ltb c 65536) _ _ P
-            (λ e. omega (arith, high (224 + c / 4096) (omega arith), inside (c / 64), inside c))
-            (λ e. omega (arith, high (240 + c / 262144) (omega arith), inside (c / 4096), inside (c / 64), inside c))))
+    (λ e. omega (arith, high (192 + c / 64) (omega arith), inside c))
+    (λ e2. cond_both (ltb c 65536) _ _ P
+    (λ e. omega (arith, high (224 + c / 4096) (omega arith), inside (c / 64), inside c))
+    (λ e. omega (arith, high (240 + c / 262144) (omega arith), inside (c / 4096), inside (c / 64), inside c))))
 
 count_encodes : (cs : List ℕ) → count_by begins_char (encodes cs) ≡ length cs
 count_encodes [] = refl

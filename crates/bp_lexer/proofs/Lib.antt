@@ -4,3 +4,4 @@ mod TokenKinds
 mod Scan
 mod Cover
 pub mod OneMeaning
+mod Boundary

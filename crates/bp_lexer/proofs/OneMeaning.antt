@@ -27,8 +27,7 @@ token_first file text t token =
     let n = t.end - t.start in
     let first = form_first t.kind (take n rest) token.longest.form in
     let len = length-take-le n rest token.longest.within in
-    let some : 0 < n = omega arith in
-    (
+    let some : 0 < n = omega arith in (
       omega arith,
       omega (arith, token.longest.within, length-drop t.start text, token.inside),
       ap is_white (ap (λ i. get_or text i 0) (sym (add-zero t.start)) ∙ sym (get_or-drop t.start text 0 0) ∙ sym (get_or-take n rest 0 0 some)) ∙ first.1,
@@ -43,10 +42,10 @@ same_first file text i t u blank_t token_t blank_u token_u =
     let first_t = token_first file text t token_t in
     let first_u = token_first file text u token_u in
     let starts : t.start ≡ u.start =
-        ⊎_elim (λ same. same) (λ apart. ⊎_elim
-            (λ before. absurd (false≢true (sym first_t.2 ∙ blank_u.1 t.start (omega arith) before)))
-            (λ behind. absurd (false≢true (sym first_u.2 ∙ blank_t.1 u.start (omega arith) behind)))
-            apart) (cases_order t.start u.start) in
+    ⊎_elim (λ same. same) (λ apart. ⊎_elim
+    (λ before. absurd (false≢true (sym first_t.2 ∙ blank_u.1 t.start (omega arith) before)))
+    (λ behind. absurd (false≢true (sym first_u.2 ∙ blank_t.1 u.start (omega arith) behind)))
+    apart) (cases_order t.start u.start) in
     let spans = one_longest (drop t.start text) t.kind u.kind (t.end - t.start) (u.end - u.start) token_t.longest (rw starts token_u.longest) in
     same_token t u spans.0 starts (omega (arith, spans.1)) (token_t.place ∙ ap (place_at file text) starts ∙ sym token_u.place)
 
@@ -88,9 +87,9 @@ stops file text i at n [] (t ∷ ts) a other none below b =
     ⊎_elim
     (λ same. none t (sym same) b.1)
     (λ apart. ⊎_elim
-        (λ before. false≢true (sym other ∙ b.0.1 at a.0 before))
-        (λ behind. false≢true (sym first.2 ∙ a.1 t.start b.0.0 behind))
-        apart)
+    (λ before. false≢true (sym other ∙ b.0.1 at a.0 before))
+    (λ behind. false≢true (sym first.2 ∙ a.1 t.start b.0.0 behind))
+    apart)
     (cases_order at t.start)
 stops file text i at n (u ∷ us) [] a other none below b =
     let first = token_first file text u a.1 in
@@ -106,9 +105,9 @@ list_or_fault file text ts fault list first = stops file text 0 first.at (length
 one_place : (file : ℕ) (text : List ℕ) (a b : Fault) (first : IsFirstFault file text a) (second : IsFirstFault file text b) → first.at ≡ second.at
 one_place file text a b first second =
     ⊎_elim (λ same. same) (λ apart. ⊎_elim
-        (λ before. absurd (stops file text 0 first.at second.at first.before second.before first.covered first.not_white (fault_no_token file text first.at a first.wrong) before second.covered))
-        (λ behind. absurd (stops file text 0 second.at first.at second.before first.before second.covered second.not_white (fault_no_token file text second.at b second.wrong) behind first.covered))
-        apart) (cases_order first.at second.at)
+    (λ before. absurd (stops file text 0 first.at second.at first.before second.before first.covered first.not_white (fault_no_token file text first.at a first.wrong) before second.covered))
+    (λ behind. absurd (stops file text 0 second.at first.at second.before first.before second.covered second.not_white (fault_no_token file text second.at b second.wrong) behind first.covered))
+    apart) (cases_order first.at second.at)
 
 -- at one place only one thing is wrong
 one_fault_at : (file : ℕ) (text : List ℕ) (at : ℕ) (a b : Fault) → IsFaultAt file text at a → IsFaultAt file text at b → a ≡ b

@@ -46,8 +46,7 @@ pub place_small : (file : ℕ) (text : List ℕ) (i : ℕ) → ((place_at file t
 unfolding place_at
 place_small file text i =
     let turned = reverse (take i text) in
-    let kept = prefix_len (λ b. not (b == 10)) turned in
-    (
+    let kept = prefix_len (λ b. not (b == 10)) turned in (
       omega (arith, count_by-le-length (λ b. b == 10) (take i text), length-take i text),
       omega (arith, count_by-le-length begins_char (last_line (take i text)), length-reverse (take kept turned), length-take kept turned, length-reverse (take i text), length-take i text),
     )
@@ -55,3 +54,13 @@ place_small file text i =
 pub place_start : (file : ℕ) (text : List ℕ) → place_at file text 0 ≡ record { file = file; line = 1; col = 1 }
 unfolding place_at
 place_start file text = refl
+
+-- a place at which a file goes on is in that file
+pub place_file : (file : ℕ) (text : List ℕ) (i : ℕ) (p : Place) → p ≡ place_at file text i → p ≡ place_at p.file text i
+unfolding place_at
+place_file file text i p is = is ∙ ap (λ f. place_at f text i) (sym (ap (λ (q : Place). q.file) is))
+
+-- nor does moving on change the file
+pub place_moved : (file : ℕ) (text : List ℕ) (i j : ℕ) (p q : Place) → p ≡ place_at file text i → q ≡ place_at p.file text j → q ≡ place_at file text j
+unfolding place_at
+place_moved file text i j p q is moved = moved ∙ ap (λ f. place_at f text j) (ap (λ (r : Place). r.file) is)

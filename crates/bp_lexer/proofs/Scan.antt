@@ -49,8 +49,7 @@ record IsRival (b : ℕ) (bs : List ℕ) (k : TokenKind) (word w after : List �
 rival : (b : ℕ) (bs : List ℕ) (k : TokenKind) (word after : List ℕ) → b ∷ bs ≡ word ++ after → IsForm k word → (w : List ℕ) × IsRival b bs k word w after
 rival b bs k [] after split form = absurd (omega (arith, (form_first k [] form).0))
 rival b bs k (x ∷ w) after split form =
-    let same : x ≡ b = cc in
-    (
+    let same : x ≡ b = cc in (
       w,
       record {
         begins = cc;
@@ -89,8 +88,7 @@ quoted_only bs k word after split form =
     let f = form_as Quoted k word r.1.kind form in
     let inner : f.0 ++ 34 ∷ [] ≡ r.0 = cc (f.1, r.1.begins) in
     let rest : bs ≡ f.0 ++ (34 ∷ after) = r.1.rest ∙ ap (λ l. l ++ after) (sym inner) ∙ append_assoc f.0 (34 ∷ []) after in
-    let stop : prefix_len is_plain bs ≡ length f.0 = ap (prefix_len is_plain) rest ∙ run_stops is_plain f.0 after 34 f.2 refl in
-    (
+    let stop : prefix_len is_plain bs ≡ length f.0 = ap (prefix_len is_plain) rest ∙ run_stops is_plain f.0 after 34 f.2 refl in (
       omega (arith, ap length f.1, length-append f.0 (34 ∷ [])),
       omega (arith, ap length rest, length-append f.0 (34 ∷ after)),
       ap (λ i. get_or bs i 0) stop ∙ ap (λ l. get_or l (length f.0) 0) rest ∙ get_or_at f.0 34 after 0 (length f.0) refl,

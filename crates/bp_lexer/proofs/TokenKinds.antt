@@ -14,16 +14,16 @@ letter_not_white : (b : ℕ) → is_letter b ≡ true → is_white b ≡ false
 letter_not_white b letter =
     ⊎_elim
     (λ white.
-        ⊎_elim
-        (λ h. ⊎_elim
-            (λ g. ⊎_elim
-                (λ e. let same : b ≡ 32 = eqb-true b 32 e in absurd (false≢true (rw same at letter)))
-                (λ e. let same : b ≡ 9 = eqb-true b 9 e in absurd (false≢true (rw same at letter)))
-                (or_cases (b == 32) (b == 9) g))
-            (λ e. let same : b ≡ 13 = eqb-true b 13 e in absurd (false≢true (rw same at letter)))
-            (or_cases ((b == 32) || (b == 9)) (b == 13) h))
-        (λ e. let same : b ≡ 10 = eqb-true b 10 e in absurd (false≢true (rw same at letter)))
-        (or_cases ((b == 32) || (b == 9) || (b == 13)) (b == 10) white))
+    ⊎_elim
+    (λ h. ⊎_elim
+    (λ g. ⊎_elim
+    (λ e. let same : b ≡ 32 = eqb-true b 32 e in absurd (false≢true (rw same at letter)))
+    (λ e. let same : b ≡ 9 = eqb-true b 9 e in absurd (false≢true (rw same at letter)))
+    (or_cases (b == 32) (b == 9) g))
+    (λ e. let same : b ≡ 13 = eqb-true b 13 e in absurd (false≢true (rw same at letter)))
+    (or_cases ((b == 32) || (b == 9)) (b == 13) h))
+    (λ e. let same : b ≡ 10 = eqb-true b 10 e in absurd (false≢true (rw same at letter)))
+    (or_cases ((b == 32) || (b == 9) || (b == 13)) (b == 10) white))
     (λ other. other)
     (cases_Bool (is_white b))
 

@@ -1,7 +1,7 @@
 ghost use Rattle.std.specs.Prelude.{◌≡◌, [], ◌∷◌, ◌<◌, ◌≤◌, ◌^◌, length, MatchOption};
 ghost use Rattle.bp_lexer.specs.Forms.{IsLongest, HasNoForm, punct_text};
 
-use crate::class::{in_class, run_len, Class};
+use crate::class::{Class, in_class, run_len};
 use crate::{Punct, TokenKind};
 
 fn punct_of(byte: u8) -> Option<Punct>

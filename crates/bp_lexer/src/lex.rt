@@ -1,15 +1,17 @@
 ghost use Rattle.std.specs.Prelude.{◌≡◌, ◌≤◌, ◌^◌, length, drop, IfOk, IsCharBoundary, string_bytes};
 ghost use Rattle.bp_faults.specs.Answers.{Tells};
+ghost use Rattle.bp_faults.specs.Faults.{fault_on};
+ghost use Rattle.bp_faults.specs.declared.kind.FaultKind.TheVariants.{NotBuilt};
 ghost use Rattle.bp_lexer.specs.declared.class.Class.TheVariants.{White};
 ghost use Rattle.bp_lexer.specs.Classes.{in_class};
 ghost use Rattle.bp_lexer.specs.Meaning.{LexMeans, first_char};
 
-use crate::class::{in_class, Class};
+use crate::class::{Class, in_class};
 use crate::form::longest_form;
 use crate::place::{advance, place_after};
 use crate::{LexError, Token};
 use bp_faults::{Fault, FaultKind, OutOfMemory, Place, Text};
-use std::alloc::Global;
+use std::alloc::{AllocError, Global};
 
 fn is_white(byte: u8) -> bool
     ensures { result ≡ in_class White byte }
@@ -17,13 +19,20 @@ fn is_white(byte: u8) -> bool
     in_class(Class::White, byte)
 }
 
-/// The character at a place.
-fn char_at(alloc: Global, text: &str, at: usize) -> Result<Text, OutOfMemory>
+fn char_at(alloc: Global, text: &str, at: usize) -> Result<String, AllocError>
     requires { IsCharBoundary text.now at }
-    ensures { IfOk result (λ char. char ≡ first_char (drop at text.now)) }
+    ensures { IfOk result (λ char. string_bytes char ≡ first_char (drop at text.now)) }
 {
-    let char = text[at..].chars().take(1).collect(alloc)?;
-    Ok(Text::new(char))
+    text[at..].chars().take(1).collect(alloc)
+}
+
+// The fault at a place that no form fits: its subject is the character there.
+fn not_built(alloc: Global, text: &str, at: usize, place: Place) -> Result<Fault, OutOfMemory>
+    requires { IsCharBoundary text.now at }
+    ensures { IfOk result (λ fault. fault ≡ fault_on NotBuilt place (first_char (drop at text.now))) }
+{
+    let char = char_at(alloc, text, at)?;
+    Ok(Fault::on(alloc, FaultKind::NotBuilt, place, Text::new(char)))
 }
 
 /// The tokens of a text, which has at most 2^20 bytes.
@@ -58,11 +67,7 @@ pub fn tokens(alloc: Global, text: &str, file: u32) -> Result<Vec<Token>, LexErr
                     place = advance(bytes, at, end, place);
                     at = end;
                 }
-                None => {
-                    let subject = char_at(alloc, text, at)?;
-                    let fault = Fault::on(alloc, FaultKind::NotBuilt, place, subject);
-                    return Err(LexError::Bad(fault));
-                }
+                None => return Err(LexError::Bad(not_built(alloc, text, at, place)?)),
             }
         }
     }

@@ -13,6 +13,6 @@ pub returns-then-first-eq34 : goal.returns-then-first-eq34
 returns-then-first-eq34 c =
     string_open c.args.text.now _ c.requires.nonempty c.if-first-eq34.true c.run_len-inner.ensures.run
     (elim c.else-inner-text.branch [
-      else-inner-text-via-then-inner-text+else-text-inner-eq34 w ↦ λ within same. w.if-text-inner-eq34.false same
-    | else-inner-text-via-else-inner-text w ↦ λ within same. absurd (omega (arith, w.if-inner-text.false))
+      | else-inner-text-via-then-inner-text+else-text-inner-eq34 w ↦ λ within same. w.if-text-inner-eq34.false same
+      | else-inner-text-via-else-inner-text w ↦ λ within same. absurd (omega (arith, w.if-inner-text.false))
     ])
