@@ -1,0 +1,9 @@
+pub mod Causes
+pub mod Files
+pub mod Calls
+pub mod Written
+pub mod Held
+pub mod Sunk
+pub mod FreeFiles
+pub mod FreeBytes
+pub mod Real
