@@ -15,12 +15,26 @@ abbrev pub total : List Span → ℕ
 total [] = 0
 total (s ∷ spans) = s.path + s.bytes + total spans
 
+-- The path of the write that stands first in the run.
+abbrev pub first_path : Span → List ℕ → List ℕ
+first_path s run = take s.path run
+
+-- The bytes of the write that stands first in the run.
+abbrev pub first_bytes : Span → List ℕ → List ℕ
+first_bytes s run = take s.bytes (drop s.path run)
+
+-- The run behind its first write.
+abbrev pub behind : Span → List ℕ → List ℕ
+behind s run = drop s.bytes (drop s.path run)
+
 -- The files after these writes, the oldest of them first.
 abbrev pub written : List Span → List ℕ → Files → Files
 written [] run files = files
-written (s ∷ spans) run files = written spans (drop s.bytes (drop s.path run)) (insert files (take s.path run) (take s.bytes (drop s.path run)))
+written (s ∷ spans) run files = written spans (behind s run) (insert files (first_path s run) (first_bytes s run))
 
 -- What a path holds after these writes, if it held this before.
 abbrev pub held_after : List Span → List ℕ → List ℕ → Option (List ℕ) → Option (List ℕ)
 held_after [] run path held = held
-held_after (s ∷ spans) run path held = held_after spans (drop s.bytes (drop s.path run)) path (if is_eq (slice_cmp nat_cmp path (take s.path run)) then Some (take s.bytes (drop s.path run)) else held)
+held_after (s ∷ spans) run path held =
+    let now = if is_eq (slice_cmp nat_cmp path (first_path s run)) then Some (first_bytes s run) else held in
+    held_after spans (behind s run) path now
