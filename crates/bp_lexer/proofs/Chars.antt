@@ -1,11 +1,11 @@
 -- A character is begun by one byte.
-use Rattle.std.proofs.Common.{◌≡◌, ℕ, ◌+◌, ◌*◌, ◌/◌, ◌%◌, ◌<◌, ◌≤◌, Bool, true, false, cond, ltb, leb, List, [], ◌∷◌, ◌++◌, length, sym, refl, ap, ◌∙◌, subst, ⊎_elim, IsUtf8, arith}
-use Rattle.std.specs.Prelude.{◌||◌, ◌&&◌, chars}
+use Rattle.std.proofs.Common.{◌≡◌, ℕ, ◌+◌, ◌/◌, ◌<◌, ◌≤◌, cond, ltb, leb, List, [], ◌∷◌, length, sym, refl, ap, ◌∙◌, IsUtf8, arith}
+use Rattle.std.specs.Prelude.{chars}
 use Rattle.std.specs.List.{count_by}
-use Rattle.std.proofs.lemmas.Bool.{cond_both, cond-true, cond-false, or_left, or_right, or_from, or_parts, and_parts, lt-ltb, le-ltb, le-leb, lt-leb, ltb-true, ltb-false}
-use Rattle.std.proofs.lemmas.List.Sums.{sum_by-append, sum_by-cons}
+use Rattle.std.proofs.lemmas.Bool.{cond_both, cond-true, cond-false, or_left, or_right, or_from, lt-ltb, le-ltb, le-leb, lt-leb, ltb-true}
+use Rattle.std.proofs.lemmas.List.Sums.{sum_by-append}
 use Rattle.std.proofs.lemmas.Str.{chars-encodes}
-use lib.Utf8.{encode, encodes, scalar, scalars, scalar_cases, next}
+use lib.Utf8.{encode, encodes, next}
 use Rattle.bp_lexer.specs.Places.{begins_char}
 
 low : (b : ℕ) → b < 128 → cond {A = ℕ} (begins_char b) 1 0 ≡ 1

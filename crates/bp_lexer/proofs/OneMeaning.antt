@@ -1,15 +1,13 @@
 -- A text has one meaning: one token list, or one first fault.
-use Rattle.std.proofs.Common.{◌≡◌, ℕ, ◌+◌, ◌-◌, ◌<◌, ◌≤◌, true, false, List, [], ◌∷◌, length, get_or, take, drop, sym, refl, ap, ◌∙◌, subst, ⊎_elim, arith, length-drop, length-take-le, take-append-drop, get_or-drop, get_or-take, add-zero, Result, Ok, Err}
+use Rattle.std.proofs.Common.{◌≡◌, ℕ, ◌-◌, ◌<◌, ◌≤◌, false, List, [], ◌∷◌, length, get_or, take, drop, sym, refl, ap, ◌∙◌, subst, ⊎_elim, arith, length-drop, length-take-le, take-append-drop, get_or-drop, get_or-take, add-zero, Result, Ok, Err}
 use Rattle.std.proofs.lemmas.Bool.{cases_order, false≢true}
 use Rattle.bp_faults.specs.declared.fault.Fault.{Fault}
-use Rattle.bp_faults.specs.declared.kind.FaultKind.TheVariants.{NotBuilt}
-use Rattle.bp_faults.specs.Faults.{fault_on}
 use Rattle.bp_lexer.specs.declared.token.Token.{Token}
 use Rattle.bp_lexer.specs.declared.token.TokenKind.{TokenKind}
 use Rattle.bp_lexer.specs.Classes.{is_white}
-use Rattle.bp_lexer.specs.Forms.{IsForm, IsLongest, HasNoForm}
+use Rattle.bp_lexer.specs.Forms.{IsForm, IsLongest}
 use Rattle.bp_lexer.specs.Places.{place_at}
-use Rattle.bp_lexer.specs.Meaning.{IsBlank, IsToken, Covers, IsTokenList, IsFaultAt, IsFirstFault, LexMeans, first_char}
+use Rattle.bp_lexer.specs.Meaning.{IsBlank, IsToken, Covers, IsTokenList, IsFaultAt, IsFirstFault, LexMeans}
 use Rattle.bp_lexer.proofs.TokenKinds.{form_first, form_kind, kind_of}
 
 -- the longest form is one

@@ -1,9 +1,9 @@
 -- A step of a place over a byte.
-use Rattle.std.proofs.Common.{◌≡◌, ℕ, suc, ◌+◌, ◌-◌, ◌<◌, ◌≤◌, ◌^◌, Bool, true, false, cond, List, [], ◌∷◌, ◌++◌, length, get_or, take, drop, sym, refl, ap, ◌∙◌, subst, inl, inr, ⊎_elim, arith, add-one, length-take}
-use Rattle.std.specs.Prelude.{◌⊎◌, not, ◌==◌, reverse, ◌||◌, nat_lt, nat_le}
+use Rattle.std.proofs.Common.{◌≡◌, ℕ, ◌+◌, ◌<◌, ◌≤◌, Bool, true, false, cond, List, [], ◌∷◌, ◌++◌, length, get_or, take, sym, refl, ap, ◌∙◌, inl, inr, arith, length-take}
+use Rattle.std.specs.Prelude.{◌⊎◌, not, ◌==◌, reverse}
 use Rattle.std.specs.List.{count_by, take_while, prefix_len}
 use Rattle.std.proofs.lemmas.List.{reverse-append, take_more, length-reverse}
-use Rattle.std.proofs.lemmas.List.Sums.{sum_by_push, take_while-cons, count_by-le-length, prefix_len-le-length}
+use Rattle.std.proofs.lemmas.List.Sums.{sum_by_push, take_while-cons, count_by-le-length}
 use Rattle.std.proofs.lemmas.Bool.{cases_Bool, cond-true, cond-false}
 use Rattle.bp_faults.specs.declared.place.Place.{Place}
 use Rattle.bp_lexer.specs.Places.{begins_char, last_line, place_at, place_after}

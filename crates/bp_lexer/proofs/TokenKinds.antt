@@ -2,7 +2,6 @@
 use Rattle.std.proofs.Common.{◌≡◌, ℕ, ◌<◌, true, false, cond, List, [], ◌∷◌, length, get_or, sym, refl, arith, ⊎_elim}
 use Rattle.std.specs.Prelude.{◌==◌, ◌||◌}
 use Rattle.std.proofs.lemmas.Bool.{cases_Bool, or_cases, eqb-true, false≢true, cond-true}
-use Rattle.bp_lexer.specs.declared.token.Punct.{Punct}
 use Rattle.bp_lexer.specs.declared.token.Punct.TheVariants.{OpenBrace, CloseBrace, OpenBracket, CloseBracket, Colon, Comma}
 use Rattle.bp_lexer.specs.declared.token.TokenKind.{TokenKind}
 use Rattle.bp_lexer.specs.declared.token.TokenKind.TheVariants.{Ident, Quoted, Punct as Mark}

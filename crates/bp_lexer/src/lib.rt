@@ -10,6 +10,8 @@ mod form;
 mod law;
 mod lex;
 mod place;
+#[cfg(test)]
+mod tests;
 mod token;
 
 pub use bp_faults::Refusal as LexError;

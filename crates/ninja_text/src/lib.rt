@@ -8,6 +8,8 @@
 mod escape;
 mod file;
 mod output;
+#[cfg(test)]
+mod tests;
 mod text;
 
 pub use file::{NinjaFile, NinjaRule, Piece, Statement};

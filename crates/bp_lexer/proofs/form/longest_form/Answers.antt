@@ -1,5 +1,5 @@
-use Rattle.std.proofs.Common.{arith, sym, ap, ◌∙◌, ◌+◌, ◌<◌, ◌≡◌, ℕ, get_or, length}
-use Rattle.bp_lexer.proofs.Scan.{ident_longest, quoted_longest, string_open, mark_longest, no_mark}
+use Rattle.std.proofs.Common.{arith, sym, ap, ◌∙◌, ◌+◌}
+use Rattle.bp_lexer.proofs.Scan.{ident_longest, quoted_longest, string_open}
 use Rattle.bp_lexer.proofs.form.longest_form.Goals as goal
 use Rattle.bp_lexer.proofs.form.longest_form.Goals.{else-inner-text-via-then-inner-text+else-text-inner-eq34, else-inner-text-via-else-inner-text}
 

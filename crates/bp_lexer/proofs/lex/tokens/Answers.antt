@@ -1,9 +1,9 @@
 use Rattle.std.proofs.Common.{arith, ap, sym, refl, subst, get_or, length, drop, length-drop, IsUtf8, IsCharBoundary, ◌∙◌, ◌+◌, ◌-◌, ◌≡◌}
 use Rattle.std.proofs.lemmas.List.{take_rest}
 use Rattle.bp_faults.specs.declared.place.Place.{Place}
-use Rattle.bp_lexer.specs.Places.{place_at, place_after}
+use Rattle.bp_lexer.specs.Places.{place_after}
 use Rattle.bp_lexer.specs.Forms.{IsLongest, HasNoForm}
-use Rattle.bp_lexer.specs.Meaning.{Covers, IsToken, IsFirstFault}
+use Rattle.bp_lexer.specs.Meaning.{Covers}
 use Rattle.bp_lexer.proofs.Places.{place_push, place_small, place_start, place_file, place_moved}
 use Rattle.bp_lexer.proofs.Cover.{covers_white, covers_token, blank_none, first_fault}
 use Rattle.bp_lexer.proofs.Boundary.{covers_boundary}

@@ -1,4 +1,4 @@
-use Rattle.std.proofs.Common.{length, ◌-◌, ◌≡◌, ◌≤◌, IsCharBoundary}
+use Rattle.std.proofs.Common.{length, ◌-◌, ◌≡◌, ◌≤◌}
 use Rattle.bp_lexer.specs.Places.{place_at}
 use Rattle.bp_lexer.specs.Meaning.{Covers}
 use Rattle.bp_lexer.proofs.lex.tokens.Given as goal
