@@ -12,6 +12,8 @@ mod form;
 mod head;
 mod job;
 mod stop;
+#[cfg(test)]
+mod tests;
 mod top;
 mod words;
 mod work;
