@@ -11,6 +11,7 @@ mod Comments
 mod Marks
 mod Cover
 pub mod OneMeaning
-mod Boundary
+pub mod Boundary
 mod Numbers
 mod Unescape
+pub mod ListedTokens
