@@ -9,6 +9,7 @@ use Rattle.std.proofs.lemmas.Bool.{cases_Bool, cases_lt, cond-true, cond-false}
 use Rattle.bp_lexer.specs.declared.token.TokenKind.{TokenKind}
 use Rattle.bp_lexer.specs.declared.token.TokenKind.TheVariants.{LineComment, BlockComment}
 use Rattle.bp_lexer.specs.Classes.{in_line}
+use Rattle.bp_lexer.specs.Faults.{Opens}
 use Rattle.bp_lexer.specs.Forms.{IsForm, IsLongest, HasNoForm, IsEnd, IsFirstEnd}
 use Rattle.bp_lexer.proofs.Runs.{all_le_prefix, prefix_all}
 use Rattle.bp_lexer.proofs.Rivals.{rival, form_as, second_of}
@@ -40,7 +41,7 @@ line_longest (a ∷ b ∷ bs) n first second len =
     }
 
 -- a byte that is not 0 is within the list
-inside : (bs : List ℕ) (i v : ℕ) → get_or bs i 0 ≡ suc v → i < length bs
+pub inside : (bs : List ℕ) (i v : ℕ) → get_or bs i 0 ≡ suc v → i < length bs
 inside bs i v byte = ⊎_elim (λ below. below) (λ past. absurd (omega (arith, get_or_past bs i 0 past))) (cases_lt i (length bs))
 
 -- where `*/` stands in a front it stands in the whole, and the other way round
@@ -129,3 +130,13 @@ block_begins (a ∷ b ∷ bs) first second = λ i. first i ∷ second i ∷ []
 pub slash_first : (text : List ℕ) → take 2 text ≡ 47 ∷ 42 ∷ [] → get_or text 0 0 ≡ 47
 slash_first [] is = absurd (omega (arith, ap length is))
 slash_first (b ∷ bs) is = ap (λ l. get_or l 0 0) is
+
+star_second : (text : List ℕ) → take 2 text ≡ 47 ∷ 42 ∷ [] → get_or text 1 0 ≡ 42
+star_second [] is = absurd (omega (arith, ap length is))
+star_second (b ∷ []) is = absurd (omega (arith, ap length is))
+star_second (b ∷ c ∷ bs) is = ap (λ l. get_or l 1 0) is
+
+-- a text whose first byte is none of the three opens nothing
+pub not_open : (text : List ℕ) → (get_or text 0 0 ≡ 34 → ⊥) → (get_or text 0 0 ≡ 96 → ⊥) → (get_or text 0 0 ≡ 47 → get_or text 1 0 ≡ 42 → ⊥) → Opens text → ⊥
+not_open text quote backquote block opens =
+    ⊎_elim quote (λ other. ⊎_elim backquote (λ both. block (slash_first text both) (star_second text both)) other) opens

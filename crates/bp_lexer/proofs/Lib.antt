@@ -15,3 +15,4 @@ pub mod Boundary
 mod Numbers
 mod Unescape
 pub mod ListedTokens
+mod Outcome

@@ -9,12 +9,12 @@ use Rattle.bp_lexer.specs.declared.token.TokenKind.TheVariants.{Ident, Int, Quot
 use Rattle.bp_lexer.specs.Classes.{is_letter, is_digit}
 use Rattle.bp_lexer.specs.Faults.{Opens}
 use Rattle.bp_lexer.specs.Forms.{IsForm, IsLongest, HasNoForm, punct_text}
-use Rattle.bp_lexer.proofs.Comments.{slash_first}
+use Rattle.bp_lexer.proofs.Comments.{not_open}
 use Rattle.bp_lexer.proofs.Rivals.{rival, form_as}
 use Rattle.bp_lexer.proofs.TokenKinds.{int_parts, kind_of}
 
 -- a mark of one byte begins no other token, where it is no `+` before `=`
-mark_alone : (p : Punct) (w : List ℕ) (b : ℕ) → punct_text p ≡ b ∷ [] → (b ≡ 43 → get_or w 0 0 ≡ 61 → ⊥) → kind_of (b ∷ w) ≡ Mark p
+pub mark_alone : (p : Punct) (w : List ℕ) (b : ℕ) → punct_text p ≡ b ∷ [] → (b ≡ 43 → get_or w 0 0 ≡ 61 → ⊥) → kind_of (b ∷ w) ≡ Mark p
 mark_alone OpenBrace w b is apart = let e : b ≡ 123 = sym (ap (λ l. get_or l 0 0) is) in rw e refl
 mark_alone CloseBrace w b is apart = let e : b ≡ 125 = sym (ap (λ l. get_or l 0 0) is) in rw e refl
 mark_alone OpenBracket w b is apart = let e : b ≡ 91 = sym (ap (λ l. get_or l 0 0) is) in rw e refl
@@ -102,4 +102,4 @@ none_begins (b ∷ bs) some none k word after split form =
     no_begin k b r.0 (subst (λ v. IsForm k v) r.1.begins form) none
 
 pub none_opens : (text : List ℕ) → BeginsNone (get_or text 0 0) → Opens text → ⊥
-none_opens text none opens = ⊎_elim none.quote (λ other. ⊎_elim none.backquote (λ block. none.slash (slash_first text block)) other) opens
+none_opens text none = not_open text none.quote none.backquote (λ slash star. none.slash slash)
