@@ -1,7 +1,18 @@
 mod Chars
 mod Places
 mod TokenKinds
-mod Scan
+mod Runs
+mod Rivals
+mod Idents
+mod Ints
+mod Bodies
+mod Quotes
+mod Comments
+mod Marks
 mod Cover
 pub mod OneMeaning
-mod Boundary
+pub mod Boundary
+mod Numbers
+mod Unescape
+pub mod ListedTokens
+mod Outcome

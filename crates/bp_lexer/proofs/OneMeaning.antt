@@ -1,13 +1,19 @@
 -- A text has one meaning: one token list, or one first fault.
-use Rattle.std.proofs.Common.{◌≡◌, ℕ, ◌-◌, ◌<◌, ◌≤◌, false, List, [], ◌∷◌, length, get_or, take, drop, sym, refl, ap, ◌∙◌, subst, ⊎_elim, arith, length-drop, length-take-le, take-append-drop, get_or-drop, get_or-take, add-zero, Result, Ok, Err}
+use Rattle.std.proofs.Common.{◌≡◌, ℕ, ◌+◌, ◌-◌, ◌<◌, ◌≤◌, true, false, List, [], ◌∷◌, length, get_or, take, drop, sym, refl, ap, ◌∙◌, subst, ⊎_elim, inl, inr, arith, length-drop, length-take-le, take-append-drop, get_or-drop, get_or-take, add-zero, Result, Ok, Err}
 use Rattle.std.proofs.lemmas.Bool.{cases_order, false≢true}
 use Rattle.bp_faults.specs.declared.fault.Fault.{Fault}
+use Rattle.bp_lexer.specs.declared.flaw.Flaw.{Flaw}
+use Rattle.bp_lexer.specs.declared.flaw.Flaw.TheVariants.{BadChar, OpenString, OpenComment, BadEscape, BadNumber}
 use Rattle.bp_lexer.specs.declared.token.Token.{Token}
 use Rattle.bp_lexer.specs.declared.token.TokenKind.{TokenKind}
+use Rattle.bp_lexer.specs.declared.token.TokenKind.TheVariants.{Int}
 use Rattle.bp_lexer.specs.Classes.{is_white}
-use Rattle.bp_lexer.specs.Forms.{IsForm, IsLongest}
+use Rattle.bp_lexer.specs.Faults.{IsFlaw, IsInRange, fault_of}
+use Rattle.bp_lexer.specs.Forms.{IsForm, IsLongest, HasNoForm}
+use Rattle.bp_lexer.specs.Meaning.{IsBlank, IsToken, Covers, IsTokenList, IsFaultAt, IsFirstFault, LexMeans, word_of}
 use Rattle.bp_lexer.specs.Places.{place_at}
-use Rattle.bp_lexer.specs.Meaning.{IsBlank, IsToken, Covers, IsTokenList, IsFaultAt, IsFirstFault, LexMeans}
+use Rattle.bp_lexer.proofs.Bodies.{bad_once}
+use Rattle.bp_lexer.proofs.Comments.{slash_first}
 use Rattle.bp_lexer.proofs.TokenKinds.{form_first, form_kind, kind_of}
 
 -- the longest form is one
@@ -72,10 +78,24 @@ one_list file text i n (t ∷ ts) (u ∷ us) a b =
 abbrev NoToken : ℕ → List ℕ → ℕ → Type 0
 NoToken file text at = (t : Token) → t.start ≡ at → IsToken file text t → ⊥
 
-fault_no_token : (file : ℕ) (text : List ℕ) (at : ℕ) (fault : Fault) → IsFaultAt file text at fault → NoToken file text at
-fault_no_token file text at fault wrong t same token =
+-- no form, no token
+no_form_no_token : (file : ℕ) (text : List ℕ) (at : ℕ) → HasNoForm (drop at text) → NoToken file text at
+no_form_no_token file text at none t same token =
     let form : IsForm t.kind (take (t.end - t.start) (drop at text)) = subst (λ p. IsForm t.kind (take (t.end - t.start) (drop p text))) same token.longest.form in
-    wrong.0 t.kind (take (t.end - t.start) (drop at text)) (drop (t.end - t.start) (drop at text)) (sym (take-append-drop _ _)) form
+    none t.kind (take (t.end - t.start) (drop at text)) (drop (t.end - t.start) (drop at text)) (sym (take-append-drop _ _)) form
+
+flaw_no_token : (file : ℕ) (text : List ℕ) (at : ℕ) (flaw : Flaw) → IsFlaw (drop at text) flaw → NoToken file text at
+flaw_no_token file text at BadChar wrong = no_form_no_token file text at wrong.0
+flaw_no_token file text at OpenString wrong = no_form_no_token file text at wrong.0
+flaw_no_token file text at OpenComment wrong = no_form_no_token file text at wrong.0
+flaw_no_token file text at (BadEscape k) wrong = no_form_no_token file text at wrong.0
+flaw_no_token file text at (BadNumber n) wrong = λ t same token.
+    let one = one_longest (drop at text) t.kind Int (t.end - t.start) n (subst (λ p. IsLongest (drop p text) t.kind (t.end - t.start)) same token.longest) wrong.0 in
+    let word : word_of text t ≡ take n (drop at text) = (λ i. take (one.1 i) (drop (same i) text)) in
+    wrong.1 (subst IsInRange word (token.number one.0))
+
+fault_no_token : (file : ℕ) (text : List ℕ) (at : ℕ) (fault : Fault) → IsFaultAt file text at fault → NoToken file text at
+fault_no_token file text at fault wrong = flaw_no_token file text at wrong.0 wrong.1
 
 -- tokens cover no place where none begins
 stops : (file : ℕ) (text : List ℕ) (i at n : ℕ) (us ts : List Token) → Covers file text i at us → is_white (get_or text at 0) ≡ false → NoToken file text at → at < n → Covers file text i n ts → ⊥
@@ -107,9 +127,64 @@ one_place file text a b first second =
     (λ behind. absurd (stops file text 0 second.at first.at second.before first.before second.covered second.not_white (fault_no_token file text second.at b second.wrong) behind first.covered))
     apart) (cases_order first.at second.at)
 
+no_form_no_longest : (text : List ℕ) (k : TokenKind) (n : ℕ) → HasNoForm text → IsLongest text k n → ⊥
+no_form_no_longest text k n none longest = none k (take n text) (drop n text) (sym (take-append-drop n text)) longest.form
+
+rank : Flaw → ℕ
+rank BadChar = 0
+rank OpenString = 1
+rank OpenComment = 2
+rank (BadEscape k) = 3
+rank (BadNumber n) = 4
+
+rank_le : (k : Flaw) → rank k ≤ 4
+unfolding rank
+rank_le BadChar = omega arith
+rank_le OpenString = omega arith
+rank_le OpenComment = omega arith
+rank_le (BadEscape k) = omega arith
+rank_le (BadNumber n) = omega arith
+
+-- two kinds of flaw are never at one place
+excludes : (text : List ℕ) (j k : Flaw) → rank j < rank k → IsFlaw text j → IsFlaw text k → ⊥
+unfolding rank
+excludes text BadChar OpenString less a b = a.1 (⊎_elim (λ quote. inl quote.0) (λ back. inr (inl back)) b.1)
+excludes text BadChar OpenComment less a b = a.1 (inr (inr b.1))
+excludes text BadChar (BadEscape k) less a b = a.1 (inl b.1.0)
+excludes text BadChar (BadNumber n) less a b = no_form_no_longest text Int n a.0 b.0
+excludes text OpenString OpenComment less a b =
+    let slash = slash_first text b.1 in
+    ⊎_elim (λ quote. omega (arith, quote.0)) (λ back. omega arith) a.1
+excludes text OpenString (BadEscape k) less a b =
+    ⊎_elim (λ quote. quote.1 b.1.1.0 b.1.1.1) (λ back. omega (arith, b.1.0)) a.1
+excludes text OpenString (BadNumber n) less a b = no_form_no_longest text Int n a.0 b.0
+excludes text OpenComment (BadEscape k) less a b =
+    let slash = slash_first text a.1 in
+    omega (arith, b.1.0)
+excludes text OpenComment (BadNumber n) less a b = no_form_no_longest text Int n a.0 b.0
+excludes text (BadEscape k) (BadNumber n) less a b = no_form_no_longest text Int n a.0 b.0
+excludes text j k less a b = absurd (omega (arith, rank_le k))
+
+alike : (text : List ℕ) (j k : Flaw) → rank j ≡ rank k → IsFlaw text j → IsFlaw text k → j ≡ k
+unfolding rank
+alike text BadChar BadChar same a b = refl
+alike text OpenString OpenString same a b = refl
+alike text OpenComment OpenComment same a b = refl
+alike text (BadEscape k) (BadEscape j) same a b = ap BadEscape (bad_once (drop 1 text) k j a.1.2 b.1.2)
+alike text (BadNumber m) (BadNumber n) same a b = ap BadNumber (one_longest text Int Int m n a.0 b.0).1
+alike text j k same a b = absurd (omega arith)
+
+one_flaw : (text : List ℕ) (j k : Flaw) → IsFlaw text j → IsFlaw text k → j ≡ k
+one_flaw text j k a b =
+    ⊎_elim (λ same. alike text j k same a b) (λ apart. ⊎_elim
+    (λ before. absurd (excludes text j k before a b))
+    (λ behind. absurd (excludes text k j behind b a))
+    apart) (cases_order (rank j) (rank k))
+
 -- at one place only one thing is wrong
 one_fault_at : (file : ℕ) (text : List ℕ) (at : ℕ) (a b : Fault) → IsFaultAt file text at a → IsFaultAt file text at b → a ≡ b
-one_fault_at file text at a b first second = first.1 ∙ sym second.1
+one_fault_at file text at a b first second =
+    first.2 ∙ ap (fault_of file text at) (one_flaw (drop at text) first.0 second.0 first.1 second.1) ∙ sym second.2
 
 pub one_fault : (file : ℕ) (text : List ℕ) (a b : Fault) → IsFirstFault file text a → IsFirstFault file text b → a ≡ b
 one_fault file text a b first second =

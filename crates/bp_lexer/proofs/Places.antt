@@ -64,3 +64,7 @@ place_file file text i p is = is ∙ ap (λ f. place_at f text i) (sym (ap (λ (
 pub place_moved : (file : ℕ) (text : List ℕ) (i j : ℕ) (p q : Place) → p ≡ place_at file text i → q ≡ place_at p.file text j → q ≡ place_at file text j
 unfolding place_at
 place_moved file text i j p q is moved = moved ∙ ap (λ f. place_at f text j) (ap (λ (r : Place). r.file) is)
+
+pub file_of : (file : ℕ) (text : List ℕ) (i : ℕ) (p : Place) → p ≡ place_at file text i → p.file ≡ file
+unfolding place_at
+file_of file text i p is = ap (λ (q : Place). q.file) is

@@ -1,8 +1,8 @@
 -- The classes of bytes that tokens are made of.
 use Rattle.std.specs.Prelude.{ℕ, Bool, not, ◌||◌, ◌==◌}
-use Rattle.std.specs.Char.{is_ascii_alphabetic, is_ascii_alphanumeric}
+use Rattle.std.specs.Char.{is_ascii_alphabetic, is_ascii_alphanumeric, is_ascii_digit}
 use Rattle.bp_lexer.specs.declared.class.Class.{Class}
-use Rattle.bp_lexer.specs.declared.class.Class.TheVariants.{White, Letter, Word, Plain}
+use Rattle.bp_lexer.specs.declared.class.Class.TheVariants.{White, Letter, Word, Digit, Line, Raw}
 
 -- white space: space, tab, CR and LF
 abbrev pub is_white : ℕ → Bool
@@ -16,13 +16,23 @@ is_letter b = is_ascii_alphabetic b || (b == 95)
 abbrev pub is_word : ℕ → Bool
 is_word b = is_ascii_alphanumeric b || (b == 95)
 
--- what stands for itself in a string: anything but `"`, a backslash and LF
-abbrev pub is_plain : ℕ → Bool
-is_plain b = not ((b == 34) || (b == 92) || (b == 10))
+-- a decimal digit
+abbrev pub is_digit : ℕ → Bool
+is_digit b = is_ascii_digit b
+
+-- what stands on a line: anything but LF
+abbrev pub in_line : ℕ → Bool
+in_line b = not (b == 10)
+
+-- what stands in a raw string: anything but a backquote
+abbrev pub in_raw : ℕ → Bool
+in_raw b = not (b == 96)
 
 -- the classes by their names
 abbrev pub in_class : Class → ℕ → Bool
 in_class White b = is_white b
 in_class Letter b = is_letter b
 in_class Word b = is_word b
-in_class Plain b = is_plain b
+in_class Digit b = is_digit b
+in_class Line b = in_line b
+in_class Raw b = in_raw b

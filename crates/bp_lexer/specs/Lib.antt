@@ -1,4 +1,6 @@
 pub mod Classes
+pub mod Strings
 pub mod Forms
 pub mod Places
+pub mod Faults
 pub mod Meaning

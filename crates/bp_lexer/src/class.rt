@@ -1,4 +1,4 @@
-ghost use Rattle.std.specs.Prelude.{◌≡◌, ◌+◌, ◌≤◌, length, drop};
+ghost use Rattle.std.specs.Prelude.{◌≡◌, ◌+◌, ◌≤◌, length, drop, slice_index};
 ghost use Rattle.std.specs.List.{prefix_len};
 ghost use Rattle.bp_lexer.specs.Classes.{in_class};
 
@@ -8,7 +8,9 @@ pub enum Class {
     White,
     Letter,
     Word,
-    Plain,
+    Digit,
+    Line,
+    Raw,
 }
 
 pub fn in_class(class: Class, byte: u8) -> bool
@@ -18,7 +20,9 @@ pub fn in_class(class: Class, byte: u8) -> bool
         Class::White => matches!(byte, b' ' | b'\t' | b'\r' | b'\n'),
         Class::Letter => byte.is_ascii_alphabetic() || byte == b'_',
         Class::Word => byte.is_ascii_alphanumeric() || byte == b'_',
-        Class::Plain => !matches!(byte, b'"' | b'\\' | b'\n'),
+        Class::Digit => byte.is_ascii_digit(),
+        Class::Line => byte != b'\n',
+        Class::Raw => byte != b'`',
     }
 }
 
@@ -33,4 +37,11 @@ pub fn run_len(bytes: &[u8], from: usize, class: Class) -> usize
         count += 1;
     }
     count
+}
+
+/// The second byte, and 0 where there is none.
+pub fn second(text: &[u8]) -> u8
+    ensures { result ≡ slice_index text.now 1 }
+{
+    if text.len() > 1 { text[1] } else { 0 }
 }

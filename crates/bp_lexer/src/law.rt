@@ -1,4 +1,4 @@
-ghost use Rattle.std.specs.Prelude.{◌≡◌, ℕ, List, Result, length, IsUtf8, chars};
+ghost use Rattle.std.specs.Prelude.{◌≡◌, ◌⊎◌, ℕ, List, Result, length, IsUtf8, chars};
 ghost use Rattle.std.specs.List.{count_by};
 ghost use Rattle.bp_faults.specs.declared.fault.Fault.{Fault};
 ghost use Rattle.bp_lexer.specs.declared.token.Token.{Token};
@@ -10,9 +10,10 @@ pub fn one_token_list()
     ensures { (file : ℕ) (text : List ℕ) (ts us : List Token) → IsTokenList file text ts → IsTokenList file text us → ts ≡ us }
 {}
 
-/// A text with a token list has no fault.
+/// A text has a token list or a first fault, and never both.
 pub fn list_or_fault()
-    ensures { (file : ℕ) (text : List ℕ) (ts : List Token) (fault : Fault) → IsTokenList file text ts → IsFirstFault file text fault → ⊥ }
+    ensures either { (file : ℕ) (text : List ℕ) → ((ts : List Token) × IsTokenList file text ts) ⊎ ((fault : Fault) × IsFirstFault file text fault) }
+    ensures never_both { (file : ℕ) (text : List ℕ) (ts : List Token) (fault : Fault) → IsTokenList file text ts → IsFirstFault file text fault → ⊥ }
 {}
 
 /// A text has at most one first fault.

@@ -5,17 +5,24 @@
 //! and each token is the longest form that begins at its place.
 #![tactic(auto)]
 
+mod body;
 mod class;
+mod comment;
+mod escape;
+mod flaw;
 mod form;
 mod law;
 mod lex;
 mod place;
+mod punct;
 #[cfg(test)]
 mod tests;
 mod token;
+mod value;
 
 pub use bp_faults::Refusal as LexError;
 pub use law::{columns_count_characters, list_or_fault, one_fault, one_meaning, one_token_list};
 pub use lex::tokens;
 pub use place::place_of_end;
 pub use token::{Punct, Token, TokenKind};
+pub use value::value_of;

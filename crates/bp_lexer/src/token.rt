@@ -7,16 +7,25 @@ pub enum Punct {
     CloseBrace,
     OpenBracket,
     CloseBracket,
+    OpenParen,
+    CloseParen,
     Colon,
     Comma,
+    Equals,
+    PlusEquals,
+    Plus,
 }
 
-/// The forms of tokens.
+/// The forms of tokens. `docs/LANGUAGE.md` has them in words.
 #[derive(Clone, Copy, Debug, PartialEq, Eq)]
 pub enum TokenKind {
     Ident,
+    Int,
     Quoted,
+    Raw,
     Punct(Punct),
+    LineComment,
+    BlockComment,
 }
 
 /// A token: its text is the slice from byte `start` to byte `end`, and `place` is where it begins.
