@@ -12,7 +12,8 @@ use Rattle.bp_lexer.specs.declared.token.TokenKind.TheVariants.{Quoted, Raw}
 use Rattle.bp_lexer.specs.Classes.{in_line, in_raw}
 use Rattle.bp_lexer.specs.Strings.{is_body, is_escape, IsClosedAt, IsOpen, IsBadEscapeAt}
 use Rattle.bp_lexer.specs.Forms.{IsForm, IsLongest, HasNoForm}
-use Rattle.bp_lexer.specs.Faults.{IsFlaw, IsBodyFlaw}
+use Rattle.bp_lexer.specs.Faults.{IsFlaw}
+use Rattle.bp_lexer.specs.Search.{IsBodyFlaw}
 use Rattle.bp_lexer.proofs.Runs.{prefix_all, run_stops, run_ends}
 use Rattle.bp_lexer.proofs.Rivals.{rival, form_as}
 use Rattle.bp_lexer.proofs.Bodies.{closed_once, closed_rough, bad_not_closed}

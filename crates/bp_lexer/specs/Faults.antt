@@ -50,19 +50,3 @@ fault_of file text at OpenString = fault_at fault.OpenString (place_at file text
 fault_of file text at OpenComment = fault_at fault.OpenComment (place_at file text at)
 fault_of file text at (BadEscape k) = fault_on fault.BadEscape (place_at file text (at + 1 + k)) (first_char (drop (at + 1 + k + 1) text))
 fault_of file text at (BadNumber n) = fault_on fault.BadNumber (place_at file text at) (take n (drop at text))
-
--- What is wrong with the body of a string, behind its quote.
-abbrev pub IsBodyFlaw : List ℕ → Flaw → Type 0
-IsBodyFlaw rest OpenString = IsOpen rest
-IsBodyFlaw rest (BadEscape k) = ((n : ℕ) × IsClosedAt in_line rest n) × IsBadEscapeAt rest k
-IsBodyFlaw rest flaw = ⊥
-
--- A search at the front of a text finds the longest form and its length, or what is wrong.
-abbrev pub Finds : List ℕ → Result (TokenKind × ℕ) Flaw → Type 0
-Finds text (Ok found) = IsLongest text found.0 found.1
-Finds text (Err flaw) = IsFlaw text flaw
-
--- The same where a number out of range is no token.
-abbrev pub FindsToken : List ℕ → Result (TokenKind × ℕ) Flaw → Type 0
-FindsToken text (Ok found) = IsLongest text found.0 found.1 × (found.0 ≡ Int → IsInRange (take found.1 text))
-FindsToken text (Err flaw) = IsFlaw text flaw
