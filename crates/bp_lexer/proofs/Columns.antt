@@ -1,12 +1,12 @@
 -- A column counts the characters of its line.
-use Rattle.std.proofs.Common.{◌≡◌, ℕ, ◌+◌, ◌<◌, ◌≤◌, Bool, true, false, List, [], ◌∷◌, ◌++◌, length, get_or, take, drop, sym, refl, ap, ◌∙◌, subst, ⊎_elim, inl, inr, arith, length-drop, length-append, get_or-drop, add-zero, take-append-drop, append_assoc, IsUtf8, IsCharBoundary}
+use Rattle.std.proofs.Common.{◌≡◌, ℕ, ◌+◌, ◌<◌, Bool, List, [], ◌∷◌, ◌++◌, length, get_or, take, drop, sym, refl, ap, ◌∙◌, subst, ⊎_elim, inl, inr, arith, length-drop, length-append, get_or-drop, add-zero, take-append-drop, append_assoc, IsUtf8, IsCharBoundary}
 use Rattle.std.specs.Prelude.{◌⊎◌, ◌==◌, not, reverse, chars}
-use Rattle.std.specs.List.{prefix_len, take_while}
+use Rattle.std.specs.List.{prefix_len}
 use Rattle.std.proofs.Math.Seq.{drop-append_seam, get_or-append_seam}
-use Rattle.std.proofs.lemmas.Bool.{cases_Bool, cases_lt, eqb-true, false≢true}
-use Rattle.std.proofs.lemmas.List.{reverse-reverse, reverse-append, drop_all, drop_more}
+use Rattle.std.proofs.lemmas.Bool.{cases_Bool, eqb-true, false≢true}
+use Rattle.std.proofs.lemmas.List.{reverse-reverse, reverse-append}
 use Rattle.std.proofs.lemmas.Str.{IsUtf8-take, IsUtf8-drop, IsCharBoundary-after_ascii}
-use Rattle.bp_lexer.specs.Places.{begins_char, last_line, place_at}
+use Rattle.bp_lexer.specs.Places.{last_line, place_at}
 use Rattle.bp_lexer.proofs.Chars.{count_chars}
 use Rattle.bp_lexer.proofs.Runs.{run_ends}
 

@@ -1,5 +1,5 @@
 -- What is wrong where no token begins, and the fault that it is.
-use Rattle.std.specs.Prelude.{◌≡◌, ℕ, ◌+◌, List, ◌⊎◌, drop, take, slice_index, codes, encode_utf8_all, chars, Result, Ok, Err}
+use Rattle.std.specs.Prelude.{◌≡◌, ℕ, ◌+◌, List, ◌⊎◌, drop, take, slice_index, codes, encode_utf8_all, chars}
 use Rattle.std.specs.Int.{w64}
 use Rattle.std.specs.Int.RustNames.{FitsSigned}
 use Rattle.std.specs.Str.Parse.{signed_digits_value}
@@ -8,7 +8,6 @@ use Rattle.bp_faults.specs.declared.fault.Fault.{Fault}
 use Rattle.bp_faults.specs.declared.kind.FaultKind.TheVariants as fault
 use Rattle.bp_lexer.specs.declared.flaw.Flaw.{Flaw}
 use Rattle.bp_lexer.specs.declared.flaw.Flaw.TheVariants.{BadChar, OpenString, OpenComment, BadEscape, BadNumber}
-use Rattle.bp_lexer.specs.declared.token.TokenKind.{TokenKind}
 use Rattle.bp_lexer.specs.declared.token.TokenKind.TheVariants.{Int}
 use Rattle.bp_lexer.specs.Classes.{in_line}
 use Rattle.bp_lexer.specs.Strings.{IsClosedAt, IsOpen, IsBadEscapeAt}

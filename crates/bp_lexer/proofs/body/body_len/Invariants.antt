@@ -1,4 +1,4 @@
-use Rattle.std.proofs.Common.{length, ◌-◌, ◌≡◌, ◌<◌, ◌≤◌, ℕ, true, false, get_or, take}
+use Rattle.std.proofs.Common.{length, ◌-◌, ◌≡◌, ◌≤◌, ℕ, true, false, take}
 use Rattle.bp_lexer.specs.Classes.{in_line}
 use Rattle.bp_lexer.specs.Strings.{IsClosedAt, is_body}
 use Rattle.bp_lexer.specs.Search.{KnowsBadEscape}

@@ -1,4 +1,4 @@
-use Rattle.std.proofs.Common.{rules, drop, ◌≡◌, length, take, ◌-◌}
+use Rattle.std.proofs.Common.{rules, drop}
 use Rattle.std.proofs.lemmas.List.{take_rest}
 use Rattle.bp_lexer.specs.Strings.{IsClosedAt, is_escape}
 use Rattle.bp_lexer.specs.Faults.{IsFlaw}
