@@ -1,10 +1,11 @@
 -- A step along the body of a string, and where it can end.
-use Rattle.std.proofs.Common.{◌≡◌, ℕ, suc, ◌+◌, ◌-◌, ◌<◌, ◌≤◌, Bool, true, false, cond, List, [], ◌∷◌, ◌++◌, length, get_or, take, drop, sym, refl, ap, ◌∙◌, subst, ⊎_elim, arith, take-append-drop, append_assoc, Option, Some, None}
+use Rattle.std.proofs.Common.{◌≡◌, ℕ, suc, ◌+◌, ◌-◌, ◌<◌, ◌≤◌, Bool, true, false, List, [], ◌∷◌, ◌++◌, length, get_or, take, drop, sym, refl, ap, ◌∙◌, subst, ⊎_elim, arith, take-append-drop, append_assoc, Option, Some, None}
 use Rattle.std.specs.Prelude.{not, ◌&&◌, ◌==◌}
 use Rattle.std.proofs.lemmas.Bool.{and_parts, and_from, cases_Bool, cond-true, cond-false, cases_lt, cases_order, false≢true, ne_eqb, eqb-true}
 use Rattle.std.proofs.lemmas.List.{take_more, take-take, drop_more, drop-take}
 use Rattle.bp_lexer.specs.Classes.{in_line}
-use Rattle.bp_lexer.specs.Strings.{is_body, is_plain, is_escape, IsClosedAt, IsBadEscapeAt, KnowsBadEscape}
+use Rattle.bp_lexer.specs.Strings.{is_body, is_plain, is_escape, IsClosedAt, IsBadEscapeAt}
+use Rattle.bp_lexer.specs.Search.{KnowsBadEscape}
 
 -- what follows a body is judged alone
 body_append : (ok : ℕ → Bool) (p : Bool) (xs ys : List ℕ) → is_body ok p xs ≡ true → is_body ok p (xs ++ ys) ≡ is_body ok false ys

@@ -1,5 +1,5 @@
 -- Tokens and white space begin and end where characters do.
-use Rattle.std.proofs.Common.{◌≡◌, ℕ, suc, Bool, ◌+◌, ◌-◌, ◌<◌, ◌≤◌, true, false, List, [], ◌∷◌, ◌++◌, length, get_or, take, drop, sym, refl, ap, ◌∙◌, subst, arith, ⊎_elim, inl, inr, IsUtf8, IsCharBoundary, length-drop, length-take-le, length-append, get_or-drop, get_or-take, take-append-drop, add-zero}
+use Rattle.std.proofs.Common.{◌≡◌, ℕ, suc, Bool, ◌+◌, ◌-◌, ◌<◌, ◌≤◌, true, List, [], ◌∷◌, ◌++◌, length, get_or, take, drop, sym, refl, ap, ◌∙◌, subst, arith, ⊎_elim, IsUtf8, IsCharBoundary, length-drop, length-take-le, length-append, get_or-drop, get_or-take, take-append-drop, add-zero}
 use Rattle.std.specs.Prelude.{◌⊎◌, ◌==◌, not}
 use Rattle.std.specs.List.{list_all, slice_range}
 use Rattle.std.proofs.Math.Seq.{get_or-append_seam}

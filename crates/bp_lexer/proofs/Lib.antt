@@ -3,6 +3,7 @@ mod Places
 mod TokenKinds
 mod Runs
 mod Rivals
+mod Columns
 mod Idents
 mod Ints
 mod Bodies

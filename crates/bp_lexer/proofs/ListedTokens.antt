@@ -1,5 +1,5 @@
 -- Each token of a list is a token of the text.
-use Rattle.std.proofs.Common.{◌≡◌, ℕ, zero, suc, ◌<◌, List, [], ◌∷◌, length, get_or, arith, ap, ◌∙◌}
+use Rattle.std.proofs.Common.{ℕ, zero, suc, ◌<◌, List, [], ◌∷◌, length, get_or, arith}
 use Rattle.bp_lexer.specs.declared.token.Token.{Token}
 use Rattle.bp_lexer.specs.Meaning.{IsToken, Covers}
 use Rattle.bp_lexer.proofs.Places.{place_file}

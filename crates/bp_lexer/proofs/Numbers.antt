@@ -1,9 +1,9 @@
 -- What `parse` says of an integer token.
-use Rattle.std.proofs.Common.{◌≡◌, ℕ, ◌+◌, ◌-◌, ◌<◌, Bool, true, false, List, [], ◌∷◌, ◌++◌, length, take, drop, sym, refl, ℤ, ap, ◌∙◌, subst, ⊎_elim, arith, rules, Result, Ok, Err, is_ok}
-use Rattle.std.specs.Prelude.{◌⊎◌, ◌↔◌, IsTrue}
+use Rattle.std.proofs.Common.{◌≡◌, ℕ, ◌+◌, ◌-◌, Bool, true, List, ◌∷◌, take, drop, refl, ℤ, ap, ◌∙◌, subst, ⊎_elim, arith, rules, Result, Ok, Err, is_ok}
+use Rattle.std.specs.Prelude.{IsTrue}
 use Rattle.std.specs.Int.{w64}
 use Rattle.std.specs.List.{list_all, slice_range}
-use Rattle.std.specs.Str.Parse.{ParsesSigned, IsNumeral, AllDigits, digits_value, without_leading_sign, signed_digits_value}
+use Rattle.std.specs.Str.Parse.{ParsesSigned, IsNumeral, digits_value, without_leading_sign}
 use Rattle.std.proofs.lemmas.Bool.{and_from, false≢true}
 use Rattle.std.proofs.lemmas.Bool.Decides.{nat_tests}
 use Rattle.std.proofs.lemmas.Str.Parse.{IsNumeralModel, numerals_by_value}

@@ -1,5 +1,5 @@
 -- A text has one meaning: one token list, or one first fault.
-use Rattle.std.proofs.Common.{◌≡◌, ℕ, ◌+◌, ◌-◌, ◌<◌, ◌≤◌, true, false, List, [], ◌∷◌, length, get_or, take, drop, sym, refl, ap, ◌∙◌, subst, ⊎_elim, inl, inr, arith, length-drop, length-take-le, take-append-drop, get_or-drop, get_or-take, add-zero, Result, Ok, Err}
+use Rattle.std.proofs.Common.{◌≡◌, ℕ, ◌-◌, ◌<◌, ◌≤◌, false, List, [], ◌∷◌, length, get_or, take, drop, sym, refl, ap, ◌∙◌, subst, ⊎_elim, inl, inr, arith, length-drop, length-take-le, take-append-drop, get_or-drop, get_or-take, add-zero, Result, Ok, Err}
 use Rattle.std.proofs.lemmas.Bool.{cases_order, false≢true}
 use Rattle.bp_faults.specs.declared.fault.Fault.{Fault}
 use Rattle.bp_lexer.specs.declared.flaw.Flaw.{Flaw}

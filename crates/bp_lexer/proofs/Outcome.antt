@@ -1,5 +1,5 @@
 -- A text has a token list or a first fault.
-use Rattle.std.proofs.Common.{◌≡◌, ℕ, zero, suc, ◌+◌, ◌-◌, ◌^◌, ◌<◌, ◌≤◌, true, false, List, [], ◌∷◌, ◌++◌, length, get_or, take, drop, sym, refl, ap, ◌∙◌, subst, ⊎_elim, inl, inr, arith, length-drop, Option, Some, None, Result, Ok, Err}
+use Rattle.std.proofs.Common.{◌≡◌, ℕ, zero, suc, ◌+◌, ◌-◌, ◌^◌, ◌<◌, ◌≤◌, true, false, List, [], ◌∷◌, ◌++◌, length, get_or, take, drop, sym, refl, ap, ◌∙◌, subst, ⊎_elim, inl, inr, arith, length-drop, Option, Some, None}
 use Rattle.std.specs.Prelude.{◌⊎◌}
 use Rattle.std.specs.List.{prefix_len}
 use Rattle.std.specs.Int.Signed.{mag}
@@ -14,11 +14,12 @@ use Rattle.bp_lexer.specs.declared.token.Token.{Token}
 use Rattle.bp_lexer.specs.declared.token.TokenKind.{TokenKind}
 use Rattle.bp_lexer.specs.declared.token.TokenKind.TheVariants.{Ident, Int, Quoted, Raw, Punct as Mark, LineComment, BlockComment}
 use Rattle.bp_lexer.specs.Classes.{is_white, is_letter, is_word, is_digit, in_line, in_raw}
-use Rattle.bp_lexer.specs.Faults.{Opens, IsInRange, IsFlaw, IsBodyFlaw, fault_of}
+use Rattle.bp_lexer.specs.Faults.{IsInRange, IsFlaw, fault_of}
 use Rattle.bp_lexer.specs.Forms.{IsLongest, IsEnd, IsFirstEnd, punct_text}
-use Rattle.bp_lexer.specs.Meaning.{Covers, IsToken, IsTokenList, IsFirstFault, word_of}
+use Rattle.bp_lexer.specs.Meaning.{Covers, IsToken, IsTokenList, IsFirstFault}
 use Rattle.bp_lexer.specs.Places.{place_at}
-use Rattle.bp_lexer.specs.Strings.{is_body, is_escape, IsClosedAt, KnowsBadEscape}
+use Rattle.bp_lexer.specs.Strings.{is_body, is_escape, IsClosedAt}
+use Rattle.bp_lexer.specs.Search.{KnowsBadEscape, IsBodyFlaw}
 use Rattle.bp_lexer.proofs.Bodies.{plain_more, pair_more, line_ends, slash_ends, slash_last, past_pair, past_plain, so_far_plain, line_ok}
 use Rattle.bp_lexer.proofs.Boundary.{form_span}
 use Rattle.bp_lexer.proofs.Comments.{inside, line_longest, block_longest, block_open, block_begins, slash_alone, not_open}

@@ -1,5 +1,5 @@
 -- The longest string and the longest raw string.
-use Rattle.std.proofs.Common.{◌≡◌, ℕ, suc, ◌+◌, ◌<◌, ◌≤◌, true, false, List, [], ◌∷◌, ◌++◌, length, get_or, take, drop, sym, refl, ap, ◌∙◌, arith, add-one, append_assoc, length-append, ⊎_elim, inl}
+use Rattle.std.proofs.Common.{◌≡◌, ℕ, suc, ◌+◌, ◌<◌, ◌≤◌, false, List, [], ◌∷◌, ◌++◌, length, get_or, take, drop, sym, refl, ap, ◌∙◌, arith, add-one, append_assoc, length-append, ⊎_elim, inl}
 use Rattle.std.specs.Prelude.{not, ◌==◌}
 use Rattle.std.specs.List.{prefix_len}
 use Rattle.std.proofs.lemmas.Bool.{cases_Bool, eqb-true, false≢true}
@@ -9,10 +9,11 @@ use Rattle.bp_lexer.specs.declared.flaw.Flaw.{Flaw}
 use Rattle.bp_lexer.specs.declared.flaw.Flaw.TheVariants.{OpenString, BadEscape}
 use Rattle.bp_lexer.specs.declared.token.TokenKind.{TokenKind}
 use Rattle.bp_lexer.specs.declared.token.TokenKind.TheVariants.{Quoted, Raw}
-use Rattle.bp_lexer.specs.Classes.{in_line, in_raw}
+use Rattle.bp_lexer.specs.Classes.{in_raw}
 use Rattle.bp_lexer.specs.Strings.{is_body, is_escape, IsClosedAt, IsOpen, IsBadEscapeAt}
 use Rattle.bp_lexer.specs.Forms.{IsForm, IsLongest, HasNoForm}
-use Rattle.bp_lexer.specs.Faults.{IsFlaw, IsBodyFlaw}
+use Rattle.bp_lexer.specs.Faults.{IsFlaw}
+use Rattle.bp_lexer.specs.Search.{IsBodyFlaw}
 use Rattle.bp_lexer.proofs.Runs.{prefix_all, run_stops, run_ends}
 use Rattle.bp_lexer.proofs.Rivals.{rival, form_as}
 use Rattle.bp_lexer.proofs.Bodies.{closed_once, closed_rough, bad_not_closed}

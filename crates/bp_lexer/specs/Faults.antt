@@ -1,5 +1,5 @@
 -- What is wrong where no token begins, and the fault that it is.
-use Rattle.std.specs.Prelude.{◌≡◌, ℕ, ◌+◌, List, ◌⊎◌, drop, take, slice_index, codes, encode_utf8_all, chars, Result, Ok, Err}
+use Rattle.std.specs.Prelude.{◌≡◌, ℕ, ◌+◌, List, ◌⊎◌, drop, take, slice_index, codes, encode_utf8_all, chars}
 use Rattle.std.specs.Int.{w64}
 use Rattle.std.specs.Int.RustNames.{FitsSigned}
 use Rattle.std.specs.Str.Parse.{signed_digits_value}
@@ -8,7 +8,6 @@ use Rattle.bp_faults.specs.declared.fault.Fault.{Fault}
 use Rattle.bp_faults.specs.declared.kind.FaultKind.TheVariants as fault
 use Rattle.bp_lexer.specs.declared.flaw.Flaw.{Flaw}
 use Rattle.bp_lexer.specs.declared.flaw.Flaw.TheVariants.{BadChar, OpenString, OpenComment, BadEscape, BadNumber}
-use Rattle.bp_lexer.specs.declared.token.TokenKind.{TokenKind}
 use Rattle.bp_lexer.specs.declared.token.TokenKind.TheVariants.{Int}
 use Rattle.bp_lexer.specs.Classes.{in_line}
 use Rattle.bp_lexer.specs.Strings.{IsClosedAt, IsOpen, IsBadEscapeAt}
@@ -50,19 +49,3 @@ fault_of file text at OpenString = fault_at fault.OpenString (place_at file text
 fault_of file text at OpenComment = fault_at fault.OpenComment (place_at file text at)
 fault_of file text at (BadEscape k) = fault_on fault.BadEscape (place_at file text (at + 1 + k)) (first_char (drop (at + 1 + k + 1) text))
 fault_of file text at (BadNumber n) = fault_on fault.BadNumber (place_at file text at) (take n (drop at text))
-
--- What is wrong with the body of a string, behind its quote.
-abbrev pub IsBodyFlaw : List ℕ → Flaw → Type 0
-IsBodyFlaw rest OpenString = IsOpen rest
-IsBodyFlaw rest (BadEscape k) = ((n : ℕ) × IsClosedAt in_line rest n) × IsBadEscapeAt rest k
-IsBodyFlaw rest flaw = ⊥
-
--- A search at the front of a text finds the longest form and its length, or what is wrong.
-abbrev pub Finds : List ℕ → Result (TokenKind × ℕ) Flaw → Type 0
-Finds text (Ok found) = IsLongest text found.0 found.1
-Finds text (Err flaw) = IsFlaw text flaw
-
--- The same where a number out of range is no token.
-abbrev pub FindsToken : List ℕ → Result (TokenKind × ℕ) Flaw → Type 0
-FindsToken text (Ok found) = IsLongest text found.0 found.1 × (found.0 ≡ Int → IsInRange (take found.1 text))
-FindsToken text (Err flaw) = IsFlaw text flaw

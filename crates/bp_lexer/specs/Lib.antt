@@ -3,4 +3,5 @@ pub mod Strings
 pub mod Forms
 pub mod Places
 pub mod Faults
+pub mod Search
 pub mod Meaning

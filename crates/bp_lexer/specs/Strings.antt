@@ -41,8 +41,3 @@ abbrev pub unescaped : Bool → List ℕ → List ℕ
 unescaped slash [] = []
 unescaped true (c ∷ cs) = unwrap_or (escape_of c) c ∷ unescaped false cs
 unescaped false (c ∷ cs) = if c == 92 then unescaped true cs else c ∷ unescaped false cs
-
--- Up to n there is no bad escape, or the first is known.
-abbrev pub KnowsBadEscape : List ℕ → ℕ → Option ℕ → Type 0
-KnowsBadEscape rest n None = is_body is_escape false (take n rest) ≡ true
-KnowsBadEscape rest n (Some k) = IsBadEscapeAt rest k

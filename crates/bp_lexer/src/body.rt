@@ -1,6 +1,6 @@
 ghost use Rattle.std.specs.Prelude.{◌≡◌, ◌+◌, ◌<◌, ◌≤◌, ◌^◌, length, IfOk, IfErr, slice_index};
-ghost use Rattle.bp_lexer.specs.Strings.{IsClosedAt, is_escape, KnowsBadEscape};
-ghost use Rattle.bp_lexer.specs.Faults.{IsBodyFlaw};
+ghost use Rattle.bp_lexer.specs.Strings.{IsClosedAt, is_escape};
+ghost use Rattle.bp_lexer.specs.Search.{KnowsBadEscape, IsBodyFlaw};
 
 use crate::escape::escape_of;
 use crate::flaw::Flaw;

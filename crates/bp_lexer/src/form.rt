@@ -1,6 +1,6 @@
 ghost use Rattle.std.specs.Prelude.{◌≡◌, ◌<◌, ◌≤◌, ◌^◌, ◌⊎◌, length, slice_index, IsTrue};
 ghost use Rattle.bp_lexer.specs.Classes.{is_digit};
-ghost use Rattle.bp_lexer.specs.Faults.{Finds};
+ghost use Rattle.bp_lexer.specs.Search.{Finds};
 
 use crate::TokenKind;
 use crate::body::body_len;
@@ -28,10 +28,8 @@ fn string_form(text: &[u8]) -> Result<(TokenKind, usize), Flaw>
     requires short { length text.now ≤ 2 ^ 20 }
     ensures { Finds text.now result }
 {
-    match body_len(&text[1..]) {
-        Ok(inner) => Ok((TokenKind::Quoted, inner + 2)),
-        Err(flaw) => Err(flaw),
-    }
+    let inner = body_len(&text[1..])?;
+    Ok((TokenKind::Quoted, inner + 2))
 }
 
 fn raw_form(text: &[u8]) -> Result<(TokenKind, usize), Flaw>

@@ -1,9 +1,8 @@
-ghost use Rattle.std.specs.Prelude.{◌≡◌, ◌⊎◌, ℕ, List, Result, length, IsUtf8, chars};
-ghost use Rattle.std.specs.List.{count_by};
+ghost use Rattle.std.specs.Prelude.{◌≡◌, ◌⊎◌, ℕ, List, Result, ◌+◌, length, take, IsUtf8, IsCharBoundary, chars};
 ghost use Rattle.bp_faults.specs.declared.fault.Fault.{Fault};
 ghost use Rattle.bp_lexer.specs.declared.token.Token.{Token};
 ghost use Rattle.bp_lexer.specs.Meaning.{IsTokenList, IsFirstFault, LexMeans};
-ghost use Rattle.bp_lexer.specs.Places.{begins_char};
+ghost use Rattle.bp_lexer.specs.Places.{place_at, last_line};
 
 /// A text has at most one token list.
 pub fn one_token_list()
@@ -26,7 +25,7 @@ pub fn one_meaning()
     ensures { (file : ℕ) (text : List ℕ) (a b : Result (List Token) Fault) → LexMeans file text a → LexMeans file text b → a ≡ b }
 {}
 
-/// The bytes that begin a character are as many as the characters.
+/// A column is one more than the characters that stand before it on its line.
 pub fn columns_count_characters()
-    ensures { (bytes : List ℕ) → IsUtf8 bytes → count_by begins_char bytes ≡ length (chars bytes) }
+    ensures { (file : ℕ) (text : List ℕ) (i : ℕ) → IsUtf8 text → IsCharBoundary text i → (place_at file text i).col ≡ 1 + length (chars (last_line (take i text))) }
 {}

@@ -4,9 +4,10 @@ ghost use Rattle.bp_lexer.specs.declared.class.Class.TheVariants.{White};
 ghost use Rattle.bp_lexer.specs.declared.token.TokenKind.TheVariants.{Int};
 ghost use Rattle.bp_lexer.specs.Classes.{in_class};
 ghost use Rattle.bp_lexer.specs.Forms.{IsLongest};
-ghost use Rattle.bp_lexer.specs.Faults.{IsFlaw, IsInRange, FindsToken, fault_of, first_char};
+ghost use Rattle.bp_lexer.specs.Faults.{IsFlaw, IsInRange, fault_of, first_char};
 ghost use Rattle.bp_lexer.specs.Meaning.{LexMeans};
 ghost use Rattle.bp_lexer.specs.Places.{place_at};
+ghost use Rattle.bp_lexer.specs.Search.{FindsToken};
 
 use crate::class::{Class, in_class};
 use crate::flaw::Flaw;

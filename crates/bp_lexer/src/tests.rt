@@ -1,6 +1,6 @@
 ghost use Rattle.std.specs.Prelude.{◌≤◌, ◌^◌, length};
 
-use crate::{LexError, tokens, value_of};
+use crate::{LexError, place_of_end, tokens, value_of};
 use bp_faults::{OutOfMemory, Text, fault_line};
 use std::alloc::Global;
 use std::test::Fail;
@@ -76,6 +76,8 @@ fn texts_are_cut_as_the_language_says(rt: HostRuntime) -> Result<(), Fail> {
         assert!(rt; text.len() <= 1 << 20);
         assert_eq!(rt; shown(alloc, text)?.as_str(), want);
     }
+    let end = place_of_end("a\n é", 2);
+    assert_eq!(rt; (end.file, end.line, end.col), (2, 2, 3));
     Ok(())
 }
 

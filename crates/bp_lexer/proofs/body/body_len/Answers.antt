@@ -1,6 +1,5 @@
-use Rattle.std.proofs.Common.{arith, length, ◌+◌, ◌<◌, ◌≡◌, get_or, subst}
+use Rattle.std.proofs.Common.{arith, length, ◌+◌, ◌<◌, ◌≡◌, get_or}
 use Rattle.bp_lexer.specs.Classes.{in_line}
-use Rattle.bp_lexer.specs.Strings.{is_escape}
 use Rattle.bp_lexer.proofs.Bodies.{plain_more, pair_more, line_ends, slash_ends, slash_last, past_pair, past_plain, so_far_plain, line_ok}
 use Rattle.bp_lexer.proofs.body.body_len.Goals as goal
 use Rattle.bp_lexer.proofs.body.body_len.Goals.{then-n-rest-via-then-n-rest, then-n-rest-via-else-n-rest+then-rest-n-eq10}

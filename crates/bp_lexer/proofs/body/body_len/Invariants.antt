@@ -1,6 +1,7 @@
-use Rattle.std.proofs.Common.{length, ◌-◌, ◌≡◌, ◌<◌, ◌≤◌, ℕ, true, false, get_or, take}
+use Rattle.std.proofs.Common.{length, ◌-◌, ◌≡◌, ◌≤◌, ℕ, true, false, take}
 use Rattle.bp_lexer.specs.Classes.{in_line}
-use Rattle.bp_lexer.specs.Strings.{KnowsBadEscape, IsClosedAt, is_body}
+use Rattle.bp_lexer.specs.Strings.{IsClosedAt, is_body}
+use Rattle.bp_lexer.specs.Search.{KnowsBadEscape}
 use Rattle.bp_lexer.proofs.body.body_len.Given as goal
 
 abbrev pub invariant-loop-n : goal.invariant-loop-n

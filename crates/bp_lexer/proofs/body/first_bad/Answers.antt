@@ -1,5 +1,6 @@
 use Rattle.std.proofs.Common.{sym, ◌∙◌, subst}
-use Rattle.bp_lexer.specs.Strings.{is_escape, KnowsBadEscape}
+use Rattle.bp_lexer.specs.Strings.{is_escape}
+use Rattle.bp_lexer.specs.Search.{KnowsBadEscape}
 use Rattle.bp_lexer.proofs.Bodies.{pair_more}
 use Rattle.bp_lexer.proofs.body.first_bad.Goals as goal
 

@@ -1,4 +1,4 @@
-use Rattle.std.proofs.Common.{arith, ap, sym, refl, ◌∙◌, ◌∷◌, ◌+◌, ◌++◌, false, true, drop, length, string_bytes}
+use Rattle.std.proofs.Common.{arith, ap, sym, refl, ◌∙◌, ◌∷◌, ◌+◌, false, true, drop, length, string_bytes}
 use Rattle.std.specs.Prelude.{encode_utf8_all, unwrap_or, chars}
 use Rattle.std.proofs.lemmas.Iterator.{YieldsList-from_chars}
 use Rattle.std.proofs.lemmas.Iterator.Consumers.{YieldsList-turn, YieldsList-end}

@@ -1,4 +1,4 @@
-use Rattle.std.proofs.Common.{ℕ, drop, ◌≡◌, length, take, ◌-◌}
+use Rattle.std.proofs.Common.{ℕ, drop}
 use Rattle.std.proofs.lemmas.List.{take_rest}
 use Rattle.bp_lexer.specs.Forms.{IsEnd, IsFirstEnd}
 use Rattle.bp_lexer.proofs.Comments.{block_longest, block_open, block_begins}

@@ -1,4 +1,4 @@
-use Rattle.std.proofs.Common.{arith, subst, drop}
+use Rattle.std.proofs.Common.{subst, drop}
 use Rattle.bp_lexer.specs.Faults.{IsFlaw}
 use Rattle.bp_lexer.specs.declared.token.TokenKind.TheVariants.{Int}
 use Rattle.bp_lexer.proofs.Boundary.{ends_char_at, behind_slash}

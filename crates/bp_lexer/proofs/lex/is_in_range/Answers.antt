@@ -1,5 +1,3 @@
-use Rattle.std.proofs.Common.{arith, sym, ◌∙◌, ◌≡◌, take, drop, ◌+◌, ap}
-use Rattle.std.specs.List.{slice_range}
 use Rattle.bp_lexer.specs.declared.token.TokenKind.TheVariants.{Int}
 use Rattle.bp_lexer.proofs.Boundary.{begins_char_at, ends_char_at}
 use Rattle.bp_lexer.proofs.Numbers.{range_test}

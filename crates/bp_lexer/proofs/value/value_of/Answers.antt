@@ -1,6 +1,5 @@
-use Rattle.std.proofs.Common.{arith, ap, sym, subst, ◌≡◌, ◌∙◌, false, drop, take, length, ◌-◌}
+use Rattle.std.proofs.Common.{arith, ap, sym, subst, ◌≡◌, ◌∙◌, false}
 use Rattle.std.specs.Prelude.{IfOk, encode_utf8_all, chars}
-use Rattle.bp_lexer.specs.declared.token.TokenKind.{TokenKind}
 use Rattle.bp_lexer.specs.Strings.{unescaped}
 use Rattle.bp_lexer.specs.Meaning.{string_of, word_of}
 use Rattle.bp_lexer.proofs.Boundary.{token_span, before_token, after_token, inner_begins, inner_ends, inner_is}
