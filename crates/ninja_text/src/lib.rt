@@ -7,11 +7,15 @@
 
 mod escape;
 mod file;
+mod letters;
+mod listing;
 mod output;
 #[cfg(test)]
 mod tests;
 mod text;
+mod well_formed;
 
 pub use file::{NinjaFile, NinjaRule, Piece, Statement};
 pub use output::WriteError;
 pub use text::write;
+pub use well_formed::is_well_formed;
