@@ -1,6 +1,11 @@
 pub mod Firsts
 pub mod Grows
+pub mod Guarded
 pub mod Lines
+pub mod OneLine
+pub mod PieceReading
+pub mod Reading
+pub mod Tests
 pub mod TextSets
 pub mod Wholes
 pub mod Runs

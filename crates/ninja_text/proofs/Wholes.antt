@@ -15,6 +15,7 @@ use Rattle.ninja_text.specs.declared.file.NinjaRule.{NinjaRule}
 use Rattle.ninja_text.specs.declared.file.Statement.{Statement}
 use Rattle.ninja_text.specs.Listing.{IsSetOf}
 use Rattle.ninja_text.specs.Parts.{HasRuleParts, HasStatementParts}
+use Rattle.ninja_text.proofs.Tests.{both, first, second}
 use Rattle.ninja_text.specs.WellFormed.{is_nil, is_name, is_path, is_value, is_rule_key, is_rule_value, AllDiffer, IsRule, IsStatement}
 
 -- what a set says of a text
@@ -45,17 +46,8 @@ some : (xs : List (List ℕ)) → IsTrue (not (is_nil xs)) ↔ (xs ≢ [])
 some [] = (λ h. cc, λ h. absurd (h refl))
 some (x ∷ xs) = (λ h e. cc, λ h. grind (arith, nat_tests))
 
-both : (a b : Bool) → IsTrue a → IsTrue b → IsTrue (a && b)
-both a b h k = grind (arith, nat_tests)
-
-first : (a b : Bool) → IsTrue (a && b) → IsTrue a
-first a b h = grind (arith, nat_tests)
-
-second : (a b : Bool) → IsTrue (a && b) → IsTrue b
-second a b h = grind (arith, nat_tests)
-
 all_joined : (xs ys : List (List ℕ)) → IsTrue (list_all is_path xs) → IsTrue (list_all is_path ys) → IsTrue (list_all is_path (xs ++ ys))
-all_joined xs ys h k = list_all-append is_path xs ys ∙ both _ _ h k
+all_joined xs ys h k = list_all-append is_path xs ys ∙ both (list_all is_path xs) (list_all is_path ys) h k
 
 all_first : (xs ys : List (List ℕ)) → IsTrue (list_all is_path (xs ++ ys)) → IsTrue (list_all is_path xs)
 all_first xs ys h = first (list_all is_path xs) (list_all is_path ys) (sym (list_all-append is_path xs ys) ∙ h)

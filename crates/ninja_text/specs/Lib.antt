@@ -1,3 +1,4 @@
+pub mod Laws
 pub mod Limit
 pub mod Listing
 pub mod Escapes

@@ -7,6 +7,7 @@
 
 mod escape;
 mod file;
+mod laws;
 mod letters;
 mod listing;
 mod output;
@@ -16,6 +17,10 @@ mod text;
 mod well_formed;
 
 pub use file::{NinjaFile, NinjaRule, Piece, Statement};
+pub use laws::{
+    different_paths_are_written_differently, different_rule_values_are_written_differently,
+    different_values_are_written_differently, lines_hold_no_line_feed, written_paths_are_guarded,
+};
 pub use output::WriteError;
 pub use text::write;
 pub use well_formed::is_well_formed;
