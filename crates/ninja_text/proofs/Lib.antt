@@ -1,3 +1,4 @@
+pub mod ByteTests
 pub mod Firsts
 pub mod Grows
 pub mod Guarded
@@ -5,7 +6,6 @@ pub mod Lines
 pub mod OneLine
 pub mod PieceReading
 pub mod Reading
-pub mod Tests
+pub mod Runs
 pub mod TextSets
 pub mod Wholes
-pub mod Runs

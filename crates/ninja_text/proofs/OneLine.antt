@@ -1,15 +1,12 @@
 -- Lines without LF.
-use Prim.Native.Nat.{zero}
-use Rattle.std.proofs.Common.{◌≡◌, ℕ, suc, ◌+◌, ◌<◌, Bool, true, false, cond, List, [], ◌∷◌, ◌++◌, ◌&&◌, ◌||◌, eqb, not, map, length, get_or, codes, arith, ap, refl, sym, ◌∙◌}
-use Rattle.std.proofs.lemmas.Bool.Decides.{nat_tests}
-use Rattle.std.proofs.lemmas.List.Folds.{list_all-append, list_all-map}
+use Rattle.std.proofs.Common.{◌≡◌, ℕ, suc, Bool, true, false, cond, List, [], ◌∷◌, ◌++◌, ◌&&◌, ◌||◌, eqb, not, map, length, get_or, codes, arith, ap, refl, sym, ◌∙◌}
+use Rattle.std.proofs.lemmas.List.Folds.{list_all-append}
 use Rattle.std.proofs.lemmas.List.Sums.{AllPass-from_list_all, list_all-from_AllPass}
 use Rattle.std.proofs.lemmas.Slice.Eq.{bytes_eq-Decides}
-use Rattle.std.specs.Bool.{IsTrue}
 use Rattle.std.specs.List.{All, Contains, flat_map, list_all}
 use Rattle.std.specs.Map.{keys_of, values_of}
 use Rattle.std.specs.Str.{bytes_eq}
-use Rattle.ninja_text.proofs.Tests.{both, first, second, apart_by}
+use Rattle.ninja_text.proofs.ByteTests.{both, first, second, apart_by}
 use Rattle.ninja_text.specs.declared.escape.Escape.{Escape}
 use Rattle.ninja_text.specs.declared.escape.Escape.TheVariants.{Path, Value}
 use Rattle.ninja_text.specs.declared.file.NinjaFile.{NinjaFile}
@@ -137,17 +134,17 @@ ins_line s h =
     let parts : (list_all is_path s.ins && list_all is_path (s.implicit ++ s.order_only)) ≡ true = paths_of s.ins (s.implicit ++ s.order_only) h in
     let rest : (list_all is_path s.implicit && list_all is_path s.order_only) ≡ true = paths_of s.implicit s.order_only (second _ _ parts) in
     beside (spaced s.ins) _ (spaced_line s.ins (first _ _ parts))
-        (beside (marked (codes " |") s.implicit) (marked (codes " ||") s.order_only) (marked_line (codes " |") s.implicit refl (first _ _ rest)) (marked_line (codes " ||") s.order_only refl (second _ _ rest)))
+    (beside (marked (codes " |") s.implicit) (marked (codes " ||") s.order_only) (marked_line (codes " |") s.implicit refl (first _ _ rest)) (marked_line (codes " ||") s.order_only refl (second _ _ rest)))
 
 lines_of_statement : (names : List (List ℕ)) → AreLines names → (s : Statement) → IsStatement names s → AreLines (statement_lines s)
 lines_of_statement names lines s good =
     let parts : (list_all is_path s.outs && list_all is_path (s.ins ++ (s.implicit ++ s.order_only))) ≡ true = paths_of s.outs (s.ins ++ (s.implicit ++ s.order_only)) good.paths in
     let rule : IsOneLine s.rule = contained_passes (λ line. list_all stays line) (codes "phony" ∷ names) s.rule (both true _ refl lines) good.rule in
     both (list_all stays (build_line s)) _
-        (beside (codes "build") (spaced s.outs ++ (codes ": " ++ (s.rule ++ ins_text s))) refl
-            (beside (spaced s.outs) (codes ": " ++ (s.rule ++ ins_text s)) (spaced_line s.outs (first _ _ parts))
-                (beside (codes ": ") (s.rule ++ ins_text s) refl (beside s.rule (ins_text s) rule (ins_line s (second _ _ parts))))))
-        (variable_lines s.vars good.keys good.values)
+    (beside (codes "build") (spaced s.outs ++ (codes ": " ++ (s.rule ++ ins_text s))) refl
+    (beside (spaced s.outs) (codes ": " ++ (s.rule ++ ins_text s)) (spaced_line s.outs (first _ _ parts))
+    (beside (codes ": ") (s.rule ++ ins_text s) refl (beside s.rule (ins_text s) rule (ins_line s (second _ _ parts))))))
+    (variable_lines s.vars good.keys good.values)
 
 outs_are_paths : (names : List (List ℕ)) (statements : List Statement) → All (IsStatement names) statements → list_all is_path (flat_map (λ s. s.outs) statements) ≡ true
 outs_are_paths names [] h = refl

@@ -1,17 +1,14 @@
 -- What is written for the value of a rule's key can be read back.
-use Prim.Native.Nat.{zero}
-use Rattle.std.proofs.Common.{◌≡◌, ℕ, suc, ◌+◌, ◌<◌, ◌≤◌, Bool, true, false, cond, List, [], ◌∷◌, ◌++◌, ◌&&◌, ◌||◌, eqb, not, map, length, arith, ap, refl, sym, ◌∙◌, append_assoc, append-nil, codes}
+use Rattle.std.proofs.Common.{◌≡◌, ℕ, Bool, true, false, cond, List, [], ◌∷◌, ◌++◌, ◌&&◌, eqb, not, map, length, arith, ap, refl, sym, ◌∙◌, append_assoc, append-nil, codes}
 use Rattle.std.proofs.lemmas.Bool.Decides.{nat_tests}
-use Rattle.std.proofs.lemmas.Grind.{common_steps}
 use Rattle.std.specs.Bool.{IsTrue}
-use Rattle.std.specs.Char.{is_ascii_alphanumeric}
 use Rattle.std.specs.List.{flat_map, list_all}
 use Rattle.ninja_text.specs.declared.escape.Escape.TheVariants.{Value}
 use Rattle.ninja_text.specs.declared.file.Piece.{Piece}
 use Rattle.ninja_text.specs.declared.file.Piece.TheVariants.{Lit, Var}
-use Rattle.ninja_text.specs.Escapes.{dollar, space, is_escaped, escaped_byte, escaped, lead}
-use Rattle.ninja_text.specs.Text.{piece_text, lead_of, pieces_text}
-use Rattle.ninja_text.proofs.Tests.{first, second, apart_by}
+use Rattle.ninja_text.specs.Escapes.{dollar, space, escaped_byte, escaped}
+use Rattle.ninja_text.specs.Text.{piece_text, pieces_text}
+use Rattle.ninja_text.proofs.ByteTests.{first, second, apart_by}
 use Rattle.ninja_text.specs.WellFormed.{is_name_byte, is_name, is_value, is_piece, begins_literally, are_apart, is_rule_value}
 
 -- where a reader stands: in plain text, behind a dollar, or in a variable's name

@@ -1,13 +1,9 @@
 -- What is written can be read back.
-use Prim.Native.Nat.{zero}
-use Rattle.std.proofs.Common.{◌≡◌, ℕ, suc, ◌+◌, ◌<◌, ◌≤◌, Bool, true, false, cond, List, [], ◌∷◌, ◌++◌, ◌&&◌, ◌||◌, eqb, not, map, length, arith, ap, refl, sym, ◌∙◌, append_assoc, append-nil, codes}
+use Rattle.std.proofs.Common.{◌≡◌, ℕ, Bool, true, false, cond, List, [], ◌∷◌, ◌++◌, eqb, arith, ap, refl, sym, ◌∙◌}
 use Rattle.std.proofs.lemmas.Bool.Decides.{nat_tests}
-use Rattle.std.proofs.lemmas.Grind.{common_steps}
-use Rattle.std.specs.Bool.{IsTrue}
-use Rattle.std.specs.List.{flat_map, list_all}
 use Rattle.ninja_text.specs.declared.escape.Escape.{Escape}
 use Rattle.ninja_text.specs.declared.escape.Escape.TheVariants.{Path, Value}
-use Rattle.ninja_text.specs.Escapes.{dollar, space, is_escaped, escaped_byte, escaped, path_text, lead, value_text}
+use Rattle.ninja_text.specs.Escapes.{dollar, space, is_escaped, escaped_byte, escaped, path_text, value_text}
 
 -- The text without its escapes: a dollar goes, and the byte behind it stays whatever it is.
 abbrev pub unescaped : Bool → List ℕ → List ℕ

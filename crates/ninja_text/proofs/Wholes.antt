@@ -1,5 +1,5 @@
 -- A rule, a statement and a file by their parts.
-use Rattle.std.proofs.Common.{◌≡◌, ◌≢◌, ℕ, Bool, List, [], ◌∷◌, ◌++◌, ◌||◌, ◌&&◌, ◌↔◌, not, codes, map, get_or, Bor, arith, ap, refl, sym, ◌∙◌}
+use Rattle.std.proofs.Common.{◌≡◌, ◌≢◌, ℕ, List, [], ◌∷◌, ◌++◌, ◌||◌, ◌↔◌, not, codes, map, get_or, Bor, arith, ap, refl, sym, ◌∙◌}
 use Rattle.std.proofs.lemmas.Bool.Decides.{nat_tests}
 use Rattle.std.proofs.lemmas.Cmp.{nat_list_eq_equiv}
 use Rattle.std.proofs.lemmas.List.Folds.{list_all-map, list_all-append}
@@ -15,7 +15,7 @@ use Rattle.ninja_text.specs.declared.file.NinjaRule.{NinjaRule}
 use Rattle.ninja_text.specs.declared.file.Statement.{Statement}
 use Rattle.ninja_text.specs.Listing.{IsSetOf}
 use Rattle.ninja_text.specs.Parts.{HasRuleParts, HasStatementParts}
-use Rattle.ninja_text.proofs.Tests.{both, first, second}
+use Rattle.ninja_text.proofs.ByteTests.{both, first, second}
 use Rattle.ninja_text.specs.WellFormed.{is_nil, is_name, is_path, is_value, is_rule_key, is_rule_value, AllDiffer, IsRule, IsStatement}
 
 -- what a set says of a text

@@ -1,5 +1,5 @@
 -- The words of the laws.
-use Rattle.std.specs.Prelude.{◌≡◌, ℕ, Bool, true, false, List, [], ◌∷◌, ◌==◌, not, IsTrue}
+use Rattle.std.specs.Prelude.{◌≡◌, ℕ, true, false, List, [], ◌∷◌, ◌==◌, not, IsTrue}
 use Rattle.std.specs.List.{list_all}
 use Rattle.ninja_text.specs.declared.escape.Escape.TheVariants.{Path}
 use Rattle.ninja_text.specs.Escapes.{dollar, is_escaped}

@@ -2,7 +2,8 @@
 //!
 //! A `NinjaFile` flows in: rules, build statements and defaults, as data. Its text flows out, of at
 //! most 2^29 bytes, with every escape that Ninja needs. It is measured by `specs/Text.antt`: the
-//! text of a file is its lines one after another.
+//! text of a file is its lines one after another. `specs/WellFormed.antt` says which files the text
+//! is meant for, and `laws` what makes the text believable.
 #![tactic(auto)]
 
 mod escape;

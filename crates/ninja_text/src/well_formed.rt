@@ -199,7 +199,8 @@ fn outs<'a>(alloc: Global, statements: &'a [Statement]) -> Result<Vec<&'a str>, 
     Ok(outs)
 }
 
-/// Whether Ninja reads the text of a file as the file is meant.
+/// Whether a file is well formed. The outs and the names of the rules are kept in sets meanwhile, so the time is near
+/// the size of the file.
 pub fn is_well_formed(alloc: Global, f: &NinjaFile) -> Result<bool, OutOfMemory>
     ensures { IfOk result (λ good. IsTrue good ↔ IsWellFormed f.now) }
 {
