@@ -49,12 +49,21 @@ fn rule(alloc: Global) -> Result<NinjaRule, OutOfMemory> {
 // Paths that hold all that is escaped.
 fn hard(alloc: Global) -> Result<Statement, OutOfMemory> {
     let mut vars = Vec::new(alloc);
-    vars.push((Text::from_str(alloc, "words")?, Text::from_str(alloc, "  -X:  two $HOME ${in} $")?))?;
-    vars.push((Text::from_str(alloc, "more")?, Text::from_str(alloc, ":# | || a=b ")?))?;
+    vars.push((
+        Text::from_str(alloc, "words")?,
+        Text::from_str(alloc, "  -X:  two $HOME ${in} $")?,
+    ))?;
+    vars.push((
+        Text::from_str(alloc, "more")?,
+        Text::from_str(alloc, ":# | || a=b ")?,
+    ))?;
     Ok(Statement {
         outs: texts(alloc, &["out/a b", "out/c:d$", "$out: e"])?,
         rule: Text::from_str(alloc, "say_1")?,
-        ins: texts(alloc, &["a b:$.c", " leading", "trailing ", "$$$ $:$ :", "=#ü"])?,
+        ins: texts(
+            alloc,
+            &["a b:$.c", " leading", "trailing ", "$$$ $:$ :", "=#ü"],
+        )?,
         implicit: texts(alloc, &["in c/i j.h", ":"])?,
         order_only: texts(alloc, &["$in", "d:e f"])?,
         vars: Seq::new(vars),
