@@ -1,4 +1,4 @@
-use crate::{NinjaFile, NinjaRule, Piece, Statement, write};
+use crate::{NinjaFile, NinjaRule, Piece, Statement, is_well_formed, write};
 use bp_faults::{OutOfMemory, Seq, Text};
 use std::alloc::Global;
 use std::test::Fail;
@@ -64,6 +64,8 @@ default out/all
 "
             .as_slice()
     );
+    // The rules `cc` and `link` aren't in this file.
+    assert!(rt; !is_well_formed(alloc, &file)?);
     Ok(())
 }
 
@@ -145,5 +147,6 @@ default b a
 "
             .as_slice()
     );
+    assert!(rt; is_well_formed(alloc, &file)?);
     Ok(())
 }

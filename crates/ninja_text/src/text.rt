@@ -189,7 +189,7 @@ fn put_file(output: &mut Output, file: &NinjaFile) -> Result<(), WriteError>
     put_defaults(output, file.defaults.as_slice())
 }
 
-/// The text of a file. Any file has one; Ninja reads it as meant where the file is well formed.
+/// The text of a file. Any file has one; Ninja reads back only that of a well-formed file as it was meant.
 pub fn write(alloc: Global, f: &NinjaFile) -> Result<Vec<u8>, WriteError>
     ensures text { IfOk result (λ text. text.items ≡ text_of f.now) }
     ensures fits { IfOk result (λ text. length text.items ≤ 2 ^ 29) }
