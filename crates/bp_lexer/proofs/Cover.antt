@@ -1,0 +1,43 @@
+-- The way over a text: white space and tokens.
+use Rattle.std.proofs.Common.{◌≡◌, ℕ, ◌+◌, ◌<◌, true, List, [], ◌∷◌, ◌++◌, get_or, length, drop, subst, ap, ◌∙◌, false, ⊎_elim, arith}
+use Rattle.std.proofs.lemmas.Bool.{cases_lt}
+use Rattle.bp_faults.specs.declared.fault.Fault.{Fault}
+use Rattle.bp_faults.specs.declared.kind.FaultKind.TheVariants.{NotBuilt}
+use Rattle.bp_faults.specs.declared.place.Place.{Place}
+use Rattle.bp_faults.specs.Faults.{fault_on}
+use Rattle.bp_lexer.specs.declared.token.Token.{Token}
+use Rattle.bp_lexer.specs.Classes.{is_white}
+use Rattle.bp_lexer.specs.Forms.{HasNoForm}
+use Rattle.bp_lexer.specs.Places.{place_at}
+use Rattle.bp_lexer.specs.Meaning.{IsBlank, IsToken, Covers, IsFirstFault, first_char}
+
+blank_more : (text : List ℕ) (i j : ℕ) → IsBlank text i j → is_white (get_or text j 0) ≡ true → IsBlank text i (j + 1)
+blank_more text i j blank white = (
+  omega arith,
+  λ k low high. ⊎_elim (λ below. blank.1 k low below) (λ above. let same : k ≡ j = omega arith in rw same white) (cases_lt k j),
+)
+
+pub covers_white : (file : ℕ) (text : List ℕ) (i j : ℕ) (ts : List Token) → Covers file text i j ts → is_white (get_or text j 0) ≡ true → Covers file text i (j + 1) ts
+covers_white file text i j [] covers white = blank_more text i j covers white
+covers_white file text i j (t ∷ ts) covers white = (covers.0, covers.1, covers_white file text t.end j ts covers.2 white)
+
+pub blank_none : (text : List ℕ) (i : ℕ) → IsBlank text i i
+blank_none text i = (omega arith, λ k low high. absurd (omega arith))
+
+pub covers_token : (file : ℕ) (text : List ℕ) (i : ℕ) (ts : List Token) (t : Token) → Covers file text i t.start ts → IsToken file text t → Covers file text i t.end (ts ++ t ∷ [])
+covers_token file text i [] t covers token = (covers, token, blank_none text t.end)
+covers_token file text i (u ∷ ts) t covers token = (covers.0, covers.1, covers_token file text u.end ts t covers.2 token)
+
+-- at a place that no form fits there is the first fault
+pub first_fault : (file : ℕ) (bytes text : List ℕ) (at : ℕ) (before : List Token) (place : Place) (fault : Fault) → bytes ≡ text → Covers file bytes 0 at before → at < length bytes → is_white (get_or bytes at 0) ≡ false → HasNoForm (drop at bytes) → place ≡ place_at file bytes at → fault ≡ fault_on NotBuilt place (first_char (drop at text)) → IsFirstFault file text fault
+first_fault file bytes text at before place fault same covered inside other none here is =
+    subst (λ t. fault ≡ fault_on NotBuilt place (first_char (drop at t)) → IsFirstFault file t fault) same
+    (λ is. record {
+      at = at;
+      before = before;
+      covered = covered;
+      inside = inside;
+      not_white = other;
+      wrong = (none, is ∙ ap (λ p. fault_on NotBuilt p (first_char (drop at bytes))) here);
+    })
+    is

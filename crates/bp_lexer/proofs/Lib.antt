@@ -1,0 +1,7 @@
+mod Chars
+mod Places
+mod TokenKinds
+mod Scan
+mod Cover
+pub mod OneMeaning
+mod Boundary

@@ -1,0 +1,4 @@
+pub mod Classes
+pub mod Forms
+pub mod Places
+pub mod Meaning

@@ -1,0 +1,26 @@
+-- Writes to files, one after another in one run of bytes, and what the files are after them.
+use Rattle.std.specs.Prelude.{ℕ, ◌+◌, List, [], ◌∷◌, length, take, drop, Option, Some, if◌then◌else◌}
+use Rattle.std.specs.Ordering.{nat_cmp, is_eq}
+use Rattle.std.specs.Cmp.Lexicographic.{slice_cmp}
+use Rattle.std.specs.FinMap.{insert}
+use Rattle.bp_ports.specs.Files.{Files}
+use Rattle.bp_ports.specs.declared.writes.Span.{Span}
+
+-- The room that a write uses up.
+abbrev pub need_of : List ℕ → List ℕ → ℕ
+need_of path bytes = 16 + length path + length bytes
+
+-- How many bytes the writes have.
+abbrev pub total : List Span → ℕ
+total [] = 0
+total (s ∷ spans) = s.path + s.bytes + total spans
+
+-- The files after these writes, the oldest of them first.
+abbrev pub written : List Span → List ℕ → Files → Files
+written [] run files = files
+written (s ∷ spans) run files = written spans (drop s.bytes (drop s.path run)) (insert files (take s.path run) (take s.bytes (drop s.path run)))
+
+-- What a path holds after these writes, if it held this before.
+abbrev pub held_after : List Span → List ℕ → List ℕ → Option (List ℕ) → Option (List ℕ)
+held_after [] run path held = held
+held_after (s ∷ spans) run path held = held_after spans (drop s.bytes (drop s.path run)) path (if is_eq (slice_cmp nat_cmp path (take s.path run)) then Some (take s.bytes (drop s.path run)) else held)
