@@ -30,8 +30,8 @@ loop-edge-preserved c =
     c.args.settled.now c.requires.settled c.in-Some.below c.in-Some.is in
     let more = above_more (height c.args.plan.now) c.edges_into-edge-items.result.now c.loop-edge.edge-index zero_edge c.loop-edge-test.true in
     let greatest = ord_max_is c.loop-edge.height (c.in-Some.below + 1) in
-    c.max-height.ensures ∙ greatest ∙ ap (λ k. max k (c.in-Some.below + 1)) c.loop-edge.invariant
-    ∙ ap (λ k. max (above_all (map (height c.args.plan.now) (sources (take c.loop-edge.edge-index c.edges_into-edge-items.result.now)))) (k + 1)) is ∙ sym more
+    let before = c.loop-edge.invariant in
+    cc
 
 pub returns : goal.returns
 returns c =
