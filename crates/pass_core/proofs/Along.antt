@@ -23,12 +23,8 @@ use Rattle.pass_core.specs.Orders.{IsSerial, numbers}
 use Rattle.pass_core.specs.Results.{NodeResult, Done, Bad, IsDone, node_result}
 use Rattle.pass_core.specs.Outcomes.{IsFirstUndone, IsOutcome, AnswersPass}
 use Rattle.pass_core.specs.Made.{made_at, value_of, AreRight, AnswersVisit, IsMade}
-use Rattle.pass_core.proofs.Unrolled.{all_map}
-use Rattle.pass_core.proofs.Paths.{get_here, get_else, all_pushed}
 use Rattle.pass_core.proofs.Legal.{node_at, stands_before, predecessors_before}
-
-pub all_contained : {X : Type 0} (P : X → Type 0) (xs : List X) (x : X) → AllByRecursion P xs → Contains xs x → P x
-all_contained P xs x h c = subst P c.2 (All-from_recursion P xs h c.0 x c.1)
+use Rattle.pass_core.proofs.Lists.{all_contained, all_map, all_pushed, get_else, get_here}
 
 none_made : (O A : Type 0) (n k : ℕ) → made_at {O = O} {A = A} (replicate n None) k ≡ None
 none_made O A zero k = refl

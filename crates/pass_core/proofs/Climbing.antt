@@ -14,13 +14,10 @@ use Rattle.pass_core.specs.declared.plan.PlanEdge.{PlanEdge}
 use Rattle.pass_core.specs.Plans.{sources, in_edges, predecessors, HaveEndsBelow, HasNoCycle, IsPlan}
 use Rattle.pass_core.specs.Heights.{above_all, height}
 use Rattle.pass_core.specs.Settling.{settled_at, joined, AreSettled}
-use Rattle.pass_core.proofs.Unrolled.{all_map, all_predecessors, height_rises, height_equation}
+use Rattle.pass_core.proofs.Unrolled.{height_rises, height_equation}
 use Rattle.pass_core.proofs.Induction.{height_below}
-
--- what holds of each source holds of the source of the edge at a place
-pub source_at : (P : ℕ → Type 0) (es : List PlanEdge) (i : ℕ) (d : PlanEdge) → AllByRecursion P (sources es) → i < length es → P (get_or es i d).from.0
-source_at P es i d h lt =
-    subst P (get_or-map (λ (e : PlanEdge). e.from.0) es i d) (All-from_recursion P (sources es) h i d.from.0 (omega (arith, length-map es (λ (e : PlanEdge). e.from.0))))
+use Rattle.pass_core.proofs.Lists.{all_map}
+use Rattle.pass_core.proofs.Predecessors.{all_predecessors, source_at}
 
 above_pushed : (hs : List ℕ) (h : ℕ) → above_all (hs ++ h ∷ []) ≡ max (above_all hs) (h + 1)
 above_pushed [] h = omega arith

@@ -18,31 +18,10 @@ use Rattle.pass_core.specs.declared.height.Climb.{Climb}
 use Rattle.pass_core.specs.Plans.{in_edges, sources, predecessors, HaveEndsBelow, HasNoCycle, IsPlan}
 use Rattle.pass_core.specs.Heights.{height}
 use Rattle.pass_core.specs.Settling.{settled_at, joined, AreSettled, IsOn, IsDue, IsPath, total, cost, path_cost, IsStep, sought, gone_up, start_at, IsOnWay}
-use Rattle.pass_core.proofs.Legal.{same_at}
 use Rattle.pass_core.proofs.Climbing.{source_below}
-use Rattle.pass_core.proofs.Unrolled.{all_map, unroll_equation, tight, tight_below, tight_rises}
-
-pub get_here : {X : Type 0} (xs : List X) (i : ℕ) (x : X) → i < length xs → slice_get (set xs i x) i ≡ Some x
-get_here [] i x lt = absurd (omega arith)
-get_here (y ∷ ys) zero x lt = refl
-get_here (y ∷ ys) (suc i) x lt = get_here ys i x (omega arith)
-
-pub get_else : {X : Type 0} (xs : List X) (i j : ℕ) (x : X) → j ≢ i → slice_get (set xs i x) j ≡ slice_get xs j
-get_else [] i j x ne = refl
-get_else (y ∷ ys) zero zero x ne = absurd (ne refl)
-get_else (y ∷ ys) zero (suc j) x ne = refl
-get_else (y ∷ ys) (suc i) zero x ne = refl
-get_else (y ∷ ys) (suc i) (suc j) x ne = get_else ys i j x (λ e. ne (ap suc e))
-
-pub all_pushed : {X : Type 0} (P : X → Type 0) (xs : List X) (x : X) → AllByRecursion P xs → P x → AllByRecursion P (xs ++ x ∷ [])
-all_pushed P [] x h p = (p, tt)
-all_pushed P (y ∷ ys) x h p = (h.0, all_pushed P ys x h.1 p)
-
-take-past : {X : Type 0} (i : ℕ) (xs : List X) → length xs ≤ i → take i xs ≡ xs
-take-past zero [] le = refl
-take-past zero (x ∷ xs) le = absurd (omega arith)
-take-past (suc i) [] le = refl
-take-past (suc i) (x ∷ xs) le = ap (λ (l : List _). x ∷ l) (take-past i xs (omega arith))
+use Rattle.pass_core.proofs.Unrolled.{unroll_equation, tight, tight_below, tight_rises}
+use Rattle.pass_core.proofs.Lists.{all_map, all_pushed, get_else, get_here, same_at, take-past}
+use Rattle.pass_core.proofs.Predecessors.{in_edges_few}
 
 on_end : (cs ds : List Climb) (n : ℕ) → IsOn ds n → IsOn (cs ++ ds) n
 on_end [] ds n h = h
@@ -112,13 +91,6 @@ module _ (settled : List (Option ℕ)) (c : Climb) (source : NodeId) (lt : sourc
 
   pub up_settled : is_some (get_or settled source.0 None) ≡ true → path ++ (record { node = c.node; next = c.next + 1 }) ∷ [] ≡ path ++ gone_up settled c source
   up_settled h = ap (λ (l : List Climb). path ++ (record { node = c.node; next = c.next + 1 }) ∷ l) (sym (ap (sought source) (read_settled settled source.0 lt) ∙ settled_is source (get_or settled source.0 None) h))
-
-in_edges_few : (es : List PlanEdge) (n : ℕ) → length (in_edges es n) ≤ length es
-in_edges_few [] n = omega arith
-in_edges_few (e ∷ es) n = let rest = in_edges_few es n in grind (arith, nat_tests)
-
-pub few_predecessors : (es : List PlanEdge) (n : ℕ) → length (predecessors es n) ≤ length es
-few_predecessors es n = let few = in_edges_few es n in omega (arith, length-map (in_edges es n) (λ (e : PlanEdge). e.from.0))
 
 module _ (plan : Plan) (is_plan : IsPlan plan) (free : HasNoCycle plan.edges) where
   cost_equation : (n : ℕ) → n < plan.count → cost plan n ≡ suc (total (map (cost plan) (predecessors plan.edges n)))

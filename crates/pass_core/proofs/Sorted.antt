@@ -7,8 +7,8 @@ use native.Mathlib.Decide.{ℕ_discrete}
 use Rattle.pass_core.specs.declared.plan.Plan.{Plan}
 use Rattle.pass_core.specs.Heights.{height, IsBefore}
 use Rattle.pass_core.specs.Orders.{HasEachOnce, IsSerial}
-use Rattle.pass_core.proofs.Unrolled.{all_map}
 use Rattle.pass_core.proofs.Unique.{ordered, never_both}
+use Rattle.pass_core.proofs.Lists.{all_map}
 
 contains_none : (m : ℕ) → Contains [] m → ⊥
 contains_none m h = let lt = h.1 in omega arith
