@@ -17,7 +17,7 @@ use Rattle.pass_core.specs.declared.plan.PlanEdge.{PlanEdge}
 use Rattle.pass_core.specs.declared.height.Climb.{Climb}
 use Rattle.pass_core.specs.Plans.{in_edges, sources, predecessors, HaveEndsBelow, HasNoCycle, IsPlan}
 use Rattle.pass_core.specs.Heights.{height}
-use Rattle.pass_core.specs.Settling.{settled_at, joined, AreSettled, IsOn, IsDue, IsPath, total, cost, path_cost, IsStep, sought, gone_up, start_at, IsOnWay}
+use Rattle.pass_core.specs.Settling.{settled_at, joined, AreSettled, IsOn, IsDue, IsPath, total, cost, path_cost, IsAdvanced, sought, gone_up, start_at, IsOnWay}
 use Rattle.pass_core.proofs.Climbing.{source_below}
 use Rattle.pass_core.proofs.Unrolled.{unroll_equation, tight, tight_below, tight_rises}
 use Rattle.pass_core.proofs.Lists.{all_map, all_pushed, get_else, get_here, same_at, take-past}
@@ -65,7 +65,7 @@ module _ (plan : Plan) (settled : List (Option ℕ)) where
     path_changed [] h end = end
     path_changed (x ∷ cs) h end = (h.0, all_map (IsDue settled (cs ++ c ∷ [])) (IsDue after (cs ++ ds)) (due_changed cs) (take x.next (predecessors plan.edges x.node.0)) h.1, path_changed cs h.2 end)
 
-    pub step_to : (cs : List Climb) → IsPath plan settled (cs ++ c ∷ []) → AreSettled plan after → IsPath plan after ds → path_cost plan ds < path_cost plan (c ∷ []) → IsStep plan settled (cs ++ c ∷ []) after (cs ++ ds)
+    pub step_to : (cs : List Climb) → IsPath plan settled (cs ++ c ∷ []) → AreSettled plan after → IsPath plan after ds → path_cost plan ds < path_cost plan (c ∷ []) → IsAdvanced plan settled (cs ++ c ∷ []) after (cs ++ ds)
     step_to cs path right end less = record {
       right = right;
       on_path = path_changed cs path end;
@@ -108,10 +108,10 @@ module _ (plan : Plan) (is_plan : IsPlan plan) (free : HasNoCycle plan.edges) wh
     node_bound = subst (λ k. c.node.0 < k) (sym right.many) node_inside
 
     -- a climb to a settled node ends
-    pub step_settled : is_some (get_or settled c.node.0 None) ≡ true → IsStep plan settled (cs ++ c ∷ []) settled cs
+    pub step_settled : is_some (get_or settled c.node.0 None) ≡ true → IsAdvanced plan settled (cs ++ c ∷ []) settled cs
     step_settled some =
         let here : IsSome (settled_at settled c.node.0) = ap is_some (read_settled settled c.node.0 node_bound) ∙ some in
-        subst (λ rest. IsStep plan settled (cs ++ c ∷ []) settled rest) (append-nil cs)
+        subst (λ rest. IsAdvanced plan settled (cs ++ c ∷ []) settled rest) (append-nil cs)
         (step_to plan settled settled c []
         (λ m h. ⊎_elim (λ a. inl a) (λ on. ⊎_elim (λ same. inl (subst (λ x. IsSome (settled_at settled x)) same here)) (λ none. absurd none) on) h)
         cs path right tt (omega arith))
@@ -139,9 +139,9 @@ module _ (plan : Plan) (is_plan : IsPlan plan) (free : HasNoCycle plan.edges) wh
           let g : h ≡ k = cc in sym g ∙ is ∙ ap (height plan) (sym same))
           (λ other. right.right m k (sym (elsewhere m other) ∙ e))
 
-      pub step_height : IsStep plan settled (cs ++ c ∷ []) (set settled c.node.0 (Some h)) cs
+      pub step_height : IsAdvanced plan settled (cs ++ c ∷ []) (set settled c.node.0 (Some h)) cs
       step_height =
-          subst (λ rest. IsStep plan settled (cs ++ c ∷ []) (set settled c.node.0 (Some h)) rest) (append-nil cs)
+          subst (λ rest. IsAdvanced plan settled (cs ++ c ∷ []) (set settled c.node.0 (Some h)) rest) (append-nil cs)
           (step_to plan settled (set settled c.node.0 (Some h)) c []
           (λ m h. ⊎_elim (λ some. inl (set_some m (inr some))) (λ on. ⊎_elim (λ same. inl (set_some m (inl (sym same)))) (λ none. absurd none) on) h)
           cs path (record { many = length-set settled c.node.0 (Some h) ∙ right.many; right = set_right }) tt (omega arith))
@@ -171,7 +171,7 @@ module _ (plan : Plan) (is_plan : IsPlan plan) (free : HasNoCycle plan.edges) wh
           let left = ap (λ (l : List ℕ). total (map (cost plan) l)) left_more in let whole : cost plan source.0 ≡ suc (total (map (cost plan) (drop 0 (predecessors plan.edges source.0)))) = cost_equation source.0 inside in omega arith
       up_less (Some h) = let left = ap (λ (l : List ℕ). total (map (cost plan) l)) left_more in omega arith
 
-      pub step_up : IsStep plan settled (cs ++ c ∷ []) settled (cs ++ gone_up settled c source)
+      pub step_up : IsAdvanced plan settled (cs ++ c ∷ []) settled (cs ++ gone_up settled c source)
       step_up = step_to plan settled settled c (gone_up settled c source)
           (λ m h. ⊎_elim (λ some. inl some) (λ on. ⊎_elim (λ same. inr (inl same)) (λ none. absurd none) on) h)
           cs path right (up_path (settled_at settled source.0) refl) (up_less (settled_at settled source.0))
@@ -193,7 +193,7 @@ module _ (plan : Plan) (is_plan : IsPlan plan) (free : HasNoCycle plan.edges) wh
         pub source_inside : (get_or es c.next d).from.0 < plan.count
         source_inside = source_below plan is_plan free c.node.0 node_inside es edges_are c.next d lt
 
-        pub gone_to : IsStep plan settled (cs ++ c ∷ []) settled (cs ++ gone_up settled c (get_or es c.next d).from)
+        pub gone_to : IsAdvanced plan settled (cs ++ c ∷ []) settled (cs ++ gone_up settled c (get_or es c.next d).from)
         gone_to = step_up (get_or es c.next d).from source_inside
             (same_at (predecessors plan.edges c.node.0) c.next 0 d.from.0 (omega (arith, many_predecessors)) ∙ source_at_next) (omega (arith, many_predecessors))
 

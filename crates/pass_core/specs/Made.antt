@@ -1,4 +1,4 @@
--- What a pass on one thread has made so far.
+-- What a pass on one thread has made so far: what `run_serial` keeps. No public contract speaks of it.
 use Rattle.std.specs.Prelude.{◌≡◌, ◌<◌, ℕ, List, [], ◌∷◌, length, take, slice_get, Option, Some, None, IsSome, Result, Ok, Err, ⊤}
 use Rattle.std.specs.List.{AllByRecursion}
 use Rattle.std.specs.Arc.{arc_value}
@@ -9,6 +9,7 @@ use Rattle.pass_core.specs.declared.error.PassError.TheVariants.{At, OutOfMemory
 use Rattle.pass_core.specs.Results.{NodeResult, Done, Bad, cons_if}
 
 module _ {O A : Type 0} where
+  -- What is held at a place, where something is.
   abbrev pub value_of : Option (Option (Arc O A)) → Option O
   value_of None = None
   value_of (Some None) = None
@@ -34,7 +35,7 @@ AnswersVisit n is (Ok shared) = is ≡ Done (arc_value shared)
 AnswersVisit n is (Err (At m fault)) = (m.0 ≡ n) × (is ≡ Bad fault)
 AnswersVisit n is (Err OutOfMemory) = ⊤
 
--- The nodes before a place of the order are made, and what was made is right.
+-- Something was made of the nodes that are done, and what was made is right.
 pub record IsMade {O A : Type 0} (results : ℕ → NodeResult O) (count : ℕ) (done : List ℕ) (made : List (Option (Arc O A))) : Type 0 where
   pub many : length made ≡ count
   pub filled : AllByRecursion (λ n. IsSome (made_at made n)) done
