@@ -1,14 +1,13 @@
 -- The serial order is legal.
-use Rattle.std.proofs.Common.{◌≡◌, ◌<◌, ℕ, zero, suc, List, [], ◌∷◌, length, get_or, take, refl, ap, arith, ◌∙◌, sym, subst}
+use Rattle.std.proofs.Common.{◌≡◌, ◌<◌, ℕ, List, length, get_or, take, ap, arith, ◌∙◌, sym, subst}
 use Rattle.std.specs.List.{AllByRecursion, Contains}
 use Rattle.std.proofs.Math.Decide.{dec_lt}
-use Rattle.std.proofs.lemmas.List.{get_or-take, length-take-le}
 use Rattle.std.proofs.lemmas.List.Elements.{All-from_recursion}
 use mathlib.Core.Logic.{dite}
 use Rattle.pass_core.specs.declared.plan.Plan.{Plan}
 use Rattle.pass_core.specs.Plans.{predecessors, HaveEndsBelow, HasNoCycle}
 use Rattle.pass_core.specs.Heights.{IsBefore}
-use Rattle.pass_core.specs.Orders.{HasEachOnce, IsSerial, IsLegal}
+use Rattle.pass_core.specs.Orders.{IsSerial, IsLegal}
 use Rattle.pass_core.proofs.Unique.{never_both, before_node}
 use Rattle.pass_core.proofs.Lists.{all_map, contains_earlier, same_at}
 

@@ -1,6 +1,5 @@
 -- A path of climbs, and what a step at its end leaves.
-use Rattle.std.proofs.Common.{◌≡◌, ◌≢◌, ◌+◌, ◌^◌, ◌<◌, ◌≤◌, ◌⊎◌, inl, inr, ⊎_elim, ℕ, zero, suc, List, [], ◌∷◌, ◌++◌, map, length, get_or, set, take, drop, refl, ap, arith, ◌∙◌, sym, subst, Option, Some, None, IsSome, length-set, append_assoc, append-nil, add-one, zero-add, Bool, true, false, replicate}
-use Rattle.std.specs.Prelude.{slice_get}
+use Rattle.std.proofs.Common.{◌≡◌, ◌≢◌, ◌+◌, ◌^◌, ◌<◌, ◌≤◌, ◌⊎◌, inl, inr, ⊎_elim, ℕ, zero, suc, List, [], ◌∷◌, ◌++◌, map, length, get_or, set, take, drop, refl, ap, arith, ◌∙◌, sym, subst, Option, Some, None, IsSome, length-set, append_assoc, append-nil, add-one, zero-add, true, false, replicate}
 use Rattle.std.specs.Option.{is_some}
 use Rattle.std.proofs.lemmas.Option.{slice_get-get_or}
 use Rattle.bp_faults.specs.declared.ids.NodeId.{NodeId}
@@ -8,14 +7,13 @@ use Rattle.std.specs.List.{AllByRecursion, range_with_len}
 use Rattle.std.proofs.Math.Seq.{drop-cons}
 use Rattle.std.proofs.lemmas.List.{take_more, length-map, length-replicate}
 use Rattle.std.proofs.Math.ListN.{get_or-map}
-use Rattle.std.proofs.lemmas.Bool.Decides.{nat_tests}
 use Rattle.std.proofs.lemmas.List.FromFn.{fill_by_all}
 use mathlib.Core.Logic.{dite}
 use native.Mathlib.Decide.{ℕ_discrete}
 use Rattle.pass_core.specs.declared.plan.Plan.{Plan}
 use Rattle.pass_core.specs.declared.plan.PlanEdge.{PlanEdge}
 use Rattle.pass_core.specs.declared.height.Climb.{Climb}
-use Rattle.pass_core.specs.Plans.{in_edges, sources, predecessors, HaveEndsBelow, HasNoCycle, IsPlan}
+use Rattle.pass_core.specs.Plans.{in_edges, sources, predecessors, HasNoCycle, IsPlan}
 use Rattle.pass_core.specs.Heights.{height}
 use Rattle.pass_core.specs.Settling.{settled_at, joined, AreSettled, IsOn, IsDue, IsPath, total, cost, path_cost, IsAdvanced, sought, gone_up, start_at, IsOnWay}
 use Rattle.pass_core.proofs.Climbing.{source_below}

@@ -1,5 +1,5 @@
 -- What holds of all edges of a plan holds of a node's in-edges and predecessors.
-use Rattle.std.proofs.Common.{◌≡◌, ◌+◌, ◌<◌, ◌≤◌, ◌==◌, ℕ, List, [], ◌∷◌, map, length, get_or, refl, arith, subst, Bool, true, false, cond}
+use Rattle.std.proofs.Common.{◌≡◌, ◌<◌, ◌≤◌, ◌==◌, ℕ, List, [], ◌∷◌, map, length, get_or, refl, arith, subst, Bool, true, false, cond}
 use Rattle.std.specs.List.{AllByRecursion, filter}
 use Rattle.std.proofs.Math.ListN.{get_or-map}
 use Rattle.std.proofs.lemmas.Bool.Decides.{nat_tests}

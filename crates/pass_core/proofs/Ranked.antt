@@ -1,5 +1,5 @@
 -- Nodes sorted by height and number stand in serial order.
-use Rattle.std.proofs.Common.{◌≡◌, ◌≢◌, ◌+◌, ◌-◌, ◌<◌, ◌≤◌, ◌⊎◌, inl, inr, ⊎_elim, ℕ, zero, suc, List, [], ◌∷◌, map, length, get_or, refl, ap, arith, ◌∙◌, sym, subst, Bool, true, false, eqb, eq-eqb, IsPermutation, nat_cmp}
+use Rattle.std.proofs.Common.{◌≡◌, ◌≢◌, ◌+◌, ◌-◌, ◌<◌, ◌≤◌, ◌⊎◌, inl, inr, ⊎_elim, ℕ, zero, suc, List, [], ◌∷◌, map, length, get_or, refl, ap, arith, ◌∙◌, sym, subst, true, false, eqb, IsPermutation, nat_cmp}
 use Rattle.std.specs.List.{AllByRecursion, AllPairs, All, Contains, IsDistinct, range_with_len}
 use Rattle.std.specs.Ordering.{is_lt, ordering_then}
 use Rattle.std.proofs.Common.{Less, Equal}
@@ -17,7 +17,6 @@ use Rattle.bp_faults.specs.declared.ids.NodeId.{NodeId}
 use Rattle.pass_core.specs.declared.plan.Plan.{Plan}
 use Rattle.pass_core.specs.Heights.{height, IsBefore}
 use Rattle.pass_core.specs.Orders.{numbers, HasEachOnce, IsSerial, ranked}
-use Rattle.pass_core.proofs.Lists.{both}
 
 -- what holds of neighbours and goes on holds of each pair
 far : {X : Type 0} (R : X → X → Type 0) → ((x y z : X) → R x y → R y z → R x z) → (xs : List X) → ((k : ℕ) (d : X) → k + 1 < length xs → R (get_or xs k d) (get_or xs (k + 1) d))

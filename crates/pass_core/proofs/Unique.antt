@@ -1,5 +1,5 @@
 -- A pass has one outcome, and its first node that isn't done is bad.
-use Rattle.std.proofs.Common.{◌≡◌, ◌+◌, ◌<◌, ◌≤◌, ℕ, zero, suc, List, [], ◌∷◌, map, length, refl, ap, arith, ◌∙◌, sym, subst, ◌⊎◌, inl, inr, ⊎_elim, Option, Some, None, Result, Ok, Err, zero-add}
+use Rattle.std.proofs.Common.{◌≡◌, ◌+◌, ◌<◌, ℕ, zero, suc, List, [], ◌∷◌, map, refl, ap, arith, ◌∙◌, sym, subst, ◌⊎◌, inl, inr, ⊎_elim, Some, Result, Ok, Err, zero-add}
 use Rattle.std.specs.List.{range_with_len, AllByRecursion}
 use Rattle.std.proofs.Math.Decide.{dec_lt}
 use Rattle.bp_faults.specs.declared.fault.Fault.{Fault}

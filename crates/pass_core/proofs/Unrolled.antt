@@ -1,7 +1,7 @@
 -- The recursion over predecessors meets its equation where a numbering rises along every edge.
-use Rattle.std.proofs.Common.{◌≡◌, ◌+◌, ◌<◌, ◌≤◌, ◌==◌, ℕ, zero, suc, List, [], ◌∷◌, map, refl, ap, arith, subst, Bool, true, false, cond}
+use Rattle.std.proofs.Common.{◌≡◌, ◌+◌, ◌<◌, ◌≤◌, ℕ, zero, suc, List, [], ◌∷◌, map, ap, arith, subst}
 use Rattle.std.specs.Prelude.{if◌then◌else◌, nat_lt, max}
-use Rattle.std.specs.List.{AllByRecursion, filter}
+use Rattle.std.specs.List.{AllByRecursion}
 use Rattle.std.proofs.lemmas.Bool.Decides.{nat_tests}
 use mathlib.Core.Logic.{dite}
 use native.Mathlib.Decide.{ℕ_discrete}
@@ -11,7 +11,7 @@ use Rattle.std.specs.Prelude.{Result}
 use Rattle.pass_core.specs.declared.plan.Plan.{Plan}
 use Rattle.pass_core.specs.Plans.{predecessors, HaveEndsBelow, HasNoCycle}
 use Rattle.pass_core.specs.Heights.{unroll, above_all, height}
-use Rattle.pass_core.specs.Results.{NodeResult, Poisoned, judged, outs_of, node_result}
+use Rattle.pass_core.specs.Results.{Poisoned, judged, outs_of, node_result}
 use Rattle.pass_core.proofs.Lists.{all_map, all_with, map-same}
 use Rattle.pass_core.proofs.Predecessors.{all_predecessors}
 

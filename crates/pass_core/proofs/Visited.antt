@@ -1,5 +1,5 @@
 -- A visit of a node whose predecessors are made.
-use Rattle.std.proofs.Common.{◌≡◌, ◌<◌, ◌==◌, Bool, true, false, cond, ℕ, suc, List, [], ◌∷◌, map, length, refl, ap, ◌∙◌, sym, subst, Option, Some, None, Result, IsSome, Vec}
+use Rattle.std.proofs.Common.{◌≡◌, ◌<◌, ℕ, suc, List, [], ◌∷◌, map, length, refl, ap, ◌∙◌, sym, subst, Option, Some, None, Result, IsSome, Vec}
 use Rattle.std.specs.List.{AllByRecursion}
 use Rattle.std.specs.declared.sync.Arc.{Arc}
 use Rattle.std.specs.Arc.{arc_value}
@@ -8,11 +8,10 @@ use Rattle.std.proofs.lemmas.List.{length-map}
 use Rattle.bp_faults.specs.declared.fault.Fault.{Fault}
 use Rattle.pass_core.specs.declared.plan.Plan.{Plan}
 use Rattle.pass_core.specs.declared.plan.PlanEdge.{PlanEdge}
-use Rattle.pass_core.specs.Plans.{in_edges, sources, predecessors, HaveEndsBelow, HasNoCycle, IsPlan}
+use Rattle.pass_core.specs.Plans.{in_edges, sources, predecessors, HasNoCycle, IsPlan}
 use Rattle.pass_core.specs.Results.{NodeResult, cons_if, outs_of, judged, visited, node_result}
 use Rattle.pass_core.specs.Made.{made_at, all_of, AreRight}
 use Rattle.pass_core.proofs.Unrolled.{result_equation}
-use Rattle.pass_core.proofs.Lists.{all_map}
 
 some_of : {X : Type 0} (r : Option X) → IsSome r → (x : X) × (r ≡ Some x)
 some_of None h = cc

@@ -1,9 +1,8 @@
 -- What a pass on one thread has made so far: what `run_serial` keeps. No public contract speaks of it.
-use Rattle.std.specs.Prelude.{◌≡◌, ◌<◌, ℕ, List, [], ◌∷◌, length, take, slice_get, Option, Some, None, IsSome, Result, Ok, Err, ⊤}
+use Rattle.std.specs.Prelude.{◌≡◌, ℕ, List, [], ◌∷◌, length, slice_get, Option, Some, None, IsSome, Result, Ok, Err, ⊤}
 use Rattle.std.specs.List.{AllByRecursion}
 use Rattle.std.specs.Arc.{arc_value}
 use Rattle.std.specs.declared.sync.Arc.{Arc}
-use Rattle.bp_faults.specs.declared.fault.Fault.{Fault}
 use Rattle.pass_core.specs.declared.error.PassError.{PassError}
 use Rattle.pass_core.specs.declared.error.PassError.TheVariants.{At, OutOfMemory}
 use Rattle.pass_core.specs.Results.{NodeResult, Done, Bad, cons_if}

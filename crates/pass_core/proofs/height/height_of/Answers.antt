@@ -1,8 +1,6 @@
-use Rattle.std.proofs.Common.{◌≡◌, ◌<◌, ◌+◌, ◌∙◌, ℕ, arith, rules, ap, sym, subst, length, map, take}
-use Rattle.std.specs.Prelude.{max}
+use Rattle.std.proofs.Common.{◌+◌, ◌∙◌, arith}
 use Rattle.pass_core.specs.declared.plan.PlanEdge.{PlanEdge}
-use Rattle.pass_core.specs.Plans.{in_edges, sources}
-use Rattle.pass_core.specs.Heights.{height, above_all}
+use Rattle.pass_core.specs.Heights.{height}
 use Rattle.pass_core.proofs.Climbing.{source_below, source_lower, read_is, read_none, above_more, ord_max_is, height_whole}
 use Rattle.pass_core.proofs.height.height_of.Goals as goal
 

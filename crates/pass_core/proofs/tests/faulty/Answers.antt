@@ -1,4 +1,4 @@
-use Rattle.std.proofs.Common.{◌≡◌, ◌<◌, arith}
+use Rattle.std.proofs.Common.{arith}
 use Rattle.pass_core.proofs.Predecessors.{few_predecessors}
 use Rattle.pass_core.proofs.tests.faulty.Goals as goal
 
