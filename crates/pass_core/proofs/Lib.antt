@@ -1,0 +1,15 @@
+pub mod Lists
+pub mod Predecessors
+pub mod Unrolled
+pub mod Induction
+pub mod Unique
+pub mod Legal
+pub mod Sorted
+pub mod Outcome
+pub mod InEdgesPlaced
+pub mod Climbing
+pub mod Paths
+pub mod Ranked
+pub mod Gathered
+pub mod Visited
+pub mod Along

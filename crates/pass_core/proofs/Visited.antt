@@ -1,0 +1,60 @@
+-- A visit of a node whose predecessors are made.
+use Rattle.std.proofs.Common.{◌≡◌, ◌<◌, ℕ, suc, List, [], ◌∷◌, map, length, refl, ap, ◌∙◌, sym, subst, Option, Some, None, Result, IsSome, Vec}
+use Rattle.std.specs.List.{AllByRecursion}
+use Rattle.std.specs.declared.sync.Arc.{Arc}
+use Rattle.std.specs.Arc.{arc_value}
+use Rattle.std.specs.Option.{option_map}
+use Rattle.std.proofs.lemmas.List.{length-map}
+use Rattle.bp_faults.specs.declared.fault.Fault.{Fault}
+use Rattle.pass_core.specs.declared.plan.Plan.{Plan}
+use Rattle.pass_core.specs.declared.plan.PlanEdge.{PlanEdge}
+use Rattle.pass_core.specs.Plans.{in_edges, sources, predecessors, HasNoCycle, IsPlan}
+use Rattle.pass_core.specs.Results.{NodeResult, cons_if, outs_of, judged, visited, node_result}
+use Rattle.pass_core.specs.Made.{made_at, all_of, AreRight}
+use Rattle.pass_core.proofs.Unrolled.{result_equation}
+
+some_of : {X : Type 0} (r : Option X) → IsSome r → (x : X) × (r ≡ Some x)
+some_of None h = cc
+some_of (Some x) h = (x, refl)
+
+module _ {O A : Type 0} (results : ℕ → NodeResult O) (made : List (Option (Arc O A))) (right : AreRight results made) where
+  -- where all of them are made, what was made is what the results say
+  ready_outs : (ms : List ℕ) → AllByRecursion (λ m. IsSome (made_at made m)) ms
+      → (outs : List O) × (all_of (map (made_at made) ms) ≡ Some outs) × (outs_of (map results ms) ≡ Some outs) × (length outs ≡ length ms)
+  ready_outs [] h = ([], refl, refl, refl)
+  ready_outs (m ∷ ms) h =
+      let o = some_of (made_at made m) h.0 in let t = ready_outs ms h.1 in (
+        o.0 ∷ t.0,
+        ap (λ (r : Option O). all_of (r ∷ map (made_at made) ms)) o.1 ∙ ap (cons_if o.0) t.1,
+        ap (λ (r : NodeResult O). outs_of (r ∷ map results ms)) (right m o.0 o.1) ∙ ap (cons_if o.0) t.2,
+        ap suc t.3,
+      )
+
+module _ {O A : Type 0} (mean : ℕ → List O → Result O Fault) (plan : Plan) (is_plan : IsPlan plan) (free : HasNoCycle plan.edges)
+    (n : ℕ) (lt : n < plan.count) (made : List (Option (Arc O A))) (right : AreRight (node_result mean plan) made) (ready : AllByRecursion (λ m. IsSome (made_at made m)) (predecessors plan.edges n))
+    {Z : Type 0} (r : Option (Vec (Arc O A) Z)) (es : List PlanEdge) (edges_are : es ≡ in_edges plan.edges n)
+    (says : option_map (λ (v : Vec (Arc O A) Z). map arc_value v.items) r ≡ all_of (map (made_at made) (sources es))) where
+  gathered : option_map (λ (v : Vec (Arc O A) Z). map arc_value v.items) r ≡ all_of (map (made_at made) (predecessors plan.edges n))
+  gathered = says ∙ ap (λ (l : List PlanEdge). all_of (map (made_at made) (sources l))) edges_are
+
+  pub not_missing : r ≡ None → ⊥
+  not_missing none =
+      let t = ready_outs (node_result mean plan) made right (predecessors plan.edges n) ready in
+      let e : Some t.0 ≡ None = sym t.1 ∙ sym gathered ∙ ap (λ (s : Option (Vec (Arc O A) Z)). option_map (λ (v : Vec (Arc O A) Z). map arc_value v.items) s) none in cc
+
+  module _ (ins : Vec (Arc O A) Z) (found : r ≡ Some ins) (passed : List (Arc O A)) (slice : passed ≡ ins.items) where
+    all_passed : all_of (map (made_at made) (predecessors plan.edges n)) ≡ Some (map arc_value passed)
+    all_passed = sym gathered ∙ ap (λ (s : Option (Vec (Arc O A) Z)). option_map (λ (v : Vec (Arc O A) Z). map arc_value v.items) s) found ∙ ap (λ (l : List (Arc O A)). Some (map arc_value l)) (sym slice)
+
+    -- what was passed is what the meaning takes
+    pub result_gathered : (node_result mean plan n ≡ visited (mean n (map arc_value passed))) × (length (map arc_value passed) ≡ length (predecessors plan.edges n))
+    result_gathered =
+        let t = ready_outs (node_result mean plan) made right (predecessors plan.edges n) ready in
+        let e : Some t.0 ≡ Some (map arc_value passed) = sym t.1 ∙ all_passed in let same : t.0 ≡ map arc_value passed = cc in
+        (result_equation plan is_plan.ends free mean n lt ∙ ap (judged (mean n)) t.2 ∙ ap (λ (l : List O). visited (mean n l)) same, ap length (sym same) ∙ t.3)
+
+    pub taken_many : (P : ℕ → Type 0) → P (length (predecessors plan.edges n)) → P (length passed)
+    taken_many P h = subst P (sym result_gathered.1 ∙ length-map passed arc_value) h
+
+    pub result_is : (m : Result O Fault) → mean n (map arc_value passed) ≡ m → node_result mean plan n ≡ visited m
+    result_is m is = result_gathered.0 ∙ ap visited is

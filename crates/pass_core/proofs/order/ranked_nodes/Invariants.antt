@@ -1,0 +1,7 @@
+use Rattle.std.proofs.Common.{◌≡◌, map}
+use Rattle.std.specs.List.{range_with_len}
+use Rattle.pass_core.specs.Orders.{ranked}
+use Rattle.pass_core.proofs.order.ranked_nodes.Given as goal
+
+abbrev pub invariant-loop-n : goal.invariant-loop-n
+invariant-loop-n l = l.nodes.items ≡ map (ranked l.plan) (range_with_len 0 l.n)

@@ -1,0 +1,14 @@
+-- Where the in-edges of each node stand in a plan.
+use Rattle.std.specs.Prelude.{◌≡◌, ◌≤◌, ◌+◌, ℕ, List, length, nat_lt, slice_index}
+use Rattle.std.specs.List.{filter}
+use Rattle.pass_core.specs.declared.plan.Plan.{Plan}
+use Rattle.pass_core.specs.declared.plan.PlanEdge.{PlanEdge}
+
+-- How many edges lead to nodes below n: where the in-edges of n begin, in a plan by target.
+abbrev pub edges_below : List PlanEdge → ℕ → ℕ
+edges_below edges n = length (filter (λ (e : PlanEdge). nat_lt e.to.0 n) edges)
+
+-- A table has for each node where its in-edges begin, and last where all edges end.
+pub record AreStarts (plan : Plan) (starts : List ℕ) : Type 0 where
+  pub many : length starts ≡ plan.count + 1
+  pub begins : (n : ℕ) → n ≤ plan.count → slice_index starts n ≡ edges_below plan.edges n

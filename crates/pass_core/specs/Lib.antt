@@ -1,0 +1,11 @@
+pub mod Plans
+pub mod Heights
+pub mod Results
+pub mod Outcomes
+pub mod Orders
+pub mod InEdges
+pub mod Made
+pub mod Settling
+pub mod Laws
+pub mod Shown
+pub mod Examples

@@ -1,0 +1,31 @@
+-- Orders of the nodes of a plan.
+use Rattle.std.specs.Prelude.{◌≢◌, ◌<◌, ℕ, List, map, length, take, slice_index}
+use Rattle.std.specs.List.{AllByRecursion, AllPairs, Contains}
+use Rattle.bp_faults.specs.declared.ids.NodeId.{NodeId}
+use Rattle.pass_core.specs.declared.plan.Plan.{Plan}
+use Rattle.pass_core.specs.Plans.{predecessors}
+use Rattle.pass_core.specs.Heights.{height, IsBefore}
+
+-- The numbers of some nodes.
+abbrev pub numbers : List NodeId → List ℕ
+numbers nodes = map (λ (n : NodeId). n.0) nodes
+
+-- A list has each node of the plan once, and nothing else.
+pub record HasEachOnce (plan : Plan) (order : List ℕ) : Type 0 where
+  pub nodes : AllByRecursion (λ n. n < plan.count) order
+  pub each : (n : ℕ) → n < plan.count → Contains order n
+  pub once : AllPairs (λ m n. m ≢ n) order
+
+-- A legal order has each node once, each after all its predecessors.
+pub record IsLegal (plan : Plan) (order : List ℕ) : Type 0 where
+  pub each_once : HasEachOnce plan order
+  pub after : (place : ℕ) → place < length order → AllByRecursion (Contains (take place order)) (predecessors plan.edges (slice_index order place))
+
+-- The serial order has each node once, by height and then by number.
+pub record IsSerial (plan : Plan) (order : List ℕ) : Type 0 where
+  pub each_once : HasEachOnce plan order
+  pub sorted : AllPairs (IsBefore plan) order
+
+-- A node with its height.
+abbrev pub ranked : Plan → ℕ → ℕ × NodeId
+ranked plan n = (height plan n, record { 0 = n })

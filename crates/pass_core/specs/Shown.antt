@@ -1,0 +1,11 @@
+-- What is published of a node, as a result.
+use Rattle.std.specs.Arc.{arc_value}
+use Rattle.pass_core.specs.declared.published.Published.{Published}
+use Rattle.pass_core.specs.declared.published.Published.TheVariants.{Done as PublishedDone, Bad as PublishedBad, Poisoned as PublishedPoisoned}
+use Rattle.pass_core.specs.Results.{NodeResult, Done, Bad, Poisoned}
+
+-- The result that is published, where an `Arc` counts as what it holds.
+abbrev pub shown : {O : Type 0} → Published O → NodeResult O
+shown (PublishedDone shared) = Done (arc_value shared)
+shown (PublishedBad fault) = Bad fault
+shown PublishedPoisoned = Poisoned

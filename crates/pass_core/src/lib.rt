@@ -1,0 +1,30 @@
+//! The core of a pass: a plan of nodes is visited, each node after its predecessors, and every
+//! schedule comes to one outcome.
+//!
+//! A plan and a visitor flow in; the visitor's results by node number flow out, or the fault of the
+//! first node in serial order that has none. It is measured by `node_result` in `specs/Results.antt`
+//! and by `IsOutcome` in `specs/Outcomes.antt`. `laws` says what holds of these for every plan.
+#![tactic(auto)]
+
+mod error;
+mod height;
+mod in_edges;
+pub mod laws;
+mod order;
+mod places;
+mod plan;
+mod published;
+mod serial;
+mod visit;
+
+pub use error::PassError;
+pub use height::heights;
+pub use in_edges::{edges_into, starts_of};
+pub use order::serial_order;
+pub use plan::{Plan, PlanEdge};
+pub use published::Published;
+pub use serial::run_serial;
+pub use visit::{Visit, VisitError};
+
+#[cfg(test)]
+mod tests;

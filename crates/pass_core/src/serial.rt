@@ -1,0 +1,111 @@
+ghost use Rattle.std.specs.Prelude.{◌≡◌, ◌<◌, length, map, IfOk, IsSome};
+ghost use Rattle.std.specs.Option.{option_map};
+ghost use Rattle.std.specs.List.{AllByRecursion};
+ghost use Rattle.std.specs.Arc.{arc_value};
+ghost use Rattle.pass_core.specs.InEdges.{AreStarts};
+ghost use Rattle.pass_core.specs.Made.{made_at, all_of, AreRight, AnswersVisit};
+ghost use Rattle.pass_core.specs.Orders.{IsSerial, numbers};
+ghost use Rattle.pass_core.specs.Outcomes.{AnswersPass, TakesPlan};
+ghost use Rattle.pass_core.specs.Plans.{IsPlan, HasNoCycle, predecessors, sources};
+ghost use Rattle.pass_core.specs.declared.plan.PlanEdge.{PlanEdge};
+ghost use Rattle.pass_core.specs.Results.{node_result};
+
+use crate::error::PassError;
+use crate::in_edges::{edges_into, starts_of};
+use crate::order::serial_order;
+use crate::places::{empty_places, unwrapped};
+use crate::plan::{Plan, PlanEdge};
+use crate::visit::{Visit, VisitError};
+use bp_faults::{NodeId, OutOfMemory};
+use std::alloc::Global;
+use std::sync::Arc;
+
+/// What the sources of some edges made, if all of it is there.
+fn gather<O: Drop>(
+    alloc: Global,
+    edges: &[PlanEdge],
+    made: &[Option<Arc<O>>],
+) -> Result<Option<Vec<Arc<O>>>, OutOfMemory>
+    requires { AllByRecursion (λ (e : PlanEdge). e.from.0 < length made.now) edges.now }
+    ensures { IfOk result (λ r. option_map (λ ins. map arc_value ins.items) r ≡ all_of (map (made_at made.now) (sources edges.now))) }
+{
+    let mut ins = Vec::new(alloc);
+    for edge in edges {
+        match &made[edge.from.0 as usize] {
+            Some(out) => ins.push(Arc::try_clone(out)?)?,
+            None => return Ok(None),
+        }
+    }
+    Ok(Some(ins))
+}
+
+/// Visits a node whose predecessors are made.
+fn visit_at<V: Visit>(
+    alloc: Global,
+    plan: &Plan,
+    v: &V,
+    starts: &[u32],
+    n: NodeId,
+    made: &[Option<Arc<V::Out>>],
+) -> Result<Arc<V::Out>, PassError>
+    requires plan { IsPlan plan.now }
+    requires free { HasNoCycle plan.now.edges }
+    requires takes { V.takes v.now n.0 (length (predecessors plan.now.edges n.0)) }
+    requires starts { AreStarts plan.now starts.now }
+    requires inside { n.0 < plan.now.count }
+    requires many { length made.now ≡ plan.now.count }
+    requires right { AreRight (node_result (V.meaning v.now) plan.now) made.now }
+    requires ready { AllByRecursion (λ m. IsSome (made_at made.now m)) (predecessors plan.now.edges n.0) }
+    ensures { AnswersVisit n.0 (node_result (V.meaning v.now) plan.now n.0) result }
+{
+    let Some(ins) = gather(alloc, edges_into(plan, starts, n), made)? else {
+        unreachable!()
+    };
+    match v.visit(alloc, n, &ins) {
+        Ok(out) => Ok(Arc::new(alloc, out)?),
+        Err(VisitError::Bad(fault)) => Err(PassError::At(n, fault)),
+        Err(VisitError::OutOfMemory) => Err(PassError::OutOfMemory),
+    }
+}
+
+/// Visits the nodes one after another in serial order.
+fn run_along<V: Visit>(
+    alloc: Global,
+    plan: &Plan,
+    v: &V,
+    starts: &[u32],
+    order: &[NodeId],
+) -> Result<Vec<Arc<V::Out>>, PassError>
+    requires plan { IsPlan plan.now }
+    requires free { HasNoCycle plan.now.edges }
+    requires takes { TakesPlan (V.takes v.now) plan.now }
+    requires starts { AreStarts plan.now starts.now }
+    requires serial { IsSerial plan.now (numbers order.now) }
+    ensures { AnswersPass (V.meaning v.now) plan.now result }
+{
+    let mut made = empty_places(alloc, plan.count)?;
+    for n in order {
+        let out = visit_at(alloc, plan, v, starts, *n, &made)?;
+        made[n.0 as usize] = Some(out);
+    }
+    Ok(unwrapped(alloc, made)?)
+}
+
+/// Visits each node of a plan after its predecessors, on one thread.
+///
+/// The results stand by node number. `PassError::At` is the first node in serial order whose result
+/// isn't done.
+pub fn run_serial<V: Visit>(
+    alloc: Global,
+    plan: &Plan,
+    v: &V,
+) -> Result<Vec<Arc<V::Out>>, PassError>
+    requires plan { IsPlan plan.now }
+    requires free { HasNoCycle plan.now.edges }
+    requires takes { TakesPlan (V.takes v.now) plan.now }
+    ensures { AnswersPass (V.meaning v.now) plan.now result }
+{
+    let starts = starts_of(alloc, plan)?;
+    let order = serial_order(alloc, plan)?;
+    run_along(alloc, plan, v, &starts, &order)
+}
