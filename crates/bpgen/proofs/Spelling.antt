@@ -6,7 +6,8 @@ use Rattle.bp_faults.specs.declared.fault.Fault.{Fault}
 use Rattle.bp_faults.specs.Answers.{then_do}
 use Rattle.bp_lexer.specs.declared.token.Token.{Token}
 use Rattle.bpgen.specs.declared.stop.Stop.{Stop}
-use Rattle.bpgen.specs.Form.{Part, spells, spelled, expected, word_of, not_built, ends_early}
+use Rattle.bp_lexer.specs.Meaning.{word_of}
+use Rattle.bpgen.specs.Form.{Part, spells, spelled, expected, not_built, ends_early}
 use Rattle.bpgen.specs.Steps.{Meets, Is, Never}
 
 -- a test, and what follows where it holds

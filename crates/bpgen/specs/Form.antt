@@ -1,7 +1,7 @@
 -- The one form of an Android.bp file that `build` knows: a binary of one C source.
 use Rattle.std.specs.Prelude.{ℕ, ◌-◌, ◌≤◌, List, [], ◌∷◌, Bool, true, false, ◌&&◌, ◌||◌, ◌==◌, not, nat_le, nat_eq, length, take, drop, Result, Ok, Err, if◌then◌else◌, codes, slice_get}
 use Rattle.std.specs.Option.{option_map_or}
-use Rattle.std.specs.List.{list_all, ends_with}
+use Rattle.std.specs.List.{list_all, ends_with, filter}
 use Rattle.std.specs.Char.{is_ascii_alphanumeric}
 use Rattle.std.specs.Str.{bytes_eq}
 use Rattle.bp_faults.specs.declared.fault.Fault.{Fault}
@@ -9,8 +9,20 @@ use Rattle.bp_faults.specs.declared.kind.FaultKind.TheVariants.{NotBuilt}
 use Rattle.bp_faults.specs.Faults.{fault_on}
 use Rattle.bp_faults.specs.Answers.{then_do}
 use Rattle.bp_lexer.specs.declared.token.Token.{Token}
+use Rattle.bp_lexer.specs.declared.token.TokenKind.{TokenKind}
+use Rattle.bp_lexer.specs.declared.token.TokenKind.TheVariants.{LineComment, BlockComment}
+use Rattle.bp_lexer.specs.Meaning.{word_of, inner_of}
 use Rattle.bp_lexer.specs.Places.{place_at}
 use Rattle.bpgen.specs.declared.form.Binary.{Binary}
+
+abbrev pub is_comment : TokenKind → Bool
+is_comment LineComment = true
+is_comment BlockComment = true
+is_comment kind = false
+
+-- the tokens that are no comments
+abbrev pub without_comments : List Token → List Token
+without_comments ts = filter (λ t. not (is_comment t.kind)) ts
 
 -- What may stand at one place of the form.
 pub data Part : Type 0 where
@@ -50,19 +62,16 @@ is_source_byte b = is_ascii_alphanumeric b || (b == 95) || (b == 45) || (b == 46
 abbrev pub is_c_source : List ℕ → Bool
 is_c_source path = list_all is_source_byte path && ends_with nat_eq path (codes ".c")
 
--- A string begins with a quote, and what it holds stands between its quotes.
+-- A string begins with a quote.
 abbrev pub is_string : List ℕ → Bool
 is_string [] = false
 is_string (b ∷ bs) = b == 34
 
-abbrev pub between_quotes : List ℕ → List ℕ
-between_quotes word = take (length word - 2) (drop 1 word)
-
 -- The word may stand at the place of the part.
 abbrev pub spells : Part → List ℕ → Bool
 spells (Exactly text) word = bytes_eq word text
-spells ModuleName word = is_string word && is_module_name (between_quotes word)
-spells Source word = is_string word && is_c_source (between_quotes word)
+spells ModuleName word = is_string word && is_module_name (inner_of word)
+spells Source word = is_string word && is_c_source (inner_of word)
 
 -- The word may stand at a place of the form, counted from 0. Behind its end nothing may.
 abbrev pub spells_in : List Part → ℕ → List ℕ → Bool
@@ -71,10 +80,6 @@ spells_in parts place word = option_map_or (λ p. spells p word) (slice_get part
 -- The span of a token lies in a text of that size.
 abbrev pub IsWithin : ℕ → Token → Type 0
 IsWithin size t = (t.start ≤ t.end) × (t.end ≤ size)
-
--- the text of a token
-abbrev pub word_of : List ℕ → Token → List ℕ
-word_of text t = take (t.end - t.start) (drop t.start text)
 
 -- *not built yet*, at a token or at the end of the text
 abbrev pub not_built : List ℕ → Token → Fault
@@ -96,7 +101,7 @@ spelled text (p ∷ ps) (t ∷ ts) = if spells p (word_of text t) then spelled t
 
 -- the string that stands at a place
 abbrev pub string_at : List ℕ → List Token → ℕ → List ℕ
-string_at text ts place = option_map_or (λ t. between_quotes (word_of text t)) (slice_get ts place) []
+string_at text ts place = option_map_or (λ t. inner_of (word_of text t)) (slice_get ts place) []
 
 -- The binary that the tokens of a text stand for: its name is the fifth token, and its source the tenth.
 abbrev pub binary_of : List ℕ → List Token → Result Binary Fault

@@ -14,7 +14,7 @@ use Rattle.bp_lexer.specs.Meaning.{LexMeans}
 use Rattle.ninja_text.specs.declared.file.NinjaFile.{NinjaFile}
 use Rattle.ninja_text.specs.Text.{text_of}
 use Rattle.bpgen.specs.declared.words.Configuration.{Configuration}
-use Rattle.bpgen.specs.Form.{binary_of}
+use Rattle.bpgen.specs.Form.{binary_of, without_comments}
 use Rattle.bpgen.specs.Actions.{file_of}
 
 -- the one Android.bp file
@@ -50,9 +50,9 @@ source_of c files = then_do (path_of c files) (λ path. then_do (read_of 1 (2 ^ 
 abbrev pub written : NinjaFile → Result (List ℕ) Fault
 written file = if nat_le (length (text_of file)) (2 ^ 29) then Ok (text_of file) else Err (fault_at OutputTooLarge (file_start 0))
 
--- what the tokens of a source give
+-- what the tokens of a source give; comments are left out
 abbrev pub made_of : List ℕ → List Token → Result (List ℕ) Fault
-made_of text ts = then_do (binary_of text ts) (λ b. written (file_of b))
+made_of text ts = then_do (binary_of text (without_comments ts)) (λ b. written (file_of b))
 
 -- What a source gives: its tokens, or their first fault, decide.
 abbrev pub IsMade : List ℕ → Result (List ℕ) Fault → Type 0

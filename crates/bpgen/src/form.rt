@@ -1,13 +1,14 @@
 ghost use Rattle.std.specs.Prelude.{◌≡◌, ◌≤◌, ◌^◌, IfOk, All, length, string_bytes};
 ghost use Rattle.std.specs.List.{list_all};
 ghost use Rattle.std.specs.Str.{IsAscii};
-ghost use Rattle.bpgen.specs.Form.{form, binary_of, spells_in, spelled, expected, is_string, is_module_name, has_name_length, is_dots, is_name_byte, is_c_source, is_source_byte, between_quotes, string_at, word_of, not_built, ends_early, IsWithin};
+ghost use Rattle.bp_lexer.specs.Meaning.{word_of, inner_of};
+ghost use Rattle.bpgen.specs.Form.{form, binary_of, is_comment, without_comments, spells_in, spelled, expected, is_string, is_module_name, has_name_length, is_dots, is_name_byte, is_c_source, is_source_byte, string_at, not_built, ends_early, IsWithin};
 ghost use Rattle.bpgen.specs.Steps.{Meets, Is, Never};
 
 use crate::Stop;
 use crate::ascii::copy_ascii;
 use bp_faults::{Fault, FaultKind, OutOfMemory, Text};
-use bp_lexer::{Token, place_of_end};
+use bp_lexer::{Token, TokenKind, place_of_end};
 use std::alloc::Global;
 
 /// A binary of one C source.
@@ -15,6 +16,19 @@ use std::alloc::Global;
 pub struct Binary {
     pub name: Text,
     pub source: Text,
+}
+
+fn is_comment(kind: TokenKind) -> bool
+    ensures { result ≡ is_comment kind }
+{
+    matches!(kind, TokenKind::LineComment | TokenKind::BlockComment)
+}
+
+/// Leaves out the tokens that are comments.
+pub fn leave_out_comments(tokens: &mut Vec<Token>)
+    ensures { tokens.new.items ≡ without_comments tokens.old.items }
+{
+    tokens.retain(|token| !is_comment(token.kind));
 }
 
 fn is_name_byte(byte: u8) -> bool
@@ -80,7 +94,7 @@ fn is_string(word: &[u8]) -> bool
 }
 
 fn between_quotes(word: &[u8]) -> &[u8]
-    ensures { result.now ≡ between_quotes word.now }
+    ensures { result.now ≡ inner_of word.now }
 {
     match word {
         [_, inner @ .., _] => inner,

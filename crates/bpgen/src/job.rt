@@ -8,7 +8,7 @@ ghost use Rattle.bpgen.specs.Steps.{Meets, Is, Never, ReadCause, CannotRead};
 
 use crate::actions::file;
 use crate::ascii::{ascii_str, is_ascii};
-use crate::form::recognize;
+use crate::form::{leave_out_comments, recognize};
 use crate::{Binary, Configuration, Stop};
 use bp_faults::{Fault, FaultKind, OutOfMemory, Place, Text};
 use bp_lexer::tokens;
@@ -101,7 +101,8 @@ fn make(alloc: Global, text: &str) -> Result<Vec<u8>, Stop>
     requires ascii { IsAscii text.now }
     ensures { Meets (λ made. made.items) (IsMade text.now) Never result }
 {
-    let tokens = tokens(alloc, text, 1)?;
+    let mut tokens = tokens(alloc, text, 1)?;
+    leave_out_comments(&mut tokens);
     let binary = recognize(alloc, text, &tokens)?;
     write_file(alloc, &binary)
 }

@@ -146,9 +146,26 @@ fn faults_stand_at_their_places(rt: HostRuntime) -> Result<(), Fail> {
     );
     for (file, line) in [
         ("x\u{e9}", "Android.bp:1:1: error 37: not built yet\n"),
-        ("", "Android.bp:1:1: error 37: not built yet: end of file\n"),
+        ("/* x", "Android.bp:1:1: error 4: unterminated comment\n"),
         (
-            "cc_binary {\n",
+            "b = 9223372036854775808",
+            "Android.bp:1:5: error 6: number out of range: 9223372036854775808\n",
+        ),
+        (
+            "cc_binary;",
+            "Android.bp:1:10: error 2: unexpected character: ;\n",
+        ),
+        ("x = \"a\\q\"", "Android.bp:1:7: error 5: bad escape: q\n"),
+        (
+            "x = \"\\q\n\"",
+            "Android.bp:1:5: error 3: unterminated string\n",
+        ),
+        (
+            "// x",
+            "Android.bp:1:5: error 37: not built yet: end of file\n",
+        ),
+        (
+            "cc_binary { // x\n",
             "Android.bp:2:1: error 37: not built yet: end of file\n",
         ),
         (
@@ -156,12 +173,8 @@ fn faults_stand_at_their_places(rt: HostRuntime) -> Result<(), Fail> {
             "Android.bp:2:2: error 37: not built yet: cc_library\n",
         ),
         (
-            "cc_library // x",
-            "Android.bp:1:12: error 37: not built yet: /\n",
-        ),
-        (
-            "cc_binary { name: \"a\\n\"",
-            "Android.bp:1:19: error 37: not built yet: \"\n",
+            "cc_binary { name: \"a\\t\"",
+            "Android.bp:1:19: error 37: not built yet: \"a\\t\"\n",
         ),
         (
             "cc_binary { name: \"..\"",
