@@ -22,7 +22,7 @@ IsInRange word = FitsSigned w64 (signed_digits_value 10 word)
 abbrev pub Opens : List ℕ → Type 0
 Opens text = (slice_index text 0 ≡ 34) ⊎ ((slice_index text 0 ≡ 96) ⊎ (take 2 text ≡ codes "/*"))
 
--- A string without an end on its line, or a raw string without an end.
+-- A string that no quote ends on its line, or a backquote. Where no form fits, no other backquote follows that one.
 abbrev pub OpensString : List ℕ → Type 0
 OpensString text = ((slice_index text 0 ≡ 34) × IsOpen (drop 1 text)) ⊎ (slice_index text 0 ≡ 96)
 
@@ -30,7 +30,7 @@ OpensString text = ((slice_index text 0 ≡ 34) × IsOpen (drop 1 text)) ⊎ (sl
 abbrev pub HasBadEscape : List ℕ → ℕ → Type 0
 HasBadEscape text k = (slice_index text 0 ≡ 34) × ((n : ℕ) × IsClosedAt in_line (drop 1 text) n) × IsBadEscapeAt (drop 1 text) k
 
--- What is wrong at the front of a text.
+-- What is wrong at the front of a text: no form fits, and why; or the longest form is a number out of range.
 abbrev pub IsFlaw : List ℕ → Flaw → Type 0
 IsFlaw text BadChar = HasNoForm text × (Opens text → ⊥)
 IsFlaw text OpenString = HasNoForm text × OpensString text

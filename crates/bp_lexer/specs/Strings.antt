@@ -9,6 +9,7 @@ escape_of c =
     else if c == 110 then Some 10 else if c == 114 then Some 13 else if c == 116 then Some 9
     else if c == 118 then Some 11 else if c == 92 then Some 92 else if c == 34 then Some 34 else None
 
+-- what may stand behind a backslash
 abbrev pub is_escape : ℕ → Bool
 is_escape c = is_some (escape_of c)
 

@@ -6,7 +6,9 @@ use crate::{Token, TokenKind};
 use bp_faults::{OutOfMemory, Text};
 use std::alloc::Global;
 
-/// The string that a token of the text stands for. A token that is no string stands for its own text.
+/// The string that a token stands for, where `tokens` gave the token for this text.
+///
+/// A token that is no string stands for its own text.
 pub fn value_of(alloc: Global, text: &str, token: &Token) -> Result<Text, OutOfMemory>
     requires { IsToken token.now.place.file text.now token.now }
     ensures { IfOk result (λ value. value ≡ string_of token.now.kind (word_of text.now token.now)) }
