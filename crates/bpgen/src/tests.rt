@@ -211,6 +211,13 @@ fn failing_store(rt: HostRuntime) -> Result<(), Fail> {
         assert!(rt; store.held("build.ninja").is_none());
         assert!(rt; store.held("Android.bp") == Some(HELLO.as_bytes()));
     }
+    let mut tree = Vec::new(alloc);
+    stored(alloc, "list", b"Android.bp\n", &mut tree)?;
+    let mut store = MemStore::new(alloc, tree, 0, Vec::new(alloc))?;
+    let (status, said) = told(alloc, BUILD, &mut store, 300)?;
+    assert_eq!(rt; status, 1);
+    assert!(rt; said.as_slice() == b"Android.bp:1:1: error 31: no such file\n".as_slice());
+    // The sink has no room for the whole line, so it takes half of it and fails: the status stays.
     let mut store = MemStore::new(alloc, Vec::new(alloc), 0, Vec::new(alloc))?;
     let (status, said) = told(alloc, BUILD, &mut store, 20)?;
     assert_eq!(rt; status, 1);
