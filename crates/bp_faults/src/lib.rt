@@ -28,3 +28,6 @@ pub use refusal::{OutOfMemory, Refusal};
 pub use seq::Seq;
 pub use target::Target;
 pub use text::Text;
+
+#[cfg(test)]
+mod tests;

@@ -1,13 +1,12 @@
 -- A pass along the serial order.
-use Rattle.std.proofs.Common.{◌≡◌, ◌≢◌, ◌+◌, ◌<◌, ◌≤◌, ◌⊎◌, inl, inr, ⊎_elim, ℕ, zero, suc, List, [], ◌∷◌, ◌++◌, map, length, get_or, set, take, replicate, refl, ap, arith, ◌∙◌, sym, subst, Option, Some, None, Result, Ok, Err, IsSome, All, length-set, zero-add, add-zero}
-use Rattle.std.specs.Prelude.{slice_get, slice_set, IsErr}
+use Rattle.std.proofs.Common.{◌≡◌, ◌≢◌, ◌+◌, ◌<◌, ◌≤◌, ℕ, zero, suc, List, [], ◌∷◌, ◌++◌, map, length, get_or, take, replicate, refl, ap, arith, ◌∙◌, sym, subst, Option, Some, None, Result, Ok, Err, IsSome, All, length-set, zero-add, add-zero}
+use Rattle.std.specs.Prelude.{slice_set, IsErr}
 use Rattle.std.specs.Result.{IsErrAnd}
 use Rattle.std.specs.List.{AllByRecursion, Contains, range_with_len}
 use Rattle.std.specs.declared.sync.Arc.{Arc}
 use Rattle.std.specs.Arc.{arc_value}
 use Rattle.std.proofs.lemmas.Option.{slice_get-get_or}
 use Rattle.std.proofs.lemmas.List.{take_more, length-map, length-replicate}
-use Rattle.std.proofs.lemmas.List.Elements.{All-from_recursion}
 use Rattle.std.proofs.Math.Seq.{take-length}
 use Rattle.std.proofs.Math.ListN.{get_or-map}
 use mathlib.Core.Logic.{dite}
@@ -17,18 +16,14 @@ use Rattle.bp_faults.specs.declared.ids.NodeId.{NodeId}
 use Rattle.pass_core.specs.declared.plan.Plan.{Plan}
 use Rattle.pass_core.specs.declared.error.PassError.{PassError}
 use Rattle.pass_core.specs.declared.error.PassError.TheVariants.{At, OutOfMemory}
-use Rattle.pass_core.specs.Plans.{predecessors, HaveEndsBelow, HasNoCycle, IsPlan}
+use Rattle.pass_core.specs.Plans.{predecessors, HasNoCycle, IsPlan}
 use Rattle.pass_core.specs.Heights.{IsBefore}
 use Rattle.pass_core.specs.Orders.{IsSerial, numbers}
 use Rattle.pass_core.specs.Results.{NodeResult, Done, Bad, IsDone, node_result}
-use Rattle.pass_core.specs.Outcomes.{IsFirstUndone, IsOutcome, AnswersPass}
-use Rattle.pass_core.specs.Made.{made_at, value_of, AreRight, AnswersVisit, IsMade}
-use Rattle.pass_core.proofs.Unrolled.{all_map}
-use Rattle.pass_core.proofs.Paths.{get_here, get_else, all_pushed}
+use Rattle.pass_core.specs.Outcomes.{IsOutcome, AnswersPass}
+use Rattle.pass_core.specs.Made.{made_at, value_of, AnswersVisit, IsMade}
 use Rattle.pass_core.proofs.Legal.{node_at, stands_before, predecessors_before}
-
-pub all_contained : {X : Type 0} (P : X → Type 0) (xs : List X) (x : X) → AllByRecursion P xs → Contains xs x → P x
-all_contained P xs x h c = subst P c.2 (All-from_recursion P xs h c.0 x c.1)
+use Rattle.pass_core.proofs.Lists.{all_contained, all_map, all_pushed, get_else, get_here}
 
 none_made : (O A : Type 0) (n k : ℕ) → made_at {O = O} {A = A} (replicate n None) k ≡ None
 none_made O A zero k = refl

@@ -1,26 +1,21 @@
 -- Settling the heights of a plan, a step at a time.
-use Rattle.std.proofs.Common.{◌≡◌, ◌≢◌, ◌+◌, ◌<◌, ◌≤◌, ◌⊎◌, inl, inr, ⊎_elim, ℕ, zero, suc, List, [], ◌∷◌, ◌++◌, map, length, get_or, set, take, drop, refl, ap, arith, ◌∙◌, sym, subst, Option, Some, None, IsSome}
-use Rattle.std.specs.Prelude.{max, slice_get}
+use Rattle.std.proofs.Common.{◌≡◌, ◌+◌, ◌<◌, ◌≤◌, ℕ, List, [], ◌∷◌, ◌++◌, map, length, get_or, take, ap, arith, ◌∙◌, sym, subst, Option, Some, None, IsSome}
+use Rattle.std.specs.Prelude.{max}
 use Rattle.std.specs.List.{AllByRecursion}
-use Rattle.std.proofs.Math.ListN.{get_or-map}
-use Rattle.std.proofs.lemmas.List.{take_more, map-append, length-map}
+use Rattle.std.proofs.lemmas.List.{take_more, map-append}
 use Rattle.std.proofs.lemmas.Option.{slice_get-get_or}
 use Rattle.std.specs.Ordering.{ord_max, nat_cmp}
 use Rattle.std.proofs.lemmas.Bool.Decides.{nat_tests}
 use Rattle.std.proofs.Math.Seq.{take-length}
-use Rattle.std.proofs.lemmas.List.Elements.{All-from_recursion}
 use Rattle.pass_core.specs.declared.plan.Plan.{Plan}
 use Rattle.pass_core.specs.declared.plan.PlanEdge.{PlanEdge}
-use Rattle.pass_core.specs.Plans.{sources, in_edges, predecessors, HaveEndsBelow, HasNoCycle, IsPlan}
+use Rattle.pass_core.specs.Plans.{sources, in_edges, predecessors, HasNoCycle, IsPlan}
 use Rattle.pass_core.specs.Heights.{above_all, height}
 use Rattle.pass_core.specs.Settling.{settled_at, joined, AreSettled}
-use Rattle.pass_core.proofs.Unrolled.{all_map, all_predecessors, height_rises, height_equation}
+use Rattle.pass_core.proofs.Unrolled.{height_rises, height_equation}
 use Rattle.pass_core.proofs.Induction.{height_below}
-
--- what holds of each source holds of the source of the edge at a place
-pub source_at : (P : ℕ → Type 0) (es : List PlanEdge) (i : ℕ) (d : PlanEdge) → AllByRecursion P (sources es) → i < length es → P (get_or es i d).from.0
-source_at P es i d h lt =
-    subst P (get_or-map (λ (e : PlanEdge). e.from.0) es i d) (All-from_recursion P (sources es) h i d.from.0 (omega (arith, length-map es (λ (e : PlanEdge). e.from.0))))
+use Rattle.pass_core.proofs.Lists.{all_map}
+use Rattle.pass_core.proofs.Predecessors.{all_predecessors, source_at}
 
 above_pushed : (hs : List ℕ) (h : ℕ) → above_all (hs ++ h ∷ []) ≡ max (above_all hs) (h + 1)
 above_pushed [] h = omega arith

@@ -1,14 +1,13 @@
 -- The in-edges of a node stand together, where the edges stand by target.
-use Rattle.std.proofs.Common.{◌≡◌, ◌+◌, ◌-◌, ◌<◌, ◌≤◌, ◌==◌, ℕ, zero, suc, List, [], ◌∷◌, map, length, get_or, take, drop, refl, ap, arith, ◌∙◌, sym, subst, Bool, true, false, cond, eq-eqb, ne_eqb}
-use Rattle.std.specs.Prelude.{nat_lt}
+use Rattle.std.proofs.Common.{◌≡◌, ◌+◌, ◌-◌, ◌<◌, ◌≤◌, ℕ, zero, suc, List, [], ◌∷◌, length, get_or, take, drop, refl, ap, arith, subst, eq-eqb, ne_eqb}
 use Rattle.std.proofs.Math.Decide.{dec_lt}
 use mathlib.Core.Logic.{dite}
-use Rattle.std.specs.List.{AllByRecursion, filter}
+use Rattle.std.specs.List.{AllByRecursion}
 use Rattle.std.proofs.lemmas.Bool.Decides.{nat_tests}
 use Rattle.pass_core.specs.declared.plan.PlanEdge.{PlanEdge}
 use Rattle.pass_core.specs.Plans.{in_edges, StandByTarget}
 use Rattle.pass_core.specs.InEdges.{edges_below}
-use Rattle.pass_core.proofs.Unrolled.{all_map}
+use Rattle.pass_core.proofs.Lists.{all_map}
 
 -- no edge of these leads to a node below n
 none_below : (n : ℕ) (es : List PlanEdge) → AllByRecursion (λ (e : PlanEdge). n ≤ e.to.0) es → edges_below es n ≡ 0

@@ -8,11 +8,9 @@ use Rattle.pass_core.specs.declared.plan.Plan.{Plan}
 use Rattle.pass_core.specs.Plans.{predecessors, HaveEndsBelow, HasNoCycle}
 use Rattle.pass_core.specs.Results.{NodeResult, judged, outs_of, node_result}
 use Rattle.pass_core.specs.Heights.{above_all, height}
-use Rattle.pass_core.proofs.Unrolled.{all_predecessors, all_map, map-same, result_equation, height_equation, tight, tight_below, tight_rises}
-
-pub both : {A : Type 0} (P Q : A → Type 0) (xs : List A) → AllByRecursion P xs → AllByRecursion Q xs → AllByRecursion (λ x. P x × Q x) xs
-both P Q [] h k = tt
-both P Q (x ∷ xs) h k = ((h.0, k.0), both P Q xs h.1 k.1)
+use Rattle.pass_core.proofs.Unrolled.{result_equation, height_equation, tight, tight_below, tight_rises}
+use Rattle.pass_core.proofs.Lists.{all_map, both, map-same}
+use Rattle.pass_core.proofs.Predecessors.{all_predecessors}
 
 above_at_most : (f : ℕ → ℕ) (k : ℕ) (ms : List ℕ) → AllByRecursion (λ m. f m < k) ms → above_all (map f ms) ≤ k
 above_at_most f k [] h = omega arith

@@ -1,25 +1,15 @@
 -- The serial order is legal.
-use Rattle.std.proofs.Common.{◌≡◌, ◌<◌, ℕ, zero, suc, List, [], ◌∷◌, length, get_or, take, refl, ap, arith, ◌∙◌, sym, subst}
+use Rattle.std.proofs.Common.{◌≡◌, ◌<◌, ℕ, List, length, get_or, take, ap, arith, ◌∙◌, sym, subst}
 use Rattle.std.specs.List.{AllByRecursion, Contains}
 use Rattle.std.proofs.Math.Decide.{dec_lt}
-use Rattle.std.proofs.lemmas.List.{get_or-take, length-take-le}
 use Rattle.std.proofs.lemmas.List.Elements.{All-from_recursion}
 use mathlib.Core.Logic.{dite}
 use Rattle.pass_core.specs.declared.plan.Plan.{Plan}
 use Rattle.pass_core.specs.Plans.{predecessors, HaveEndsBelow, HasNoCycle}
 use Rattle.pass_core.specs.Heights.{IsBefore}
-use Rattle.pass_core.specs.Orders.{HasEachOnce, IsSerial, IsLegal}
-use Rattle.pass_core.proofs.Unrolled.{all_map}
+use Rattle.pass_core.specs.Orders.{IsSerial, IsLegal}
 use Rattle.pass_core.proofs.Unique.{never_both, before_node}
-
--- an element is the same whatever stands past the end
-pub same_at : {A : Type 0} (xs : List A) (i : ℕ) (d e : A) → i < length xs → get_or xs i d ≡ get_or xs i e
-same_at [] i d e lt = absurd (omega arith)
-same_at (x ∷ xs) zero d e lt = refl
-same_at (x ∷ xs) (suc i) d e lt = same_at xs i d e (omega arith)
-
-pub contains_earlier : {A : Type 0} (xs : List A) (x : A) (i k : ℕ) → k < i → i < length xs → get_or xs k x ≡ x → Contains (take i xs) x
-contains_earlier xs x i k lt li is = (k, let e = length-take-le i xs (omega arith) in omega arith, get_or-take i xs k x lt ∙ is)
+use Rattle.pass_core.proofs.Lists.{all_map, contains_earlier, same_at}
 
 module _ (plan : Plan) (order : List ℕ) (serial : IsSerial plan order) where
   pub node_at : (i d : ℕ) → i < length order → get_or order i d < plan.count

@@ -1,22 +1,20 @@
 -- Each pass has an outcome.
-use Rattle.std.proofs.Common.{◌≡◌, ◌+◌, ◌<◌, ◌≤◌, ℕ, zero, suc, List, [], ◌∷◌, ◌++◌, map, length, get_or, take, refl, ap, arith, ◌∙◌, sym, subst, Result, Ok, Err}
-use Rattle.std.specs.List.{AllByRecursion, Contains, range_with_len}
+use Rattle.std.proofs.Common.{◌≡◌, ◌+◌, ◌<◌, ℕ, zero, suc, List, [], ◌∷◌, map, length, get_or, take, refl, ap, arith, ◌∙◌, sym, subst, Result, Ok, Err}
+use Rattle.std.specs.List.{AllByRecursion, range_with_len}
 use Rattle.std.proofs.Math.Seq.{take-length}
 use Rattle.std.proofs.lemmas.List.{take_more}
-use Rattle.std.proofs.lemmas.List.Elements.{All-from_recursion, recursion_from_All}
+use Rattle.std.proofs.lemmas.List.Elements.{recursion_from_All}
 use Rattle.std.proofs.lemmas.List.FromFn.{get_or-range_with_len, length-range_with_len}
 use Rattle.bp_faults.specs.declared.fault.Fault.{Fault}
 use Rattle.pass_core.specs.declared.plan.Plan.{Plan}
 use Rattle.pass_core.specs.Plans.{IsPlan, HasNoCycle}
-use Rattle.pass_core.specs.Heights.{IsBefore}
 use Rattle.pass_core.specs.Orders.{IsSerial}
 use Rattle.pass_core.specs.Results.{NodeResult, Done, Bad, Poisoned, IsDone, node_result}
 use Rattle.pass_core.specs.Outcomes.{IsFirstUndone, IsOutcome}
 use Rattle.pass_core.proofs.Legal.{node_at, stands_before}
-use Rattle.pass_core.proofs.Paths.{all_pushed}
-use Rattle.pass_core.proofs.Along.{all_contained}
 use Rattle.pass_core.proofs.Sorted.{the_order, the_order_is_serial}
 use Rattle.pass_core.proofs.Unique.{bad_at_first}
+use Rattle.pass_core.proofs.Lists.{all_contained, all_pushed}
 
 module _ {O : Type 0} where
   one_done : (f : ℕ → NodeResult O) (n : ℕ) (ns : List ℕ) (r : NodeResult O) → f n ≡ r → IsDone r → (outs : List O) → map Done outs ≡ map f ns → (all : List O) × (map Done all ≡ f n ∷ map f ns)

@@ -1,6 +1,5 @@
 -- A path of climbs, and what a step at its end leaves.
-use Rattle.std.proofs.Common.{◌≡◌, ◌≢◌, ◌+◌, ◌^◌, ◌<◌, ◌≤◌, ◌⊎◌, inl, inr, ⊎_elim, ℕ, zero, suc, List, [], ◌∷◌, ◌++◌, map, length, get_or, set, take, drop, refl, ap, arith, ◌∙◌, sym, subst, Option, Some, None, IsSome, length-set, append_assoc, append-nil, add-one, zero-add, Bool, true, false, replicate}
-use Rattle.std.specs.Prelude.{slice_get}
+use Rattle.std.proofs.Common.{◌≡◌, ◌≢◌, ◌+◌, ◌^◌, ◌<◌, ◌≤◌, ◌⊎◌, inl, inr, ⊎_elim, ℕ, zero, suc, List, [], ◌∷◌, ◌++◌, map, length, get_or, set, take, drop, refl, ap, arith, ◌∙◌, sym, subst, Option, Some, None, IsSome, length-set, append_assoc, append-nil, add-one, zero-add, true, false, replicate}
 use Rattle.std.specs.Option.{is_some}
 use Rattle.std.proofs.lemmas.Option.{slice_get-get_or}
 use Rattle.bp_faults.specs.declared.ids.NodeId.{NodeId}
@@ -8,41 +7,19 @@ use Rattle.std.specs.List.{AllByRecursion, range_with_len}
 use Rattle.std.proofs.Math.Seq.{drop-cons}
 use Rattle.std.proofs.lemmas.List.{take_more, length-map, length-replicate}
 use Rattle.std.proofs.Math.ListN.{get_or-map}
-use Rattle.std.proofs.lemmas.Bool.Decides.{nat_tests}
 use Rattle.std.proofs.lemmas.List.FromFn.{fill_by_all}
 use mathlib.Core.Logic.{dite}
 use native.Mathlib.Decide.{ℕ_discrete}
 use Rattle.pass_core.specs.declared.plan.Plan.{Plan}
 use Rattle.pass_core.specs.declared.plan.PlanEdge.{PlanEdge}
 use Rattle.pass_core.specs.declared.height.Climb.{Climb}
-use Rattle.pass_core.specs.Plans.{in_edges, sources, predecessors, HaveEndsBelow, HasNoCycle, IsPlan}
+use Rattle.pass_core.specs.Plans.{in_edges, sources, predecessors, HasNoCycle, IsPlan}
 use Rattle.pass_core.specs.Heights.{height}
-use Rattle.pass_core.specs.Settling.{settled_at, joined, AreSettled, IsOn, IsDue, IsPath, total, cost, path_cost, IsStep, sought, gone_up, start_at, IsOnWay}
-use Rattle.pass_core.proofs.Legal.{same_at}
+use Rattle.pass_core.specs.Settling.{settled_at, joined, AreSettled, IsOn, IsDue, IsPath, total, cost, path_cost, IsAdvanced, sought, gone_up, start_at, IsOnWay}
 use Rattle.pass_core.proofs.Climbing.{source_below}
-use Rattle.pass_core.proofs.Unrolled.{all_map, unroll_equation, tight, tight_below, tight_rises}
-
-pub get_here : {X : Type 0} (xs : List X) (i : ℕ) (x : X) → i < length xs → slice_get (set xs i x) i ≡ Some x
-get_here [] i x lt = absurd (omega arith)
-get_here (y ∷ ys) zero x lt = refl
-get_here (y ∷ ys) (suc i) x lt = get_here ys i x (omega arith)
-
-pub get_else : {X : Type 0} (xs : List X) (i j : ℕ) (x : X) → j ≢ i → slice_get (set xs i x) j ≡ slice_get xs j
-get_else [] i j x ne = refl
-get_else (y ∷ ys) zero zero x ne = absurd (ne refl)
-get_else (y ∷ ys) zero (suc j) x ne = refl
-get_else (y ∷ ys) (suc i) zero x ne = refl
-get_else (y ∷ ys) (suc i) (suc j) x ne = get_else ys i j x (λ e. ne (ap suc e))
-
-pub all_pushed : {X : Type 0} (P : X → Type 0) (xs : List X) (x : X) → AllByRecursion P xs → P x → AllByRecursion P (xs ++ x ∷ [])
-all_pushed P [] x h p = (p, tt)
-all_pushed P (y ∷ ys) x h p = (h.0, all_pushed P ys x h.1 p)
-
-take-past : {X : Type 0} (i : ℕ) (xs : List X) → length xs ≤ i → take i xs ≡ xs
-take-past zero [] le = refl
-take-past zero (x ∷ xs) le = absurd (omega arith)
-take-past (suc i) [] le = refl
-take-past (suc i) (x ∷ xs) le = ap (λ (l : List _). x ∷ l) (take-past i xs (omega arith))
+use Rattle.pass_core.proofs.Unrolled.{unroll_equation, tight, tight_below, tight_rises}
+use Rattle.pass_core.proofs.Lists.{all_map, all_pushed, get_else, get_here, same_at, take-past}
+use Rattle.pass_core.proofs.Predecessors.{in_edges_few}
 
 on_end : (cs ds : List Climb) (n : ℕ) → IsOn ds n → IsOn (cs ++ ds) n
 on_end [] ds n h = h
@@ -86,7 +63,7 @@ module _ (plan : Plan) (settled : List (Option ℕ)) where
     path_changed [] h end = end
     path_changed (x ∷ cs) h end = (h.0, all_map (IsDue settled (cs ++ c ∷ [])) (IsDue after (cs ++ ds)) (due_changed cs) (take x.next (predecessors plan.edges x.node.0)) h.1, path_changed cs h.2 end)
 
-    pub step_to : (cs : List Climb) → IsPath plan settled (cs ++ c ∷ []) → AreSettled plan after → IsPath plan after ds → path_cost plan ds < path_cost plan (c ∷ []) → IsStep plan settled (cs ++ c ∷ []) after (cs ++ ds)
+    pub step_to : (cs : List Climb) → IsPath plan settled (cs ++ c ∷ []) → AreSettled plan after → IsPath plan after ds → path_cost plan ds < path_cost plan (c ∷ []) → IsAdvanced plan settled (cs ++ c ∷ []) after (cs ++ ds)
     step_to cs path right end less = record {
       right = right;
       on_path = path_changed cs path end;
@@ -113,13 +90,6 @@ module _ (settled : List (Option ℕ)) (c : Climb) (source : NodeId) (lt : sourc
   pub up_settled : is_some (get_or settled source.0 None) ≡ true → path ++ (record { node = c.node; next = c.next + 1 }) ∷ [] ≡ path ++ gone_up settled c source
   up_settled h = ap (λ (l : List Climb). path ++ (record { node = c.node; next = c.next + 1 }) ∷ l) (sym (ap (sought source) (read_settled settled source.0 lt) ∙ settled_is source (get_or settled source.0 None) h))
 
-in_edges_few : (es : List PlanEdge) (n : ℕ) → length (in_edges es n) ≤ length es
-in_edges_few [] n = omega arith
-in_edges_few (e ∷ es) n = let rest = in_edges_few es n in grind (arith, nat_tests)
-
-pub few_predecessors : (es : List PlanEdge) (n : ℕ) → length (predecessors es n) ≤ length es
-few_predecessors es n = let few = in_edges_few es n in omega (arith, length-map (in_edges es n) (λ (e : PlanEdge). e.from.0))
-
 module _ (plan : Plan) (is_plan : IsPlan plan) (free : HasNoCycle plan.edges) where
   cost_equation : (n : ℕ) → n < plan.count → cost plan n ≡ suc (total (map (cost plan) (predecessors plan.edges n)))
   unfolding cost
@@ -136,10 +106,10 @@ module _ (plan : Plan) (is_plan : IsPlan plan) (free : HasNoCycle plan.edges) wh
     node_bound = subst (λ k. c.node.0 < k) (sym right.many) node_inside
 
     -- a climb to a settled node ends
-    pub step_settled : is_some (get_or settled c.node.0 None) ≡ true → IsStep plan settled (cs ++ c ∷ []) settled cs
+    pub step_settled : is_some (get_or settled c.node.0 None) ≡ true → IsAdvanced plan settled (cs ++ c ∷ []) settled cs
     step_settled some =
         let here : IsSome (settled_at settled c.node.0) = ap is_some (read_settled settled c.node.0 node_bound) ∙ some in
-        subst (λ rest. IsStep plan settled (cs ++ c ∷ []) settled rest) (append-nil cs)
+        subst (λ rest. IsAdvanced plan settled (cs ++ c ∷ []) settled rest) (append-nil cs)
         (step_to plan settled settled c []
         (λ m h. ⊎_elim (λ a. inl a) (λ on. ⊎_elim (λ same. inl (subst (λ x. IsSome (settled_at settled x)) same here)) (λ none. absurd none) on) h)
         cs path right tt (omega arith))
@@ -167,9 +137,9 @@ module _ (plan : Plan) (is_plan : IsPlan plan) (free : HasNoCycle plan.edges) wh
           let g : h ≡ k = cc in sym g ∙ is ∙ ap (height plan) (sym same))
           (λ other. right.right m k (sym (elsewhere m other) ∙ e))
 
-      pub step_height : IsStep plan settled (cs ++ c ∷ []) (set settled c.node.0 (Some h)) cs
+      pub step_height : IsAdvanced plan settled (cs ++ c ∷ []) (set settled c.node.0 (Some h)) cs
       step_height =
-          subst (λ rest. IsStep plan settled (cs ++ c ∷ []) (set settled c.node.0 (Some h)) rest) (append-nil cs)
+          subst (λ rest. IsAdvanced plan settled (cs ++ c ∷ []) (set settled c.node.0 (Some h)) rest) (append-nil cs)
           (step_to plan settled (set settled c.node.0 (Some h)) c []
           (λ m h. ⊎_elim (λ some. inl (set_some m (inr some))) (λ on. ⊎_elim (λ same. inl (set_some m (inl (sym same)))) (λ none. absurd none) on) h)
           cs path (record { many = length-set settled c.node.0 (Some h) ∙ right.many; right = set_right }) tt (omega arith))
@@ -199,7 +169,7 @@ module _ (plan : Plan) (is_plan : IsPlan plan) (free : HasNoCycle plan.edges) wh
           let left = ap (λ (l : List ℕ). total (map (cost plan) l)) left_more in let whole : cost plan source.0 ≡ suc (total (map (cost plan) (drop 0 (predecessors plan.edges source.0)))) = cost_equation source.0 inside in omega arith
       up_less (Some h) = let left = ap (λ (l : List ℕ). total (map (cost plan) l)) left_more in omega arith
 
-      pub step_up : IsStep plan settled (cs ++ c ∷ []) settled (cs ++ gone_up settled c source)
+      pub step_up : IsAdvanced plan settled (cs ++ c ∷ []) settled (cs ++ gone_up settled c source)
       step_up = step_to plan settled settled c (gone_up settled c source)
           (λ m h. ⊎_elim (λ some. inl some) (λ on. ⊎_elim (λ same. inr (inl same)) (λ none. absurd none) on) h)
           cs path right (up_path (settled_at settled source.0) refl) (up_less (settled_at settled source.0))
@@ -221,7 +191,7 @@ module _ (plan : Plan) (is_plan : IsPlan plan) (free : HasNoCycle plan.edges) wh
         pub source_inside : (get_or es c.next d).from.0 < plan.count
         source_inside = source_below plan is_plan free c.node.0 node_inside es edges_are c.next d lt
 
-        pub gone_to : IsStep plan settled (cs ++ c ∷ []) settled (cs ++ gone_up settled c (get_or es c.next d).from)
+        pub gone_to : IsAdvanced plan settled (cs ++ c ∷ []) settled (cs ++ gone_up settled c (get_or es c.next d).from)
         gone_to = step_up (get_or es c.next d).from source_inside
             (same_at (predecessors plan.edges c.node.0) c.next 0 d.from.0 (omega (arith, many_predecessors)) ∙ source_at_next) (omega (arith, many_predecessors))
 

@@ -1,5 +1,5 @@
 -- Nodes sorted by height and number stand in serial order.
-use Rattle.std.proofs.Common.{◌≡◌, ◌≢◌, ◌+◌, ◌-◌, ◌<◌, ◌≤◌, ◌⊎◌, inl, inr, ⊎_elim, ℕ, zero, suc, List, [], ◌∷◌, map, length, get_or, refl, ap, arith, ◌∙◌, sym, subst, Bool, true, false, eqb, eq-eqb, IsPermutation, nat_cmp}
+use Rattle.std.proofs.Common.{◌≡◌, ◌≢◌, ◌+◌, ◌-◌, ◌<◌, ◌≤◌, ◌⊎◌, inl, inr, ⊎_elim, ℕ, zero, suc, List, [], ◌∷◌, map, length, get_or, refl, ap, arith, ◌∙◌, sym, subst, true, false, eqb, IsPermutation, nat_cmp}
 use Rattle.std.specs.List.{AllByRecursion, AllPairs, All, Contains, IsDistinct, range_with_len}
 use Rattle.std.specs.Ordering.{is_lt, ordering_then}
 use Rattle.std.proofs.Common.{Less, Equal}

@@ -1,14 +1,14 @@
 -- A plan has exactly one serial order.
-use Rattle.std.proofs.Common.{◌≡◌, ◌≢◌, ◌+◌, ◌<◌, ◌≤◌, ◌⊎◌, inl, inr, ⊎_elim, ℕ, zero, suc, List, [], ◌∷◌, length, get_or, refl, ap, arith, ◌∙◌, sym, subst}
+use Rattle.std.proofs.Common.{◌≡◌, ◌≢◌, ◌<◌, ◌⊎◌, inl, inr, ⊎_elim, ℕ, zero, suc, List, [], ◌∷◌, length, get_or, refl, arith, ◌∙◌, sym, subst}
 use Rattle.std.specs.List.{AllByRecursion, AllPairs, Contains}
 use Rattle.std.proofs.lemmas.List.Elements.{All-from_recursion, recursion_from_All}
 use mathlib.Core.Logic.{dite}
 use native.Mathlib.Decide.{ℕ_discrete}
 use Rattle.pass_core.specs.declared.plan.Plan.{Plan}
 use Rattle.pass_core.specs.Heights.{height, IsBefore}
-use Rattle.pass_core.specs.Orders.{HasEachOnce, IsSerial}
-use Rattle.pass_core.proofs.Unrolled.{all_map}
+use Rattle.pass_core.specs.Orders.{IsSerial}
 use Rattle.pass_core.proofs.Unique.{ordered, never_both}
+use Rattle.pass_core.proofs.Lists.{all_map}
 
 contains_none : (m : ℕ) → Contains [] m → ⊥
 contains_none m h = let lt = h.1 in omega arith

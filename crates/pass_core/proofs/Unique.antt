@@ -1,5 +1,5 @@
 -- A pass has one outcome, and its first node that isn't done is bad.
-use Rattle.std.proofs.Common.{◌≡◌, ◌+◌, ◌<◌, ◌≤◌, ℕ, zero, suc, List, [], ◌∷◌, map, length, refl, ap, arith, ◌∙◌, sym, subst, ◌⊎◌, inl, inr, ⊎_elim, Option, Some, None, Result, Ok, Err, zero-add}
+use Rattle.std.proofs.Common.{◌≡◌, ◌+◌, ◌<◌, ℕ, zero, suc, List, [], ◌∷◌, map, refl, ap, arith, ◌∙◌, sym, subst, ◌⊎◌, inl, inr, ⊎_elim, Some, Result, Ok, Err, zero-add}
 use Rattle.std.specs.List.{range_with_len, AllByRecursion}
 use Rattle.std.proofs.Math.Decide.{dec_lt}
 use Rattle.bp_faults.specs.declared.fault.Fault.{Fault}
@@ -9,8 +9,9 @@ use Rattle.pass_core.specs.Plans.{predecessors, HaveEndsBelow, HasNoCycle}
 use Rattle.pass_core.specs.Heights.{height, IsBefore}
 use Rattle.pass_core.specs.Results.{NodeResult, Done, Bad, Poisoned, IsDone, cons_if, outs_of, visited, judged, node_result}
 use Rattle.pass_core.specs.Outcomes.{IsFirstUndone, IsOutcome}
-use Rattle.pass_core.proofs.Unrolled.{all_map, all_predecessors, height_rises, result_equation}
-use Rattle.pass_core.proofs.Induction.{both}
+use Rattle.pass_core.proofs.Unrolled.{height_rises, result_equation}
+use Rattle.pass_core.proofs.Lists.{all_map, both}
+use Rattle.pass_core.proofs.Predecessors.{all_predecessors}
 
 by_height : (hm m hn n : ℕ) → Dec (hm < hn) → Dec (hn < hm) → Dec (m < n) → Dec (n < m)
     → ((hm < hn) ⊎ ((hm ≡ hn) × (m < n))) ⊎ (((hn < hm) ⊎ ((hn ≡ hm) × (n < m))) ⊎ (m ≡ n))

@@ -1,7 +1,7 @@
 -- The recursion over predecessors meets its equation where a numbering rises along every edge.
-use Rattle.std.proofs.Common.{◌≡◌, ◌+◌, ◌<◌, ◌≤◌, ◌==◌, ℕ, zero, suc, List, [], ◌∷◌, map, refl, ap, arith, subst, Bool, true, false, cond}
+use Rattle.std.proofs.Common.{◌≡◌, ◌+◌, ◌<◌, ◌≤◌, ℕ, zero, suc, List, [], ◌∷◌, map, ap, arith, subst}
 use Rattle.std.specs.Prelude.{if◌then◌else◌, nat_lt, max}
-use Rattle.std.specs.List.{AllByRecursion, filter}
+use Rattle.std.specs.List.{AllByRecursion}
 use Rattle.std.proofs.lemmas.Bool.Decides.{nat_tests}
 use mathlib.Core.Logic.{dite}
 use native.Mathlib.Decide.{ℕ_discrete}
@@ -11,32 +11,9 @@ use Rattle.std.specs.Prelude.{Result}
 use Rattle.pass_core.specs.declared.plan.Plan.{Plan}
 use Rattle.pass_core.specs.Plans.{predecessors, HaveEndsBelow, HasNoCycle}
 use Rattle.pass_core.specs.Heights.{unroll, above_all, height}
-use Rattle.pass_core.specs.Results.{NodeResult, Poisoned, judged, outs_of, node_result}
-
-pub map-same : {A B : Type 0} (f g : A → B) (xs : List A) → AllByRecursion (λ x. f x ≡ g x) xs → map f xs ≡ map g xs
-map-same f g [] h = refl
-map-same f g (x ∷ xs) h = λ i. h.0 i ∷ map-same f g xs h.1 i
-
-pub all_map : {A : Type 0} (P Q : A → Type 0) → ((x : A) → P x → Q x) → (xs : List A) → AllByRecursion P xs → AllByRecursion Q xs
-all_map P Q f [] h = tt
-all_map P Q f (x ∷ xs) h = (f x h.0, all_map P Q f xs h.1)
-
-all_with : {A : Type 0} (P Q R : A → Type 0) → ((x : A) → P x → Q x → R x) → (xs : List A) → AllByRecursion P xs → AllByRecursion Q xs → AllByRecursion R xs
-all_with P Q R f [] h k = tt
-all_with P Q R f (x ∷ xs) h k = (f x h.0 k.0, all_with P Q R f xs h.1 k.1)
-
-abbrev from_of : PlanEdge → ℕ
-from_of e = e.from.0
-
-at_test : (P : ℕ → ℕ → Type 0) (e : PlanEdge) (es : List PlanEdge) (n : ℕ) → P e.from.0 e.to.0 → AllByRecursion (λ m. P m n) (predecessors es n)
-    → (b : Bool) → (e.to.0 == n) ≡ b → AllByRecursion (λ m. P m n) (map from_of (cond b (e ∷ filter (λ (e : PlanEdge). e.to.0 == n) es) (filter (λ (e : PlanEdge). e.to.0 == n) es)))
-at_test P e es n here rest true is = let same : e.to.0 ≡ n = grind (arith, nat_tests) in (subst (λ k. P e.from.0 k) same here, rest)
-at_test P e es n here rest false is = rest
-
--- what holds of the ends of each edge holds of each source of a node and that node
-pub all_predecessors : (P : ℕ → ℕ → Type 0) (edges : List PlanEdge) (n : ℕ) → AllByRecursion (λ (e : PlanEdge). P e.from.0 e.to.0) edges → AllByRecursion (λ m. P m n) (predecessors edges n)
-all_predecessors P [] n h = tt
-all_predecessors P (e ∷ es) n h = at_test P e es n h.0 (all_predecessors P es n h.1) (e.to.0 == n) refl
+use Rattle.pass_core.specs.Results.{Poisoned, judged, outs_of, node_result}
+use Rattle.pass_core.proofs.Lists.{all_map, all_with, map-same}
+use Rattle.pass_core.proofs.Predecessors.{all_predecessors}
 
 -- past a node's rank the depth makes no difference
 pub unroll_deeper : {X : Type 0} (ins : ℕ → List ℕ) (rank : ℕ → ℕ) → ((n : ℕ) → AllByRecursion (λ m. rank m < rank n) (ins n)) → (step : ℕ → List X → X) (base : X)

@@ -1,5 +1,5 @@
 -- A visit of a node whose predecessors are made.
-use Rattle.std.proofs.Common.{◌≡◌, ◌<◌, ◌==◌, Bool, true, false, cond, ℕ, suc, List, [], ◌∷◌, map, length, refl, ap, ◌∙◌, sym, subst, Option, Some, None, Result, IsSome, Vec}
+use Rattle.std.proofs.Common.{◌≡◌, ◌<◌, ℕ, suc, List, [], ◌∷◌, map, length, refl, ap, ◌∙◌, sym, subst, Option, Some, None, Result, IsSome, Vec}
 use Rattle.std.specs.List.{AllByRecursion}
 use Rattle.std.specs.declared.sync.Arc.{Arc}
 use Rattle.std.specs.Arc.{arc_value}
@@ -8,26 +8,14 @@ use Rattle.std.proofs.lemmas.List.{length-map}
 use Rattle.bp_faults.specs.declared.fault.Fault.{Fault}
 use Rattle.pass_core.specs.declared.plan.Plan.{Plan}
 use Rattle.pass_core.specs.declared.plan.PlanEdge.{PlanEdge}
-use Rattle.pass_core.specs.Plans.{in_edges, sources, predecessors, HaveEndsBelow, HasNoCycle, IsPlan}
+use Rattle.pass_core.specs.Plans.{in_edges, sources, predecessors, HasNoCycle, IsPlan}
 use Rattle.pass_core.specs.Results.{NodeResult, cons_if, outs_of, judged, visited, node_result}
 use Rattle.pass_core.specs.Made.{made_at, all_of, AreRight}
-use Rattle.pass_core.proofs.Unrolled.{all_map, result_equation}
+use Rattle.pass_core.proofs.Unrolled.{result_equation}
 
 some_of : {X : Type 0} (r : Option X) → IsSome r → (x : X) × (r ≡ Some x)
 some_of None h = cc
 some_of (Some x) h = (x, refl)
-
-kept_one : (P : PlanEdge → Type 0) (e : PlanEdge) (es : List PlanEdge) → P e → AllByRecursion P es → (b : Bool) → AllByRecursion P (cond b (e ∷ es) es)
-kept_one P e es here rest true = (here, rest)
-kept_one P e es here rest false = rest
-
-kept : (P : PlanEdge → Type 0) (n : ℕ) (es : List PlanEdge) → AllByRecursion P es → AllByRecursion P (in_edges es n)
-kept P n [] h = tt
-kept P n (e ∷ es) h = kept_one P e (in_edges es n) h.0 (kept P n es h.1) (e.to.0 == n)
-
--- sources of the edges into a node are nodes
-pub in_edges_below : (count n : ℕ) (es : List PlanEdge) → HaveEndsBelow count es → AllByRecursion (λ (e : PlanEdge). e.from.0 < count) (in_edges es n)
-in_edges_below count n es below = kept (λ (e : PlanEdge). e.from.0 < count) n es (all_map (λ (e : PlanEdge). (e.from.0 < count) × (e.to.0 < count)) (λ (e : PlanEdge). e.from.0 < count) (λ e h. h.0) es below)
 
 module _ {O A : Type 0} (results : ℕ → NodeResult O) (made : List (Option (Arc O A))) (right : AreRight results made) where
   -- where all of them are made, what was made is what the results say

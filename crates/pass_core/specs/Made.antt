@@ -1,14 +1,14 @@
--- What a pass on one thread has made so far.
-use Rattle.std.specs.Prelude.{◌≡◌, ◌<◌, ℕ, List, [], ◌∷◌, length, take, slice_get, Option, Some, None, IsSome, Result, Ok, Err, ⊤}
+-- What a pass on one thread has made so far: what `run_serial` keeps. No public contract speaks of it.
+use Rattle.std.specs.Prelude.{◌≡◌, ℕ, List, [], ◌∷◌, length, slice_get, Option, Some, None, IsSome, Result, Ok, Err, ⊤}
 use Rattle.std.specs.List.{AllByRecursion}
 use Rattle.std.specs.Arc.{arc_value}
 use Rattle.std.specs.declared.sync.Arc.{Arc}
-use Rattle.bp_faults.specs.declared.fault.Fault.{Fault}
 use Rattle.pass_core.specs.declared.error.PassError.{PassError}
 use Rattle.pass_core.specs.declared.error.PassError.TheVariants.{At, OutOfMemory}
 use Rattle.pass_core.specs.Results.{NodeResult, Done, Bad, cons_if}
 
 module _ {O A : Type 0} where
+  -- What is held at a place, where something is.
   abbrev pub value_of : Option (Option (Arc O A)) → Option O
   value_of None = None
   value_of (Some None) = None
@@ -34,7 +34,7 @@ AnswersVisit n is (Ok shared) = is ≡ Done (arc_value shared)
 AnswersVisit n is (Err (At m fault)) = (m.0 ≡ n) × (is ≡ Bad fault)
 AnswersVisit n is (Err OutOfMemory) = ⊤
 
--- The nodes before a place of the order are made, and what was made is right.
+-- Something was made of the nodes that are done, and what was made is right.
 pub record IsMade {O A : Type 0} (results : ℕ → NodeResult O) (count : ℕ) (done : List ℕ) (made : List (Option (Arc O A))) : Type 0 where
   pub many : length made ≡ count
   pub filled : AllByRecursion (λ n. IsSome (made_at made n)) done

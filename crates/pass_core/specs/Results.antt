@@ -17,6 +17,7 @@ module _ {O : Type 0} where
   visited (Ok out) = Done out
   visited (Err fault) = Bad fault
 
+  -- One more result before the others, where they are all there.
   abbrev pub cons_if : O → Option (List O) → Option (List O)
   cons_if out None = None
   cons_if out (Some outs) = Some (out ∷ outs)
@@ -38,6 +39,7 @@ module _ {O : Type 0} where
   unfoldable pub node_result : (ℕ → List O → Result O Fault) → Plan → ℕ → NodeResult O
   node_result mean plan = unroll (predecessors plan.edges) (λ n rs. judged (mean n) (outs_of rs)) Poisoned plan.count
 
+  -- The node's visit made a result.
   abbrev pub IsDone : NodeResult O → Type 0
   IsDone (Done out) = ⊤
   IsDone (Bad fault) = ⊥

@@ -1,4 +1,4 @@
--- How far the heights of a plan are settled.
+-- How far the heights of a plan are settled: what the search for them keeps. No public contract speaks of it.
 use Rattle.std.specs.Prelude.{◌≡◌, ◌<◌, ◌+◌, ℕ, suc, List, [], ◌∷◌, map, length, take, drop, slice_get, Option, Some, None, IsSome, ⊤, ◌⊎◌}
 use Rattle.std.specs.List.{AllByRecursion}
 use Rattle.bp_faults.specs.declared.ids.NodeId.{NodeId}
@@ -7,6 +7,7 @@ use Rattle.pass_core.specs.declared.height.Climb.{Climb}
 use Rattle.pass_core.specs.Plans.{predecessors}
 use Rattle.pass_core.specs.Heights.{unroll, height}
 
+-- What stands at a place, where there is one and something stands there.
 abbrev pub joined : Option (Option ℕ) → Option ℕ
 joined None = None
 joined (Some x) = x
@@ -38,11 +39,12 @@ abbrev pub IsPath : Plan → List (Option ℕ) → List Climb → Type 0
 IsPath plan settled [] = ⊤
 IsPath plan settled (c ∷ cs) = (c.node.0 < plan.count) × AllByRecursion (IsDue settled cs) (take c.next (predecessors plan.edges c.node.0)) × IsPath plan settled cs
 
+-- A node is sought above a climb unless its height is there.
 abbrev pub sought : NodeId → Option ℕ → List Climb
 sought source None = (record { node = source; next = 0 }) ∷ []
 sought source (Some h) = []
 
--- Where a climb goes next along an edge: it has looked at one edge more, and above it the source is sought unless it is settled.
+-- Where a climb goes along an edge: it has looked at one edge more, and the source is sought above it.
 abbrev pub gone_up : List (Option ℕ) → Climb → NodeId → List Climb
 gone_up settled c source = (record { node = c.node; next = c.next + 1 }) ∷ (sought source (settled_at settled source.0))
 
@@ -60,8 +62,8 @@ abbrev pub path_cost : Plan → List Climb → ℕ
 path_cost plan [] = 0
 path_cost plan (c ∷ cs) = suc (total (map (cost plan) (drop c.next (predecessors plan.edges c.node.0)))) + path_cost plan cs
 
--- A step along a path keeps what it is for, and has fewer steps left.
-pub record IsStep (plan : Plan) (settled : List (Option ℕ)) (path : List Climb) (after : List (Option ℕ)) (rest : List Climb) : Type 0 where
+-- Going on along a path keeps what it is for, and leaves fewer steps.
+pub record IsAdvanced (plan : Plan) (settled : List (Option ℕ)) (path : List Climb) (after : List (Option ℕ)) (rest : List Climb) : Type 0 where
   pub right : AreSettled plan after
   pub on_path : IsPath plan after rest
   pub due : (n : ℕ) → IsDue settled path n → IsDue after rest n

@@ -1,10 +1,9 @@
-ghost use Rattle.std.specs.Prelude.{◌≡◌, ◌<◌, ◌+◌, ◌^◌, ◌++◌, ℕ, List, [], ◌∷◌, map, length, IfOk, OnOk, IsSome};
+ghost use Rattle.std.specs.Prelude.{◌≡◌, ◌<◌, ◌+◌, ◌^◌, ◌++◌, ℕ, [], ◌∷◌, map, length, IfOk, OnOk, IsSome};
 ghost use Rattle.std.specs.List.{AllByRecursion, range_with_len};
-ghost use Rattle.pass_core.specs.declared.height.Climb.{Climb};
 ghost use Rattle.pass_core.specs.Heights.{height};
 ghost use Rattle.pass_core.specs.InEdges.{AreStarts};
 ghost use Rattle.pass_core.specs.Plans.{IsPlan, HasNoCycle, predecessors};
-ghost use Rattle.pass_core.specs.Settling.{settled_at, AreSettled, IsPath, IsStep, gone_up, start_at};
+ghost use Rattle.pass_core.specs.Settling.{settled_at, AreSettled, IsPath, IsAdvanced, gone_up, start_at};
 
 use crate::in_edges::{edges_into, starts_of};
 use crate::places::{empty_places, unwrapped};
@@ -63,8 +62,8 @@ fn go_up(
     Ok(())
 }
 
-/// Makes the step at the end of a path, from which the last climb was taken.
-fn step(
+/// Goes on from the end of a path, of which the last climb was taken.
+fn advance(
     plan: &Plan,
     starts: &[u32],
     climb: Climb,
@@ -76,7 +75,7 @@ fn step(
     requires starts { AreStarts plan.now starts.now }
     requires settled { AreSettled plan.now settled.old }
     requires path { IsPath plan.now settled.old (path.old.items ++ climb ∷ []) }
-    ensures { OnOk result (IsStep plan.now settled.old (path.old.items ++ climb ∷ []) settled.new path.new.items) }
+    ensures { OnOk result (IsAdvanced plan.now settled.old (path.old.items ++ climb ∷ []) settled.new path.new.items) }
 {
     let node = climb.node.0 as usize;
     if settled[node].is_some() {
@@ -115,7 +114,7 @@ fn settle(alloc: Global, plan: &Plan, starts: &[u32]) -> Result<Vec<Option<u32>>
     let mut settled = empty_places(alloc, plan.count)?;
     let mut path = every_climb(alloc, plan.count)?;
     while let Some(climb) = path.pop() {
-        step(plan, starts, climb, &mut settled, &mut path)?;
+        advance(plan, starts, climb, &mut settled, &mut path)?;
     }
     Ok(settled)
 }

@@ -1,4 +1,4 @@
-ghost use Rattle.std.specs.Prelude.{◌≡◌, ◌<◌, ◌+◌, ◌^◌, ℕ, length, IfOk};
+ghost use Rattle.std.specs.Prelude.{◌≡◌, ◌<◌, ◌+◌, IfOk};
 ghost use Rattle.pass_core.specs.InEdges.{edges_below, AreStarts};
 ghost use Rattle.pass_core.specs.Plans.{IsPlan, StandByTarget, in_edges};
 

@@ -3,7 +3,8 @@ ghost use Rattle.pass_core.specs.Examples.{trail_of, counted_but};
 ghost use Rattle.pass_core.specs.Plans.{IsPlan, HasNoCycle};
 
 use crate::{
-    PassError, Plan, PlanEdge, Visit, VisitError, heights, run_serial, serial_order, starts_of,
+    PassError, Plan, PlanEdge, Visit, VisitError, edges_into, heights, laws, run_serial,
+    serial_order, starts_of,
 };
 use bp_faults::{Fault, FaultKind, NodeId, OutOfMemory, Place, Seq};
 use std::alloc::Global;
@@ -155,10 +156,10 @@ fn two_faults(rt: HostRuntime) -> Result<(), Fail> {
     let alloc = rt.alloc();
     let plan = plan(alloc, 4, &[(1, 0), (1, 0), (3, 0)])?;
     assert!(rt; falls(&plan));
-    assert_eq!(rt;
-        starts_of(alloc, &plan)?.as_slice(),
-        [0, 3, 3, 3, 3].as_slice()
-    );
+    assert!(rt; plan.count == 4);
+    let starts = starts_of(alloc, &plan)?;
+    assert_eq!(rt; starts.as_slice(), [0, 3, 3, 3, 3].as_slice());
+    assert_eq!(rt; edges_into(&plan, &starts, NodeId(0)).len(), 3);
     let cases = [
         (0, 2, Some(2)),
         (0, 0, Some(0)),
@@ -169,6 +170,17 @@ fn two_faults(rt: HostRuntime) -> Result<(), Fail> {
         assert_eq!(rt; faulty(alloc, &plan, one, other), want);
     }
     Ok(())
+}
+
+#[test]
+fn laws_at_a_type() {
+    laws::heights_meet_their_equation();
+    laws::one_serial_order();
+    laws::serial_order_is_legal();
+    laws::results_meet_their_equation::<u32>();
+    laws::one_solution::<u32>();
+    laws::first_undone_is_bad::<u32>();
+    laws::one_outcome::<u32>();
 }
 
 #[test]

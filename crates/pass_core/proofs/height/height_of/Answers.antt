@@ -1,8 +1,6 @@
-use Rattle.std.proofs.Common.{◌≡◌, ◌<◌, ◌+◌, ◌∙◌, ℕ, arith, rules, ap, sym, subst, length, map, take}
-use Rattle.std.specs.Prelude.{max}
+use Rattle.std.proofs.Common.{◌+◌, ◌∙◌, arith}
 use Rattle.pass_core.specs.declared.plan.PlanEdge.{PlanEdge}
-use Rattle.pass_core.specs.Plans.{in_edges, sources}
-use Rattle.pass_core.specs.Heights.{height, above_all}
+use Rattle.pass_core.specs.Heights.{height}
 use Rattle.pass_core.proofs.Climbing.{source_below, source_lower, read_is, read_none, above_more, ord_max_is, height_whole}
 use Rattle.pass_core.proofs.height.height_of.Goals as goal
 
@@ -30,8 +28,8 @@ loop-edge-preserved c =
     c.args.settled.now c.requires.settled c.in-Some.below c.in-Some.is in
     let more = above_more (height c.args.plan.now) c.edges_into-edge-items.result.now c.loop-edge.edge-index zero_edge c.loop-edge-test.true in
     let greatest = ord_max_is c.loop-edge.height (c.in-Some.below + 1) in
-    c.max-height.ensures ∙ greatest ∙ ap (λ k. max k (c.in-Some.below + 1)) c.loop-edge.invariant
-    ∙ ap (λ k. max (above_all (map (height c.args.plan.now) (sources (take c.loop-edge.edge-index c.edges_into-edge-items.result.now)))) (k + 1)) is ∙ sym more
+    let before = c.loop-edge.invariant in
+    cc
 
 pub returns : goal.returns
 returns c =

@@ -1,5 +1,3 @@
-use Rattle.std.proofs.Common.{sym, subst}
-use Rattle.pass_core.specs.Settling.{IsOnWay}
 use Rattle.pass_core.proofs.Paths.{on_way_at_start}
 use Rattle.pass_core.proofs.height.settle.Goals as goal
 

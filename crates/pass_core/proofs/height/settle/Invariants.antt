@@ -1,5 +1,4 @@
-use Rattle.std.proofs.Common.{◌<◌, ℕ}
-use Rattle.pass_core.specs.Settling.{AreSettled, IsPath, IsDue, path_cost, IsOnWay}
+use Rattle.pass_core.specs.Settling.{path_cost, IsOnWay}
 use Rattle.pass_core.proofs.height.settle.Given as goal
 
 abbrev pub invariant-loop-climb : goal.invariant-loop-climb

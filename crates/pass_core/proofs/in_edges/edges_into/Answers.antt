@@ -1,5 +1,4 @@
-use Rattle.std.proofs.Common.{rules, ◌≡◌, ◌<◌, ◌+◌, ◌-◌, ◌≤◌, suc, arith, sym, ◌∙◌, ap, length, take, drop}
-use Rattle.pass_core.specs.InEdges.{edges_below, AreStarts}
+use Rattle.std.proofs.Common.{rules, ◌+◌, arith}
 use Rattle.pass_core.proofs.InEdgesPlaced.{below_rises, below_le_length, placed}
 use Rattle.pass_core.proofs.in_edges.edges_into.Goals as goal
 

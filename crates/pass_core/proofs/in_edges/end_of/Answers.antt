@@ -1,4 +1,4 @@
-use Rattle.std.proofs.Common.{◌≡◌, ◌<◌, ◌+◌, ◌≤◌, arith, refl}
+use Rattle.std.proofs.Common.{◌+◌, arith}
 use Rattle.pass_core.proofs.InEdgesPlaced.{below_rises, below_le_length, ends_here, goes_on}
 use Rattle.pass_core.proofs.in_edges.end_of.Goals as goal
 

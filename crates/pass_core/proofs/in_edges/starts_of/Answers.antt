@@ -1,4 +1,4 @@
-use Rattle.std.proofs.Common.{◌≡◌, ◌<◌, ◌≤◌, arith, rules, refl, sym, ap, length}
+use Rattle.std.proofs.Common.{arith, rules, sym, ap, length}
 use Rattle.pass_core.proofs.InEdgesPlaced.{below_le_length, below_none}
 use Rattle.pass_core.proofs.in_edges.starts_of.Goals as goal
 

@@ -1,4 +1,4 @@
-use Rattle.std.proofs.Common.{◌∙◌, ap, sym, subst, map, List, IsPermutation}
+use Rattle.std.proofs.Common.{◌∙◌, ap, sym, subst, map, IsPermutation}
 use Rattle.std.proofs.lemmas.Result.{IfOk-weaker}
 use Rattle.pass_core.specs.Orders.{IsSerial, numbers}
 use Rattle.pass_core.proofs.Ranked.{ranked_serial}

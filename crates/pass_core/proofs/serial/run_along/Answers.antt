@@ -1,11 +1,8 @@
-use Rattle.std.proofs.Common.{◌≡◌, ◌≤◌, ◌<◌, ◌∙◌, ap, sym, subst, refl, map, length, take, get_or, arith, rules, IsSome, All}
-use Rattle.std.specs.List.{AllByRecursion, Contains}
-use Rattle.pass_core.specs.Plans.{predecessors}
+use Rattle.std.proofs.Common.{◌<◌, sym, subst, take, get_or, rules}
 use Rattle.pass_core.specs.Results.{node_result}
 use Rattle.pass_core.specs.Outcomes.{AnswersPass}
-use Rattle.pass_core.specs.Made.{made_at, IsMade}
 use Rattle.pass_core.specs.Orders.{numbers}
-use Rattle.pass_core.proofs.Along.{inside_at, ready_at, refused_at, made_next, made_none, all_filled, each_taken, outs_right, err_of}
+use Rattle.pass_core.proofs.Along.{inside_at, ready_at, refused_at, made_next, all_filled, each_taken, outs_right, err_of}
 use Rattle.pass_core.proofs.serial.run_along.Goals as goal
 
 pub visit_at-requires-clause-takes : goal.visit_at-requires-clause-takes

@@ -1,9 +1,7 @@
-use Rattle.std.proofs.Common.{◌∙◌, ◌<◌, ap, sym, subst, refl, map, length, Ok, Err}
-use Rattle.std.specs.List.{AllByRecursion}
-use Rattle.std.specs.Arc.{arc_value}
-use Rattle.pass_core.specs.declared.plan.PlanEdge.{PlanEdge}
+use Rattle.std.proofs.Common.{◌∙◌, ap, sym, refl, Ok, Err}
 use Rattle.pass_core.specs.Results.{Done}
-use Rattle.pass_core.proofs.Visited.{in_edges_below, not_missing, taken_many, result_is}
+use Rattle.pass_core.proofs.Visited.{not_missing, taken_many, result_is}
+use Rattle.pass_core.proofs.Predecessors.{in_edges_below}
 use Rattle.pass_core.proofs.serial.visit_at.Goals as goal
 
 pub gather-requires : goal.gather-requires

@@ -1,5 +1,5 @@
-use Rattle.std.proofs.Common.{◌≡◌, ◌<◌, arith}
-use Rattle.pass_core.proofs.Paths.{few_predecessors}
+use Rattle.std.proofs.Common.{arith}
+use Rattle.pass_core.proofs.Predecessors.{few_predecessors}
 use Rattle.pass_core.proofs.tests.faulty.Goals as goal
 
 pub run_serial-requires-clause-takes : goal.run_serial-requires-clause-takes

@@ -1,9 +1,9 @@
-use Rattle.std.proofs.Common.{◌≡◌, ◌<◌, ◌++◌, ◌∷◌, [], ◌∙◌, ap, sym, subst, length, OnOk}
+use Rattle.std.proofs.Common.{◌++◌, ◌∷◌, [], sym, subst}
 use Rattle.pass_core.specs.declared.plan.PlanEdge.{PlanEdge}
-use Rattle.pass_core.specs.Settling.{IsStep}
+use Rattle.pass_core.specs.Settling.{IsAdvanced}
 use Rattle.std.proofs.lemmas.Result.{on_ok_weaker}
 use Rattle.pass_core.proofs.Paths.{node_inside, node_bound, step_settled, step_height, all_ready, next_fits, source_inside, gone_to}
-use Rattle.pass_core.proofs.height.step.Goals as goal
+use Rattle.pass_core.proofs.height.advance.Goals as goal
 
 abbrev zero_edge : PlanEdge
 zero_edge = record { from = record { 0 = 0 }; to = record { 0 = 0 } }
@@ -29,7 +29,7 @@ go_up-requires-clause-inside c =
 
 pub returns-then-next-edges : goal.returns-then-next-edges
 returns-then-next-edges c =
-    on_ok_weaker c.go_up.result (λ gone. subst (λ l. IsStep c.args.plan.now c.args.settled.now (c.args.path.now.items ++ c.args.climb ∷ []) c.args.settled.now l) (sym gone)
+    on_ok_weaker c.go_up.result (λ gone. subst (λ l. IsAdvanced c.args.plan.now c.args.settled.now (c.args.path.now.items ++ c.args.climb ∷ []) c.args.settled.now l) (sym gone)
     (gone_to c.args.plan.now c.requires.plan c.requires.free c.args.settled.now c.requires.settled c.args.path.now.items c.args.climb c.requires.path
     c.edges_into-edges.result.now c.edges_into-edges.ensures zero_edge c.if-next-edges.true)) c.go_up.ensures
 

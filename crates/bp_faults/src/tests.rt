@@ -1,0 +1,113 @@
+use crate::{
+    Fault, FaultKind, Item, ModuleId, NodeId, OutOfMemory, Path, Payload, Place, Seq, Target, Text,
+    fault_line,
+};
+use std::alloc::Global;
+use std::test::Fail;
+
+fn text(alloc: Global, word: &str) -> Result<Text, OutOfMemory> {
+    Text::from_str(alloc, word)
+}
+
+fn copied<P: Payload>(alloc: Global, value: &P) -> Result<P, OutOfMemory> {
+    value.copy(alloc)
+}
+
+#[test]
+fn fault_lines_as_they_are_printed(rt: HostRuntime) -> Result<(), Fail> {
+    let alloc = rt.alloc();
+    let files = [text(alloc, "list")?, text(alloc, "a/Android.bp")?];
+    let place = |file, line, col| Place { file, line, col };
+    let mut chain = Vec::new(alloc);
+    chain.push(text(alloc, "a{static}")?)?;
+    chain.push(text(alloc, "b{static}")?)?;
+    chain.push(text(alloc, "a{static}")?)?;
+    let cycle = Fault {
+        kind: FaultKind::Cycle,
+        at: place(1, 1, 46),
+        subject: text(alloc, "")?,
+        chain: Seq::new(chain),
+    };
+    let long = "é".repeat(alloc, 81)?;
+    let cases = [
+        (
+            Fault::on(
+                alloc,
+                FaultKind::BadList,
+                place(0, 1, 1),
+                text(alloc, "../x")?,
+            ),
+            "list:1:1: error 33: bad path in list: ../x\n",
+        ),
+        (
+            Fault::at(alloc, FaultKind::NoFile, place(1, 1, 1)),
+            "a/Android.bp:1:1: error 31: no such file\n",
+        ),
+        (
+            Fault::on(
+                alloc,
+                FaultKind::BadChar,
+                place(2, 30, 4),
+                text(alloc, "\u{1b}[é\u{7f}")?,
+            ),
+            ":30:4: error 2: unexpected character: ?[é?\n",
+        ),
+        (
+            cycle,
+            "a/Android.bp:1:46: error 23: dependency cycle: a{static} -> b{static} -> a{static}\n",
+        ),
+    ];
+    for (fault, line) in &cases {
+        let copy = copied(alloc, fault)?;
+        assert!(rt; copy == *fault);
+        assert_eq!(rt; fault_line(alloc, &copy, &files)?.as_str(), *line);
+    }
+    let cut = Fault::on(alloc, FaultKind::BadName, place(1, 1, 1), Text::new(long));
+    // 45 characters before the subject, 80 of it, and LF
+    assert_eq!(rt;
+        fault_line(alloc, &cut, &files)?.chars().count(),
+        45 + 80 + 1
+    );
+    Ok(())
+}
+
+#[test]
+fn paths_are_normal_and_values_are_copied(rt: HostRuntime) -> Result<(), Fail> {
+    let alloc = rt.alloc();
+    for (word, normal) in [
+        ("", true),
+        ("a/Android.bp", true),
+        ("...", true),
+        ("a//b", false),
+        ("/a", false),
+        ("a/", false),
+        ("a/./b", false),
+        ("..", false),
+    ] {
+        let path = Path::new(text(alloc, word)?);
+        assert!(rt; path.is_some() == normal);
+        if let Some(path) = path {
+            let copy = copied(alloc, &path)?;
+            assert!(rt; copy == path);
+            assert_eq!(rt; copy.into_text().as_str(), word);
+            assert_eq!(rt; path.as_text().as_str(), path.as_str());
+        }
+    }
+    assert_eq!(rt; Path::root(alloc).as_str(), "");
+    let mut seq = Seq::new(Vec::new(alloc));
+    seq.push(Item {
+        text: text(alloc, "x")?,
+        at: Place {
+            file: 1,
+            line: 2,
+            col: 3,
+        },
+    })?;
+    assert!(rt; copied(alloc, &seq)? == seq);
+    assert_eq!(rt; seq.as_slice().len(), seq.into_vec().len());
+    assert!(rt; copied(alloc, &NodeId(3))? == NodeId(3));
+    assert!(rt; copied(alloc, &ModuleId(4))? == ModuleId(4));
+    assert!(rt; text(alloc, "a")?.is(&copied(alloc, &text(alloc, "a")?)?));
+    assert_eq!(rt; Target::LinuxGlibcX86.name(), "linux_glibc_x86");
+    Ok(())
+}

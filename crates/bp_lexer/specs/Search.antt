@@ -1,0 +1,31 @@
+-- What the searches inside the lexer find. No public contract speaks of it.
+use Rattle.std.specs.Prelude.{◌≡◌, ℕ, true, false, List, take, Option, Some, None, Result, Ok, Err}
+use Rattle.bp_lexer.specs.declared.flaw.Flaw.{Flaw}
+use Rattle.bp_lexer.specs.declared.flaw.Flaw.TheVariants.{OpenString, BadEscape}
+use Rattle.bp_lexer.specs.declared.token.TokenKind.{TokenKind}
+use Rattle.bp_lexer.specs.declared.token.TokenKind.TheVariants.{Int}
+use Rattle.bp_lexer.specs.Classes.{in_line}
+use Rattle.bp_lexer.specs.Strings.{is_escape, is_body, IsClosedAt, IsOpen, IsBadEscapeAt}
+use Rattle.bp_lexer.specs.Forms.{IsLongest}
+use Rattle.bp_lexer.specs.Faults.{IsInRange, IsFlaw}
+
+-- Up to n there is no bad escape, or the first is known.
+abbrev pub KnowsBadEscape : List ℕ → ℕ → Option ℕ → Type 0
+KnowsBadEscape rest n None = is_body is_escape false (take n rest) ≡ true
+KnowsBadEscape rest n (Some k) = IsBadEscapeAt rest k
+
+-- What is wrong with the body of a string, behind its quote.
+abbrev pub IsBodyFlaw : List ℕ → Flaw → Type 0
+IsBodyFlaw rest OpenString = IsOpen rest
+IsBodyFlaw rest (BadEscape k) = ((n : ℕ) × IsClosedAt in_line rest n) × IsBadEscapeAt rest k
+IsBodyFlaw rest flaw = ⊥
+
+-- A search at the front of a text finds the longest form and its length, or what is wrong.
+abbrev pub Finds : List ℕ → Result (TokenKind × ℕ) Flaw → Type 0
+Finds text (Ok found) = IsLongest text found.0 found.1
+Finds text (Err flaw) = IsFlaw text flaw
+
+-- The same where a number out of range is no token.
+abbrev pub FindsToken : List ℕ → Result (TokenKind × ℕ) Flaw → Type 0
+FindsToken text (Ok found) = IsLongest text found.0 found.1 × (found.0 ≡ Int → IsInRange (take found.1 text))
+FindsToken text (Err flaw) = IsFlaw text flaw

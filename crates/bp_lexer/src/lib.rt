@@ -1,0 +1,28 @@
+//! The lexer: cuts the text of a file into its tokens.
+//!
+//! In flow the text and the file's number, out flow the tokens with their places, or the first fault.
+//! It is measured by `specs/Meaning.antt`: a token list covers the whole text but for white space,
+//! and each token is the longest form that begins at its place.
+#![tactic(auto)]
+
+mod body;
+mod class;
+mod comment;
+mod escape;
+mod flaw;
+mod form;
+mod law;
+mod lex;
+mod place;
+mod punct;
+#[cfg(test)]
+mod tests;
+mod token;
+mod value;
+
+pub use bp_faults::Refusal as LexError;
+pub use law::{columns_count_characters, list_or_fault, one_fault, one_meaning, one_token_list};
+pub use lex::tokens;
+pub use place::place_of_end;
+pub use token::{Punct, Token, TokenKind};
+pub use value::value_of;

@@ -1,0 +1,56 @@
+ghost use Rattle.std.specs.Prelude.{◌≡◌, ◌<◌, ◌≤◌, ◌^◌, length};
+ghost use Rattle.bp_lexer.specs.Places.{place_at, place_after};
+
+use bp_faults::Place;
+
+/// The place behind a byte.
+pub fn place_after(place: Place, byte: u8) -> Place
+    requires line { place.line < 2 ^ 31 }
+    requires col { place.col < 2 ^ 31 }
+    ensures { result ≡ place_after place byte }
+{
+    if byte == b'\n' {
+        Place {
+            file: place.file,
+            line: place.line + 1,
+            col: 1,
+        }
+    } else if byte < 128 || byte >= 192 {
+        Place {
+            file: place.file,
+            line: place.line,
+            col: place.col + 1,
+        }
+    } else {
+        place
+    }
+}
+
+/// The place at `to`, from that at `from`.
+pub fn advance(bytes: &[u8], from: usize, to: usize, place: Place) -> Place
+    requires order { from ≤ to }
+    requires within { to ≤ length bytes.now }
+    requires short { length bytes.now ≤ 2 ^ 20 }
+    requires at { place ≡ place_at place.file bytes.now from }
+    ensures { result ≡ place_at place.file bytes.now to }
+{
+    let mut here = place;
+    for i in from..to {
+        here = place_after(here, bytes[i]);
+    }
+    here
+}
+
+/// The place of the end of a text, which has at most 2^20 bytes.
+pub fn place_of_end(text: &str, file: u32) -> Place
+    requires { length text.now ≤ 2 ^ 20 }
+    ensures { result ≡ place_at file text.now (length text.now) }
+{
+    let bytes = text.as_bytes();
+    let start = Place {
+        file,
+        line: 1,
+        col: 1,
+    };
+    advance(bytes, 0, bytes.len(), start)
+}

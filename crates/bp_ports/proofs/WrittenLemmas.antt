@@ -1,0 +1,54 @@
+-- What a path holds after writes, and what one more write makes of them.
+use Rattle.std.proofs.Common.{◌≡◌, ℕ, ◌+◌, ◌≤◌, List, [], ◌∷◌, ◌++◌, length, take, drop, refl, ap, ◌∙◌, arith, length-append, length-drop}
+use Rattle.std.proofs.lemmas.List.{take-append-le, drop-append-le}
+use Rattle.std.proofs.lemmas.Grind.{common_steps}
+use Rattle.std.specs.FinMap.{get, insert, find, from_entries, get-insert, get-from_entries}
+use Rattle.std.specs.Ordering.{nat_cmp}
+use Rattle.std.specs.Cmp.Lexicographic.{slice_cmp, nat_list_cmp_total}
+use Rattle.bp_ports.specs.Files.{Files}
+use Rattle.bp_ports.specs.declared.writes.Span.{Span}
+use Rattle.bp_ports.specs.Written.{total, written, held_after}
+
+pub get-written : (spans : List Span) (run : List ℕ) (files : Files) (q : List ℕ) → get (written spans run files) q ≡ held_after spans run q (get files q)
+get-written [] run files q = refl
+get-written (s ∷ spans) run files q =
+    get-written spans _ _ q ∙ ap (held_after spans (drop s.bytes (drop s.path run)) q) (get-insert nat_list_cmp_total files (take s.path run) (take s.bytes (drop s.path run)) q)
+
+take_all : (xs ys : List ℕ) → take (length xs) (xs ++ ys) ≡ xs
+take_all xs ys = grind (arith, common_steps)
+
+drop_all : (xs ys : List ℕ) → drop (length xs) (xs ++ ys) ≡ ys
+drop_all xs ys = grind (arith, common_steps)
+
+take_whole : (xs : List ℕ) → take (length xs) xs ≡ xs
+take_whole xs = grind (arith, common_steps)
+
+-- the first write, by its parts
+first_write : (s : Span) (spans : List Span) (run : List ℕ) (files : Files) (name bytes rest : List ℕ) → take s.path run ≡ name → take s.bytes (drop s.path run) ≡ bytes → drop s.bytes (drop s.path run) ≡ rest → written (s ∷ spans) run files ≡ written spans rest (insert files name bytes)
+first_write s spans run files name bytes rest is_name is_bytes is_rest = λ i. written spans (is_rest i) (insert files (is_name i) (is_bytes i))
+
+total-append : (spans more : List Span) → total (spans ++ more) ≡ total spans + total more
+total-append [] more = omega arith
+total-append (s ∷ spans) more = omega (arith, total-append spans more)
+
+pub written-push : (spans : List Span) (run path bytes : List ℕ) (files : Files) → total spans ≡ length run → written (spans ++ record { path = length path; bytes = length bytes } ∷ []) (run ++ (path ++ bytes)) files ≡ insert (written spans run files) path bytes
+written-push [] [] path bytes files whole = rw (take_all path bytes, drop_all path bytes, take_whole bytes) refl
+written-push [] (b ∷ run) path bytes files whole = absurd (omega arith)
+written-push (s ∷ spans) run path bytes files whole =
+    let in_run : s.path ≤ length run = omega arith in
+    let in_rest : s.bytes ≤ length (drop s.path run) = simp length-drop (omega arith) in
+    let left : total spans ≡ length (drop s.bytes (drop s.path run)) = simp length-drop (omega arith) in
+    let rest = drop-append-le s.path run (path ++ bytes) in_run in
+    first_write s (spans ++ record { path = length path; bytes = length bytes } ∷ []) (run ++ (path ++ bytes)) files _ _ _
+    (take-append-le s.path run (path ++ bytes) in_run)
+    (ap (take s.bytes) rest ∙ take-append-le s.bytes (drop s.path run) (path ++ bytes) in_rest)
+    (ap (drop s.bytes) rest ∙ drop-append-le s.bytes (drop s.path run) (path ++ bytes) in_rest)
+    ∙ written-push spans _ path bytes _ left
+
+-- how many bytes the writes have with one more
+pub total-push : (spans : List Span) (run path bytes : List ℕ) → total spans ≡ length run → total (spans ++ record { path = length path; bytes = length bytes } ∷ []) ≡ length (run ++ (path ++ bytes))
+total-push spans run path bytes whole = simp length-append (rw (total-append spans _) (omega arith))
+
+-- what a path holds after the writes, from what it was given
+pub get-held : (spans : List Span) (run : List ℕ) (entries : List (List ℕ × List ℕ)) (q : List ℕ) → get (written spans run (from_entries entries)) q ≡ held_after spans run q (find (slice_cmp nat_cmp) q entries)
+get-held spans run entries q = get-written spans run (from_entries entries) q ∙ ap (held_after spans run q) (get-from_entries nat_list_cmp_total entries q)

@@ -1,0 +1,10 @@
+pub mod Causes
+pub mod Files
+pub mod Calls
+pub mod Written
+pub mod MemStore
+pub mod MemSink
+pub mod FreeStore
+pub mod FreeSink
+pub mod FsStore
+pub mod StdSink

@@ -1,0 +1,40 @@
+-- Writes to files, one after another in one run of bytes, and what the files are after them.
+use Rattle.std.specs.Prelude.{ℕ, ◌+◌, List, [], ◌∷◌, length, take, drop, Option, Some, if◌then◌else◌}
+use Rattle.std.specs.Ordering.{nat_cmp, is_eq}
+use Rattle.std.specs.Cmp.Lexicographic.{slice_cmp}
+use Rattle.std.specs.FinMap.{insert}
+use Rattle.bp_ports.specs.Files.{Files}
+use Rattle.bp_ports.specs.declared.writes.Span.{Span}
+
+-- The room that a write uses up.
+abbrev pub need_of : List ℕ → List ℕ → ℕ
+need_of path bytes = 16 + length path + length bytes
+
+-- How many bytes the writes have.
+abbrev pub total : List Span → ℕ
+total [] = 0
+total (s ∷ spans) = s.path + s.bytes + total spans
+
+-- The path of the write that stands first in the run.
+abbrev pub first_path : Span → List ℕ → List ℕ
+first_path s run = take s.path run
+
+-- The bytes of the write that stands first in the run.
+abbrev pub first_bytes : Span → List ℕ → List ℕ
+first_bytes s run = take s.bytes (drop s.path run)
+
+-- The run behind its first write.
+abbrev pub behind : Span → List ℕ → List ℕ
+behind s run = drop s.bytes (drop s.path run)
+
+-- The files after these writes, the oldest of them first.
+abbrev pub written : List Span → List ℕ → Files → Files
+written [] run files = files
+written (s ∷ spans) run files = written spans (behind s run) (insert files (first_path s run) (first_bytes s run))
+
+-- What a path holds after these writes, if it held this before.
+abbrev pub held_after : List Span → List ℕ → List ℕ → Option (List ℕ) → Option (List ℕ)
+held_after [] run path held = held
+held_after (s ∷ spans) run path held =
+    let now = if is_eq (slice_cmp nat_cmp path (first_path s run)) then Some (first_bytes s run) else held in
+    held_after spans (behind s run) path now

@@ -1,0 +1,99 @@
+ghost use Rattle.std.specs.Prelude.{◌≡◌, ◌≤◌, Some, None, IfOk, IfSome, length};
+ghost use Rattle.bp_ports.specs.Files.{ReadGives};
+
+use crate::replace::replace;
+use crate::{Failed, ReadError, Store};
+use bp_faults::Text;
+use std::alloc::Global;
+use std::fs;
+use std::io::{ErrorKind, Read};
+use std::rt::Files;
+
+// What a reader has left, where that is at most so many bytes.
+fn contents<F: Read + Drop>(alloc: Global, reader: F, limit: u64) -> Result<Vec<u8>, ReadError>
+    ensures gives { IfSome (F.remaining reader) (λ held. ReadGives (Some held) limit result) }
+    ensures bound { IfOk result (λ bytes. length bytes.items ≤ limit) }
+{
+    let mut bytes = Vec::new(alloc);
+    match reader.take(limit.saturating_add(1)).read_to_end(&mut bytes) {
+        Ok(_) if bytes.len() as u64 > limit => Err(ReadError::TooLarge),
+        Ok(_) => Ok(bytes),
+        Err(error) if error.kind() == ErrorKind::OutOfMemory => Err(ReadError::OutOfMemory),
+        Err(_) => Err(ReadError::Failed),
+    }
+}
+
+/// The files of the system. It tells nothing of them.
+#[derive(Drop)]
+pub struct FsStore<R> {
+    rt: R,
+    read_faults: u64,
+    write_faults: u64,
+}
+
+impl<R: Files + Drop> FsStore<R> {
+    ghost use Rattle.bp_ports.specs.FsStore.{failed_reads, failed_writes};
+
+    /// A store over the files of this runtime.
+    pub fn new(rt: R) -> FsStore<R>
+        ensures reads { failed_reads result ≡ 0 }
+        ensures writes { failed_writes result ≡ 0 }
+    {
+        FsStore {
+            rt,
+            read_faults: 0,
+            write_faults: 0,
+        }
+    }
+
+    // The file's bytes, at most so many.
+    fn bytes(&self, alloc: Global, path: &str, limit: u64) -> Result<Vec<u8>, ReadError>
+        ensures { IfOk result (λ bytes. length bytes.items ≤ limit) }
+    {
+        match fs::open(&self.rt, path) {
+            Ok(file) => contents(alloc, file, limit),
+            Err(error) if error.kind() == ErrorKind::NotFound => Err(ReadError::Absent),
+            Err(_) => Err(ReadError::Failed),
+        }
+    }
+}
+
+impl<R: Files + Drop> Store for FsStore<R> {
+    ghost use Rattle.bp_ports.specs.Causes.{HasCause, HasCauseAt, count_after, read_count_after};
+    ghost use Rattle.bp_ports.specs.FsStore.{failed_reads, failed_writes};
+
+    ghost files = { λ s. None };
+
+    ghost read_faults = { λ s. failed_reads s };
+
+    ghost write_faults = { λ s. failed_writes s };
+
+    fn read(&mut self, alloc: Global, path: &Text, limit: u64) -> Result<Vec<u8>, ReadError>
+        ensures bound { IfOk result (λ bytes. length bytes.items ≤ limit) }
+        ensures cause { HasCauseAt ReadError.Failed (failed_reads self.old) (failed_reads self.new) result }
+        ensures writes { failed_writes self.new ≡ failed_writes self.old }
+        ensures raised { failed_reads self.new ≡ read_count_after result (failed_reads self.old) }
+    {
+        match self.bytes(alloc, path.as_str(), limit) {
+            Err(ReadError::Failed) => {
+                self.read_faults = self.read_faults.saturating_add(1);
+                Err(ReadError::Failed)
+            }
+            answer => answer,
+        }
+    }
+
+    fn write(&mut self, path: &Text, bytes: &[u8]) -> Result<(), Failed>
+        ensures cause { HasCause (failed_writes self.old) (failed_writes self.new) result }
+        ensures reads { failed_reads self.new ≡ failed_reads self.old }
+        ensures raised { failed_writes self.new ≡ count_after result (failed_writes self.old) }
+    {
+        match replace(&self.rt, path.as_str(), bytes) {
+            Ok(()) => Ok(()),
+            Err(_) => {
+                self.write_faults = self.write_faults.saturating_add(1);
+                Err(Failed)
+            }
+        }
+    }
+}

@@ -1,0 +1,150 @@
+ghost use Rattle.std.specs.Prelude.{◌≡◌, ℕ, ◌+◌, ◌≤◌, ◌<◌, List, length, Some, IfOk, OnOk, OnErr, IsErr, IsErrOf, IsSomeAnd, ◌↔◌, ◌⊎◌};
+ghost use Rattle.std.specs.Option.{option_copied};
+ghost use Rattle.std.specs.Ordering.{nat_cmp};
+ghost use Rattle.std.specs.Cmp.Lexicographic.{slice_cmp};
+ghost use Rattle.std.specs.FinMap.{find};
+ghost use Rattle.bp_ports.specs.Files.{ReadGives};
+ghost use Rattle.bp_ports.specs.MemStore.{entries_of};
+
+use crate::calls::Calls;
+use crate::writes::{Writes, is_same};
+use crate::{Failed, ReadError, Store};
+use bp_faults::{OutOfMemory, Text};
+use std::alloc::Global;
+
+// A copy of what a path holds.
+fn copy_of(alloc: Global, held: Option<&[u8]>, limit: u64) -> Result<Vec<u8>, ReadError>
+    ensures gives { ReadGives (option_copied held.entry) limit result }
+    ensures bound { IfOk result (λ bytes. length bytes.items ≤ limit) }
+    ensures not_failed { ¬ IsErrOf result ReadError.Failed }
+    ensures memory { IsErrOf result ReadError.OutOfMemory → IsSomeAnd (option_copied held.entry) (λ bytes. length bytes ≤ limit) }
+{
+    match held {
+        None => Err(ReadError::Absent),
+        Some(bytes) if bytes.len() as u64 > limit => Err(ReadError::TooLarge),
+        Some(bytes) => match bytes.to_vec(alloc) {
+            Ok(copy) => Ok(copy),
+            Err(_) => Err(ReadError::OutOfMemory),
+        },
+    }
+}
+
+/// Files in memory, whose calls fail where they are told to.
+#[derive(Drop)]
+pub struct MemStore {
+    files: Vec<(Text, Vec<u8>)>,
+    writes: Writes,
+    calls: Calls,
+    read_faults: u64,
+    write_faults: u64,
+}
+
+// What the path was given.
+fn given<'a>(files: &'a [(Text, Vec<u8>)], path: &str) -> Option<&'a [u8]>
+    ensures { option_copied result ≡ find (slice_cmp nat_cmp) path.now (entries_of files.now) }
+{
+    for file in files {
+        if is_same(path, file.0.as_str().as_bytes()) {
+            return Some(file.1.as_slice());
+        }
+    }
+    None
+}
+
+impl MemStore {
+    ghost use Rattle.std.specs.FinMap.{get};
+    ghost use Rattle.bp_ports.specs.MemStore.{given_files, held, calls_so_far, BeginsWith};
+
+    /// A store that holds these files, of two with one path the first. The room for writes is taken
+    /// now; the calls that fail are counted from 1, reads and writes together.
+    pub fn new(
+        alloc: Global,
+        files: Vec<(Text, Vec<u8>)>,
+        room: u32,
+        failing: Vec<u32>,
+    ) -> Result<MemStore, OutOfMemory>
+        ensures { IfOk result (BeginsWith (given_files files.items) room failing) }
+    {
+        Ok(MemStore {
+            files,
+            writes: Writes::new(alloc, room)?,
+            calls: Calls::new(failing),
+            read_faults: 0,
+            write_faults: 0,
+        })
+    }
+
+    /// How many calls there were, reads and writes together.
+    pub fn calls(&self) -> u32
+        ensures { result ≡ calls_so_far self.now }
+    {
+        self.calls.count
+    }
+
+    /// What the path holds.
+    pub fn held(&self, path: &str) -> Option<&[u8]>
+        ensures { option_copied result ≡ get (held self.now) path.now }
+    {
+        self.writes.after(path, given(&self.files, path))
+    }
+}
+
+impl Store for MemStore {
+    ghost use Rattle.std.specs.FinMap.{get};
+    ghost use Rattle.bp_ports.specs.Calls.{FailsNext, one_later};
+    ghost use Rattle.bp_ports.specs.Causes.{HasCause, HasCauseAt, count_after, read_count_after};
+    ghost use Rattle.bp_ports.specs.Files.{WriteLeaves};
+    ghost use Rattle.bp_ports.specs.MemStore.{held, room_left, calls_of, failed_reads, failed_writes};
+    ghost use Rattle.bp_ports.specs.Written.{need_of};
+
+    ghost files = { λ s. Some (held s) };
+
+    ghost read_faults = { λ s. failed_reads s };
+
+    ghost write_faults = { λ s. failed_writes s };
+
+    fn read(&mut self, alloc: Global, path: &Text, limit: u64) -> Result<Vec<u8>, ReadError>
+        ensures gives { ReadGives (get (held self.old) path.now) limit result }
+        ensures bound { IfOk result (λ bytes. length bytes.items ≤ limit) }
+        ensures files { held self.new ≡ held self.old }
+        ensures cause { HasCauseAt ReadError.Failed (failed_reads self.old) (failed_reads self.new) result }
+        ensures writes { failed_writes self.new ≡ failed_writes self.old }
+
+        // The call fails exactly where it is listed, and wants memory only for what it gives.
+        ensures exactly { IsErrOf result ReadError.Failed ↔ FailsNext (calls_of self.old) }
+        ensures memory { IsErrOf result ReadError.OutOfMemory → IsSomeAnd (get (held self.old) path.now) (λ bytes. length bytes ≤ limit) }
+        ensures counted { calls_of self.new ≡ one_later (calls_of self.old) }
+        ensures raised { failed_reads self.new ≡ read_count_after result (failed_reads self.old) }
+        ensures room { room_left self.new ≡ room_left self.old }
+    {
+        if self.calls.fails() {
+            self.read_faults = self.read_faults.saturating_add(1);
+            return Err(ReadError::Failed);
+        }
+        copy_of(alloc, self.held(path.as_str()), limit)
+    }
+
+    fn write(&mut self, path: &Text, bytes: &[u8]) -> Result<(), Failed>
+        ensures files { WriteLeaves path.now bytes.now result (held self.old) (held self.new) }
+        ensures cause { HasCause (failed_writes self.old) (failed_writes self.new) result }
+        ensures reads { failed_reads self.new ≡ failed_reads self.old }
+
+        // The call fails exactly where it is listed or the room is wanting, and changes nothing then.
+        ensures exactly { IsErr result ↔ (FailsNext (calls_of self.old) ⊎ room_left self.old < need_of path.now bytes.now) }
+        ensures counted { calls_of self.new ≡ one_later (calls_of self.old) }
+        ensures raised { failed_writes self.new ≡ count_after result (failed_writes self.old) }
+        ensures spent { OnOk result (room_left self.new + need_of path.now bytes.now ≡ room_left self.old) }
+        ensures untouched { OnErr result (held self.new ≡ held self.old) }
+        ensures saved { OnErr result (room_left self.new ≡ room_left self.old) }
+    {
+        let path = path.as_str().as_bytes();
+        if !self.calls.fails() {
+            if let Some(need) = self.writes.need(path, bytes) {
+                self.writes.add(path, bytes, need);
+                return Ok(());
+            }
+        }
+        self.write_faults = self.write_faults.saturating_add(1);
+        Err(Failed)
+    }
+}

@@ -1,0 +1,5 @@
+pub mod AsciiBytes
+pub mod Spelling
+pub mod Meeting
+pub mod Making
+pub mod OneJob

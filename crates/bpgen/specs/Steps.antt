@@ -1,0 +1,45 @@
+-- What a step of the job answers, for what its definition gives.
+use Rattle.std.specs.Prelude.{◌≡◌, ◌⊎◌, ℕ, ◌≤◌, List, Result, Ok, Err, ⊤}
+use Rattle.bp_ports.specs.Causes.{Rose}
+use Rattle.bp_ports.specs.Files.{Files}
+use Rattle.bp_faults.specs.declared.fault.Fault.{Fault}
+use Rattle.bp_faults.specs.declared.refusal.Refusal.{Refusal}
+use Rattle.bp_faults.specs.declared.refusal.Refusal.TheVariants.{Bad, OutOfMemory as NoMemory}
+use Rattle.bpgen.specs.declared.words.Configuration.{Configuration}
+use Rattle.bpgen.specs.declared.stop.Stop.{Stop}
+use Rattle.bpgen.specs.Job.{path_of}
+
+-- a layer's refusal, as the job hands it on
+abbrev pub stop_of : Refusal → Stop
+stop_of (Bad fault) = Stop.Fault fault
+stop_of NoMemory = Stop.OutOfMemory
+
+-- Of what is meant `Means` holds, and of a path that can't be read `can_stop`.
+abbrev pub Meets : {T V : Type 0} → (T → V) → (Result V Fault → Type 0) → (List ℕ → Type 0) → Result T Stop → Type 0
+Meets view Means can_stop (Ok value) = Means (Ok (view value))
+Meets view Means can_stop (Err (Stop.Fault fault)) = Means (Err fault)
+Meets view Means can_stop (Err (Stop.Read path)) = can_stop path
+Meets view Means can_stop (Err Stop.OutOfMemory) = ⊤
+
+-- It is exactly this that is meant.
+abbrev pub Is : {V : Type 0} → Result V Fault → Result V Fault → Type 0
+Is meant outcome = meant ≡ outcome
+
+-- Of no path it is told that it can't be read.
+abbrev pub Never : List ℕ → Type 0
+Never path = ⊥
+
+-- `Read` comes only where the count of failed reads rose, which never falls.
+abbrev pub OnRead : {T : Type 0} → Result T Stop → Type 0 → Type 0
+OnRead (Ok value) P = ⊤
+OnRead (Err (Stop.Fault fault)) P = ⊤
+OnRead (Err (Stop.Read path)) P = P
+OnRead (Err Stop.OutOfMemory) P = ⊤
+
+pub record ReadCause {T : Type 0} (before now : ℕ) (result : Result T Stop) : Type 0 where
+  pub later : before ≤ now
+  pub rose : OnRead result (Rose before now)
+
+-- The path that can't be read is the list's, or the source's where the list has no fault.
+abbrev pub CannotRead : Configuration → Files → List ℕ → Type 0
+CannotRead c files path = (path ≡ c.list) ⊎ (path_of c files ≡ Ok path)

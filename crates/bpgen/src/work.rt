@@ -1,0 +1,100 @@
+ghost use Rattle.std.specs.Prelude.{◌≡◌, IfOk, Some, Ok};
+ghost use Rattle.bp_faults.specs.Line.{line_of};
+ghost use Rattle.bpgen.specs.Words.{configuration_of};
+ghost use Rattle.bpgen.specs.Job.{paths_of};
+ghost use Rattle.bpgen.specs.Run.{Ended, Gives, Stopped, world, read_line, write_line};
+
+use crate::{Configuration, End, Stop, configure, do_job};
+use bp_faults::{Fault, OutOfMemory, Text, fault_line};
+use bp_ports::{Sink, Store};
+use std::alloc::Global;
+
+fn cannot_read(alloc: Global, path: &Text) -> Result<Text, OutOfMemory>
+    ensures { IfOk result (λ line. line ≡ read_line path.now) }
+{
+    let path = path.as_str();
+    Ok(Text::new(format!(in alloc; "bpgen: cannot read {path}\n")?))
+}
+
+fn cannot_write(alloc: Global, path: &Text) -> Result<Text, OutOfMemory>
+    ensures { IfOk result (λ line. line ≡ write_line path.now) }
+{
+    let path = path.as_str();
+    Ok(Text::new(format!(in alloc; "bpgen: cannot write {path}\n")?))
+}
+
+// Writes the text to OUT. The line for a failure is made first.
+fn deliver<S: Store, O: Sink>(
+    alloc: Global,
+    configuration: &Configuration,
+    text: &[u8],
+    store: &mut S,
+    out: &mut O,
+) -> End
+    requires { Gives configuration.now (world S.files S.read_faults S.write_faults O.bytes O.faults store.old out.old) (Ok text.now) }
+    ensures { Ended (Some configuration.now)
+        (world S.files S.read_faults S.write_faults O.bytes O.faults store.old out.old)
+        (world S.files S.read_faults S.write_faults O.bytes O.faults store.new out.new) result }
+{
+    match cannot_write(alloc, &configuration.out) {
+        Ok(line) => match store.write(&configuration.out, text) {
+            Ok(()) => End::Done,
+            Err(_) => End::Write(line),
+        },
+        Err(_) => End::OutOfMemory,
+    }
+}
+
+fn fault_text(
+    alloc: Global,
+    configuration: &Configuration,
+    fault: &Fault,
+) -> Result<Text, OutOfMemory>
+    ensures { IfOk result (λ line. line ≡ line_of fault.now (paths_of configuration.now)) }
+{
+    let list = configuration.list.copy(alloc)?;
+    let source = Text::from_str(alloc, "Android.bp")?;
+    Ok(Text::new(fault_line(alloc, fault, &[list, source])?))
+}
+
+// The line that tells why there is no text.
+fn stopped(alloc: Global, configuration: &Configuration, stop: &Stop) -> End
+    ensures { Stopped configuration.now stop.now result }
+{
+    let line = match stop {
+        Stop::Fault(fault) => fault_text(alloc, configuration, fault).map(End::Fault),
+        Stop::Read(path) => cannot_read(alloc, path).map(End::Read),
+        Stop::OutOfMemory => Err(OutOfMemory),
+    };
+    line.unwrap_or(End::OutOfMemory)
+}
+
+// Does what a configuration asks for.
+fn carry_out<S: Store, O: Sink>(
+    alloc: Global,
+    configuration: &Configuration,
+    store: &mut S,
+    out: &mut O,
+) -> End
+    ensures { Ended (Some configuration.now)
+        (world S.files S.read_faults S.write_faults O.bytes O.faults store.old out.old)
+        (world S.files S.read_faults S.write_faults O.bytes O.faults store.new out.new) result }
+{
+    match do_job(alloc, configuration, store) {
+        Ok(text) => deliver(alloc, configuration, &text, store, out),
+        Err(stop) => stopped(alloc, configuration, &stop),
+    }
+}
+
+/// Does what the words say, but for telling how it ended.
+pub fn do_work<S: Store, O: Sink>(alloc: Global, words: &[Text], store: &mut S, out: &mut O) -> End
+    ensures { Ended (configuration_of words.now)
+        (world S.files S.read_faults S.write_faults O.bytes O.faults store.old out.old)
+        (world S.files S.read_faults S.write_faults O.bytes O.faults store.new out.new) result }
+{
+    match configure(alloc, words) {
+        Ok(Some(configuration)) => carry_out(alloc, &configuration, store, out),
+        Ok(None) => End::Usage,
+        Err(_) => End::OutOfMemory,
+    }
+}

@@ -1,0 +1,11 @@
+pub mod ByteTests
+pub mod Firsts
+pub mod Grows
+pub mod Guarded
+pub mod Lines
+pub mod OneLine
+pub mod PieceReading
+pub mod Reading
+pub mod Runs
+pub mod TextSets
+pub mod Wholes
