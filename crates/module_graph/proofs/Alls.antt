@@ -4,6 +4,7 @@ use Rattle.std.specs.List.{AllByRecursion}
 use Rattle.std.proofs.lemmas.List.{take_more, take_all}
 use Rattle.pass_core.specs.declared.plan.PlanEdge.{PlanEdge}
 use Rattle.pass_core.specs.Plans.{HaveEndsBelow}
+use Rattle.pass_core.proofs.Lists.{all_pushed}
 use Rattle.module_graph.specs.declared.direction.Direction.TheVariants.{BottomUp}
 use Rattle.module_graph.specs.declared.graph.Edge.{Edge}
 use Rattle.module_graph.specs.declared.graph.Node.{Node}
@@ -11,17 +12,13 @@ use Rattle.module_graph.specs.Numbered.{by_number}
 use Rattle.module_graph.specs.Graphs.{outward, edges_of, NameNodes}
 use Rattle.module_graph.specs.Planned.{turned, plan_edges}
 
-pub all_map : {A : Type 0} (P Q : A → Type 0) → ((x : A) → P x → Q x) → (xs : List A) → AllByRecursion P xs → AllByRecursion Q xs
-all_map P Q f [] h = tt
-all_map P Q f (x ∷ xs) h = (f x h.0, all_map P Q f xs h.1)
-
 pub all_append : {A : Type 0} (P : A → Type 0) (xs ys : List A) → AllByRecursion P xs → AllByRecursion P ys → AllByRecursion P (xs ++ ys)
 all_append P [] ys h k = k
 all_append P (x ∷ xs) ys h k = (h.0, all_append P xs ys h.1 k)
 
 -- one item more
 pub all_taken : {A : Type 0} (P : A → Type 0) (xs : List A) (i : ℕ) (d : A) → i < length xs → AllByRecursion P (take i xs) → P (get_or xs i d) → AllByRecursion P (take (i + 1) xs)
-all_taken P xs i d lt h here = subst (λ l. AllByRecursion P l) (sym (take_more xs i d lt)) (all_append P (take i xs) (get_or xs i d ∷ []) h (here, tt))
+all_taken P xs i d lt h here = subst (λ l. AllByRecursion P l) (sym (take_more xs i d lt)) (all_pushed P (take i xs) (get_or xs i d) h here)
 
 -- all items
 pub all_of_taken : {A : Type 0} (P : A → Type 0) (xs : List A) (i : ℕ) → length xs ≤ i → AllByRecursion P (take i xs) → AllByRecursion P xs

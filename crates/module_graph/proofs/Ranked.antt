@@ -11,7 +11,8 @@ use Rattle.pass_core.specs.declared.plan.PlanEdge.{PlanEdge}
 use Rattle.pass_core.specs.Plans.{in_edges, predecessors, HasNoCycle, HaveEndsBelow}
 use Rattle.pass_core.specs.Heights.{above_all, unroll}
 use Rattle.module_graph.specs.Walks.{Leads, Walk, NoneReturns}
-use Rattle.module_graph.proofs.Alls.{all_map, all_image}
+use Rattle.pass_core.proofs.Lists.{all_map, map-same}
+use Rattle.module_graph.proofs.Alls.{all_image}
 use Rattle.module_graph.proofs.Sorted.{all_into, all_of_into}
 use Rattle.module_graph.proofs.Walking.{at_step, walk_push}
 
@@ -22,10 +23,6 @@ distinct_cons x xs h k = (h, k)
 distinct_nil : IsDistinct ◌==◌ []
 unfolding IsDistinct
 distinct_nil = tt
-
-map_same : {A B : Type 0} (f g : A → B) (xs : List A) → AllByRecursion (λ x. f x ≡ g x) xs → map f xs ≡ map g xs
-map_same f g [] h = refl
-map_same f g (x ∷ xs) h = λ i. h.0 i ∷ map_same f g xs h.1 i
 
 all_before : {A B : Type 0} (f : A → B) (Q : B → Type 0) (xs : List A) → AllByRecursion Q (map f xs) → AllByRecursion (λ x. Q (f x)) xs
 all_before f Q [] h = tt
@@ -106,7 +103,7 @@ module _ (count : ℕ) (edges : List PlanEdge) (ends : HaveEndsBelow count edges
 
   stable : (k n : ℕ) → tall k n < k → tall (suc k) n ≡ tall k n
   stable zero n lt = absurd (omega arith)
-  stable (suc k) n lt = ap above_all (map_same (tall (suc k)) (tall k) (predecessors edges n)
+  stable (suc k) n lt = ap above_all (map-same (tall (suc k)) (tall k) (predecessors edges n)
       (all_map (λ m. tall k m < above_all (map (tall k) (predecessors edges n))) (λ m. tall (suc k) m ≡ tall k m) (λ m h. stable k m (omega arith)) (predecessors edges n) (below_top (tall k) (predecessors edges n))))
 
   source_lower : (n : ℕ) → AllByRecursion (λ m. tall (suc count) m < tall (suc count) n) (predecessors edges n)

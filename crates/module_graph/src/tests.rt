@@ -5,8 +5,8 @@ ghost use Rattle.module_graph.specs.declared.graph.Edge.{Edge};
 ghost use Rattle.module_graph.specs.Graphs.{IsNumbered};
 
 use crate::{
-    Axis, Direction, Edge, EdgeKind, Graph, Node, Variation, Variations, heights, label, plan,
-    variant_name,
+    Axis, Direction, Edge, EdgeKind, Graph, Node, Variation, Variations, heights, label, laws,
+    plan, variant_name,
 };
 use bp_faults::{ModuleId, NodeId, OutOfMemory, Place, Seq, Target, Text};
 use pass_core::Plan;
@@ -130,6 +130,15 @@ fn heights_of_a_diamond(rt: HostRuntime) -> Result<(), Fail> {
     assert!(rt; falls(&plan));
     assert_eq!(rt; heights(alloc, &plan)?.as_slice(), [2, 1, 1, 0].as_slice());
     Ok(())
+}
+
+#[test]
+fn laws_at_a_type() {
+    laws::none_returns_where_numbering_rises();
+    laws::none_returns_where_plans_have_no_cycle::<bool>();
+    laws::valid_plans_have_no_cycle::<bool>();
+    laws::predecessors_are_targets::<bool>();
+    laws::predecessors_are_sources::<bool>();
 }
 
 #[test]
