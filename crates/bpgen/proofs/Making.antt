@@ -12,7 +12,7 @@ use Rattle.bp_faults.specs.Answers.{then_do, Tells}
 use Rattle.bp_ports.specs.Files.{Files}
 use Rattle.bp_lexer.specs.declared.token.Token.{Token}
 use Rattle.bp_lexer.specs.Meaning.{Covers, LexMeans}
-use Rattle.bp_lexer.proofs.OneMeaning.{token_first, one_meaning}
+use Rattle.bp_lexer.proofs.OneMeaning.{token_first}
 use Rattle.bpgen.specs.declared.words.Configuration.{Configuration}
 use Rattle.bpgen.specs.declared.form.Binary.{Binary}
 use Rattle.bpgen.specs.declared.stop.Stop.{Stop}

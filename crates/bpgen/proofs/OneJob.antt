@@ -7,7 +7,7 @@ use Rattle.bp_ports.specs.Files.{Files}
 use Rattle.bp_lexer.proofs.OneMeaning.{one_meaning}
 use Rattle.bpgen.specs.declared.words.Configuration.{Configuration}
 use Rattle.bpgen.specs.Job.{IsMade, IsJob, GoesOn, made_of, source_of}
-use Rattle.bpgen.specs.Run.{World, Gives, DoneBy, FaultBy}
+use Rattle.bpgen.specs.Run.{World, DoneBy, FaultBy}
 
 one_made : (text : List ℕ) (a b : Result (List ℕ) Fault) → IsMade text a → IsMade text b → a ≡ b
 one_made text a b (l, means, same) (m, also, equal) = sym same ∙ ap (λ x. then_do x (made_of text)) (one_meaning 1 text l m means also) ∙ equal

@@ -1,5 +1,5 @@
 -- The one form of an Android.bp file that `build` knows: a binary of one C source.
-use Rattle.std.specs.Prelude.{ℕ, ◌-◌, ◌≤◌, List, [], ◌∷◌, Bool, true, false, ◌&&◌, ◌||◌, ◌==◌, not, nat_le, nat_eq, length, take, drop, Result, Ok, Err, if◌then◌else◌, codes, slice_get}
+use Rattle.std.specs.Prelude.{ℕ, ◌≤◌, List, [], ◌∷◌, Bool, true, false, ◌&&◌, ◌||◌, ◌==◌, not, nat_le, nat_eq, length, Result, Ok, Err, if◌then◌else◌, codes, slice_get}
 use Rattle.std.specs.Option.{option_map_or}
 use Rattle.std.specs.List.{list_all, ends_with, filter}
 use Rattle.std.specs.Char.{is_ascii_alphanumeric}

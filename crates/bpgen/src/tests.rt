@@ -119,31 +119,27 @@ fn plain_start(rt: HostRuntime) -> Result<(), Fail> {
     Ok(())
 }
 
+fn spaces(alloc: Global, count: usize) -> Result<Vec<u8>, OutOfMemory> {
+    Ok(vec![in alloc; b' '; count]?)
+}
+
+#[test]
+fn files_of_more_bytes_than_their_limits(rt: HostRuntime) -> Result<(), Fail> {
+    let alloc = rt.alloc();
+    let list = spaces(alloc, (1 << 22) + 1)?;
+    let line = "list:1:1: error 32: file is too large\n";
+    assert!(rt; refuses(alloc, &list, b"", 1, line)?);
+    let file = spaces(alloc, (1 << 20) + 1)?;
+    let line = "Android.bp:1:1: error 32: file is too large\n";
+    assert!(rt; refuses(alloc, b"Android.bp\n", &file, 1, line)?);
+    Ok(())
+}
+
 #[test]
 fn faults_stand_at_their_places(rt: HostRuntime) -> Result<(), Fail> {
     let alloc = rt.alloc();
     let list = b"Android.bp\n".as_slice();
-    let large = vec![in alloc; b' '; (1 << 22) + 1]?;
-    assert!(rt;
-        refuses(
-            alloc,
-            &large,
-            b"",
-            1,
-            "list:1:1: error 32: file is too large\n"
-        )?
-    );
     assert!(rt; refuses(alloc, b"", b"", 1, "list:1:1: error 37: not built yet\n")?);
-    let spaces = &large[..(1 << 20) + 1];
-    assert!(rt;
-        refuses(
-            alloc,
-            list,
-            spaces,
-            1,
-            "Android.bp:1:1: error 32: file is too large\n"
-        )?
-    );
     for (file, line) in [
         ("x\u{e9}", "Android.bp:1:1: error 37: not built yet\n"),
         ("/* x", "Android.bp:1:1: error 4: unterminated comment\n"),

@@ -1,4 +1,4 @@
-use Rattle.std.proofs.Common.{◌≡◌, ◌∙◌, List, [], ◌∷◌}
+use Rattle.std.proofs.Common.{◌≡◌, ◌∙◌, [], ◌∷◌}
 use Rattle.bpgen.proofs.head.head_rules.Goals as goal
 
 six : {X : Type 0} {a b c d e f a' b' c' d' e' f' : X} → a ≡ a' → b ≡ b' → c ≡ c' → d ≡ d' → e ≡ e' → f ≡ f'
