@@ -1,0 +1,49 @@
+-- The properties of a group: what sets nothing, and what merging makes of two.
+use Rattle.std.specs.Prelude.{None}
+use Rattle.bp_props.specs.Merge.{scalar_merged, list_merged, list_empty}
+use Rattle.bp_props.specs.declared.merge.Winner.{Winner}
+use Rattle.bp_props.specs.declared.group.GroupProps.{GroupProps}
+
+-- a group that sets nothing
+abbrev pub group_empty : GroupProps
+group_empty = record {
+  enabled = None;
+  srcs = list_empty;
+  cflags = list_empty;
+  conlyflags = list_empty;
+  cppflags = list_empty;
+  asflags = list_empty;
+  ldflags = list_empty;
+  local_include_dirs = list_empty;
+  include_dirs = list_empty;
+  export_include_dirs = list_empty;
+  whole_static_libs = list_empty;
+  static_libs = list_empty;
+  shared_libs = list_empty;
+  header_libs = list_empty;
+  export_static_lib_headers = list_empty;
+  export_shared_lib_headers = list_empty;
+  export_header_lib_headers = list_empty
+}
+
+-- Two groups, field by field: each scalar merged, and each list.
+abbrev pub group_merged : Winner → GroupProps → GroupProps → GroupProps
+group_merged winner a b = record {
+  enabled = scalar_merged winner a.enabled b.enabled;
+  srcs = list_merged a.srcs b.srcs;
+  cflags = list_merged a.cflags b.cflags;
+  conlyflags = list_merged a.conlyflags b.conlyflags;
+  cppflags = list_merged a.cppflags b.cppflags;
+  asflags = list_merged a.asflags b.asflags;
+  ldflags = list_merged a.ldflags b.ldflags;
+  local_include_dirs = list_merged a.local_include_dirs b.local_include_dirs;
+  include_dirs = list_merged a.include_dirs b.include_dirs;
+  export_include_dirs = list_merged a.export_include_dirs b.export_include_dirs;
+  whole_static_libs = list_merged a.whole_static_libs b.whole_static_libs;
+  static_libs = list_merged a.static_libs b.static_libs;
+  shared_libs = list_merged a.shared_libs b.shared_libs;
+  header_libs = list_merged a.header_libs b.header_libs;
+  export_static_lib_headers = list_merged a.export_static_lib_headers b.export_static_lib_headers;
+  export_shared_lib_headers = list_merged a.export_shared_lib_headers b.export_shared_lib_headers;
+  export_header_lib_headers = list_merged a.export_header_lib_headers b.export_header_lib_headers
+}

@@ -1,0 +1,117 @@
+ghost use Rattle.std.specs.Prelude.{◌≡◌, OnOk, OnErr};
+ghost use Rattle.bp_props.specs.Group.{group_merged, group_empty};
+
+use crate::merge::Winner;
+use crate::{Given, Listed, Source};
+use bp_faults::{Item, OutOfMemory, Path, Payload, Text};
+use std::alloc::Global;
+
+/// The properties that every group but `sanitize` may hold, and that a module has of its own.
+#[derive(Debug)]
+pub struct GroupProps {
+    pub enabled: Option<Given<bool>>,
+    pub srcs: Listed<Source>,
+    pub cflags: Listed<Text>,
+    pub conlyflags: Listed<Text>,
+    pub cppflags: Listed<Text>,
+    pub asflags: Listed<Text>,
+    pub ldflags: Listed<Text>,
+    pub local_include_dirs: Listed<Path>,
+    pub include_dirs: Listed<Path>,
+    pub export_include_dirs: Listed<Path>,
+    pub whole_static_libs: Listed<Item>,
+    pub static_libs: Listed<Item>,
+    pub shared_libs: Listed<Item>,
+    pub header_libs: Listed<Item>,
+    pub export_static_lib_headers: Listed<Item>,
+    pub export_shared_lib_headers: Listed<Item>,
+    pub export_header_lib_headers: Listed<Item>,
+}
+
+impl Drop for GroupProps {
+    fn drop(self) {
+        let GroupProps {
+            enabled: _,
+            srcs: _,
+            cflags: _,
+            conlyflags: _,
+            cppflags: _,
+            asflags: _,
+            ldflags: _,
+            local_include_dirs: _,
+            include_dirs: _,
+            export_include_dirs: _,
+            whole_static_libs: _,
+            static_libs: _,
+            shared_libs: _,
+            header_libs: _,
+            export_static_lib_headers: _,
+            export_shared_lib_headers: _,
+            export_header_lib_headers: _,
+        } = self;
+    }
+}
+
+/// The table of the fields: calls a macro with its arguments in brackets, and the lists of a group.
+macro_rules! with_group_lists {
+    ($then:ident $($args:tt)*) => {
+        $then!(
+            [$($args)*] srcs cflags conlyflags cppflags asflags ldflags local_include_dirs include_dirs
+            export_include_dirs whole_static_libs static_libs shared_libs header_libs
+            export_static_lib_headers export_shared_lib_headers export_header_lib_headers
+        )
+    };
+}
+
+macro_rules! empty_group {
+    ([$alloc:expr] $($list:ident)*) => {
+        GroupProps {
+            enabled: None,
+            $($list: Listed::empty($alloc),)*
+        }
+    };
+}
+
+macro_rules! extend_lists {
+    ([$to:expr, $alloc:expr, $from:expr] $($list:ident)*) => {{
+        $($to.$list.extend($alloc, &$from.$list)?;)*
+    }};
+}
+
+impl GroupProps {
+    /// A group that sets nothing. It takes no memory.
+    pub fn empty(alloc: Global) -> GroupProps
+        ensures { result ≡ group_empty }
+    {
+        let empty = with_group_lists!(empty_group alloc);
+        empty
+    }
+
+    /// Merges a group into this one. After want of memory a part of its lists may stand there.
+    fn extend(&mut self, alloc: Global, other: &GroupProps, winner: Winner) -> Result<(), OutOfMemory>
+        ensures { OnOk result (self.new ≡ group_merged winner self.old other.now) }
+    {
+        self.enabled = winner.of(&self.enabled, &other.enabled);
+        with_group_lists!(extend_lists self, alloc, other);
+        Ok(())
+    }
+
+    /// Merges a group into this one.
+    pub(crate) fn merge(&mut self, alloc: Global, other: &GroupProps, winner: Winner) -> Result<(), OutOfMemory>
+        ensures ok { OnOk result (self.new ≡ group_merged winner self.old other.now) }
+        ensures err { OnErr result (self.new ≡ self.old) }
+    {
+        let mut merged = self.copy(alloc)?;
+        merged.extend(alloc, other, winner)?;
+        *self = merged;
+        Ok(())
+    }
+}
+
+impl Payload for GroupProps {
+    fn copy(&self, alloc: Global) -> Result<Self, OutOfMemory> {
+        let mut copy = GroupProps::empty(alloc);
+        copy.extend(alloc, self, Winner::Argument)?;
+        Ok(copy)
+    }
+}
