@@ -1,7 +1,8 @@
 -- The groups of a record: pairs of a group's id and its properties, which ascend by the id.
 use Rattle.std.specs.Prelude.{Option, Some, None, List, [], ◌∷◌}
 use Rattle.std.specs.BTreeMap.{insert_entry, is_at}
-use Rattle.std.specs.Map.{lookup}
+use Rattle.std.specs.Map.{keys_of, lookup}
+use Rattle.std.specs.List.Sorted.{IsStrictlySortedBy}
 use Rattle.std.specs.declared.cmp.Ordering.{Ordering}
 use Rattle.bp_props.specs.declared.group_id.GroupId.{GroupId}
 use Rattle.bp_props.specs.contracts.group_id.GroupIdOrd.TheImpl as order
@@ -12,6 +13,10 @@ use Rattle.bp_props.specs.Group.{group_merged}
 -- the order of the ids, which is that of their list
 abbrev pub by_id : GroupId → GroupId → Ordering
 by_id = (order.ghosts).cmp
+
+-- the ids ascend, so none comes twice
+abbrev pub Ascends : List (GroupId × GroupProps) → Type 0
+Ascends groups = IsStrictlySortedBy by_id (keys_of groups)
 
 -- the group of an id, where there is one
 abbrev pub group_of : List (GroupId × GroupProps) → GroupId → Option GroupProps

@@ -1,3 +1,5 @@
 pub mod Merge
+pub mod Kinds
 pub mod Group
 pub mod Groups
+pub mod Records

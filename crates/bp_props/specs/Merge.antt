@@ -1,5 +1,5 @@
 -- What merging makes of a scalar and of a list. Every field of a record is merged by one of these two rules.
-use Rattle.std.specs.Prelude.{Option, Some, None, [], ◌++◌}
+use Rattle.std.specs.Prelude.{Bool, true, false, Option, Some, None, [], ◌++◌}
 use Rattle.bp_props.specs.declared.given.Given.{Given}
 use Rattle.bp_props.specs.declared.listed.Listed.{Listed}
 use Rattle.bp_props.specs.declared.merge.Winner.{Winner}
@@ -22,3 +22,13 @@ list_merged a b = record { items = a.items ++ b.items; at = first_set a.at b.at 
 -- a list that isn't set
 abbrev pub list_empty : {A : Type 0} → Listed A
 list_empty = record { items = []; at = None }
+
+-- what restriction leaves of a scalar, which the kind has or not
+abbrev pub kept_scalar : {A : Type 0} → Bool → Option (Given A) → Option (Given A)
+kept_scalar true scalar = scalar
+kept_scalar false scalar = None
+
+-- what restriction leaves of a list
+abbrev pub kept_list : {A : Type 0} → Bool → Listed A → Listed A
+kept_list true list = list
+kept_list false list = list_empty

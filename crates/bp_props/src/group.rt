@@ -1,13 +1,17 @@
 ghost use Rattle.std.specs.Prelude.{◌≡◌, OnOk, OnErr};
-ghost use Rattle.bp_props.specs.Group.{group_merged, group_empty};
+ghost use Rattle.bp_props.specs.Group.{group_merged, group_empty, group_restricted};
 
+use crate::given::keep_scalar;
 use crate::merge::Winner;
-use crate::{Given, Listed, Source};
+use crate::table::{
+    extend_lists, group_lists, group_scalars, keep_lists, keep_scalars, merge_scalars,
+};
+use crate::{Field, Given, Listed, ModuleKind, Source};
 use bp_faults::{Item, OutOfMemory, Path, Payload, Text};
 use std::alloc::Global;
 
 /// The properties that every group but `sanitize` may hold, and that a module has of its own.
-#[derive(Debug)]
+#[derive(Debug, PartialEq)]
 pub struct GroupProps {
     pub enabled: Option<Given<bool>>,
     pub srcs: Listed<Source>,
@@ -52,30 +56,13 @@ impl Drop for GroupProps {
     }
 }
 
-/// The table of the fields: calls a macro with its arguments in brackets, and the lists of a group.
-macro_rules! with_group_lists {
-    ($then:ident $($args:tt)*) => {
-        $then!(
-            [$($args)*] srcs cflags conlyflags cppflags asflags ldflags local_include_dirs include_dirs
-            export_include_dirs whole_static_libs static_libs shared_libs header_libs
-            export_static_lib_headers export_shared_lib_headers export_header_lib_headers
-        )
-    };
-}
-
 macro_rules! empty_group {
-    ([$alloc:expr] $($list:ident)*) => {
+    ([$alloc:expr] $(($name:ident $field:ident))*) => {
         GroupProps {
             enabled: None,
-            $($list: Listed::empty($alloc),)*
+            $($name: Listed::empty($alloc),)*
         }
     };
-}
-
-macro_rules! extend_lists {
-    ([$to:expr, $alloc:expr, $from:expr] $($list:ident)*) => {{
-        $($to.$list.extend($alloc, &$from.$list)?;)*
-    }};
 }
 
 impl GroupProps {
@@ -83,21 +70,31 @@ impl GroupProps {
     pub fn empty(alloc: Global) -> GroupProps
         ensures { result ≡ group_empty }
     {
-        let empty = with_group_lists!(empty_group alloc);
+        let empty = group_lists!(empty_group alloc);
         empty
     }
 
-    /// Merges a group into this one. After want of memory a part of its lists may stand there.
-    fn extend(&mut self, alloc: Global, other: &GroupProps, winner: Winner) -> Result<(), OutOfMemory>
+    // Merges a group into this one. After want of memory a part of its lists may stand there.
+    fn extend(
+        &mut self,
+        alloc: Global,
+        other: &GroupProps,
+        winner: Winner,
+    ) -> Result<(), OutOfMemory>
         ensures { OnOk result (self.new ≡ group_merged winner self.old other.now) }
     {
-        self.enabled = winner.of(&self.enabled, &other.enabled);
-        with_group_lists!(extend_lists self, alloc, other);
+        group_scalars!(merge_scalars self, other, winner);
+        group_lists!(extend_lists self, alloc, other);
         Ok(())
     }
 
     /// Merges a group into this one.
-    pub(crate) fn merge(&mut self, alloc: Global, other: &GroupProps, winner: Winner) -> Result<(), OutOfMemory>
+    pub(crate) fn merge(
+        &mut self,
+        alloc: Global,
+        other: &GroupProps,
+        winner: Winner,
+    ) -> Result<(), OutOfMemory>
         ensures ok { OnOk result (self.new ≡ group_merged winner self.old other.now) }
         ensures err { OnErr result (self.new ≡ self.old) }
     {
@@ -105,6 +102,14 @@ impl GroupProps {
         merged.extend(alloc, other, winner)?;
         *self = merged;
         Ok(())
+    }
+
+    /// Drops the fields that the kind's table lacks. It takes no memory.
+    pub(crate) fn restrict(&mut self, alloc: Global, kind: ModuleKind)
+        ensures { self.new ≡ group_restricted kind self.old }
+    {
+        group_scalars!(keep_scalars self, kind);
+        group_lists!(keep_lists self, alloc, kind);
     }
 }
 

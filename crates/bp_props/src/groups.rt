@@ -1,9 +1,7 @@
-ghost use Rattle.std.specs.Prelude.{◌≡◌, List, OnOk, option_copied};
-ghost use Rattle.bp_props.specs.declared.group_id.GroupId.{GroupId};
-ghost use Rattle.bp_props.specs.declared.group.GroupProps.{GroupProps};
+ghost use Rattle.std.specs.Prelude.{◌≡◌, OnOk, IfOk, option_copied};
 
 use crate::merge::Winner;
-use crate::{GroupId, GroupProps};
+use crate::{Field, GroupId, GroupProps, ModuleKind};
 use bp_faults::{OutOfMemory, Payload};
 use std::alloc::Global;
 use std::collections::BTreeMap;
@@ -16,13 +14,22 @@ pub struct Groups {
 }
 
 impl Model for Groups {
+    ghost use Rattle.std.specs.Prelude.{List};
+    ghost use Rattle.bp_props.specs.declared.group_id.GroupId.{GroupId};
+    ghost use Rattle.bp_props.specs.declared.group.GroupProps.{GroupProps};
+    ghost use Rattle.bp_props.specs.Groups.{Ascends};
+
     ghost Value = { List (GroupId × GroupProps) };
 
     ghost view = { λ g. g.map.entries };
+
+    ghost invariant = { λ g. Ascends g.map.entries };
 }
 
 impl Groups {
-    ghost use Rattle.std.specs.Prelude.{[]};
+    ghost use Rattle.std.specs.Prelude.{[], filter};
+    ghost use Rattle.bp_props.specs.Kinds.{has_field};
+    ghost use Rattle.bp_props.specs.declared.field.Field.TheVariants.{Group};
     ghost use Rattle.bp_props.specs.Groups.{group_of, group_put, groups_merged};
 
     /// No groups. It takes no memory.
@@ -41,8 +48,21 @@ impl Groups {
         self.map.get(&id)
     }
 
+    /// Drops the groups that the kind's table lacks. It takes no memory.
+    pub(crate) fn restrict(&mut self, kind: ModuleKind)
+        ensures { self.new ≡ filter (λ e. has_field kind (Group e.0)) self.old }
+    {
+        self.map.retain(|id, _| kind.has(Field::Group(*id)));
+    }
+
     // Merges a group into the one of its id.
-    fn put(&mut self, alloc: Global, id: GroupId, group: &GroupProps, winner: Winner) -> Result<(), OutOfMemory>
+    fn put(
+        &mut self,
+        alloc: Global,
+        id: GroupId,
+        group: &GroupProps,
+        winner: Winner,
+    ) -> Result<(), OutOfMemory>
         ensures { OnOk result (self.new ≡ group_put winner self.old id group.now) }
     {
         let next = match self.map.get(&id) {
@@ -57,13 +77,37 @@ impl Groups {
         Ok(())
     }
 
+    // A copy of each group, in the same order.
+    fn copy_map(&self, alloc: Global) -> Result<BTreeMap<GroupId, GroupProps>, OutOfMemory>
+        ensures { IfOk result (λ map. map.entries ≡ self.now) }
+    {
+        let mut map = BTreeMap::new(alloc);
+        for (id, group) in self.map.iter() {
+            map.insert(*id, group.copy(alloc)?)?;
+        }
+        Ok(map)
+    }
+
     /// Merges each group into the one of its id. After want of memory some of them may be merged.
-    pub(crate) fn extend(&mut self, alloc: Global, others: &Groups, winner: Winner) -> Result<(), OutOfMemory>
+    pub(crate) fn extend(
+        &mut self,
+        alloc: Global,
+        others: &Groups,
+        winner: Winner,
+    ) -> Result<(), OutOfMemory>
         ensures { OnOk result (self.new ≡ groups_merged winner self.old others.now) }
     {
         for (id, group) in &others.map {
             self.put(alloc, *id, group, winner)?;
         }
         Ok(())
+    }
+}
+
+impl Payload for Groups {
+    fn copy(&self, alloc: Global) -> Result<Self, OutOfMemory> {
+        Ok(Groups {
+            map: self.copy_map(alloc)?,
+        })
     }
 }

@@ -6,6 +6,7 @@
 //! and by `specs/Kinds.antt`, the table of the kinds.
 #![tactic(auto)]
 
+mod field;
 mod given;
 mod group;
 mod group_id;
@@ -13,14 +14,20 @@ mod groups;
 mod kind;
 mod listed;
 mod merge;
+mod module;
 mod multi;
+mod props;
 mod source;
+mod table;
 
+pub use field::Field;
 pub use given::Given;
 pub use group::GroupProps;
 pub use group_id::GroupId;
 pub use groups::Groups;
 pub use kind::ModuleKind;
 pub use listed::Listed;
+pub use module::Module;
 pub use multi::Multi;
+pub use props::Props;
 pub use source::Source;

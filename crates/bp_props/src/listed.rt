@@ -1,5 +1,5 @@
 ghost use Rattle.std.specs.Prelude.{◌≡◌, OnOk, ◌++◌};
-ghost use Rattle.bp_props.specs.Merge.{list_merged, list_empty};
+ghost use Rattle.bp_props.specs.Merge.{list_merged, list_empty, kept_list};
 
 use bp_faults::{OutOfMemory, Payload, Place, Seq};
 use std::alloc::Global;
@@ -12,7 +12,11 @@ pub struct Listed<T> {
 }
 
 // Puts a copy of each item at the end. After want of memory some may stand there.
-fn add_copies<T: Payload + Drop>(items: &mut Seq<T>, alloc: Global, more: &[T]) -> Result<(), OutOfMemory>
+fn add_copies<T: Payload + Drop>(
+    items: &mut Seq<T>,
+    alloc: Global,
+    more: &[T],
+) -> Result<(), OutOfMemory>
     ensures { OnOk result (items.new ≡ items.old ++ more.now) }
 {
     for item in more {
@@ -29,6 +33,16 @@ impl<T> Listed<T> {
         Listed {
             items: Seq::new(Vec::new(alloc)),
             at: None,
+        }
+    }
+}
+
+impl<T: Drop> Listed<T> {
+    pub(crate) fn keep_if(&mut self, alloc: Global, keeps: bool)
+        ensures { self.new ≡ kept_list keeps self.old }
+    {
+        if !keeps {
+            *self = Listed::empty(alloc);
         }
     }
 }
