@@ -22,6 +22,10 @@ Ascends groups = IsStrictlySortedBy by_id (keys_of groups)
 abbrev pub group_of : List (GroupId × GroupProps) → GroupId → Option GroupProps
 group_of groups id = lookup (is_at (by_id id)) groups
 
+-- the groups with this one under its id
+abbrev pub groups_with : List (GroupId × GroupProps) → GroupId → GroupProps → List (GroupId × GroupProps)
+groups_with groups id group = insert_entry by_id groups id group
+
 -- a group and the one that a record may have already
 abbrev pub put_behind : Winner → Option GroupProps → GroupProps → GroupProps
 put_behind winner (Some old) group = group_merged winner old group
@@ -29,7 +33,7 @@ put_behind winner None group = group
 
 -- a group merged into the one of its id, in the id's place
 abbrev pub group_put : Winner → List (GroupId × GroupProps) → GroupId → GroupProps → List (GroupId × GroupProps)
-group_put winner groups id group = insert_entry by_id groups id (put_behind winner (group_of groups id) group)
+group_put winner groups id group = groups_with groups id (put_behind winner (group_of groups id) group)
 
 -- Two records' groups: each of the second's is merged into the first's of its id.
 abbrev pub groups_merged : Winner → List (GroupId × GroupProps) → List (GroupId × GroupProps) → List (GroupId × GroupProps)

@@ -1,4 +1,4 @@
-ghost use Rattle.std.specs.Prelude.{◌≡◌, OnOk, IfOk, option_copied};
+ghost use Rattle.std.specs.Prelude.{◌≡◌, OnOk, OnErr, IfOk, option_copied};
 
 use crate::merge::Winner;
 use crate::{Field, GroupId, GroupProps, ModuleKind};
@@ -8,7 +8,7 @@ use std::collections::BTreeMap;
 use std::marker::Model;
 
 /// The groups that a record has. Contracts see them as pairs, ascending by the group.
-#[derive(Drop)]
+#[derive(Debug, Drop)]
 pub struct Groups {
     map: BTreeMap<GroupId, GroupProps>,
 }
@@ -30,7 +30,7 @@ impl Groups {
     ghost use Rattle.std.specs.Prelude.{[], filter};
     ghost use Rattle.bp_props.specs.Kinds.{has_field};
     ghost use Rattle.bp_props.specs.declared.field.Field.TheVariants.{Group};
-    ghost use Rattle.bp_props.specs.Groups.{group_of, group_put, groups_merged};
+    ghost use Rattle.bp_props.specs.Groups.{group_of, group_put, groups_merged, groups_with};
 
     /// No groups. It takes no memory.
     pub fn empty(alloc: Global) -> Groups
@@ -46,6 +46,15 @@ impl Groups {
         ensures { option_copied result ≡ group_of self.now id }
     {
         self.map.get(&id)
+    }
+
+    /// Puts a group under its id, in place of the one that stands there.
+    pub fn insert(&mut self, id: GroupId, group: GroupProps) -> Result<(), OutOfMemory>
+        ensures ok { OnOk result (self.new ≡ groups_with self.old id group) }
+        ensures err { OnErr result (self.new ≡ self.old) }
+    {
+        self.map.insert(id, group)?;
+        Ok(())
     }
 
     /// Drops the groups that the kind's table lacks. It takes no memory.

@@ -2,7 +2,7 @@ use crate::{ModuleKind, Props};
 use bp_faults::{Path, Place, Text};
 
 /// A module: its name, what it is, the directory of its file, the place of its type, and its properties.
-#[derive(Drop)]
+#[derive(Debug, Drop)]
 pub struct Module {
     pub name: Text,
     pub kind: ModuleKind,

@@ -18,6 +18,7 @@ const NO_LEVEL: u32 = 10_000;
 ///
 /// `base` has what a group may hold too, `address` and `never` are those of `sanitize`, and `groups` has
 /// every other group. The last six fields stand in no file: the mutators compute them.
+#[derive(Debug)]
 pub struct Props {
     pub base: GroupProps,
     pub name: Option<Given<Text>>,
