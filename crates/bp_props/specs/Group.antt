@@ -29,10 +29,10 @@ group_empty = record {
   export_header_lib_headers = list_empty;
 }
 
--- Two groups, field by field: each scalar merged, and each list.
-abbrev pub group_merged : Winner → GroupProps → GroupProps → GroupProps
-group_merged winner a b = record {
-  enabled = scalar_merged winner a.enabled b.enabled;
+-- the first group, with each list of the second behind its own
+abbrev pub lists_merged : GroupProps → GroupProps → GroupProps
+lists_merged a b = record {
+  enabled = a.enabled;
   srcs = list_merged a.srcs b.srcs;
   cflags = list_merged a.cflags b.cflags;
   conlyflags = list_merged a.conlyflags b.conlyflags;
@@ -50,6 +50,10 @@ group_merged winner a b = record {
   export_shared_lib_headers = list_merged a.export_shared_lib_headers b.export_shared_lib_headers;
   export_header_lib_headers = list_merged a.export_header_lib_headers b.export_header_lib_headers;
 }
+
+-- Two groups, field by field: each list merged, and each scalar.
+abbrev pub group_merged : Winner → GroupProps → GroupProps → GroupProps
+group_merged winner a b = record (lists_merged a b) { enabled = scalar_merged winner a.enabled b.enabled }
 
 -- A group, field by field: what the kind's table has stays, and the rest isn't set.
 abbrev pub group_restricted : ModuleKind → GroupProps → GroupProps

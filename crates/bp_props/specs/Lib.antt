@@ -3,3 +3,4 @@ pub mod Kinds
 pub mod Group
 pub mod Groups
 pub mod Records
+pub mod Undo

@@ -1,10 +1,12 @@
 ghost use Rattle.std.specs.Prelude.{◌≡◌, OnOk, OnErr};
-ghost use Rattle.bp_props.specs.Group.{group_merged, group_empty, group_restricted};
+ghost use Rattle.bp_props.specs.Group.{lists_merged, group_merged, group_empty, group_restricted};
+ghost use Rattle.bp_props.specs.Undo.{GroupBegins};
 
 use crate::given::keep_scalar;
 use crate::merge::Winner;
 use crate::table::{
-    extend_lists, group_lists, group_scalars, keep_lists, keep_scalars, merge_scalars,
+    copy_scalars, extend_lists, group_lists, group_scalars, keep_lists, keep_scalars,
+    merge_scalars, or_cut,
 };
 use crate::{Field, Given, Listed, ModuleKind, Source};
 use bp_faults::{Item, OutOfMemory, Path, Payload, Text};
@@ -74,17 +76,27 @@ impl GroupProps {
         empty
     }
 
-    // Merges a group into this one. After want of memory a part of its lists may stand there.
-    fn extend(
+    /// Puts the lists of a group behind. After want of memory a part of them may stand there.
+    pub(crate) fn extend(&mut self, alloc: Global, other: &GroupProps) -> Result<(), OutOfMemory>
+        ensures ok { OnOk result (self.new ≡ lists_merged self.old other.now) }
+        ensures begins { GroupBegins self.old self.new }
+    {
+        group_lists!(extend_lists self, alloc, other);
+        Ok(())
+    }
+
+    // The same, and then the scalars are merged.
+    fn extend_all(
         &mut self,
         alloc: Global,
         other: &GroupProps,
         winner: Winner,
     ) -> Result<(), OutOfMemory>
-        ensures { OnOk result (self.new ≡ group_merged winner self.old other.now) }
+        ensures ok { OnOk result (self.new ≡ group_merged winner self.old other.now) }
+        ensures begins { OnErr result (GroupBegins self.old self.new) }
     {
+        self.extend(alloc, other)?;
         group_scalars!(merge_scalars self, other, winner);
-        group_lists!(extend_lists self, alloc, other);
         Ok(())
     }
 
@@ -98,10 +110,7 @@ impl GroupProps {
         ensures ok { OnOk result (self.new ≡ group_merged winner self.old other.now) }
         ensures err { OnErr result (self.new ≡ self.old) }
     {
-        let mut merged = self.copy(alloc)?;
-        merged.extend(alloc, other, winner)?;
-        *self = merged;
-        Ok(())
+        group_lists!(or_cut self, alloc, self.extend_all(alloc, other, winner))
     }
 
     /// Drops the fields that the kind's table lacks. It takes no memory.
@@ -116,7 +125,8 @@ impl GroupProps {
 impl Payload for GroupProps {
     fn copy(&self, alloc: Global) -> Result<Self, OutOfMemory> {
         let mut copy = GroupProps::empty(alloc);
-        copy.extend(alloc, self, Winner::Argument)?;
+        copy.extend(alloc, self)?;
+        group_scalars!(copy_scalars copy, self);
         Ok(copy)
     }
 }

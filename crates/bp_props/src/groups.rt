@@ -97,18 +97,29 @@ impl Groups {
         Ok(map)
     }
 
-    /// Merges each group into the one of its id. After want of memory some of them may be merged.
-    pub(crate) fn extend(
-        &mut self,
-        alloc: Global,
-        others: &Groups,
-        winner: Winner,
-    ) -> Result<(), OutOfMemory>
+    // Merges each group into the one of its id. After want of memory some of them may be merged.
+    fn extend(&mut self, alloc: Global, others: &Groups, winner: Winner) -> Result<(), OutOfMemory>
         ensures { OnOk result (self.new ≡ groups_merged winner self.old others.now) }
     {
         for (id, group) in &others.map {
             self.put(alloc, *id, group, winner)?;
         }
+        Ok(())
+    }
+
+    /// Merges each group into the one of its id.
+    pub(crate) fn merge(
+        &mut self,
+        alloc: Global,
+        others: &Groups,
+        winner: Winner,
+    ) -> Result<(), OutOfMemory>
+        ensures ok { OnOk result (self.new ≡ groups_merged winner self.old others.now) }
+        ensures err { OnErr result (self.new ≡ self.old) }
+    {
+        let mut merged = self.copy(alloc)?;
+        merged.extend(alloc, others, winner)?;
+        *self = merged;
         Ok(())
     }
 }

@@ -13,6 +13,7 @@ mod group_id;
 mod groups;
 mod kind;
 mod listed;
+mod mark;
 mod merge;
 mod module;
 mod multi;

@@ -1,11 +1,13 @@
 ghost use Rattle.std.specs.Prelude.{◌≡◌, OnOk, OnErr, option_copied};
 ghost use Rattle.bp_props.specs.Groups.{group_of};
 ghost use Rattle.bp_props.specs.Records.{props_empty, props_merged, props_appended, props_followed, props_over, props_restricted};
+ghost use Rattle.bp_props.specs.Undo.{PropsBegins, BaseBegins};
 
 use crate::given::{copy_name, keep_scalar};
 use crate::merge::Winner;
 use crate::table::{
-    copy_lists, copy_scalars, extend_lists, keep_lists, keep_scalars, lists, merge_scalars, scalars,
+    copy_lists, copy_scalars, extend_lists, group_lists, group_scalars, keep_lists, keep_scalars,
+    lists, merge_scalars, or_cut, scalars,
 };
 use crate::{Field, Given, GroupId, GroupProps, Groups, Listed, ModuleKind, Multi};
 use bp_faults::{Item, NodeId, OutOfMemory, Path, Payload, Seq, Text};
@@ -135,24 +137,38 @@ impl Props {
         Ok(())
     }
 
-    // Merges a record into this one. After want of memory a part of it may stand there.
+    // Puts the lists of a record behind, and then merges the groups and the scalars.
     fn extend(&mut self, alloc: Global, other: &Props, winner: Winner) -> Result<(), OutOfMemory>
-        ensures { OnOk result (self.new ≡ props_merged winner self.old other.now) }
+        ensures ok { OnOk result (self.new ≡ props_merged winner self.old other.now) }
+        ensures begins { OnErr result (PropsBegins self.old self.new) }
     {
-        self.base.merge(alloc, &other.base, winner)?;
+        self.base.extend(alloc, &other.base)?;
         lists!(extend_lists self, alloc, other);
-        self.groups.extend(alloc, &other.groups, winner)?;
+        self.groups.merge(alloc, &other.groups, winner)?;
+        group_scalars!(merge_scalars self.base, other.base, winner);
         scalars!(merge_scalars self, other, winner);
         Ok(())
     }
 
-    // As `over`. After want of memory a part of the other record may stand there.
-    fn extend_over(&mut self, alloc: Global, own: &Props) -> Result<(), OutOfMemory>
-        ensures { OnOk result (self.new ≡ props_over self.old own.now) }
+    // The same, with the lists that are a record's alone cut back after want of memory.
+    fn extend_base(
+        &mut self,
+        alloc: Global,
+        other: &Props,
+        winner: Winner,
+    ) -> Result<(), OutOfMemory>
+        ensures ok { OnOk result (self.new ≡ props_merged winner self.old other.now) }
+        ensures begins { OnErr result (BaseBegins self.old self.new) }
     {
-        self.name = copy_name(alloc, &own.name)?;
-        self.defaults = own.defaults.copy(alloc)?;
-        self.extend(alloc, own, Winner::Argument)
+        lists!(or_cut self, alloc, self.extend(alloc, other, winner))
+    }
+
+    // Merges a record into this one, but for `name` and `defaults`.
+    fn merge(&mut self, alloc: Global, other: &Props, winner: Winner) -> Result<(), OutOfMemory>
+        ensures ok { OnOk result (self.new ≡ props_merged winner self.old other.now) }
+        ensures err { OnErr result (self.new ≡ self.old) }
+    {
+        group_lists!(or_cut self.base, alloc, self.extend_base(alloc, other, winner))
     }
 
     /// Appends a group: its lists go behind, and each scalar that it sets replaces.
@@ -169,10 +185,7 @@ impl Props {
         ensures ok { OnOk result (self.new ≡ props_followed self.old other.now) }
         ensures err { OnErr result (self.new ≡ self.old) }
     {
-        let mut next = self.copy(alloc)?;
-        next.extend(alloc, other, Winner::Receiver)?;
-        *self = next;
-        Ok(())
+        self.merge(alloc, other, Winner::Receiver)
     }
 
     /// Puts a module's own properties over these, which its defaults give: its lists go behind, and each
@@ -181,9 +194,11 @@ impl Props {
         ensures ok { OnOk result (self.new ≡ props_over self.old own.now) }
         ensures err { OnErr result (self.new ≡ self.old) }
     {
-        let mut next = self.copy(alloc)?;
-        next.extend_over(alloc, own)?;
-        *self = next;
+        let name = copy_name(alloc, &own.name)?;
+        let defaults = own.defaults.copy(alloc)?;
+        self.merge(alloc, own, Winner::Argument)?;
+        self.name = name;
+        self.defaults = defaults;
         Ok(())
     }
 

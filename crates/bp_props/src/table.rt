@@ -80,6 +80,20 @@ macro_rules! copy_scalars {
     }};
 }
 
+/// What an attempt answers; after a refusal each list is cut back to what it was.
+macro_rules! or_cut {
+    ([$record:expr, $alloc:expr, $attempt:expr] $(($name:ident $field:ident))*) => {{
+        $(let $name = $record.$name.mark();)*
+        match $attempt {
+            Ok(()) => Ok(()),
+            Err(refusal) => {
+                $($record.$name.cut($alloc, $name);)*
+                Err(refusal)
+            }
+        }
+    }};
+}
+
 macro_rules! merge_scalars {
     ([$record:expr, $other:expr, $winner:expr] $(($name:ident $field:ident))*) => {{
         $($record.$name = $winner.of(&$record.$name, &$other.$name);)*
@@ -107,4 +121,5 @@ pub(crate) use keep_lists;
 pub(crate) use keep_scalars;
 pub(crate) use lists;
 pub(crate) use merge_scalars;
+pub(crate) use or_cut;
 pub(crate) use scalars;
