@@ -1,0 +1,41 @@
+-- The groups of a record: pairs of a group's id and its properties, which ascend by the id.
+use Rattle.std.specs.Prelude.{Option, Some, None, List, [], ◌∷◌}
+use Rattle.std.specs.BTreeMap.{insert_entry, is_at}
+use Rattle.std.specs.Map.{keys_of, lookup}
+use Rattle.std.specs.List.Sorted.{IsStrictlySortedBy}
+use Rattle.std.specs.declared.cmp.Ordering.{Ordering}
+use Rattle.bp_props.specs.declared.group_id.GroupId.{GroupId}
+use Rattle.bp_props.specs.contracts.group_id.GroupIdOrd.TheImpl as order
+use Rattle.bp_props.specs.declared.group.GroupProps.{GroupProps}
+use Rattle.bp_props.specs.declared.merge.Winner.{Winner}
+use Rattle.bp_props.specs.Group.{group_merged}
+
+-- the order of the ids, which is that of their list
+abbrev pub by_id : GroupId → GroupId → Ordering
+by_id = (order.ghosts).cmp
+
+-- the ids ascend, so none comes twice
+abbrev pub Ascends : List (GroupId × GroupProps) → Type 0
+Ascends groups = IsStrictlySortedBy by_id (keys_of groups)
+
+-- the group of an id, where there is one
+abbrev pub group_of : List (GroupId × GroupProps) → GroupId → Option GroupProps
+group_of groups id = lookup (is_at (by_id id)) groups
+
+-- the groups with this one under its id
+abbrev pub groups_with : List (GroupId × GroupProps) → GroupId → GroupProps → List (GroupId × GroupProps)
+groups_with groups id group = insert_entry by_id groups id group
+
+-- a group and the one that a record may have already
+abbrev pub put_behind : Winner → Option GroupProps → GroupProps → GroupProps
+put_behind winner (Some old) group = group_merged winner old group
+put_behind winner None group = group
+
+-- a group merged into the one of its id, in the id's place
+abbrev pub group_put : Winner → List (GroupId × GroupProps) → GroupId → GroupProps → List (GroupId × GroupProps)
+group_put winner groups id group = groups_with groups id (put_behind winner (group_of groups id) group)
+
+-- Two records' groups: each of the second's is merged into the first's of its id.
+abbrev pub groups_merged : Winner → List (GroupId × GroupProps) → List (GroupId × GroupProps) → List (GroupId × GroupProps)
+groups_merged winner groups [] = groups
+groups_merged winner groups (e ∷ others) = groups_merged winner (group_put winner groups e.0 e.1) others

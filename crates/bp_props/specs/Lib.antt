@@ -1,0 +1,6 @@
+pub mod Merge
+pub mod Kinds
+pub mod Group
+pub mod Groups
+pub mod Records
+pub mod Undo

@@ -1,0 +1,95 @@
+-- The record of a module: what sets nothing, what the three merging calls make of two, and what restriction leaves.
+use Rattle.std.specs.Prelude.{None, [], false, filter}
+use Rattle.bp_props.specs.Merge.{scalar_merged, list_merged, list_empty, kept_scalar, kept_list}
+use Rattle.bp_props.specs.Group.{group_empty, group_merged, group_restricted}
+use Rattle.bp_props.specs.Groups.{groups_merged}
+use Rattle.bp_props.specs.Kinds.{has_field}
+use Rattle.bp_props.specs.declared.kind.ModuleKind.{ModuleKind}
+use Rattle.bp_props.specs.declared.field.Field.TheVariants as F
+use Rattle.bp_props.specs.declared.merge.Winner.{Winner}
+use Rattle.bp_props.specs.declared.merge.Winner.TheVariants.{Receiver, Argument}
+use Rattle.bp_props.specs.declared.group.GroupProps.{GroupProps}
+use Rattle.bp_props.specs.declared.props.Props.{Props}
+
+-- a record with nothing set, and with what the mutators compute at its start
+abbrev pub props_empty : Props
+props_empty = record {
+  base = group_empty;
+  name = None;
+  defaults = list_empty;
+  compile_multilib = None;
+  host_supported = None;
+  device_supported = None;
+  vendor = None;
+  vendor_available = None;
+  recovery = None;
+  recovery_available = None;
+  min_sdk_version = None;
+  address = None;
+  never = None;
+  test_per_src = None;
+  plugin_of = list_empty;
+  data_bins = list_empty;
+  groups = [];
+  asan = false;
+  level = 10000;
+  exports = [];
+  includes = [];
+  line = [];
+  slibs = [];
+}
+
+-- Two records, field by field: each scalar merged, each list, and the groups. `name`, `defaults` and what the
+-- mutators compute are the receiver's.
+abbrev pub props_merged : Winner → Props → Props → Props
+props_merged winner a b = record a {
+  base = group_merged winner a.base b.base;
+  compile_multilib = scalar_merged winner a.compile_multilib b.compile_multilib;
+  host_supported = scalar_merged winner a.host_supported b.host_supported;
+  device_supported = scalar_merged winner a.device_supported b.device_supported;
+  vendor = scalar_merged winner a.vendor b.vendor;
+  vendor_available = scalar_merged winner a.vendor_available b.vendor_available;
+  recovery = scalar_merged winner a.recovery b.recovery;
+  recovery_available = scalar_merged winner a.recovery_available b.recovery_available;
+  min_sdk_version = scalar_merged winner a.min_sdk_version b.min_sdk_version;
+  address = scalar_merged winner a.address b.address;
+  never = scalar_merged winner a.never b.never;
+  test_per_src = scalar_merged winner a.test_per_src b.test_per_src;
+  plugin_of = list_merged a.plugin_of b.plugin_of;
+  data_bins = list_merged a.data_bins b.data_bins;
+  groups = groups_merged winner a.groups b.groups;
+}
+
+-- `append`: a group into the fields that a group may hold, and its scalars win
+abbrev pub props_appended : Props → GroupProps → Props
+props_appended a g = record a { base = group_merged Argument a.base g }
+
+-- `follow`: the receiver's scalars win
+abbrev pub props_followed : Props → Props → Props
+props_followed a b = props_merged Receiver a b
+
+-- `over`: the argument's scalars win, and its `name` and `defaults` stand
+abbrev pub props_over : Props → Props → Props
+props_over a b = record (props_merged Argument a b) { name = b.name; defaults = b.defaults }
+
+-- A record, field by field: what the kind's table has stays, and the rest isn't set. What the mutators compute stays.
+abbrev pub props_restricted : ModuleKind → Props → Props
+props_restricted kind p = record p {
+  base = group_restricted kind p.base;
+  name = kept_scalar (has_field kind F.Name) p.name;
+  defaults = kept_list (has_field kind F.Defaults) p.defaults;
+  compile_multilib = kept_scalar (has_field kind F.CompileMultilib) p.compile_multilib;
+  host_supported = kept_scalar (has_field kind F.HostSupported) p.host_supported;
+  device_supported = kept_scalar (has_field kind F.DeviceSupported) p.device_supported;
+  vendor = kept_scalar (has_field kind F.Vendor) p.vendor;
+  vendor_available = kept_scalar (has_field kind F.VendorAvailable) p.vendor_available;
+  recovery = kept_scalar (has_field kind F.Recovery) p.recovery;
+  recovery_available = kept_scalar (has_field kind F.RecoveryAvailable) p.recovery_available;
+  min_sdk_version = kept_scalar (has_field kind F.MinSdkVersion) p.min_sdk_version;
+  address = kept_scalar (has_field kind F.Address) p.address;
+  never = kept_scalar (has_field kind F.Never) p.never;
+  test_per_src = kept_scalar (has_field kind F.TestPerSrc) p.test_per_src;
+  plugin_of = kept_list (has_field kind F.PluginOf) p.plugin_of;
+  data_bins = kept_list (has_field kind F.DataBins) p.data_bins;
+  groups = filter (λ e. has_field kind (F.Group e.0)) p.groups;
+}

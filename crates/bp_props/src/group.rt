@@ -1,0 +1,132 @@
+ghost use Rattle.std.specs.Prelude.{◌≡◌, OnOk, OnErr};
+ghost use Rattle.bp_props.specs.Group.{lists_merged, group_merged, group_empty, group_restricted};
+ghost use Rattle.bp_props.specs.Undo.{GroupBegins};
+
+use crate::given::keep_scalar;
+use crate::merge::Winner;
+use crate::table::{
+    copy_scalars, extend_lists, group_lists, group_scalars, keep_lists, keep_scalars,
+    merge_scalars, or_cut,
+};
+use crate::{Field, Given, Listed, ModuleKind, Source};
+use bp_faults::{Item, OutOfMemory, Path, Payload, Text};
+use std::alloc::Global;
+
+/// The properties that every group but `sanitize` may hold, and that a module has of its own.
+#[derive(Debug, PartialEq)]
+pub struct GroupProps {
+    pub enabled: Option<Given<bool>>,
+    pub srcs: Listed<Source>,
+    pub cflags: Listed<Text>,
+    pub conlyflags: Listed<Text>,
+    pub cppflags: Listed<Text>,
+    pub asflags: Listed<Text>,
+    pub ldflags: Listed<Text>,
+    pub local_include_dirs: Listed<Path>,
+    pub include_dirs: Listed<Path>,
+    pub export_include_dirs: Listed<Path>,
+    pub whole_static_libs: Listed<Item>,
+    pub static_libs: Listed<Item>,
+    pub shared_libs: Listed<Item>,
+    pub header_libs: Listed<Item>,
+    pub export_static_lib_headers: Listed<Item>,
+    pub export_shared_lib_headers: Listed<Item>,
+    pub export_header_lib_headers: Listed<Item>,
+}
+
+impl Drop for GroupProps {
+    fn drop(self) {
+        let GroupProps {
+            enabled: _,
+            srcs: _,
+            cflags: _,
+            conlyflags: _,
+            cppflags: _,
+            asflags: _,
+            ldflags: _,
+            local_include_dirs: _,
+            include_dirs: _,
+            export_include_dirs: _,
+            whole_static_libs: _,
+            static_libs: _,
+            shared_libs: _,
+            header_libs: _,
+            export_static_lib_headers: _,
+            export_shared_lib_headers: _,
+            export_header_lib_headers: _,
+        } = self;
+    }
+}
+
+macro_rules! empty_group {
+    ([$alloc:expr] $(($name:ident $field:ident))*) => {
+        GroupProps {
+            enabled: None,
+            $($name: Listed::empty($alloc),)*
+        }
+    };
+}
+
+impl GroupProps {
+    /// A group that sets nothing. It takes no memory.
+    pub fn empty(alloc: Global) -> GroupProps
+        ensures { result ≡ group_empty }
+    {
+        let empty = group_lists!(empty_group alloc);
+        empty
+    }
+
+    /// Puts the lists of a group behind. After want of memory a part of them may stand there.
+    pub(crate) fn extend(&mut self, alloc: Global, other: &GroupProps) -> Result<(), OutOfMemory>
+        ensures ok { OnOk result (self.new ≡ lists_merged self.old other.now) }
+        ensures begins { GroupBegins self.old self.new }
+    {
+        group_lists!(extend_lists self, alloc, other);
+        Ok(())
+    }
+
+    // The same, and then the scalars are merged.
+    fn extend_all(
+        &mut self,
+        alloc: Global,
+        other: &GroupProps,
+        winner: Winner,
+    ) -> Result<(), OutOfMemory>
+        ensures ok { OnOk result (self.new ≡ group_merged winner self.old other.now) }
+        ensures begins { OnErr result (GroupBegins self.old self.new) }
+    {
+        self.extend(alloc, other)?;
+        group_scalars!(merge_scalars self, other, winner);
+        Ok(())
+    }
+
+    /// Merges a group into this one.
+    pub(crate) fn merge(
+        &mut self,
+        alloc: Global,
+        other: &GroupProps,
+        winner: Winner,
+    ) -> Result<(), OutOfMemory>
+        ensures ok { OnOk result (self.new ≡ group_merged winner self.old other.now) }
+        ensures err { OnErr result (self.new ≡ self.old) }
+    {
+        group_lists!(or_cut self, alloc, self.extend_all(alloc, other, winner))
+    }
+
+    /// Drops the fields that the kind's table lacks. It takes no memory.
+    pub(crate) fn restrict(&mut self, alloc: Global, kind: ModuleKind)
+        ensures { self.new ≡ group_restricted kind self.old }
+    {
+        group_scalars!(keep_scalars self, kind);
+        group_lists!(keep_lists self, alloc, kind);
+    }
+}
+
+impl Payload for GroupProps {
+    fn copy(&self, alloc: Global) -> Result<Self, OutOfMemory> {
+        let mut copy = GroupProps::empty(alloc);
+        copy.extend(alloc, self)?;
+        group_scalars!(copy_scalars copy, self);
+        Ok(copy)
+    }
+}

@@ -1,0 +1,37 @@
+//! The record of a module's properties: its fields, how two records are merged, and which kind of
+//! module has which of them.
+//!
+//! Typing makes the records, the mutators merge and change them, and the build actions read them. The
+//! layer is measured by `specs/Merge.antt`, which says what merging makes of a scalar and of a list,
+//! and by `specs/Kinds.antt`, the table of the kinds.
+#![tactic(auto)]
+
+mod field;
+mod given;
+mod group;
+mod group_id;
+mod groups;
+mod kind;
+mod listed;
+mod mark;
+mod merge;
+mod module;
+mod multi;
+mod props;
+mod source;
+mod table;
+
+pub use field::Field;
+pub use given::Given;
+pub use group::GroupProps;
+pub use group_id::GroupId;
+pub use groups::Groups;
+pub use kind::ModuleKind;
+pub use listed::Listed;
+pub use module::Module;
+pub use multi::Multi;
+pub use props::Props;
+pub use source::Source;
+
+#[cfg(test)]
+mod tests;

@@ -1,0 +1,125 @@
+//! The table of the fields: each field of a record is named here once, with its name in [`Field`](crate::Field).
+//!
+//! A table calls the macro that it is given with the arguments in brackets, and then its fields. Bodies
+//! that go over all fields are written by the macros below it.
+
+/// The lists that a group may hold.
+macro_rules! group_lists {
+    ($then:ident $($args:tt)*) => {
+        $then!(
+            [$($args)*]
+            (srcs Srcs)
+            (cflags Cflags)
+            (conlyflags Conlyflags)
+            (cppflags Cppflags)
+            (asflags Asflags)
+            (ldflags Ldflags)
+            (local_include_dirs LocalIncludeDirs)
+            (include_dirs IncludeDirs)
+            (export_include_dirs ExportIncludeDirs)
+            (whole_static_libs WholeStaticLibs)
+            (static_libs StaticLibs)
+            (shared_libs SharedLibs)
+            (header_libs HeaderLibs)
+            (export_static_lib_headers ExportStaticLibHeaders)
+            (export_shared_lib_headers ExportSharedLibHeaders)
+            (export_header_lib_headers ExportHeaderLibHeaders)
+        )
+    };
+}
+
+/// The scalars that a group may hold.
+macro_rules! group_scalars {
+    ($then:ident $($args:tt)*) => {
+        $then!([$($args)*] (enabled Enabled))
+    };
+}
+
+/// The lists that stand in a module's record alone and are merged.
+macro_rules! lists {
+    ($then:ident $($args:tt)*) => {
+        $then!([$($args)*] (plugin_of PluginOf) (data_bins DataBins))
+    };
+}
+
+/// The scalars that stand in a module's record alone and are merged.
+macro_rules! scalars {
+    ($then:ident $($args:tt)*) => {
+        $then!(
+            [$($args)*]
+            (compile_multilib CompileMultilib)
+            (host_supported HostSupported)
+            (device_supported DeviceSupported)
+            (vendor Vendor)
+            (vendor_available VendorAvailable)
+            (recovery Recovery)
+            (recovery_available RecoveryAvailable)
+            (min_sdk_version MinSdkVersion)
+            (address Address)
+            (never Never)
+            (test_per_src TestPerSrc)
+        )
+    };
+}
+
+macro_rules! extend_lists {
+    ([$record:expr, $alloc:expr, $other:expr] $(($name:ident $field:ident))*) => {{
+        $($record.$name.extend($alloc, &$other.$name)?;)*
+    }};
+}
+
+macro_rules! copy_lists {
+    ([$record:expr, $alloc:expr, $other:expr] $(($name:ident $field:ident))*) => {{
+        $($record.$name = $other.$name.copy($alloc)?;)*
+    }};
+}
+
+macro_rules! copy_scalars {
+    ([$record:expr, $other:expr] $(($name:ident $field:ident))*) => {{
+        $($record.$name = $other.$name;)*
+    }};
+}
+
+/// What an attempt answers; after a refusal each list is cut back to what it was.
+macro_rules! or_cut {
+    ([$record:expr, $alloc:expr, $attempt:expr] $(($name:ident $field:ident))*) => {{
+        $(let $name = $record.$name.mark();)*
+        match $attempt {
+            Ok(()) => Ok(()),
+            Err(refusal) => {
+                $($record.$name.cut($alloc, $name);)*
+                Err(refusal)
+            }
+        }
+    }};
+}
+
+macro_rules! merge_scalars {
+    ([$record:expr, $other:expr, $winner:expr] $(($name:ident $field:ident))*) => {{
+        $($record.$name = $winner.of(&$record.$name, &$other.$name);)*
+    }};
+}
+
+macro_rules! keep_lists {
+    ([$record:expr, $alloc:expr, $kind:expr] $(($name:ident $field:ident))*) => {{
+        $($record.$name.keep_if($alloc, $kind.has(Field::$field));)*
+    }};
+}
+
+macro_rules! keep_scalars {
+    ([$record:expr, $kind:expr] $(($name:ident $field:ident))*) => {{
+        $(keep_scalar(&mut $record.$name, $kind.has(Field::$field));)*
+    }};
+}
+
+pub(crate) use copy_lists;
+pub(crate) use copy_scalars;
+pub(crate) use extend_lists;
+pub(crate) use group_lists;
+pub(crate) use group_scalars;
+pub(crate) use keep_lists;
+pub(crate) use keep_scalars;
+pub(crate) use lists;
+pub(crate) use merge_scalars;
+pub(crate) use or_cut;
+pub(crate) use scalars;
