@@ -7,5 +7,7 @@ pub mod InEdges
 pub mod Made
 pub mod Settling
 pub mod Laws
+pub mod CoreStates
+pub mod CoreLaws
 pub mod Shown
 pub mod Examples

@@ -15,6 +15,7 @@ mod places;
 mod plan;
 mod published;
 mod serial;
+mod step;
 mod visit;
 
 pub use error::PassError;
@@ -24,6 +25,7 @@ pub use order::serial_order;
 pub use plan::{Plan, PlanEdge};
 pub use published::Published;
 pub use serial::run_serial;
+pub use step::Step;
 pub use visit::{Visit, VisitError};
 
 #[cfg(test)]
