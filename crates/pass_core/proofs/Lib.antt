@@ -18,3 +18,6 @@ pub mod Numbered
 pub mod Sound
 pub mod Repeats
 pub mod Progress
+pub mod Listed
+pub mod Readied
+pub mod AlongLegal

@@ -10,4 +10,7 @@ pub mod Laws
 pub mod CoreStates
 pub mod CoreLaws
 pub mod Shown
+pub mod OrderOutcomes
+pub mod PassAsOrder
+pub mod OrderLaws
 pub mod Examples

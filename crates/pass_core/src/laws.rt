@@ -1,6 +1,7 @@
 //! What holds of every plan without a cycle: each law is the contract of a function that does nothing.
 
 ghost use Rattle.pass_core.specs.Laws.{HeightsMeetTheirEquation, OneSerialOrder, SerialIsLegal, ResultsMeetTheirEquation, OneSolution, FirstUndoneIsBad, OneOutcome};
+ghost use Rattle.pass_core.specs.OrderLaws.{LegalOrdersAgree, OneOrderOutcome};
 ghost use Rattle.pass_core.specs.CoreLaws.{FilledHoldResults, NoStepTwice, ClaimedAfterInEdges, StepsAreEntries, FinishedByCount, NeverStuck, FinishedHasResults};
 
 /// A node's height by those of its predecessors.
@@ -71,4 +72,14 @@ pub fn never_stuck<O>()
 /// A finished core machine has made the node results, whatever the order of its steps.
 pub fn finished_has_results<O>()
     ensures { FinishedHasResults O }
+{}
+
+/// Runs along any two legal orders come to the same.
+pub fn legal_orders_agree<O>()
+    ensures { LegalOrdersAgree O }
+{}
+
+/// A run along a list of nodes comes to one thing alone.
+pub fn one_order_outcome<O>()
+    ensures { OneOrderOutcome O }
 {}
