@@ -9,6 +9,7 @@ pub mod Settling
 pub mod Laws
 pub mod CoreStates
 pub mod CoreLaws
+pub mod CoreViews
 pub mod Shown
 pub mod OrderOutcomes
 pub mod PassAsOrder
