@@ -13,3 +13,11 @@ pub mod Ranked
 pub mod Gathered
 pub mod Visited
 pub mod Along
+pub mod Marks
+pub mod Numbered
+pub mod Sound
+pub mod Repeats
+pub mod Progress
+pub mod Listed
+pub mod Readied
+pub mod AlongLegal

@@ -7,5 +7,11 @@ pub mod InEdges
 pub mod Made
 pub mod Settling
 pub mod Laws
+pub mod CoreStates
+pub mod CoreLaws
+pub mod CoreViews
 pub mod Shown
+pub mod OrderOutcomes
+pub mod PassAsOrder
+pub mod OrderLaws
 pub mod Examples

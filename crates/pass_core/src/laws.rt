@@ -1,6 +1,8 @@
 //! What holds of every plan without a cycle: each law is the contract of a function that does nothing.
 
 ghost use Rattle.pass_core.specs.Laws.{HeightsMeetTheirEquation, OneSerialOrder, SerialIsLegal, ResultsMeetTheirEquation, OneSolution, FirstUndoneIsBad, OneOutcome};
+ghost use Rattle.pass_core.specs.OrderLaws.{LegalOrdersAgree, OneOrderOutcome};
+ghost use Rattle.pass_core.specs.CoreLaws.{FilledHoldResults, NoStepTwice, ClaimedAfterInEdges, StepsAreEntries, FinishedByCount, NeverStuck, FinishedHasResults};
 
 /// A node's height by those of its predecessors.
 pub fn heights_meet_their_equation()
@@ -35,4 +37,49 @@ pub fn first_undone_is_bad<O>()
 /// A pass has exactly one outcome.
 pub fn one_outcome<O>()
     ensures { OneOutcome O }
+{}
+
+/// In the core machine each filled edge holds the result of its source.
+pub fn filled_edges_hold_results<O>()
+    ensures { FilledHoldResults O }
+{}
+
+/// The core machine takes no step twice.
+pub fn no_step_twice<O>()
+    ensures { NoStepTwice O }
+{}
+
+/// The core machine claims a node after all its in-edges are subtracted.
+pub fn claimed_after_in_edges<O>()
+    ensures { ClaimedAfterInEdges O }
+{}
+
+/// Every step of the core machine adds one entry.
+pub fn steps_are_entries<O>()
+    ensures { StepsAreEntries O }
+{}
+
+/// The core machine is finished after n + 3 m steps and not before.
+pub fn finished_by_count<O>()
+    ensures { FinishedByCount O }
+{}
+
+/// Where the core machine isn't finished some step is allowed.
+pub fn never_stuck<O>()
+    ensures { NeverStuck O }
+{}
+
+/// A finished core machine has made the node results, whatever the order of its steps.
+pub fn finished_has_results<O>()
+    ensures { FinishedHasResults O }
+{}
+
+/// Runs along any two legal orders come to the same.
+pub fn legal_orders_agree<O>()
+    ensures { LegalOrdersAgree O }
+{}
+
+/// A run along a list of nodes comes to one thing alone.
+pub fn one_order_outcome<O>()
+    ensures { OneOrderOutcome O }
 {}

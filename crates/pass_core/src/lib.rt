@@ -11,19 +11,25 @@ mod height;
 mod in_edges;
 pub mod laws;
 mod order;
+mod order_error;
+mod order_run;
 mod places;
 mod plan;
 mod published;
 mod serial;
+mod step;
 mod visit;
 
 pub use error::PassError;
 pub use height::heights;
 pub use in_edges::{edges_into, starts_of};
 pub use order::serial_order;
+pub use order_error::OrderError;
+pub use order_run::run_order;
 pub use plan::{Plan, PlanEdge};
 pub use published::Published;
 pub use serial::run_serial;
+pub use step::Step;
 pub use visit::{Visit, VisitError};
 
 #[cfg(test)]

@@ -40,7 +40,7 @@ fn gather<O: Drop>(
 }
 
 /// Visits a node whose predecessors are made.
-fn visit_at<V: Visit>(
+pub fn visit_at<V: Visit>(
     alloc: Global,
     plan: &Plan,
     v: &V,

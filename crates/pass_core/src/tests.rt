@@ -3,8 +3,8 @@ ghost use Rattle.pass_core.specs.Examples.{trail_of, counted_but};
 ghost use Rattle.pass_core.specs.Plans.{IsPlan, HasNoCycle};
 
 use crate::{
-    PassError, Plan, PlanEdge, Visit, VisitError, edges_into, heights, laws, run_serial,
-    serial_order, starts_of,
+    OrderError, PassError, Plan, PlanEdge, Visit, VisitError, edges_into, heights, laws, run_order,
+    run_serial, serial_order, starts_of,
 };
 use bp_faults::{Fault, FaultKind, NodeId, OutOfMemory, Place, Seq};
 use std::alloc::Global;
@@ -181,6 +181,54 @@ fn laws_at_a_type() {
     laws::one_solution::<u32>();
     laws::first_undone_is_bad::<u32>();
     laws::one_outcome::<u32>();
+    laws::filled_edges_hold_results::<u32>();
+    laws::no_step_twice::<u32>();
+    laws::claimed_after_in_edges::<u32>();
+    laws::steps_are_entries::<u32>();
+    laws::finished_by_count::<u32>();
+    laws::never_stuck::<u32>();
+    laws::finished_has_results::<u32>();
+    laws::legal_orders_agree::<u32>();
+    laws::one_order_outcome::<u32>();
+}
+
+/// What a run along a list of nodes comes to, in a word and a number.
+fn along(
+    alloc: Global,
+    plan: &Plan,
+    one: u32,
+    order: &[NodeId],
+) -> (&'static str, u32)
+    requires plan { IsPlan plan.now }
+    requires free { HasNoCycle plan.now.edges }
+{
+    let refuses = CountBut { one, other: one };
+    match run_order(alloc, plan, &refuses, order) {
+        Ok(_) => ("results", 0),
+        Err(OrderError::NotReady(place)) => ("not ready", place),
+        Err(OrderError::Ends(many)) => ("ends", many),
+        Err(OrderError::At(n, _)) => ("fault", n.0),
+        Err(OrderError::OutOfMemory) => ("memory", 0),
+    }
+}
+
+#[test]
+fn illegal_orders(rt: HostRuntime) -> Result<(), Fail> {
+    let alloc = rt.alloc();
+    let plan = plan(alloc, 4, &DIAMOND)?;
+    assert!(rt; falls(&plan));
+    let [app, left, right, base] = [NodeId(0), NodeId(1), NodeId(2), NodeId(3)];
+    let none = 9;
+    assert_eq!(rt; along(alloc, &plan, none, &[base, left, right, app]), ("results", 0));
+    assert_eq!(rt; along(alloc, &plan, none, &[base, right, left, app]), ("results", 0));
+    assert_eq!(rt; along(alloc, &plan, none, &[app]), ("not ready", 0));
+    assert_eq!(rt; along(alloc, &plan, none, &[base, left, base, right, app]), ("not ready", 2));
+    assert_eq!(rt; along(alloc, &plan, none, &[base, NodeId(4)]), ("not ready", 1));
+    assert_eq!(rt; along(alloc, &plan, none, &[base, left, right, app, app]), ("not ready", 4));
+    assert_eq!(rt; along(alloc, &plan, none, &[base, left]), ("ends", 2));
+    assert_eq!(rt; along(alloc, &plan, right.0, &[base, right, left, app]), ("fault", 2));
+    assert_eq!(rt; along(alloc, &plan, right.0, &[base, right]), ("ends", 2));
+    Ok(())
 }
 
 #[test]
@@ -189,6 +237,8 @@ fn an_empty_plan(rt: HostRuntime) -> Result<(), Fail> {
     let plan = plan(alloc, 0, &[])?;
     assert!(rt; falls(&plan));
     assert_eq!(rt; run_serial(alloc, &plan, &Trail)?.len(), 0);
+    assert_eq!(rt; along(alloc, &plan, 0, &[]), ("results", 0));
+    assert_eq!(rt; along(alloc, &plan, 0, &[NodeId(0)]), ("not ready", 0));
     Ok(())
 }
 
