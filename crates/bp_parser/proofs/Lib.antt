@@ -1,0 +1,3 @@
+mod Firsts
+mod OneTree
+pub mod OneMeaning

@@ -1,0 +1,14 @@
+//! The parser: reads the tokens of a file as its tree.
+//!
+//! In flow the text and its tokens, comments among them; out flows the tree, or the first fault.
+//! It is measured by `specs/Meaning.antt`: the tokens that are no comments spell the tree by the
+//! grammar, and where they spell none, the earliest of three kinds of fault is told.
+#![tactic(auto)]
+
+mod flaw;
+mod law;
+mod tree;
+
+pub use bp_faults::Refusal as ParseError;
+pub use law::{one_fault, one_meaning, one_tree, tree_or_fault};
+pub use tree::{Def, EntryExpr, Expr, FileTree, MapExpr};
