@@ -1,3 +1,6 @@
 mod Firsts
 mod OneTree
 pub mod OneMeaning
+mod Language
+mod Runs
+mod FirstFlaw

@@ -4,7 +4,6 @@ use Rattle.std.proofs.lemmas.Bool.{cases_order, cases_lt}
 use Rattle.std.proofs.lemmas.List.{take-take}
 use Rattle.bp_faults.specs.declared.fault.Fault.{Fault}
 use Rattle.bp_faults.specs.declared.place.Place.{Place}
-use Rattle.bp_lexer.specs.declared.token.Punct.TheVariants.{OpenBrace, OpenBracket}
 use Rattle.bp_lexer.specs.declared.token.Token.{Token}
 use Rattle.bp_lexer.specs.declared.token.TokenKind.{TokenKind}
 use Rattle.bp_lexer.specs.declared.token.TokenKind.TheVariants.{Ident, Punct as Mark}
@@ -42,7 +41,7 @@ one_tree ws a b s t =
     λ i. record { file = file i; defs = defs i }
 
 -- a word that stands at k
-in_range : (ws rest : List Word) (w : Word) (k : ℕ) → drop k ws ≡ w ∷ rest → k < length ws
+pub in_range : (ws rest : List Word) (w : Word) (k : ℕ) → drop k ws ≡ w ∷ rest → k < length ws
 in_range ws rest w k is = omega (arith, ap length is, length-drop k ws)
 
 -- the three kinds exclude each other at one word
@@ -52,14 +51,14 @@ unexpected_apart ws k below expected f = f.word below expected
 
 bracket_or_name : (ws : List Word) (k : ℕ) → IsTooNested ws k → IsDuplicate ws k → ⊥
 bracket_or_name ws k f g =
-    let e = same_head f.bracket (record { kind = Ident; at = g.place; text = g.name }) (drop (k + 1) ws) (drop (k + 1) ws) (sym f.at ∙ g.at) in
+    let e = same_head f.bracket (record { kind = Ident; at = g.repeated.place; text = g.repeated.name }) (drop (k + 1) ws) (drop (k + 1) ws) (sym f.at ∙ g.repeated.at) in
     true_false (sym f.opening ∙ ap (λ (w : Word). opens w.kind) e.0)
 
-nested_range : (ws : List Word) (k : ℕ) → IsTooNested ws k → k < length ws
+pub nested_range : (ws : List Word) (k : ℕ) → IsTooNested ws k → k < length ws
 nested_range ws k f = in_range ws (drop (k + 1) ws) f.bracket k f.at
 
-duplicate_range : (ws : List Word) (k : ℕ) → IsDuplicate ws k → k < length ws
-duplicate_range ws k f = in_range ws (drop (k + 1) ws) (record { kind = Ident; at = f.place; text = f.name }) k f.at
+pub duplicate_range : (ws : List Word) (k : ℕ) → IsDuplicate ws k → k < length ws
+duplicate_range ws k f = in_range ws (drop (k + 1) ws) (record { kind = Ident; at = f.repeated.place; text = f.repeated.name }) k f.repeated.at
 
 one_kind : (ws : List Word) (a b : Flaw) → index_of a ≡ index_of b → IsFlaw ws a → IsFlaw ws b → a ≡ b
 one_kind ws (Unexpected j) (Unexpected k) same f g = ap Unexpected same

@@ -52,8 +52,8 @@ names_of no_entry = []
 names_of (entry_and name at x es) = name ∷ names_of es
 
 -- A name that its map already has: behind the map's brace stand entries, each with a comma behind it, one of
--- them with the name, and then the name. The words up to it, itself included, begin a file's.
-pub record IsDuplicate (ws : List Word) (k : ℕ) : Type 0 where
+-- them with the name, and then the name.
+pub record IsRepeated (ws : List Word) (k : ℕ) : Type 0 where
   pub brace : ℕ
   pub inner : List Word
   pub opened : IsMark OpenBrace (drop brace ws) inner
@@ -63,6 +63,10 @@ pub record IsDuplicate (ws : List Word) (k : ℕ) : Type 0 where
   pub place : Place
   pub at : IsWord Ident place name (drop k ws) (drop (k + 1) ws)
   pub again : Contains (names_of before) name
+
+-- Such a name. The words up to it, itself included, begin a file's.
+pub record IsDuplicate (ws : List Word) (k : ℕ) : Type 0 where
+  pub repeated : IsRepeated ws k
   pub expected : BeginsAFile (take (k + 1) ws)
 
 -- there is such a flaw

@@ -1,6 +1,6 @@
 -- What may come next, word by word. The functions that read say by it how far they came. It stands in
 -- contracts of private functions alone.
-use Rattle.std.specs.Prelude.{◌≡◌, ℕ, suc, ◌+◌, ◌==◌, Bool, true, false, List, [], ◌∷◌, ◌++◌, Option, Some, None, drop, if◌then◌else◌}
+use Rattle.std.specs.Prelude.{◌≡◌, ℕ, suc, ◌+◌, ◌==◌, Bool, true, false, List, [], ◌∷◌, ◌++◌, Option, Some, None, ⊤, drop, if◌then◌else◌}
 use Rattle.std.specs.List.{list_any}
 use Rattle.std.specs.Str.{bytes_eq}
 use Rattle.bp_lexer.specs.declared.token.Punct.TheVariants.{OpenBrace, CloseBrace, OpenBracket, CloseBracket, Colon, Comma, Equals, PlusEquals, Plus}
@@ -8,7 +8,10 @@ use Rattle.bp_lexer.specs.declared.token.TokenKind.{TokenKind}
 use Rattle.bp_lexer.specs.declared.token.TokenKind.TheVariants.{Ident, Int, Quoted, Raw, Punct as Mark}
 use Rattle.bp_parser.specs.declared.flaw.Flaw.{Flaw}
 use Rattle.bp_parser.specs.declared.flaw.Flaw.TheVariants.{Unexpected, TooNested, Duplicate}
+use Rattle.bp_parser.specs.declared.stop.Stop.{Stop}
+use Rattle.bp_parser.specs.declared.stop.Stop.TheVariants.{Bad, OutOfMemory}
 use Rattle.bp_parser.specs.Words.{Word, is_truth}
+use Rattle.bp_parser.specs.Flaws.{IsRepeated}
 
 -- what is expected; a map knows the names that it has
 pub data Part : Type 0 where
@@ -132,3 +135,13 @@ GoesOn ps ws depth at next = (parts : List Part) → depth_of parts ≡ depth �
 -- from `at` on, there is this flaw
 abbrev pub StopsAt : List Part → List Word → ℕ → ℕ → Flaw → Type 0
 StopsAt ps ws at depth flaw = (parts : List Part) → depth_of parts ≡ depth → stuck (drop at ws) at (ps ++ parts) ≡ Some flaw
+
+-- what is known of a flaw beside where it is
+abbrev pub IsKnown : List Word → Flaw → Type 0
+IsKnown ws (Duplicate k) = IsRepeated ws k
+IsKnown ws _ = ⊤
+
+-- why the reading of words stops, which from `at` on are to be these parts
+abbrev pub StopsWith : List Part → List Word → ℕ → ℕ → Stop → Type 0
+StopsWith ps ws at depth (Bad flaw) = StopsAt ps ws at depth flaw × IsKnown ws flaw
+StopsWith ps ws at depth OutOfMemory = ⊤

@@ -7,6 +7,7 @@
 
 mod flaw;
 mod law;
+mod stop;
 mod tree;
 
 pub use bp_faults::Refusal as ParseError;
