@@ -4,3 +4,7 @@ pub mod OneMeaning
 mod Language
 mod Runs
 mod FirstFlaw
+mod TokensAt
+mod Steps
+mod PartsRead
+mod Integers

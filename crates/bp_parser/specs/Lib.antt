@@ -4,3 +4,4 @@ pub mod Grammar
 pub mod Flaws
 pub mod Meaning
 pub mod Machine
+pub mod Reading

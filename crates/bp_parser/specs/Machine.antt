@@ -128,9 +128,9 @@ stuck (w ∷ ws) at parts = go_behind (behind_all parts w.kind w.text) (flaw_at 
 abbrev pub StartsNot : TokenKind → List Word → Type 0
 StartsNot kind ws = (w : Word) (rest : List Word) → ws ≡ w ∷ rest → w.kind ≡ kind → ⊥
 
--- the words from `at` to `next` are what is expected, where depth brackets are open
-abbrev pub GoesOn : List Part → List Word → ℕ → ℕ → ℕ → Type 0
-GoesOn ps ws depth at next = (parts : List Part) → depth_of parts ≡ depth → stuck (drop at ws) at (ps ++ parts) ≡ stuck (drop next ws) next parts
+-- The words from `at` to `next` are what is expected, where depth brackets are open around; behind them `qs` is expected.
+abbrev pub GoesOn : List Part → List Part → List Word → ℕ → ℕ → ℕ → Type 0
+GoesOn ps qs ws depth at next = (parts : List Part) → depth_of parts ≡ depth → stuck (drop at ws) at (ps ++ parts) ≡ stuck (drop next ws) next (qs ++ parts)
 
 -- from `at` on, there is this flaw
 abbrev pub StopsAt : List Part → List Word → ℕ → ℕ → Flaw → Type 0

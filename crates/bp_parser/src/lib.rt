@@ -5,11 +5,20 @@
 //! grammar, and where they spell none, the earliest of three kinds of fault is told.
 #![tactic(auto)]
 
+mod atom;
+mod def;
+mod expr;
+mod file;
 mod flaw;
 mod law;
+mod names;
+
 mod stop;
 mod tree;
+mod words;
 
 pub use bp_faults::Refusal as ParseError;
+pub use file::parse;
 pub use law::{one_fault, one_meaning, one_tree, tree_or_fault};
+
 pub use tree::{Def, EntryExpr, Expr, FileTree, MapExpr};
