@@ -131,10 +131,13 @@ step_found None f ps w ts at e is wrong more found =
       place = ap index_of same ∙ here;
       within = omega arith;
       before = lives ps;
-      here = inl (same ∙ ap Unexpected here, record {
-        word = λ below live. let s = sound_all ps w live.0 live.1 in none_some s.new (sym is ∙ s.next);
-        end = λ whole lang. absurd (omega (arith, whole));
-      });
+      here = inl (
+        same ∙ ap Unexpected here,
+        record {
+          word = λ below live. let s = sound_all ps w live.0 live.1 in none_some s.new (sym is ∙ s.next);
+          end = λ whole lang. absurd (omega (arith, whole));
+        },
+      );
     }
 step_found (Some new) (Some f) ps w ts at e is wrong more found =
     let same : f ≡ e = some_same f e found in
@@ -177,10 +180,13 @@ found_at [] ps at e found =
       place = ap index_of f.0 ∙ here;
       within = omega arith;
       before = lives ps;
-      here = inl (f.0 ∙ ap Unexpected here, record {
-        word = λ below live. absurd (omega (arith, below));
-        end = λ whole lang. f.1 lang;
-      });
+      here = inl (
+        f.0 ∙ ap Unexpected here,
+        record {
+          word = λ below live. absurd (omega (arith, below));
+          end = λ whole lang. f.1 lang;
+        },
+      );
     }
 found_at (w ∷ ts) ps at e found = step_found (behind_all ps w.kind w.text) (flaw_at ps w.kind w.text at) ps w ts at e refl refl (λ new. found_at ts new (at + 1) e) found
 
@@ -330,15 +336,15 @@ too_nested_here ts k f =
     ⊎_elim
     (λ dead. absurd (let e : TooNested k ≡ Unexpected (0 + f.count) = dead.0 in cc))
     (λ w. subst (IsTooNested ts) same (⊎_elim
-        (λ says. record {
-          bracket = w.word;
-          at = w.here;
-          opening = says.1;
-          open_before = omega (arith, depth_before ts f.count w.state w.reached, says.2);
-          expected = begins ts (f.count + 1) w.live;
-        })
-        (λ says. absurd (let e : TooNested k ≡ Duplicate (0 + f.count) = says in cc))
-        w.says))
+    (λ says. record {
+      bracket = w.word;
+      at = w.here;
+      opening = says.1;
+      open_before = omega (arith, depth_before ts f.count w.state w.reached, says.2);
+      expected = begins ts (f.count + 1) w.live;
+    })
+    (λ says. absurd (let e : TooNested k ≡ Duplicate (0 + f.count) = says in cc))
+    w.says))
     f.here
 
 duplicate_here : (ts : List Word) (k : ℕ) (f : Found [] ts 0 (Duplicate k)) → IsRepeated ts k → IsDuplicate ts k

@@ -7,4 +7,5 @@ mod FirstFlaw
 mod TokensAt
 mod Steps
 mod PartsRead
+mod DefsRead
 mod Integers

@@ -74,9 +74,9 @@ one_kind ws (Duplicate j) (Duplicate k) same f g = ap Duplicate same
 one_flaw : (ws : List Word) (a b : Flaw) → IsFirstFlaw ws a → IsFirstFlaw ws b → a ≡ b
 one_flaw ws a b f g =
     ⊎_elim (λ same. one_kind ws a b same f.0 g.0) (λ apart. ⊎_elim
-        (λ before. absurd (g.1 a before f.0))
-        (λ after. absurd (f.1 b after g.0))
-        apart) (cases_order (index_of a) (index_of b))
+    (λ before. absurd (g.1 a before f.0))
+    (λ after. absurd (f.1 b after g.0))
+    apart) (cases_order (index_of a) (index_of b))
 
 pub one_fault : (text : List ℕ) (ws : List Word) (a b : Fault) → IsFirstFault text ws a → IsFirstFault text ws b → a ≡ b
 one_fault text ws a b f g = f.2 ∙ ap (fault_of text ws) (one_flaw ws f.0 g.0 f.1 g.1) ∙ sym g.2

@@ -145,3 +145,11 @@ IsKnown ws _ = ⊤
 abbrev pub StopsWith : List Part → List Word → ℕ → ℕ → Stop → Type 0
 StopsWith ps ws at depth (Bad flaw) = StopsAt ps ws at depth flaw × IsKnown ws flaw
 StopsWith ps ws at depth OutOfMemory = ⊤
+
+-- the same where definitions are expected, and nothing else
+abbrev pub DefsGoOn : List Word → ℕ → ℕ → Type 0
+DefsGoOn ws at next = stuck (drop at ws) at [] ≡ stuck (drop next ws) next []
+
+abbrev pub DefsStopWith : List Word → ℕ → Stop → Type 0
+DefsStopWith ws at (Bad flaw) = (stuck (drop at ws) at [] ≡ Some flaw) × IsKnown ws flaw
+DefsStopWith ws at OutOfMemory = ⊤

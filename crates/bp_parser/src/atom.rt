@@ -38,7 +38,10 @@ pub fn atom(alloc: Global, text: &str, token: Token) -> Result<Option<Expr>, Out
     match token.kind {
         TokenKind::Ident => Ok(Some(truth_or_name(alloc, at, token.text(text))?)),
         TokenKind::Int => Ok(Some(Expr::Int(at, int_of(text, token)))),
-        TokenKind::Quoted | TokenKind::Raw => Ok(Some(Expr::Str(at, value_of(alloc, text, &token)?))),
+        TokenKind::Quoted | TokenKind::Raw => Ok(Some(Expr::Str(
+            at,
+            value_of(alloc, text, &token)?,
+        ))),
         _ => Ok(None),
     }
 }

@@ -1,9 +1,10 @@
-ghost use Rattle.std.specs.Prelude.{◌≡◌, ◌+◌, ◌<◌, ◌≤◌, [], length, drop, IfOk, IfErr, false, not};
+ghost use Rattle.std.specs.Prelude.{◌≡◌, ◌+◌, ◌<◌, ◌≤◌, length, drop, IfOk, IfErr, false};
 ghost use Rattle.bp_lexer.specs.declared.token.TokenKind.TheVariants.{Ident};
+ghost use Rattle.bp_lexer.specs.Meaning.{word_of};
 ghost use Rattle.bp_parser.specs.Trees.{definition_of};
-ghost use Rattle.bp_parser.specs.Words.{all_words, as_word, is_truth};
+ghost use Rattle.bp_parser.specs.Words.{all_words, is_truth};
 ghost use Rattle.bp_parser.specs.Grammar.{SpellsDef};
-ghost use Rattle.bp_parser.specs.Machine.{GoesOn, StopsWith};
+ghost use Rattle.bp_parser.specs.Machine.{DefsGoOn, DefsStopWith};
 ghost use Rattle.bp_parser.specs.Reading.{AreTokens, IsTokenAt};
 
 use crate::expr::{expr_at, map_at};
@@ -25,8 +26,8 @@ fn is_truth(name: &str) -> bool
 fn def_name_at(text: &str, words: &[Token], at: usize) -> Result<Token, Stop>
     requires tokens { AreTokens text.now words.now }
     requires within { at < length words.now }
-    ensures ok { IfOk result (λ t. IsTokenAt text.now words.now at t × (t.kind ≡ Ident) × (is_truth (as_word text.now t).text ≡ false)) }
-    ensures err { IfErr result (StopsWith [] (all_words text.now words.now) at 0) }
+    ensures ok { IfOk result (λ t. IsTokenAt text.now words.now at t × (t.kind ≡ Ident) × (is_truth (word_of text.now t) ≡ false)) }
+    ensures err { IfErr result (DefsStopWith (all_words text.now words.now) at) }
 {
     let name = name_at(text, words, at)?;
     if is_truth(name.text(text)) {
@@ -36,18 +37,13 @@ fn def_name_at(text: &str, words: &[Token], at: usize) -> Result<Token, Stop>
 }
 
 /// The definition that begins at a place, and the place behind it.
-pub fn def_at(
-    alloc: Global,
-    text: &str,
-    words: &[Token],
-    at: usize,
-) -> Result<(Def, usize), Stop>
+pub fn def_at(alloc: Global, text: &str, words: &[Token], at: usize) -> Result<(Def, usize), Stop>
     requires tokens { AreTokens text.now words.now }
     requires within { at < length words.now }
     ensures spells { IfOk result (λ x. SpellsDef (definition_of x.0) (drop at (all_words text.now words.now)) (drop x.1 (all_words text.now words.now))) }
     ensures further { IfOk result (λ x. (at < x.1) × (x.1 ≤ length words.now)) }
-    ensures goes_on { IfOk result (λ x. GoesOn [] [] (all_words text.now words.now) 0 at x.1) }
-    ensures stops { IfErr result (StopsWith [] (all_words text.now words.now) at 0) }
+    ensures goes_on { IfOk result (λ x. DefsGoOn (all_words text.now words.now) at x.1) }
+    ensures stops { IfErr result (DefsStopWith (all_words text.now words.now) at) }
 {
     let token = def_name_at(text, words, at)?;
     let name = Text::from_str(alloc, token.text(text))?;

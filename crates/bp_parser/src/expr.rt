@@ -35,22 +35,14 @@ fn check_depth(at: usize, depth: usize) -> Result<(), Stop>
     }
 }
 
-fn sum(
-    alloc: Global,
-    first: Expr,
-    terms: Vec<(Place, Expr)>,
-) -> Result<Expr, OutOfMemory>
+fn sum(alloc: Global, first: Expr, terms: Vec<(Place, Expr)>) -> Result<Expr, OutOfMemory>
     ensures { IfOk result (λ expr. tree_of expr ≡ Sum (tree_of first) (terms_then (map term_of terms.items) no_term)) }
 {
     Ok(Expr::Sum(Box::new(alloc, first)?, terms))
 }
 
 // A first term and others, or the first alone.
-fn sum_of(
-    alloc: Global,
-    first: Expr,
-    terms: Vec<(Place, Expr)>,
-) -> Result<Expr, OutOfMemory>
+fn sum_of(alloc: Global, first: Expr, terms: Vec<(Place, Expr)>) -> Result<Expr, OutOfMemory>
     ensures { IfOk result (λ expr. tree_of expr ≡ sum_of (tree_of first) (terms_then (map term_of terms.items) no_term)) }
 {
     if terms.is_empty() {
@@ -60,12 +52,7 @@ fn sum_of(
 }
 
 // The entry of a name and its value.
-fn entry(
-    alloc: Global,
-    text: &str,
-    name: Token,
-    value: Expr,
-) -> Result<EntryExpr, OutOfMemory>
+fn entry(alloc: Global, text: &str, name: Token, value: Expr) -> Result<EntryExpr, OutOfMemory>
     requires { IsToken name.place.file text.now name }
     ensures { IfOk result (λ entry. entry_of entry ≡ record { name = word_of text.now name; at = name.place; value = tree_of value }) }
 {

@@ -3,7 +3,7 @@ ghost use Rattle.bp_faults.specs.Answers.{Tells};
 ghost use Rattle.bp_parser.specs.Trees.{definition_of, tree_view};
 ghost use Rattle.bp_parser.specs.Words.{all_words};
 ghost use Rattle.bp_parser.specs.Grammar.{SpellsFile};
-ghost use Rattle.bp_parser.specs.Machine.{stuck, StopsWith};
+ghost use Rattle.bp_parser.specs.Machine.{stuck, DefsStopWith};
 ghost use Rattle.bp_parser.specs.Meaning.{AreTokensOf, ParseMeans, fault_of, file_of, place_of, subject_of};
 ghost use Rattle.bp_parser.specs.Reading.{AreTokens};
 
@@ -48,12 +48,7 @@ fn subject_at(
 }
 
 // The fault that a flaw is.
-fn fault_of(
-    alloc: Global,
-    text: &str,
-    words: &[Token],
-    flaw: Flaw,
-) -> Result<Fault, OutOfMemory>
+fn fault_of(alloc: Global, text: &str, words: &[Token], flaw: Flaw) -> Result<Fault, OutOfMemory>
     requires tokens { AreTokens text.now words.now }
     requires short { length text.now ≤ 2 ^ 20 }
     ensures { IfOk result (λ fault. fault ≡ fault_of text.now (all_words text.now words.now) flaw) }
@@ -79,7 +74,7 @@ fn defs(alloc: Global, text: &str, words: &[Token]) -> Result<Vec<Def>, Stop>
     requires { AreTokens text.now words.now }
     ensures spells { IfOk result (λ defs. SpellsFile (map definition_of defs.items) (all_words text.now words.now)) }
     ensures whole { IfOk result (λ defs. stuck (all_words text.now words.now) 0 [] ≡ None) }
-    ensures stops { IfErr result (StopsWith [] (all_words text.now words.now) 0 0) }
+    ensures stops { IfErr result (DefsStopWith (all_words text.now words.now) 0) }
 {
     let mut defs = Vec::new(alloc);
     let mut next = 0;

@@ -12,7 +12,6 @@ mod file;
 mod flaw;
 mod law;
 mod names;
-
 mod stop;
 mod tree;
 mod words;
@@ -20,5 +19,4 @@ mod words;
 pub use bp_faults::Refusal as ParseError;
 pub use file::parse;
 pub use law::{one_fault, one_meaning, one_tree, tree_or_fault};
-
 pub use tree::{Def, EntryExpr, Expr, FileTree, MapExpr};

@@ -166,11 +166,12 @@ map_at-returns-then-not-branch-clause-stops t c =
     let ws = all_words text c.args.words.now in
     let name = c.in_ok-name.name in
     let here = ident_here text c.args.words.now c.reading.next name c.in_ok-name.ensures.ok.0 c.in_ok-name.ensures.ok.1 in
-    let again = sym (c.reading.invariant.known (word_of text name)) ∙ ap (knows c.reading.known) (sym c.text.ensures) ∙ known_from _ _ c.in_ok-learn.ensures.new c.if-not-branch.true in
-    ((λ parts deep.
-    c.reading.invariant.goes_on parts deep ∙
-    name_again ws c.reading.next name.place (word_of text name) (names_in c.reading.entries.items) parts here again),
-    repeated ws (drop (c.args.at + 1) ws) c.args.at c.reading.next c.reading.entries.items name.place (word_of text name) (c.reading.invariant.opened.here text) (c.reading.invariant.first (c.reading-test.ensures.other refl) no_entry (drop c.reading.next ws) refl) here again)
+    let again = sym (c.reading.invariant.known (word_of text name)) ∙ ap (knows c.reading.known) (sym c.text.ensures) ∙ known_from _ _ c.in_ok-learn.ensures.new c.if-not-branch.true in (
+      (λ parts deep.
+          c.reading.invariant.goes_on parts deep ∙
+          name_again ws c.reading.next name.place (word_of text name) (names_in c.reading.entries.items) parts here again),
+      repeated ws (drop (c.args.at + 1) ws) c.args.at c.reading.next c.reading.entries.items name.place (word_of text name) (c.reading.invariant.opened.here text) (c.reading.invariant.first (c.reading-test.ensures.other refl) no_entry (drop c.reading.next ws) refl) here again,
+    )
 
 pub map_at-returns-in_err-expect-clause-stops : goal.map_at-returns-in_err-expect-clause-stops
 map_at-returns-in_err-expect-clause-stops t c =
