@@ -13,6 +13,8 @@ mod flaw;
 mod law;
 mod names;
 mod stop;
+#[cfg(test)]
+mod tests;
 mod tree;
 mod words;
 
