@@ -13,7 +13,7 @@ mod Marks
 mod Cover
 pub mod OneMeaning
 pub mod Boundary
-mod Numbers
+pub mod Numbers
 mod Unescape
 pub mod ListedTokens
 mod Outcome

@@ -19,7 +19,7 @@ own = numerals_by_value _ (search rules)
 no_sign : (b : ℕ) (w : List ℕ) → is_digit b ≡ true → without_leading_sign (b ∷ w) ≡ b ∷ w
 no_sign b w digit = grind (arith, nat_tests)
 
-numeral : (word : List ℕ) → IsForm Int word → IsNumeral 10 (without_leading_sign word)
+pub numeral : (word : List ℕ) → IsForm Int word → IsNumeral 10 (without_leading_sign word)
 numeral word form =
     let int = int_parts word form in
     ⊎_elim

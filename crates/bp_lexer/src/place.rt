@@ -40,17 +40,3 @@ pub fn advance(bytes: &[u8], from: usize, to: usize, place: Place) -> Place
     }
     here
 }
-
-/// The place of the end of a text, which has at most 2^20 bytes.
-pub fn place_of_end(text: &str, file: u32) -> Place
-    requires { length text.now ≤ 2 ^ 20 }
-    ensures { result ≡ place_at file text.now (length text.now) }
-{
-    let bytes = text.as_bytes();
-    let start = Place {
-        file,
-        line: 1,
-        col: 1,
-    };
-    advance(bytes, 0, bytes.len(), start)
-}

@@ -1,0 +1,33 @@
+ghost use Rattle.std.specs.Prelude.{◌≡◌, ◌≤◌, ◌^◌, length};
+ghost use Rattle.bp_lexer.specs.Meaning.{IsToken, word_of};
+ghost use Rattle.bp_lexer.specs.Places.{place_at};
+
+use crate::Token;
+use crate::place::advance;
+use bp_faults::Place;
+
+impl Token {
+    ghost use Rattle.bp_lexer.specs.Meaning.{IsToken, word_of};
+
+    /// The slice of the text that is the token.
+    pub fn text(self, text: &str) -> &str
+        requires { IsToken self.place.file text.now self }
+        ensures { result.now ≡ word_of text.now self }
+    {
+        &text[self.start as usize..self.end as usize]
+    }
+}
+
+/// The place of the end of a text, which has at most 2^20 bytes.
+pub fn place_of_end(text: &str, file: u32) -> Place
+    requires { length text.now ≤ 2 ^ 20 }
+    ensures { result ≡ place_at file text.now (length text.now) }
+{
+    let bytes = text.as_bytes();
+    let start = Place {
+        file,
+        line: 1,
+        col: 1,
+    };
+    advance(bytes, 0, bytes.len(), start)
+}

@@ -1,0 +1,11 @@
+mod Firsts
+mod OneTree
+pub mod OneMeaning
+mod Language
+mod Runs
+mod FirstFlaw
+mod TokensAt
+mod Steps
+mod PartsRead
+mod DefsRead
+mod Integers

@@ -1,0 +1,53 @@
+-- The meaning of a text with its tokens: its tree, or its first fault.
+use Rattle.std.specs.Prelude.{◌≡◌, ℕ, List, [], ◌∷◌, length, map, codes, slice_index_or, Result, Ok, Err}
+use Rattle.bp_faults.specs.Faults.{fault_at, fault_on}
+use Rattle.bp_faults.specs.declared.fault.Fault.{Fault}
+use Rattle.bp_faults.specs.declared.kind.FaultKind.TheVariants as fault
+use Rattle.bp_faults.specs.declared.place.Place.{Place}
+use Rattle.bp_lexer.specs.Meaning.{IsTokenList}
+use Rattle.bp_lexer.specs.Places.{place_at}
+use Rattle.bp_lexer.specs.declared.token.Token.{Token}
+use Rattle.bp_parser.specs.declared.flaw.Flaw.{Flaw}
+use Rattle.bp_parser.specs.declared.flaw.Flaw.TheVariants.{Unexpected, TooNested, Duplicate}
+use Rattle.bp_parser.specs.Trees.{File}
+use Rattle.bp_parser.specs.Words.{Word, words_of}
+use Rattle.bp_parser.specs.Grammar.{SpellsFile}
+use Rattle.bp_parser.specs.Flaws.{IsFlaw, IsFirstFlaw}
+
+-- the tokens are those of the text, as a file
+abbrev pub AreTokensOf : List ℕ → List Token → Type 0
+AreTokensOf text ts = (file : ℕ) × IsTokenList file text ts
+
+-- the file of the first word, and 0 where there is none
+abbrev pub file_of : List Word → ℕ
+file_of [] = 0
+file_of (w ∷ ws) = w.at.file
+
+-- The words spell the tree, and nothing is wrong with them.
+pub record IsTree (ws : List Word) (tree : File) : Type 0 where
+  pub file : tree.file ≡ file_of ws
+  pub spelled : SpellsFile tree.defs ws
+  pub sound : (flaw : Flaw) → IsFlaw ws flaw → ⊥
+
+-- where a word stands; the end is where the text ends
+abbrev pub place_of : List ℕ → List Word → ℕ → Place
+place_of text ws k = slice_index_or (map (λ w. w.at) ws) k (place_at (file_of ws) text (length text))
+
+-- the text of a word, and what the end is called
+abbrev pub subject_of : List Word → ℕ → List ℕ
+subject_of ws k = slice_index_or (map (λ w. w.text) ws) k (codes "end of file")
+
+-- the fault that a flaw is
+abbrev pub fault_of : List ℕ → List Word → Flaw → Fault
+fault_of text ws (Unexpected k) = fault_on fault.Expected (place_of text ws k) (subject_of ws k)
+fault_of text ws (TooNested k) = fault_at fault.TooNested (place_of text ws k)
+fault_of text ws (Duplicate k) = fault_on fault.DuplicateProperty (place_of text ws k) (subject_of ws k)
+
+-- The fault is that of the first flaw.
+abbrev pub IsFirstFault : List ℕ → List Word → Fault → Type 0
+IsFirstFault text ws fault = (flaw : Flaw) × IsFirstFlaw ws flaw × (fault ≡ fault_of text ws flaw)
+
+-- What a text with its tokens means.
+abbrev pub ParseMeans : List ℕ → List Token → Result File Fault → Type 0
+ParseMeans text ts (Ok tree) = IsTree (words_of text ts) tree
+ParseMeans text ts (Err fault) = IsFirstFault text (words_of text ts) fault

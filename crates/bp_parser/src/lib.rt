@@ -1,0 +1,24 @@
+//! The parser: reads the tokens of a file as its tree.
+//!
+//! In flow the text and its tokens, comments among them; out flows the tree, or the first fault.
+//! It is measured by `specs/Meaning.antt`: the tokens that are no comments spell the tree by the
+//! grammar, and where they spell none, the earliest of three kinds of fault is told.
+#![tactic(auto)]
+
+mod atom;
+mod def;
+mod expr;
+mod file;
+mod flaw;
+mod law;
+mod names;
+mod stop;
+#[cfg(test)]
+mod tests;
+mod tree;
+mod words;
+
+pub use bp_faults::Refusal as ParseError;
+pub use file::parse;
+pub use law::{one_fault, one_meaning, one_tree, tree_or_fault};
+pub use tree::{Def, EntryExpr, Expr, FileTree, MapExpr};
