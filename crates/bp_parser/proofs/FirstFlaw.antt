@@ -100,7 +100,7 @@ more_dead ps w ts n new is f = record {
   end = λ whole lang. f.end (omega (arith, whole)) (next_lang ps new w ts is lang);
 }
 
-before_lang : (ps new : List Part) (w : Word) (ts : List Word) → behind_all ps w.kind w.text ≡ Some new → Lang new ts → Lang ps (w ∷ ts)
+pub before_lang : (ps new : List Part) (w : Word) (ts : List Word) → behind_all ps w.kind w.text ≡ Some new → Lang new ts → Lang ps (w ∷ ts)
 before_lang ps new w ts is lang = subst (λ o. CompletesAll o ps w ts) is (complete_all ps w.kind w.at w.text ts) lang
 
 more_live : (ps : List Part) (w : Word) (ts : List Word) (n : ℕ) (new : List Part) → behind_all ps w.kind w.text ≡ Some new → Lives new (take n ts) → Lives ps (take (n + 1) (w ∷ ts))

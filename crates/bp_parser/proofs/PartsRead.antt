@@ -102,7 +102,7 @@ new_from new true is fresh = absurd (true_false (sym fresh ∙ is))
 new_from new false is fresh = refl
 
 -- a name again
-same_bytes : (x y : List ℕ) → bytes_eq x y ≡ true → x ≡ y
+pub same_bytes : (x y : List ℕ) → bytes_eq x y ≡ true → x ≡ y
 same_bytes x y e = search (rules, bytes_eq-Decides)
 
 pub repeated : (ws inner : List Word) (brace k : ℕ) (es : List EntryExpr) (place : Place) (name : List ℕ) → IsMark OpenBrace (drop brace ws) inner → SpellsFirst (entries_then (map entry_of es) no_entry) inner (drop k ws) → IsWord Ident place name (drop k ws) (drop (k + 1) ws) → has_name name (names_in es) ≡ true → IsRepeated ws k
