@@ -1,7 +1,7 @@
 -- What the parts that are expected stand for. A word is expected where it begins them, and only there.
 use Rattle.std.specs.Prelude.{◌⊎◌, cond}
-use Rattle.std.proofs.Common.{◌≡◌, ℕ, List, [], ◌∷◌, ◌++◌, Bool, true, false, Option, Some, None, sym, refl, ap, ◌∙◌, subst, inl, inr, ⊎_elim}
-use Rattle.std.proofs.lemmas.Bool.{cases_Bool, cond-true, cond-false}
+use Rattle.std.proofs.Common.{◌≡◌, ℕ, List, [], ◌∷◌, ◌++◌, Bool, true, false, Option, Some, None, sym, refl, ap, ◌∙◌, subst, inl, inr}
+use Rattle.std.proofs.lemmas.Bool.{cond-true, cond-false}
 use Rattle.bp_faults.specs.Faults.{file_start}
 use Rattle.bp_faults.specs.declared.place.Place.{Place}
 use Rattle.bp_lexer.specs.declared.token.Punct.{Punct}
@@ -13,9 +13,9 @@ use Rattle.bp_parser.specs.declared.flaw.Flaw.{Flaw}
 use Rattle.bp_parser.specs.declared.flaw.Flaw.TheVariants.{Unexpected}
 use Rattle.bp_parser.specs.Trees.{Atom, Str, Tree, Leaf, Items, Body, Sum, Trees, no_tree, tree_and, Terms, no_term, term_and, Entries, no_entry, entry_and, Definition, Assigns, Extends, Declares}
 use Rattle.bp_parser.specs.Words.{Word, is_truth, atom_of}
-use Rattle.bp_parser.specs.Grammar.{IsWord, IsMarkAt, IsMark, IsPrim, HasTerm, Spells, SpellsTerms, SpellsItems, SpellsMoreItems, SpellsEntries, SpellsMoreEntries, SpellsDef, SpellsFile}
+use Rattle.bp_parser.specs.Grammar.{IsWord, IsMarkAt, IsMark, IsPrim, Spells, SpellsTerms, SpellsItems, SpellsMoreItems, SpellsEntries, SpellsMoreEntries, SpellsDef, SpellsFile}
 use Rattle.bp_parser.specs.Machine.{Part, an_expr, more_terms, items, more_items, a_colon, entries, more_entries, a_value, behind, with_rest, is_plus, begin_def, behind_all, at_end, StartsNot}
-use Rattle.bp_parser.proofs.Firsts.{same_head, nil_cons, none_some, some_same, true_false, starts_not, none_starts, mark_not, first_word, no_plus_items, no_plus_entries, no_plus_file}
+use Rattle.bp_parser.proofs.Firsts.{same_head, nil_cons, none_some, some_same, true_false, starts_not, none_starts, first_word, no_plus_items, no_plus_entries, no_plus_file}
 
 -- { "+" Prim }, and no plus behind
 abbrev pub SpelledTerms : List Word → List Word → Type 0

@@ -1,25 +1,22 @@
 -- A map's names are those of the entries behind its brace: where a name has one again, it is repeated.
 use Rattle.std.specs.Prelude.{◌==◌, cond}
 use Rattle.std.specs.List.{Contains}
-use Rattle.std.specs.Str.{bytes_eq}
-use Rattle.std.proofs.Common.{◌≡◌, ℕ, suc, ◌+◌, length, drop, arith, List, [], ◌∷◌, ◌++◌, Bool, true, false, Option, Some, None, sym, refl, ap, ◌∙◌, subst, inl, inr, ⊎_elim}
-use Rattle.std.proofs.lemmas.Bool.{cases_Bool, cond-true, cond-false}
+use Rattle.std.proofs.Common.{◌≡◌, ℕ, ◌+◌, drop, arith, List, [], ◌∷◌, ◌++◌, Bool, true, false, Option, Some, None, sym, refl, ap, ◌∙◌, subst, inl, inr}
 use Rattle.std.proofs.lemmas.List.{drop-drop}
 use Rattle.std.proofs.lemmas.Map.Views.{Contains-from_any}
 use Rattle.bp_faults.specs.declared.place.Place.{Place}
-use Rattle.bp_lexer.specs.declared.token.Punct.{Punct}
 use Rattle.bp_lexer.specs.declared.token.Punct.TheVariants.{OpenBrace, CloseBrace, OpenBracket, CloseBracket, Colon, Comma, Equals, PlusEquals, Plus}
 use Rattle.bp_lexer.specs.declared.token.TokenKind.{TokenKind}
 use Rattle.bp_lexer.specs.declared.token.TokenKind.TheVariants.{Ident, Int, Quoted, Raw, Punct as Mark}
 use Rattle.bp_parser.specs.declared.flaw.Flaw.{Flaw}
 use Rattle.bp_parser.specs.declared.flaw.Flaw.TheVariants.{Unexpected, TooNested, Duplicate}
-use Rattle.bp_parser.specs.Trees.{Tree, Trees, no_tree, Terms, no_term, term_and, Entries, no_entry, entry_and}
+use Rattle.bp_parser.specs.Trees.{Tree, no_tree, no_term, term_and, Entries, no_entry, entry_and}
 use Rattle.bp_parser.specs.Words.{Word, is_truth}
 use Rattle.bp_parser.specs.Grammar.{IsWord, IsMarkAt, IsMark, Spells}
 use Rattle.bp_parser.specs.Flaws.{SpellsFirst, names_of, IsRepeated}
-use Rattle.bp_parser.specs.Machine.{Part, an_expr, more_terms, items, more_items, a_colon, entries, more_entries, a_value, is_plus, begin_def, behind_all, at_end, go_behind, stuck, flaw_at, name_flaw, bracket_flaw, depth_of, has_name, StartsNot}
-use Rattle.bp_parser.proofs.Firsts.{none_some, some_same, starts_not, none_starts, true_false}
-use Rattle.bp_parser.proofs.Language.{Spelled, SpelledExpr, SpelledTerms, leaf_expr, list_expr, map_expr, item, after_comma_items, after_comma_entries, join_expr, plus_kind, not_plus}
+use Rattle.bp_parser.specs.Machine.{Part, an_expr, more_terms, items, more_items, a_colon, entries, more_entries, a_value, is_plus, begin_def, behind_all, at_end, go_behind, stuck, flaw_at, name_flaw, depth_of, has_name}
+use Rattle.bp_parser.proofs.Firsts.{none_some, some_same, starts_not, true_false}
+use Rattle.bp_parser.proofs.Language.{Spelled, SpelledExpr, leaf_expr, list_expr, map_expr, item, after_comma_items, after_comma_entries, join_expr, plus_kind}
 use Rattle.bp_parser.proofs.PartsRead.{same_bytes}
 
 -- behind a map's brace stand entries with these names, each with a comma behind it, and then `here`
@@ -120,9 +117,10 @@ track_all (a_colon ∷ ps) whole (Mark Colon) at n ws i here track = track ws (a
 track_all (a_colon ∷ ps) whole _ at n ws i here track = tt
 track_all (entries names ∷ ps) whole (Mark CloseBrace) at n ws i here track = track.1 ws (no_entry, (at, (n, refl)))
 track_all (entries names ∷ ps) whole Ident at n ws i here track = λ colon c value s.
-    let x = join_expr colon value s in
-    ((λ next comma. in_map_more whole names n at ws colon value next track.0 c s comma),
-    λ rest more. track.1 rest (entry_and n at x.0 more.0, (ws, colon, value, refl, c, x.1, more.1)))
+    let x = join_expr colon value s in (
+      (λ next comma. in_map_more whole names n at ws colon value next track.0 c s comma),
+      λ rest more. track.1 rest (entry_and n at x.0 more.0, (ws, colon, value, refl, c, x.1, more.1)),
+    )
 track_all (entries names ∷ ps) whole _ at n ws i here track = tt
 track_all (more_entries names ∷ ps) whole (Mark CloseBrace) at n ws i here track = track.1 ws (no_entry, inl (at, (n, refl)))
 track_all (more_entries names ∷ ps) whole (Mark Comma) at n ws i here track = (track.0 ws (at, (n, refl)), λ rest s. track.1 rest (s.0, after_comma_entries s.0 _ ws rest (at, (n, refl)) s.1))
@@ -140,17 +138,20 @@ IsAgain _ whole i = Unit {0}
 
 again : (b : Bool) (names : List (List ℕ)) (whole : List Word) (at : Place) (n : List ℕ) (ws : List Word) (i : ℕ) → has_name n names ≡ b → drop i whole ≡ record { kind = Ident; at = at; text = n } ∷ ws → drop (i + 1) whole ≡ ws → InMap whole names (record { kind = Ident; at = at; text = n } ∷ ws) → IsAgain (cond b (Some (Duplicate i)) None) whole i
 again false names whole at n ws i has here next m = tt
-again true names whole at n ws i has here next m = (refl, record {
-  brace = m.brace;
-  inner = m.inner;
-  opened = m.opened;
-  before = m.before;
-  spelled = subst (SpellsFirst m.before m.inner) (sym here) m.spelled;
-  name = n;
-  place = at;
-  at = here ∙ ap (λ l. record { kind = Ident; at = at; text = n } ∷ l) (sym next);
-  again = subst (λ l. Contains l n) m.known (Contains-from_any same_bytes n names has);
-})
+again true names whole at n ws i has here next m = (
+  refl,
+  record {
+    brace = m.brace;
+    inner = m.inner;
+    opened = m.opened;
+    before = m.before;
+    spelled = subst (SpellsFirst m.before m.inner) (sym here) m.spelled;
+    name = n;
+    place = at;
+    at = here ∙ ap (λ l. record { kind = Ident; at = at; text = n } ∷ l) (sym next);
+    again = subst (λ l. Contains l n) m.known (Contains-from_any same_bytes n names has);
+  },
+)
 
 name_again : (ps : List Part) (whole : List Word) (at : Place) (n : List ℕ) (ws : List Word) (i : ℕ) → drop i whole ≡ record { kind = Ident; at = at; text = n } ∷ ws → drop (i + 1) whole ≡ ws → Track ps whole (record { kind = Ident; at = at; text = n } ∷ ws) → IsAgain (name_flaw ps n i) whole i
 name_again (more_terms ∷ ps) whole at n ws i here next track = name_again ps whole at n ws i here next (past_sum ps whole Ident at n ws (λ e. cc) track)
