@@ -1,5 +1,5 @@
 -- What the functions that read definitions and files owe, on lists.
-use Rattle.std.proofs.Common.{◌≡◌, ℕ, zero, suc, ◌+◌, ◌<◌, length, drop, take, get_or, arith, length-drop, List, [], ◌∷◌, ◌++◌, map, filter, Bool, true, false, not, Option, Some, None, sym, refl, ap, ◌∙◌, subst}
+use Rattle.std.proofs.Common.{◌≡◌, ℕ, zero, suc, ◌+◌, ◌<◌, length, drop, get_or, arith, length-drop, List, [], ◌∷◌, ◌++◌, map, true, not, Some, None, sym, refl, ap, ◌∙◌, subst}
 use Rattle.std.proofs.lemmas.Bool.{cond-false}
 use Rattle.std.proofs.lemmas.List.{length-map}
 use Rattle.std.proofs.lemmas.List.Elements.{All-filter}
@@ -7,19 +7,18 @@ use Rattle.bp_faults.specs.declared.place.Place.{Place}
 use Rattle.bp_lexer.specs.declared.token.Punct.{Punct}
 use Rattle.bp_lexer.specs.declared.token.Punct.TheVariants.{OpenBrace, Equals, PlusEquals}
 use Rattle.bp_lexer.specs.declared.token.Token.{Token}
-use Rattle.bp_lexer.specs.declared.token.TokenKind.{TokenKind}
-use Rattle.bp_lexer.specs.declared.token.TokenKind.TheVariants.{Ident, Punct as Mark}
-use Rattle.bp_lexer.specs.Meaning.{IsToken, IsTokenList}
+use Rattle.bp_lexer.specs.declared.token.TokenKind.TheVariants.{Ident}
+use Rattle.bp_lexer.specs.Meaning.{IsToken}
 use Rattle.bp_lexer.proofs.ListedTokens.{token_at, token_here}
 use Rattle.bp_parser.specs.declared.flaw.Flaw.{Flaw}
 use Rattle.bp_parser.specs.declared.flaw.Flaw.TheVariants.{Unexpected}
 use Rattle.bp_parser.specs.declared.stop.Stop.{Stop}
 use Rattle.bp_parser.specs.declared.stop.Stop.TheVariants.{Bad, OutOfMemory}
-use Rattle.bp_parser.specs.Trees.{Definition, File}
+use Rattle.bp_parser.specs.Trees.{Definition}
 use Rattle.bp_parser.specs.Words.{Word, as_word, all_words, is_comment, without_comments, is_truth}
-use Rattle.bp_parser.specs.Grammar.{IsWord, IsMark, IsDefName, SpellsFile}
+use Rattle.bp_parser.specs.Grammar.{IsMark, IsDefName, SpellsFile}
 use Rattle.bp_parser.specs.Flaws.{IsFirstFlaw}
-use Rattle.bp_parser.specs.Machine.{Part, an_expr, entries, a_value, behind_all, begin_def, stuck, depth_of, StartsNot, StopsWith, DefsGoOn, DefsStopWith}
+use Rattle.bp_parser.specs.Machine.{Part, an_expr, entries, a_value, stuck, StartsNot, StopsWith, DefsGoOn, DefsStopWith}
 use Rattle.bp_parser.specs.Meaning.{AreTokensOf, IsTree, file_of}
 use Rattle.bp_parser.specs.Reading.{AreTokens, IsTokenAt}
 use Rattle.bp_parser.proofs.Firsts.{same_head, nil_cons}

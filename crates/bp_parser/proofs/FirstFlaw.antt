@@ -1,24 +1,21 @@
 -- Where the words leave what is expected, there is the first flaw of the grammar.
-use Rattle.std.specs.Prelude.{◌==◌, ◌⊎◌, cond}
-use Rattle.std.specs.List.{list_any, Contains}
-use Rattle.std.specs.Str.{bytes_eq}
+use Rattle.std.specs.Prelude.{◌==◌, ◌⊎◌}
 use Rattle.std.specs.Cmp.Lexicographic.{nat_list_eq_equiv}
-use Rattle.std.proofs.Common.{◌≡◌, ℕ, zero, suc, ◌+◌, ◌<◌, ◌≤◌, length, take, drop, arith, length-drop, List, [], ◌∷◌, ◌++◌, Bool, true, false, Option, Some, None, sym, refl, ap, ◌∙◌, subst, inl, inr, ⊎_elim}
+use Rattle.std.proofs.Common.{◌≡◌, ℕ, zero, suc, ◌+◌, ◌<◌, ◌≤◌, length, take, drop, arith, length-drop, List, [], ◌∷◌, ◌++◌, true, Option, Some, None, sym, refl, ap, ◌∙◌, subst, inl, inr, ⊎_elim}
 use Rattle.std.proofs.lemmas.Bool.{cases_Bool, cond-true, cond-false, eqb-true, eq-eqb}
 use Rattle.std.proofs.lemmas.Map.Views.{list_any-from_Contains}
-use Rattle.bp_faults.specs.declared.place.Place.{Place}
 use Rattle.bp_lexer.specs.declared.token.Punct.TheVariants.{OpenBrace, OpenBracket}
 use Rattle.bp_lexer.specs.declared.token.TokenKind.{TokenKind}
 use Rattle.bp_lexer.specs.declared.token.TokenKind.TheVariants.{Ident, Punct as Mark}
 use Rattle.bp_parser.specs.declared.flaw.Flaw.{Flaw}
 use Rattle.bp_parser.specs.declared.flaw.Flaw.TheVariants.{Unexpected, TooNested, Duplicate}
 use Rattle.bp_parser.specs.Trees.{Definition}
-use Rattle.bp_parser.specs.Words.{Word, is_truth}
+use Rattle.bp_parser.specs.Words.{Word}
 use Rattle.bp_parser.specs.Grammar.{SpellsFile}
 use Rattle.bp_parser.specs.Flaws.{BeginsAFile, IsUnexpected, IsTooNested, IsRepeated, IsDuplicate, IsFlaw, IsFirstFlaw, index_of, names_of, opens}
-use Rattle.bp_parser.specs.Machine.{Part, an_expr, more_terms, items, more_items, a_colon, entries, more_entries, a_value, is_plus, behind_all, at_end, go_behind, stuck, flaw_at, name_flaw, bracket_flaw, has_name, depth_of, IsKnown}
+use Rattle.bp_parser.specs.Machine.{Part, an_expr, more_terms, items, more_items, a_colon, entries, more_entries, a_value, behind_all, go_behind, stuck, flaw_at, name_flaw, bracket_flaw, has_name, depth_of, IsKnown}
 use Rattle.bp_parser.proofs.Firsts.{same_head, none_some, some_same}
-use Rattle.bp_parser.proofs.Language.{Lang, sound_all, CompletesAll, complete_all, spelling_all, ends, no_plus_next}
+use Rattle.bp_parser.proofs.Language.{Lang, sound_all, CompletesAll, complete_all, spelling_all, ends}
 use Rattle.bp_parser.proofs.Runs.{Reaches, stay, also, shrinks, one_state, first, run_first, depth_before}
 use Rattle.bp_parser.proofs.OneMeaning.{shorter, tree_or_unexpected, in_range}
 
@@ -100,7 +97,7 @@ more_dead ps w ts n new is f = record {
   end = λ whole lang. f.end (omega (arith, whole)) (next_lang ps new w ts is lang);
 }
 
-before_lang : (ps new : List Part) (w : Word) (ts : List Word) → behind_all ps w.kind w.text ≡ Some new → Lang new ts → Lang ps (w ∷ ts)
+pub before_lang : (ps new : List Part) (w : Word) (ts : List Word) → behind_all ps w.kind w.text ≡ Some new → Lang new ts → Lang ps (w ∷ ts)
 before_lang ps new w ts is lang = subst (λ o. CompletesAll o ps w ts) is (complete_all ps w.kind w.at w.text ts) lang
 
 more_live : (ps : List Part) (w : Word) (ts : List Word) (n : ℕ) (new : List Part) → behind_all ps w.kind w.text ≡ Some new → Lives new (take n ts) → Lives ps (take (n + 1) (w ∷ ts))

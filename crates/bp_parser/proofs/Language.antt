@@ -1,7 +1,7 @@
 -- What the parts that are expected stand for. A word is expected where it begins them, and only there.
 use Rattle.std.specs.Prelude.{◌⊎◌, cond}
-use Rattle.std.proofs.Common.{◌≡◌, ℕ, List, [], ◌∷◌, ◌++◌, Bool, true, false, Option, Some, None, sym, refl, ap, ◌∙◌, subst, inl, inr, ⊎_elim}
-use Rattle.std.proofs.lemmas.Bool.{cases_Bool, cond-true, cond-false}
+use Rattle.std.proofs.Common.{◌≡◌, ℕ, List, [], ◌∷◌, ◌++◌, Bool, true, false, Option, Some, None, sym, refl, ap, ◌∙◌, subst, inl, inr}
+use Rattle.std.proofs.lemmas.Bool.{cond-true, cond-false}
 use Rattle.bp_faults.specs.Faults.{file_start}
 use Rattle.bp_faults.specs.declared.place.Place.{Place}
 use Rattle.bp_lexer.specs.declared.token.Punct.{Punct}
@@ -13,9 +13,9 @@ use Rattle.bp_parser.specs.declared.flaw.Flaw.{Flaw}
 use Rattle.bp_parser.specs.declared.flaw.Flaw.TheVariants.{Unexpected}
 use Rattle.bp_parser.specs.Trees.{Atom, Str, Tree, Leaf, Items, Body, Sum, Trees, no_tree, tree_and, Terms, no_term, term_and, Entries, no_entry, entry_and, Definition, Assigns, Extends, Declares}
 use Rattle.bp_parser.specs.Words.{Word, is_truth, atom_of}
-use Rattle.bp_parser.specs.Grammar.{IsWord, IsMarkAt, IsMark, IsPrim, HasTerm, Spells, SpellsTerms, SpellsItems, SpellsMoreItems, SpellsEntries, SpellsMoreEntries, SpellsDef, SpellsFile}
+use Rattle.bp_parser.specs.Grammar.{IsWord, IsMarkAt, IsMark, IsPrim, Spells, SpellsTerms, SpellsItems, SpellsMoreItems, SpellsEntries, SpellsMoreEntries, SpellsDef, SpellsFile}
 use Rattle.bp_parser.specs.Machine.{Part, an_expr, more_terms, items, more_items, a_colon, entries, more_entries, a_value, behind, with_rest, is_plus, begin_def, behind_all, at_end, StartsNot}
-use Rattle.bp_parser.proofs.Firsts.{same_head, nil_cons, none_some, some_same, true_false, starts_not, none_starts, mark_not, first_word, no_plus_items, no_plus_entries, no_plus_file}
+use Rattle.bp_parser.proofs.Firsts.{same_head, nil_cons, none_some, some_same, true_false, starts_not, none_starts, first_word, no_plus_items, no_plus_entries, no_plus_file}
 
 -- { "+" Prim }, and no plus behind
 abbrev pub SpelledTerms : List Word → List Word → Type 0
@@ -76,7 +76,7 @@ join_terms : (x : Tree) (terms : Terms) (ts mid rest : List Word) → IsPrim x �
 join_terms x no_term ts mid rest prim s t = (x, subst (Spells x ts) t s)
 join_terms x (term_and at y terms) ts mid rest prim s t = (Sum x (term_and at y terms), (mid, prim, tt, s, t))
 
-join_expr : (ts rest : List Word) → SpelledExpr ts rest → (y : Tree) × Spells y ts rest
+pub join_expr : (ts rest : List Word) → SpelledExpr ts rest → (y : Tree) × Spells y ts rest
 join_expr ts rest s = join_terms s.0 s.4.0 ts s.1 rest s.2 s.3 s.4.1
 
 -- the first word of a spelling is expected
@@ -245,7 +245,7 @@ pub not_plus : (k : TokenKind) → (k ≡ Mark Plus → ⊥) → is_plus k ≡ f
 not_plus (Mark Plus) other = absurd (other refl)
 not_plus _ other = refl
 
-plus_kind : (k : TokenKind) → is_plus k ≡ true → k ≡ Mark Plus
+pub plus_kind : (k : TokenKind) → is_plus k ≡ true → k ≡ Mark Plus
 plus_kind (Mark Plus) plus = refl
 plus_kind _ plus = true_false (sym plus)
 
@@ -286,25 +286,25 @@ Completes (Some new) p w ts rest = Chain new ts rest → Spelled p (w ∷ ts) re
 last : (p : Part) (ts rest : List Word) → Chain (p ∷ []) ts rest → Spelled p ts rest
 last p ts rest chain = subst (Spelled p ts) chain.2 chain.1
 
-item : (ts mid rest : List Word) → SpelledExpr ts mid → Spelled more_items mid rest → Spelled items ts rest
+pub item : (ts mid rest : List Word) → SpelledExpr ts mid → Spelled more_items mid rest → Spelled items ts rest
 item ts mid rest s more = let x = join_expr ts mid s in (tree_and x.0 more.0, (mid, x.1, more.1))
 
-after_comma_items : (xs : Trees) (ts next rest : List Word) → IsMark Comma ts next → SpellsItems xs next rest → SpellsMoreItems xs ts rest
+pub after_comma_items : (xs : Trees) (ts next rest : List Word) → IsMark Comma ts next → SpellsItems xs next rest → SpellsMoreItems xs ts rest
 after_comma_items no_tree ts next rest comma s = inr (next, comma, s)
 after_comma_items (tree_and x xs) ts next rest comma s = (next, s.0, comma, s.1, s.2)
 
-after_comma_entries : (es : Entries) (ts next rest : List Word) → IsMark Comma ts next → SpellsEntries es next rest → SpellsMoreEntries es ts rest
+pub after_comma_entries : (es : Entries) (ts next rest : List Word) → IsMark Comma ts next → SpellsEntries es next rest → SpellsMoreEntries es ts rest
 after_comma_entries no_entry ts next rest comma s = inr (next, comma, s)
 after_comma_entries (entry_and n at x es) ts next rest comma s = (next, s.0, s.1, s.2, comma, s.3, s.4, s.5, s.6)
 
 -- a token that is an expression by itself, and terms behind it
-leaf_expr : (k : TokenKind) (at : Place) (n : List ℕ) (atom : Atom) (ts rest : List Word) → atom_of k n ≡ Some atom → SpelledTerms ts rest → SpelledExpr (record { kind = k; at = at; text = n } ∷ ts) rest
+pub leaf_expr : (k : TokenKind) (at : Place) (n : List ℕ) (atom : Atom) (ts rest : List Word) → atom_of k n ≡ Some atom → SpelledTerms ts rest → SpelledExpr (record { kind = k; at = at; text = n } ∷ ts) rest
 leaf_expr k at n atom ts rest is terms = (Leaf at atom, ts, tt, (k, n, refl, is), terms)
 
-list_expr : (at : Place) (n : List ℕ) (ts mid rest : List Word) → Spelled items ts mid → SpelledTerms mid rest → SpelledExpr (record { kind = Mark OpenBracket; at = at; text = n } ∷ ts) rest
+pub list_expr : (at : Place) (n : List ℕ) (ts mid rest : List Word) → Spelled items ts mid → SpelledTerms mid rest → SpelledExpr (record { kind = Mark OpenBracket; at = at; text = n } ∷ ts) rest
 list_expr at n ts mid rest s terms = (Items at s.0, mid, tt, (ts, (n, refl), s.1), terms)
 
-map_expr : (at : Place) (n : List ℕ) (ts mid rest : List Word) → Spelled (entries []) ts mid → SpelledTerms mid rest → SpelledExpr (record { kind = Mark OpenBrace; at = at; text = n } ∷ ts) rest
+pub map_expr : (at : Place) (n : List ℕ) (ts mid rest : List Word) → Spelled (entries []) ts mid → SpelledTerms mid rest → SpelledExpr (record { kind = Mark OpenBrace; at = at; text = n } ∷ ts) rest
 map_expr at n ts mid rest s terms = (Body at s.0, mid, tt, (ts, (n, refl), s.1), terms)
 
 complete : (p : Part) (k : TokenKind) (at : Place) (n : List ℕ) (ts rest : List Word) → Completes (behind p k n) p (record { kind = k; at = at; text = n }) ts rest

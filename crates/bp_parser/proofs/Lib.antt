@@ -8,4 +8,6 @@ mod TokensAt
 mod Steps
 mod PartsRead
 mod DefsRead
+mod Tracks
+mod SomeMeaning
 mod Integers

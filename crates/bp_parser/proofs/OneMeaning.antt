@@ -1,17 +1,15 @@
 -- A text with its tokens has at most one meaning.
-use Rattle.std.proofs.Common.{◌≡◌, ℕ, ◌+◌, ◌<◌, ◌≤◌, length, take, drop, arith, List, [], ◌∷◌, ◌++◌, Result, Ok, Err, sym, refl, ap, ◌∙◌, subst, inl, inr, ⊎_elim, append_assoc, take-append-drop, length-drop}
+use Rattle.std.proofs.Common.{◌≡◌, ℕ, ◌+◌, ◌<◌, ◌≤◌, length, take, drop, arith, List, ◌∷◌, ◌++◌, Result, Ok, Err, sym, ap, ◌∙◌, subst, ⊎_elim, append_assoc, take-append-drop, length-drop}
 use Rattle.std.proofs.lemmas.Bool.{cases_order, cases_lt}
 use Rattle.std.proofs.lemmas.List.{take-take}
 use Rattle.bp_faults.specs.declared.fault.Fault.{Fault}
-use Rattle.bp_faults.specs.declared.place.Place.{Place}
 use Rattle.bp_lexer.specs.declared.token.Token.{Token}
-use Rattle.bp_lexer.specs.declared.token.TokenKind.{TokenKind}
-use Rattle.bp_lexer.specs.declared.token.TokenKind.TheVariants.{Ident, Punct as Mark}
+use Rattle.bp_lexer.specs.declared.token.TokenKind.TheVariants.{Ident}
 use Rattle.bp_parser.specs.declared.flaw.Flaw.{Flaw}
 use Rattle.bp_parser.specs.declared.flaw.Flaw.TheVariants.{Unexpected, TooNested, Duplicate}
 use Rattle.bp_parser.specs.Trees.{Definition, File}
 use Rattle.bp_parser.specs.Words.{Word, words_of}
-use Rattle.bp_parser.specs.Grammar.{IsWord, SpellsFile}
+use Rattle.bp_parser.specs.Grammar.{SpellsFile}
 use Rattle.bp_parser.specs.Flaws.{BeginsAFile, IsUnexpected, IsTooNested, IsDuplicate, IsFlaw, index_of, IsFirstFlaw, opens}
 use Rattle.bp_parser.specs.Meaning.{IsTree, IsFirstFault, ParseMeans, fault_of}
 use Rattle.bp_parser.proofs.Firsts.{same_head, true_false}

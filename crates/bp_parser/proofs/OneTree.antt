@@ -1,16 +1,16 @@
 -- Words have at most one tree.
 use Rattle.std.specs.Prelude.{◌⊎◌}
-use Rattle.std.proofs.Common.{◌≡◌, ℕ, List, [], ◌∷◌, Bool, true, false, Some, sym, refl, ap, ◌∙◌, subst, inl, inr}
+use Rattle.std.proofs.Common.{◌≡◌, ℕ, List, [], ◌∷◌, Some, sym, refl, ap, ◌∙◌, subst, inl, inr}
 use Rattle.bp_faults.specs.declared.place.Place.{Place}
 use Rattle.bp_lexer.specs.declared.token.Punct.{Punct}
 use Rattle.bp_lexer.specs.declared.token.Punct.TheVariants.{OpenBrace, CloseBrace, OpenBracket, CloseBracket, Colon, Comma, Equals, PlusEquals, Plus}
 use Rattle.bp_lexer.specs.declared.token.TokenKind.{TokenKind}
 use Rattle.bp_lexer.specs.declared.token.TokenKind.TheVariants.{Ident, Punct as Mark}
-use Rattle.bp_parser.specs.Trees.{Atom, Tree, Leaf, Items, Body, Sum, Trees, no_tree, tree_and, Terms, no_term, term_and, Entries, no_entry, entry_and, Definition, Assigns, Extends, Declares, Map}
+use Rattle.bp_parser.specs.Trees.{Atom, Tree, Leaf, Items, Body, Sum, Trees, no_tree, tree_and, Terms, no_term, term_and, Entries, no_entry, entry_and, Definition, Assigns, Extends, Declares}
 use Rattle.bp_parser.specs.Words.{Word, atom_of}
-use Rattle.bp_parser.specs.Grammar.{IsWord, IsMarkAt, IsMark, IsPrim, HasTerm, Spells, SpellsTerms, SpellsItems, SpellsMoreItems, SpellsEntries, SpellsMoreEntries, SpellsDef, SpellsFile}
+use Rattle.bp_parser.specs.Grammar.{IsWord, IsMarkAt, IsMark, IsPrim, Spells, SpellsTerms, SpellsItems, SpellsMoreItems, SpellsEntries, SpellsMoreEntries, SpellsDef, SpellsFile}
 use Rattle.bp_parser.specs.Machine.{StartsNot}
-use Rattle.bp_parser.proofs.Firsts.{SameWord, one_word, nil_cons, some_same, none_some, starts_not, mark_not, starts, no_mark, no_plus_items, no_plus_entries, no_plus_file, plus_here, def_ident}
+use Rattle.bp_parser.proofs.Firsts.{SameWord, one_word, nil_cons, some_same, none_some, starts_not, no_mark, no_plus_items, no_plus_entries, no_plus_file, plus_here, def_ident}
 
 -- two marks at the front are one
 one_mark : (m n : Punct) (ts a b : List Word) → (s : IsMark m ts a) → (t : IsMark n ts b) → SameWord (Mark m) (Mark n) s.0 t.0 s.1.0 t.1.0 a b

@@ -1,31 +1,27 @@
 -- What the functions that read lists and maps owe, on lists.
-use Rattle.std.specs.Prelude.{◌⊎◌, cond}
 use Rattle.std.specs.List.{Contains}
 use Rattle.std.specs.Str.{bytes_eq}
-use Rattle.std.proofs.Common.{◌≡◌, ℕ, suc, ◌+◌, ◌<◌, ◌≤◌, length, drop, arith, List, [], ◌∷◌, ◌++◌, map, Bool, true, false, not, Some, None, sym, refl, ap, ◌∙◌, subst, inl, inr, ⊎_elim, rules}
-use Rattle.std.proofs.lemmas.Bool.{cond-true}
+use Rattle.std.proofs.Common.{◌≡◌, ℕ, ◌+◌, ◌≤◌, length, drop, arith, List, [], ◌∷◌, map, Bool, true, false, not, Some, sym, refl, ap, ◌∙◌, subst, inl, inr, rules}
 use Rattle.std.proofs.lemmas.Map.Views.{Contains-from_any}
 use Rattle.std.proofs.lemmas.Slice.Eq.{bytes_eq-Decides}
 use Rattle.bp_faults.specs.declared.place.Place.{Place}
 use Rattle.bp_lexer.specs.declared.token.Punct.{Punct}
-use Rattle.bp_lexer.specs.declared.token.Punct.TheVariants.{OpenBrace, CloseBrace, OpenBracket, CloseBracket, Colon, Comma, Plus}
+use Rattle.bp_lexer.specs.declared.token.Punct.TheVariants.{OpenBrace, CloseBrace, CloseBracket, Comma}
 use Rattle.bp_lexer.specs.declared.token.Token.{Token}
-use Rattle.bp_lexer.specs.declared.token.TokenKind.{TokenKind}
 use Rattle.bp_lexer.specs.declared.token.TokenKind.TheVariants.{Ident, Punct as Mark}
 use Rattle.bp_lexer.specs.Meaning.{word_of}
-use Rattle.bp_parser.specs.declared.flaw.Flaw.{Flaw}
-use Rattle.bp_parser.specs.declared.flaw.Flaw.TheVariants.{Unexpected, TooNested, Duplicate}
+use Rattle.bp_parser.specs.declared.flaw.Flaw.TheVariants.{TooNested}
 use Rattle.bp_parser.specs.declared.stop.Stop.{Stop}
 use Rattle.bp_parser.specs.declared.stop.Stop.TheVariants.{Bad}
 use Rattle.bp_parser.specs.declared.tree.EntryExpr.{EntryExpr}
-use Rattle.bp_parser.specs.Trees.{Tree, Trees, tree_and, Entries, entry_and, no_entry, entry_of, entries_then}
-use Rattle.bp_parser.specs.Words.{Word, as_word, all_words}
-use Rattle.bp_parser.specs.Grammar.{IsWord, IsMark, Spells, SpellsItems, SpellsMoreItems, SpellsEntries, SpellsMoreEntries}
-use Rattle.bp_parser.specs.Flaws.{SpellsFirst, IsRepeated, names_of}
-use Rattle.bp_parser.specs.Machine.{Part, an_expr, items, more_items, entries, more_entries, more_terms, stuck, behind_all, flaw_at, depth_of, has_name, bracket_flaw, StopsWith}
-use Rattle.bp_parser.specs.Reading.{IsTokenAt, HasMark, LacksMark, EndsPart}
+use Rattle.bp_parser.specs.Trees.{Trees, Entries, no_entry, entry_of, entries_then}
+use Rattle.bp_parser.specs.Words.{Word, all_words}
+use Rattle.bp_parser.specs.Grammar.{IsWord, IsMark, SpellsItems, SpellsMoreItems, SpellsEntries, SpellsMoreEntries}
+use Rattle.bp_parser.specs.Flaws.{SpellsFirst, IsRepeated}
+use Rattle.bp_parser.specs.Machine.{Part, an_expr, items, more_items, entries, more_entries, stuck, behind_all, flaw_at, has_name, bracket_flaw, StopsWith}
+use Rattle.bp_parser.specs.Reading.{IsTokenAt, LacksMark, EndsPart}
 use Rattle.bp_parser.proofs.Firsts.{true_false}
-use Rattle.bp_parser.proofs.Steps.{pass_mark, halt, full, stops_at, after_item, at_last_item, after_entry, at_last_entry, names_in, names_then}
+use Rattle.bp_parser.proofs.Steps.{pass_mark, halt, full, after_item, at_last_item, after_entry, at_last_entry, names_in, names_then}
 
 -- the identifier that a token is
 pub ident_here : (text : List ℕ) (ts : List Token) (at : ℕ) (t : Token) → IsTokenAt text ts at t → t.kind ≡ Ident → IsWord Ident t.place (word_of text t) (drop at (all_words text ts)) (drop (at + 1) (all_words text ts))
@@ -102,7 +98,7 @@ new_from new true is fresh = absurd (true_false (sym fresh ∙ is))
 new_from new false is fresh = refl
 
 -- a name again
-same_bytes : (x y : List ℕ) → bytes_eq x y ≡ true → x ≡ y
+pub same_bytes : (x y : List ℕ) → bytes_eq x y ≡ true → x ≡ y
 same_bytes x y e = search (rules, bytes_eq-Decides)
 
 pub repeated : (ws inner : List Word) (brace k : ℕ) (es : List EntryExpr) (place : Place) (name : List ℕ) → IsMark OpenBrace (drop brace ws) inner → SpellsFirst (entries_then (map entry_of es) no_entry) inner (drop k ws) → IsWord Ident place name (drop k ws) (drop (k + 1) ws) → has_name name (names_in es) ≡ true → IsRepeated ws k

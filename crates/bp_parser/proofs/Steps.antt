@@ -1,9 +1,8 @@
 -- A step of the functions that read, on lists.
-use Rattle.std.specs.Prelude.{◌⊎◌, ◌||◌, ◌==◌, cond}
-use Rattle.std.specs.List.{list_any}
+use Rattle.std.specs.Prelude.{◌||◌, ◌==◌, cond}
 use Rattle.std.specs.Str.{bytes_eq}
 use Rattle.std.specs.Cmp.Lexicographic.{nat_list_eq_equiv}
-use Rattle.std.proofs.Common.{◌≡◌, ℕ, suc, ◌+◌, ◌<◌, length, drop, arith, List, [], ◌∷◌, ◌++◌, map, Bool, true, false, Option, Some, None, sym, refl, ap, ◌∙◌, subst, inl, inr, ⊎_elim}
+use Rattle.std.proofs.Common.{◌≡◌, ℕ, ◌+◌, ◌<◌, length, drop, arith, List, [], ◌∷◌, ◌++◌, map, Bool, true, false, Some, None, sym, refl, ap, ◌∙◌, subst, inl, inr}
 use Rattle.std.proofs.lemmas.Bool.{cond-true, cond-false, eq-eqb}
 use Rattle.std.proofs.lemmas.Bool.Decides.{nat_tests}
 use Rattle.std.proofs.lemmas.List.Folds.{list_any-append}
@@ -19,14 +18,14 @@ use Rattle.bp_parser.specs.declared.stop.Stop.TheVariants.{Bad, OutOfMemory}
 use Rattle.bp_parser.specs.declared.tree.Expr.{Expr}
 use Rattle.bp_parser.specs.declared.tree.EntryExpr.{EntryExpr}
 use Rattle.bp_parser.specs.declared.tree.MapExpr.{MapExpr}
-use Rattle.bp_parser.specs.declared.tree.Expr.TheOpen.{Expr-F, EntryExpr-F, MapExpr-F}
+use Rattle.bp_parser.specs.declared.tree.Expr.TheOpen.{EntryExpr-F, MapExpr-F}
 use Rattle.bp_parser.specs.declared.tree.Expr.TheViews.{roll-EntryExpr, roll-MapExpr}
 use Rattle.bp_parser.specs.declared.tree.Expr.TheFolds.{fold-roll-MapExpr, fold-roll-EntryExpr}
-use Rattle.bp_parser.specs.Trees.{Tree, Leaf, Items, Body, Sum, Trees, no_tree, tree_and, Terms, no_term, term_and, Entries, no_entry, entry_and, Entry, Map, tree_of, term_of, entry_of, map_of, expr_step, entry_step, map_step, trees_then, terms_then, entries_then}
-use Rattle.bp_parser.specs.Words.{Word, atom_of, is_truth}
-use Rattle.bp_parser.specs.Grammar.{IsWord, IsMark, IsMarkAt, IsPrim, HasTerm, Spells, SpellsTerms, SpellsItems, SpellsMoreItems, SpellsEntries, SpellsMoreEntries}
-use Rattle.bp_parser.specs.Flaws.{SpellsFirst, names_of}
-use Rattle.bp_parser.specs.Machine.{Part, an_expr, more_terms, items, more_items, a_colon, entries, more_entries, a_value, behind, with_rest, begin_def, is_plus, behind_all, flaw_at, name_flaw, bracket_flaw, has_name, at_end, go_behind, stuck, depth_of, StartsNot, StopsAt, StopsWith, IsKnown}
+use Rattle.bp_parser.specs.Trees.{Tree, Sum, Trees, no_tree, tree_and, Terms, no_term, term_and, Entries, no_entry, entry_and, Entry, Map, tree_of, term_of, entry_of, map_of, expr_step, entry_step, map_step, trees_then, terms_then, entries_then}
+use Rattle.bp_parser.specs.Words.{Word, is_truth}
+use Rattle.bp_parser.specs.Grammar.{IsWord, IsMark, SpellsItems, SpellsMoreItems, SpellsEntries, SpellsMoreEntries}
+use Rattle.bp_parser.specs.Flaws.{names_of}
+use Rattle.bp_parser.specs.Machine.{Part, an_expr, more_terms, items, more_items, a_colon, entries, more_entries, a_value, begin_def, behind_all, flaw_at, bracket_flaw, has_name, at_end, go_behind, stuck, depth_of, StartsNot, StopsWith}
 use Rattle.bp_parser.specs.Reading.{sum_of}
 use Rattle.bp_parser.proofs.Firsts.{no_mark, starts_not, true_false}
 use Rattle.bp_parser.proofs.Language.{not_plus, no_plus_next}

@@ -1,5 +1,5 @@
 -- The token at a place, as the word that stands there.
-use Rattle.std.proofs.Common.{◌≡◌, ℕ, suc, ◌+◌, ◌<◌, ◌≤◌, length, drop, get_or, arith, List, [], ◌∷◌, map, Bool, true, false, Option, Some, None, sym, refl, ap, ◌∙◌, subst, add-one}
+use Rattle.std.proofs.Common.{◌≡◌, ℕ, suc, ◌+◌, ◌<◌, ◌≤◌, length, drop, get_or, arith, List, [], ◌∷◌, map, sym, ap, ◌∙◌, subst}
 use Rattle.std.proofs.Math.Seq.{drop-cons}
 use Rattle.std.proofs.lemmas.List.{drop-map, drop_all}
 use Rattle.bp_lexer.specs.declared.token.Punct.{Punct}
@@ -8,7 +8,7 @@ use Rattle.bp_lexer.specs.declared.token.TokenKind.{TokenKind}
 use Rattle.bp_lexer.specs.declared.token.TokenKind.TheVariants.{Punct as Mark}
 use Rattle.bp_lexer.specs.Meaning.{IsToken, word_of}
 use Rattle.bp_parser.specs.Words.{Word, as_word, all_words}
-use Rattle.bp_parser.specs.Grammar.{IsMark, IsMarkAt}
+use Rattle.bp_parser.specs.Grammar.{IsMarkAt}
 use Rattle.bp_parser.specs.Machine.{StartsNot}
 use Rattle.bp_parser.specs.Reading.{AreTokens, IsTokenAt, HasMark, LacksMark}
 use Rattle.bp_parser.proofs.Firsts.{same_head, none_starts}

@@ -1,6 +1,6 @@
 -- The grammar of Android.bp files, as a relation between words and trees.
 -- Source: Soong reference, "Android.bp file format".
-use Rattle.std.specs.Prelude.{◌≡◌, ℕ, ◌⊎◌, ⊤, false, List, [], ◌∷◌, ◌++◌, Some}
+use Rattle.std.specs.Prelude.{◌≡◌, ℕ, ◌⊎◌, ⊤, false, List, [], ◌∷◌, Some}
 use Rattle.bp_faults.specs.declared.place.Place.{Place}
 use Rattle.bp_lexer.specs.declared.token.Punct.{Punct}
 use Rattle.bp_lexer.specs.declared.token.Punct.TheVariants.{OpenBrace, CloseBrace, OpenBracket, CloseBracket, Colon, Comma, Equals, PlusEquals, Plus}

@@ -1,5 +1,5 @@
 -- In what words private functions say what they read.
-use Rattle.std.specs.Prelude.{◌≡◌, ℕ, ◌+◌, ◌<◌, ◌≤◌, ◌⊎◌, Bool, List, ◌∷◌, length, drop, slice_index_or}
+use Rattle.std.specs.Prelude.{◌≡◌, ℕ, ◌+◌, ◌<◌, ◌⊎◌, Bool, List, ◌∷◌, length, drop, slice_index_or}
 use Rattle.std.specs.Borrow.{Bor}
 use Rattle.std.specs.BTreeSet.{BTreeSet, contains_by}
 use Rattle.std.specs.Cmp.Lexicographic.{slice_cmp}
@@ -14,7 +14,7 @@ use Rattle.bp_parser.specs.declared.flaw.Flaw.TheVariants.{Unexpected}
 use Rattle.bp_parser.specs.declared.stop.Stop.{Stop}
 use Rattle.bp_parser.specs.declared.stop.Stop.TheVariants.{Bad}
 use Rattle.bp_parser.specs.Trees.{Tree, Sum, Terms, no_term, term_and}
-use Rattle.bp_parser.specs.Words.{Word, as_word, all_words}
+use Rattle.bp_parser.specs.Words.{as_word, all_words}
 use Rattle.bp_parser.specs.Grammar.{IsMark, IsMarkAt}
 use Rattle.bp_parser.specs.Machine.{StartsNot}
 

@@ -1,4 +1,4 @@
-ghost use Rattle.std.specs.Prelude.{◌≡◌, ℕ, List, Result};
+ghost use Rattle.std.specs.Prelude.{◌≡◌, ◌⊎◌, ℕ, List, Result};
 ghost use Rattle.bp_faults.specs.declared.fault.Fault.{Fault};
 ghost use Rattle.bp_lexer.specs.declared.token.Token.{Token};
 ghost use Rattle.bp_parser.specs.Meaning.{IsTree, IsFirstFault, ParseMeans};
@@ -10,8 +10,9 @@ pub fn one_tree()
     ensures { (ws : List Word) (a b : File) → IsTree ws a → IsTree ws b → a ≡ b }
 {}
 
-/// Words that have a tree have no first fault.
+/// Words have a tree or a first fault, and never both.
 pub fn tree_or_fault()
+    ensures either { (text : List ℕ) (ws : List Word) → ((tree : File) × IsTree ws tree) ⊎ ((fault : Fault) × IsFirstFault text ws fault) }
     ensures never_both { (text : List ℕ) (ws : List Word) (tree : File) (fault : Fault) → IsTree ws tree → IsFirstFault text ws fault → ⊥ }
 {}
 

@@ -283,3 +283,33 @@ fn brackets_are_counted(rt: HostRuntime) -> Result<(), Fail> {
     }
     Ok(())
 }
+
+#[test]
+fn long_literals_are_read(rt: HostRuntime) -> Result<(), Fail> {
+    let alloc = rt.alloc();
+    let list = nested(alloc, "x = [", "1,", 65_536, "]", "")?;
+    assert!(rt; list.len() <= 1 << 20);
+    assert_eq!(rt;
+        shown(alloc, list.as_str())?.as_str(),
+        "1; 1:1 x = 1:5 [65536]"
+    );
+    let sum = nested(alloc, "x = 1", " + 1", 65_535, "", "")?;
+    assert!(rt; sum.len() <= 1 << 20);
+    assert!(rt;
+        shown(alloc, sum.as_str())?
+            .as_str()
+            .starts_with("1; 1:1 x = sum of 1 + 65535 1:7 1:11 ")
+    );
+    let mut map = String::from_str(alloc, "x = {")?;
+    for i in 0..10_000_u32 {
+        let entry = format!(in alloc; "a{i}: 1,")?;
+        map.push_str(entry.as_str())?;
+    }
+    map.push_str("}")?;
+    assert!(rt; map.len() <= 1 << 20);
+    assert_eq!(rt;
+        shown(alloc, map.as_str())?.as_str(),
+        "1; 1:1 x = 1:5 {10000}"
+    );
+    Ok(())
+}

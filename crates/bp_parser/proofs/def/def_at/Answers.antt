@@ -1,9 +1,8 @@
-use Rattle.std.proofs.Common.{◌≡◌, ◌∙◌, ◌+◌, ◌∷◌, [], drop, refl, false, subst}
+use Rattle.std.proofs.Common.{◌≡◌, ◌∙◌, ◌+◌, ◌∷◌, [], drop, refl}
 use Rattle.std.proofs.lemmas.Result.{err_from_is_err_and}
 use Rattle.bp_lexer.specs.declared.token.Punct.TheVariants.{Equals, PlusEquals}
 use Rattle.bp_lexer.specs.Meaning.{word_of}
-use Rattle.bp_parser.specs.Words.{all_words, is_truth}
-use Rattle.bp_parser.specs.Grammar.{IsDefName}
+use Rattle.bp_parser.specs.Words.{all_words}
 use Rattle.bp_parser.specs.Machine.{an_expr, entries}
 use Rattle.bp_parser.proofs.Steps.{value_stop}
 use Rattle.bp_parser.proofs.PartsRead.{ident_here}

@@ -1,12 +1,9 @@
-use Rattle.std.proofs.Common.{arith, ap, sym, refl, is_ok, subst, map, drop, length, ◌∙◌, ◌+◌, ◌∷◌, ◌++◌, ◌≡◌, ℕ, List, [], true, false, suc}
+use Rattle.std.proofs.Common.{arith, ap, sym, refl, is_ok, subst, drop, ◌∙◌, ◌+◌, ◌∷◌, ◌++◌, ◌≡◌, [], true}
 use Rattle.std.specs.Prelude.{cond}
 use Rattle.std.specs.Str.{bytes_eq}
 use Rattle.std.proofs.ResultArms.{chosen}
 use Rattle.std.proofs.lemmas.Result.{err_from_is_err_and}
-use Rattle.bp_lexer.specs.declared.token.Punct.TheVariants.{OpenBrace, CloseBrace, OpenBracket, CloseBracket, Colon, Comma, Plus}
-use Rattle.bp_lexer.specs.declared.token.TokenKind.TheVariants.{Ident, Punct as Mark}
-use Rattle.bp_parser.specs.declared.flaw.Flaw.TheVariants.{TooNested, Duplicate}
-use Rattle.bp_parser.specs.declared.stop.Stop.TheVariants.{Bad}
+use Rattle.bp_lexer.specs.declared.token.Punct.TheVariants.{OpenBrace, CloseBrace, OpenBracket, CloseBracket, Colon}
 use Rattle.bp_lexer.specs.Meaning.{word_of}
 use Rattle.bp_parser.specs.Trees.{Entry, tree_of, tree_and, term_and, no_entry, entry_and}
 use Rattle.bp_parser.specs.Words.{all_words}

@@ -1,5 +1,4 @@
 use Rattle.std.proofs.Common.{arith, map, subst, [], append-nil}
-use Rattle.std.proofs.lemmas.List.{drop_all}
 use Rattle.std.proofs.lemmas.Result.{err_from_is_err_and}
 use Rattle.bp_parser.specs.Trees.{definition_of}
 use Rattle.bp_parser.specs.Words.{all_words}

@@ -1,6 +1,6 @@
-use Rattle.std.proofs.Common.{◌≡◌, ◌∙◌, sym, ap, subst, map, length, [], None}
+use Rattle.std.proofs.Common.{◌≡◌, ◌∙◌, sym, ap, subst, map, [], None}
 use Rattle.bp_parser.specs.Trees.{definition_of}
-use Rattle.bp_parser.specs.Words.{all_words, words_of, without_comments}
+use Rattle.bp_parser.specs.Words.{all_words, words_of}
 use Rattle.bp_parser.specs.Grammar.{SpellsFile}
 use Rattle.bp_parser.specs.Machine.{stuck, DefsStopWith}
 use Rattle.bp_parser.specs.Meaning.{file_of, fault_of}

@@ -1,4 +1,4 @@
-use Rattle.std.proofs.Common.{◌≡◌, ℕ, List, true, ap, ◌∙◌, Bor}
+use Rattle.std.proofs.Common.{ℕ, List, true, ap, ◌∙◌, Bor}
 use Rattle.std.specs.Prelude.{cond}
 use Rattle.std.proofs.lemmas.Map.Text.{is_eq-slice_cmp}
 use Rattle.bp_parser.specs.Reading.{knows}
