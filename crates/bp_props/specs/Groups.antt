@@ -1,5 +1,5 @@
 -- The groups of a record: pairs of a group's id and its properties, which ascend by the id.
-use Rattle.std.specs.Prelude.{Option, Some, None, List, [], ◌∷◌}
+use Rattle.std.specs.Prelude.{◌≡◌, Option, Some, None, List, [], ◌∷◌}
 use Rattle.std.specs.BTreeMap.{insert_entry, is_at}
 use Rattle.std.specs.Map.{keys_of, lookup}
 use Rattle.std.specs.List.Sorted.{IsStrictlySortedBy}
@@ -39,3 +39,12 @@ group_put winner groups id group = groups_with groups id (put_behind winner (gro
 abbrev pub groups_merged : Winner → List (GroupId × GroupProps) → List (GroupId × GroupProps) → List (GroupId × GroupProps)
 groups_merged winner groups [] = groups
 groups_merged winner groups (e ∷ others) = groups_merged winner (group_put winner groups e.0 e.1) others
+
+-- What two records have under one id: both groups merged, or the one that is there.
+abbrev pub either_merged : Winner → Option GroupProps → Option GroupProps → Option GroupProps
+either_merged winner a None = a
+either_merged winner a (Some b) = Some (put_behind winner a b)
+
+-- Under each id the third record has what the first two have under it.
+abbrev pub EachMerged : Winner → (a b merged : List (GroupId × GroupProps)) → Type 0
+EachMerged winner a b merged = (id : GroupId) → group_of merged id ≡ either_merged winner (group_of a id) (group_of b id)

@@ -2,7 +2,7 @@
 use Rattle.std.specs.Prelude.{None, [], false, filter}
 use Rattle.bp_props.specs.Merge.{scalar_merged, list_merged, list_empty, kept_scalar, kept_list}
 use Rattle.bp_props.specs.Group.{group_empty, group_merged, group_restricted}
-use Rattle.bp_props.specs.Groups.{groups_merged}
+use Rattle.bp_props.specs.Groups.{groups_merged, EachMerged}
 use Rattle.bp_props.specs.Kinds.{has_field}
 use Rattle.bp_props.specs.declared.kind.ModuleKind.{ModuleKind}
 use Rattle.bp_props.specs.declared.field.Field.TheVariants as F
@@ -71,6 +71,13 @@ props_followed a b = props_merged Receiver a b
 -- `over`: the argument's scalars win, and its `name` and `defaults` stand
 abbrev pub props_over : Props → Props → Props
 props_over a b = record (props_merged Argument a b) { name = b.name; defaults = b.defaults }
+
+-- `follow` and `over`, group by group: each id has what the two records have under it, by the same rules.
+abbrev pub GroupsFollowed : (a b new : Props) → Type 0
+GroupsFollowed a b new = EachMerged Receiver a.groups b.groups new.groups
+
+abbrev pub GroupsOver : (a b new : Props) → Type 0
+GroupsOver a b new = EachMerged Argument a.groups b.groups new.groups
 
 -- A record, field by field: what the kind's table has stays, and the rest isn't set. What the mutators compute stays.
 abbrev pub props_restricted : ModuleKind → Props → Props

@@ -30,7 +30,7 @@ impl Groups {
     ghost use Rattle.std.specs.Prelude.{[], filter};
     ghost use Rattle.bp_props.specs.Kinds.{has_field};
     ghost use Rattle.bp_props.specs.declared.field.Field.TheVariants.{Group};
-    ghost use Rattle.bp_props.specs.Groups.{group_of, group_put, groups_merged, groups_with};
+    ghost use Rattle.bp_props.specs.Groups.{group_of, group_put, groups_merged, groups_with, EachMerged};
 
     /// No groups. It takes no memory.
     pub fn empty(alloc: Global) -> Groups
@@ -99,7 +99,8 @@ impl Groups {
 
     // Merges each group into the one of its id. After want of memory some of them may be merged.
     fn extend(&mut self, alloc: Global, others: &Groups, winner: Winner) -> Result<(), OutOfMemory>
-        ensures { OnOk result (self.new ≡ groups_merged winner self.old others.now) }
+        ensures ok { OnOk result (self.new ≡ groups_merged winner self.old others.now) }
+        ensures each { OnOk result (EachMerged winner self.old others.now self.new) }
     {
         for (id, group) in &others.map {
             self.put(alloc, *id, group, winner)?;
@@ -115,6 +116,7 @@ impl Groups {
         winner: Winner,
     ) -> Result<(), OutOfMemory>
         ensures ok { OnOk result (self.new ≡ groups_merged winner self.old others.now) }
+        ensures each { OnOk result (EachMerged winner self.old others.now self.new) }
         ensures err { OnErr result (self.new ≡ self.old) }
     {
         let mut merged = self.copy(alloc)?;

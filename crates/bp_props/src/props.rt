@@ -1,6 +1,6 @@
 ghost use Rattle.std.specs.Prelude.{◌≡◌, OnOk, OnErr, option_copied};
-ghost use Rattle.bp_props.specs.Groups.{group_of};
-ghost use Rattle.bp_props.specs.Records.{props_empty, props_merged, props_appended, props_followed, props_over, props_restricted};
+ghost use Rattle.bp_props.specs.Groups.{group_of, EachMerged};
+ghost use Rattle.bp_props.specs.Records.{props_empty, props_merged, props_appended, props_followed, props_over, props_restricted, GroupsFollowed, GroupsOver};
 ghost use Rattle.bp_props.specs.Undo.{PropsBegins, BaseBegins};
 
 use crate::given::{copy_name, keep_scalar};
@@ -140,6 +140,7 @@ impl Props {
     // Puts the lists of a record behind, and then merges the groups and the scalars.
     fn extend(&mut self, alloc: Global, other: &Props, winner: Winner) -> Result<(), OutOfMemory>
         ensures ok { OnOk result (self.new ≡ props_merged winner self.old other.now) }
+        ensures groups { OnOk result (EachMerged winner self.old.groups other.now.groups self.new.groups) }
         ensures begins { OnErr result (PropsBegins self.old self.new) }
     {
         self.base.extend(alloc, &other.base)?;
@@ -158,6 +159,7 @@ impl Props {
         winner: Winner,
     ) -> Result<(), OutOfMemory>
         ensures ok { OnOk result (self.new ≡ props_merged winner self.old other.now) }
+        ensures groups { OnOk result (EachMerged winner self.old.groups other.now.groups self.new.groups) }
         ensures begins { OnErr result (BaseBegins self.old self.new) }
     {
         lists!(or_cut self, alloc, self.extend(alloc, other, winner))
@@ -166,6 +168,7 @@ impl Props {
     // Merges a record into this one, but for `name` and `defaults`.
     fn merge(&mut self, alloc: Global, other: &Props, winner: Winner) -> Result<(), OutOfMemory>
         ensures ok { OnOk result (self.new ≡ props_merged winner self.old other.now) }
+        ensures groups { OnOk result (EachMerged winner self.old.groups other.now.groups self.new.groups) }
         ensures err { OnErr result (self.new ≡ self.old) }
     {
         group_lists!(or_cut self.base, alloc, self.extend_base(alloc, other, winner))
@@ -183,6 +186,7 @@ impl Props {
     /// `name` and `defaults` stay.
     pub fn follow(&mut self, alloc: Global, other: &Props) -> Result<(), OutOfMemory>
         ensures ok { OnOk result (self.new ≡ props_followed self.old other.now) }
+        ensures groups { OnOk result (GroupsFollowed self.old other.now self.new) }
         ensures err { OnErr result (self.new ≡ self.old) }
     {
         self.merge(alloc, other, Winner::Receiver)
@@ -192,6 +196,7 @@ impl Props {
     /// scalar that it sets replaces. `name` and `defaults` become its own.
     pub fn over(&mut self, alloc: Global, own: &Props) -> Result<(), OutOfMemory>
         ensures ok { OnOk result (self.new ≡ props_over self.old own.now) }
+        ensures groups { OnOk result (GroupsOver self.old own.now self.new) }
         ensures err { OnErr result (self.new ≡ self.old) }
     {
         let name = copy_name(alloc, &own.name)?;
