@@ -193,12 +193,7 @@ fn laws_at_a_type() {
 }
 
 /// What a run along a list of nodes comes to, in a word and a number.
-fn along(
-    alloc: Global,
-    plan: &Plan,
-    one: u32,
-    order: &[NodeId],
-) -> (&'static str, u32)
+fn along(alloc: Global, plan: &Plan, one: u32, order: &[NodeId]) -> (&'static str, u32)
     requires plan { IsPlan plan.now }
     requires free { HasNoCycle plan.now.edges }
 {
@@ -219,14 +214,32 @@ fn illegal_orders(rt: HostRuntime) -> Result<(), Fail> {
     assert!(rt; falls(&plan));
     let [app, left, right, base] = [NodeId(0), NodeId(1), NodeId(2), NodeId(3)];
     let none = 9;
-    assert_eq!(rt; along(alloc, &plan, none, &[base, left, right, app]), ("results", 0));
-    assert_eq!(rt; along(alloc, &plan, none, &[base, right, left, app]), ("results", 0));
+    assert_eq!(rt;
+        along(alloc, &plan, none, &[base, left, right, app]),
+        ("results", 0)
+    );
+    assert_eq!(rt;
+        along(alloc, &plan, none, &[base, right, left, app]),
+        ("results", 0)
+    );
     assert_eq!(rt; along(alloc, &plan, none, &[app]), ("not ready", 0));
-    assert_eq!(rt; along(alloc, &plan, none, &[base, left, base, right, app]), ("not ready", 2));
-    assert_eq!(rt; along(alloc, &plan, none, &[base, NodeId(4)]), ("not ready", 1));
-    assert_eq!(rt; along(alloc, &plan, none, &[base, left, right, app, app]), ("not ready", 4));
+    assert_eq!(rt;
+        along(alloc, &plan, none, &[base, left, base, right, app]),
+        ("not ready", 2)
+    );
+    assert_eq!(rt;
+        along(alloc, &plan, none, &[base, NodeId(4)]),
+        ("not ready", 1)
+    );
+    assert_eq!(rt;
+        along(alloc, &plan, none, &[base, left, right, app, app]),
+        ("not ready", 4)
+    );
     assert_eq!(rt; along(alloc, &plan, none, &[base, left]), ("ends", 2));
-    assert_eq!(rt; along(alloc, &plan, right.0, &[base, right, left, app]), ("fault", 2));
+    assert_eq!(rt;
+        along(alloc, &plan, right.0, &[base, right, left, app]),
+        ("fault", 2)
+    );
     assert_eq!(rt; along(alloc, &plan, right.0, &[base, right]), ("ends", 2));
     Ok(())
 }
