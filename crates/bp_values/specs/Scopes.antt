@@ -1,7 +1,9 @@
 -- Scopes as lists of pairs.
 use Rattle.std.specs.Prelude.{ℕ, List, map, Option}
+use Rattle.std.specs.Arc.{arc_value}
 use Rattle.std.specs.Str.{bytes_eq}
 use Rattle.std.specs.Map.{lookup}
+use Rattle.std.specs.declared.sync.Arc.{Arc}
 use Rattle.bp_values.specs.declared.value.Value.{Value}
 use Rattle.bp_values.specs.declared.scope.Scope.{Scope}
 use Rattle.bp_values.specs.Values.{Meaning, meaning}
@@ -10,8 +12,8 @@ use Rattle.bp_values.specs.Values.{Meaning, meaning}
 abbrev pub Pairs : Type 0
 Pairs = List (List ℕ × Meaning)
 
-abbrev pub pair_of : List ℕ × Value → List ℕ × Meaning
-pair_of p = (p.0, meaning p.1)
+abbrev pub pair_of : {Z : Type 0} → List ℕ × Arc Value Z → List ℕ × Meaning
+pair_of p = (p.0, meaning (arc_value p.1))
 
 -- how contracts see a scope
 abbrev pub pairs_of : Scope → Pairs

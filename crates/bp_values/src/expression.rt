@@ -7,7 +7,7 @@ ghost use Rattle.bp_values.specs.Scopes.{pairs_of, value_in};
 ghost use Rattle.bp_values.specs.Expressions.{val, val_items, val_terms, val_entries, val_map, item_of, first_place as place_of, known as known_as};
 
 use crate::depth::within_depth;
-use crate::sums::{sum, too_many};
+use crate::sums::{add, too_many};
 use crate::value::{copy_value, make_entry, map_value};
 use crate::{Entry, EvalError, Scope, Value};
 use bp_faults::{Fault, FaultKind, Item, Place, Text};
@@ -125,7 +125,7 @@ fn add_terms(
 {
     let mut total = first;
     'terms: for (at, term) in terms {
-        total = add_term(alloc, scope, term, *at, &total)?;
+        total = add_term(alloc, scope, term, *at, total)?;
     }
     Ok(total)
 }
@@ -136,12 +136,12 @@ fn add_term(
     scope: &Scope,
     term: &Expr,
     at: Place,
-    total: &Value,
+    total: Value,
 ) -> Result<Value, EvalError>
-    ensures { Answers meaning result (then_do (val (pairs_of scope.now) (tree_of term.now)) (sum_of at (meaning total.now))) }
+    ensures { Answers meaning result (then_do (val (pairs_of scope.now) (tree_of term.now)) (sum_of at (meaning total))) }
 {
     let other = value_of(alloc, scope, term)?;
-    sum(alloc, total, &other, at)
+    add(alloc, total, other, at)
 }
 
 /// The entries of a map literal.

@@ -7,7 +7,7 @@ ghost use Rattle.bp_values.specs.Files.{raw_of, known_of, assigned, extended, de
 
 use crate::expression::{entries_of, value_of};
 use crate::marks::{mark, mark_entries};
-use crate::sums::sum;
+use crate::sums::add;
 use crate::{Entry, EvalError, Scope};
 use bp_faults::{Fault, FaultKind, Place, Text};
 use bp_parser::{Def, Expr, FileTree, MapExpr};
@@ -44,7 +44,7 @@ fn assign(
     }
     let new = value_of(alloc, &state.scope, value)?;
     mark(alloc, &mut state.used, value)?;
-    state.scope.put(name.copy(alloc)?, new)?;
+    state.scope.put(alloc, name.copy(alloc)?, new)?;
     Ok(())
 }
 
@@ -58,7 +58,7 @@ fn extend(
     ensures { Leaves known_of state.new result (extended (known_of state.old) name.now at (tree_of value.now) (value_in (known_of state.old).scope name.now)) }
 {
     match state.scope.get(name) {
-        Some(old) => {
+        Some(_) => {
             if state.used.contains(name) {
                 return Err(EvalError::Bad(Fault::on(
                     alloc,
@@ -68,9 +68,10 @@ fn extend(
                 )));
             }
             let other = value_of(alloc, &state.scope, value)?;
-            let new = sum(alloc, old, &other, at)?;
             mark(alloc, &mut state.used, value)?;
-            state.scope.put(name.copy(alloc)?, new)?;
+            let old = state.scope.take(alloc, name.copy(alloc)?)?;
+            let new = add(alloc, old, other, at)?;
+            state.scope.put(alloc, name.copy(alloc)?, new)?;
             Ok(())
         }
         None => Err(EvalError::Bad(Fault::on(

@@ -142,6 +142,32 @@ pub fn sum(alloc: Global, a: &Value, b: &Value, at: Place) -> Result<Value, Eval
     }
 }
 
+/// The sum of two values that are no longer needed: the items of lists are moved.
+pub fn add(alloc: Global, a: Value, b: Value, at: Place) -> Result<Value, EvalError>
+    ensures { Answers meaning result (sum_of at (meaning a) (meaning b)) }
+{
+    match (a, b) {
+        (Value::Strs(first), Value::Strs(second)) => append(alloc, at, first, second),
+        (a, b) => sum(alloc, &a, &b, at),
+    }
+}
+
+/// The items of both, those of `first` first.
+fn append(
+    alloc: Global,
+    at: Place,
+    mut first: Vec<Item>,
+    mut second: Vec<Item>,
+) -> Result<Value, EvalError>
+    ensures { Answers meaning result (sum_items at first.items second.items) }
+{
+    if first.len() + second.len() > 1 << 16 {
+        return Err(EvalError::Bad(too_many(alloc, at, "list")?));
+    }
+    first.append(&mut second)?;
+    Ok(Value::Strs(first))
+}
+
 /// The entries of `a`, each with its sum, then the others of `b`.
 #[cycle(sums)]
 fn unite(alloc: Global, a: &[Entry], b: &[Entry], at: Place) -> Result<Value, EvalError>
