@@ -1,5 +1,5 @@
 -- Scopes as lists of pairs.
-use Rattle.std.specs.Prelude.{ℕ, List, map, Option}
+use Rattle.std.specs.Prelude.{◌≡◌, ℕ, List, map, Option, Some}
 use Rattle.std.specs.Arc.{arc_value}
 use Rattle.std.specs.Str.{bytes_eq}
 use Rattle.std.specs.Map.{lookup}
@@ -22,3 +22,7 @@ pairs_of s = map pair_of s.values.entries
 -- the value that a name has, if it has one
 abbrev pub value_in : Pairs → List ℕ → Option Meaning
 value_in scope name = lookup (bytes_eq name) scope
+
+-- each name with a value in the first has the same value in the second
+abbrev pub Keeps : Pairs → Pairs → Type 0
+Keeps before after = (name : List ℕ) (v : Meaning) → value_in before name ≡ Some v → value_in after name ≡ Some v

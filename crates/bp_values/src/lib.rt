@@ -9,13 +9,17 @@
 mod depth;
 mod expression;
 mod file;
+mod law;
 mod marks;
 mod scope;
 mod sums;
+#[cfg(test)]
+mod tests;
 mod value;
 
 pub use bp_faults::Refusal as EvalError;
 pub use file::{RawModule, evaluate};
+pub use law::{inherited_stay, pairs_decide, values_or_fault};
 pub use scope::Scope;
 pub use sums::sum;
 pub use value::{Entry, Value};
