@@ -1,0 +1,24 @@
+-- How deeply maps stand in maps.
+use Rattle.std.specs.Prelude.{ℕ, ◌+◌, max, nat_le, List, Result, Ok, Err, if◌then◌else◌}
+use Rattle.bp_faults.specs.declared.place.Place.{Place}
+use Rattle.bp_faults.specs.declared.fault.Fault.{Fault}
+use Rattle.bp_faults.specs.declared.kind.FaultKind.TheVariants.{TooNested}
+use Rattle.bp_faults.specs.Faults.{fault_at}
+use Rattle.bp_values.specs.Values.{Meaning, Truth, Number, Str, Items, Body, Fields, no_field, field_and, Field, body}
+
+-- A map's depth is one more than the greatest depth of its values, and 1 where it has none.
+abbrev mutual
+  pub depth : Meaning → ℕ
+  depth (Truth b) = 0
+  depth (Number n) = 0
+  depth (Str text) = 0
+  depth (Items items) = 0
+  depth (Body fields) = 1 + depth_of_fields fields
+
+  pub depth_of_fields : Fields → ℕ
+  depth_of_fields no_field = 0
+  depth_of_fields (field_and name at value more) = max (depth value) (depth_of_fields more)
+
+-- the fields of a map literal, or the fault of a map that is deeper than 64
+abbrev pub nested : Place → List Field → Result (List Field) Fault
+nested at fs = if nat_le (depth (body fs)) 64 then Ok fs else Err (fault_at TooNested at)

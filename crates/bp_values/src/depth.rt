@@ -1,0 +1,41 @@
+ghost use Rattle.std.specs.Prelude.{◌≡◌, map, nat_le};
+ghost use Rattle.bp_faults.specs.Answers.{Answers};
+ghost use Rattle.bp_values.specs.Values.{meaning, field_of, fields_then, no_field};
+ghost use Rattle.bp_values.specs.Depths.{nested, depth, depth_of_fields};
+
+use crate::{Entry, EvalError, Value};
+use bp_faults::{Fault, FaultKind, Place};
+use std::alloc::Global;
+
+/// The entries, where their map is not too deep.
+pub fn within_depth(alloc: Global, at: Place, entries: Vec<Entry>) -> Result<Vec<Entry>, EvalError>
+    ensures { Answers (λ es. map field_of es.items) result (nested at (map field_of entries.items)) }
+{
+    if are_within(entries.as_slice(), 63) {
+        return Ok(entries);
+    }
+    Err(EvalError::Bad(Fault::at(alloc, FaultKind::TooNested, at)))
+}
+
+/// Whether a value's depth is within the limit.
+#[cycle(depths)]
+fn is_within(value: &Value, limit: u32) -> bool
+    ensures { result ≡ nat_le (depth (meaning value.now)) limit }
+{
+    match value {
+        Value::Map(entries) => limit > 0 && are_within(entries.as_slice(), limit - 1),
+        _ => true,
+    }
+}
+
+#[cycle(depths)]
+fn are_within(entries: &[Entry], limit: u32) -> bool
+    ensures { result ≡ nat_le (depth_of_fields (fields_then (map field_of entries.now) no_field)) limit }
+{
+    'entries: for entry in entries {
+        if !is_within(&entry.value, limit) {
+            return false;
+        }
+    }
+    true
+}

@@ -1,0 +1,166 @@
+ghost use Rattle.std.specs.Prelude.{◌≡◌, map, ◌^◌, codes, Ok};
+ghost use Rattle.bp_parser.specs.Trees.{tree_of, map_of, entry_of, term_of, trees_then, terms_then, entries_then, no_tree, no_term, no_entry};
+ghost use Rattle.bp_values.specs.Values.{meaning, field_of, Items};
+ghost use Rattle.bp_faults.specs.Answers.{Answers, then_do};
+ghost use Rattle.bp_values.specs.Sums.{limited, sum as sum_of};
+ghost use Rattle.bp_values.specs.Scopes.{pairs_of, value_in};
+ghost use Rattle.bp_values.specs.Expressions.{val, val_items, val_terms, val_entries, val_map, item_of, first_place as place_of, known as known_as};
+
+use crate::depth::within_depth;
+use crate::sums::{add, too_many};
+use crate::value::{copy_value, make_entry, map_value};
+use crate::{Entry, EvalError, Scope, Value};
+use bp_faults::{Fault, FaultKind, Item, Place, Text};
+use bp_parser::{EntryExpr, Expr, MapExpr};
+use std::alloc::Global;
+
+/// The place of an expression's first token.
+fn first_place(expr: &Expr) -> Place
+    ensures { result ≡ place_of (tree_of expr.now) }
+{
+    match expr {
+        Expr::Bool(at, _) => *at,
+        Expr::Int(at, _) => *at,
+        Expr::Str(at, _) => *at,
+        Expr::Name(at, _) => *at,
+        Expr::List(at, _) => *at,
+        Expr::Map(literal) => literal.at,
+        Expr::Sum(first, _) => first_place(first),
+    }
+}
+
+/// The value of a name.
+fn read(alloc: Global, scope: &Scope, at: Place, name: &Text) -> Result<Value, EvalError>
+    ensures { Answers meaning result (known_as at name.now (value_in (pairs_of scope.now) name.now)) }
+{
+    match scope.get(name) {
+        Some(value) => Ok(copy_value(alloc, value)?),
+        None => Err(EvalError::Bad(Fault::on(
+            alloc,
+            FaultKind::UnknownVariable,
+            at,
+            name.copy(alloc)?,
+        ))),
+    }
+}
+
+/// The item that a value is, where it is a string.
+fn item(alloc: Global, at: Place, value: Value) -> Result<Item, EvalError>
+    ensures { Answers (λ i. i) result (item_of at (meaning value)) }
+{
+    match value {
+        Value::Str(text) => Ok(Item { text, at }),
+        _ => Err(EvalError::Bad(Fault::on(
+            alloc,
+            FaultKind::WrongType,
+            at,
+            Text::from_str(alloc, "list item")?,
+        ))),
+    }
+}
+
+#[cycle(expressions)]
+pub fn value_of(alloc: Global, scope: &Scope, expr: &Expr) -> Result<Value, EvalError>
+    ensures { Answers meaning result (val (pairs_of scope.now) (tree_of expr.now)) }
+{
+    match expr {
+        Expr::Bool(_, b) => Ok(Value::Bool(*b)),
+        Expr::Int(_, n) => Ok(Value::Int(*n)),
+        Expr::Str(_, text) => Ok(Value::Str(text.copy(alloc)?)),
+        Expr::Name(at, name) => read(alloc, scope, *at, name),
+        Expr::List(at, items) => {
+            let items = items_of(alloc, scope, items.as_slice())?;
+            list_value(alloc, *at, items)
+        }
+        Expr::Map(literal) => {
+            let entries = entries_of(alloc, scope, literal)?;
+            Ok(map_value(entries))
+        }
+        Expr::Sum(first, terms) => {
+            let first = value_of(alloc, scope, first)?;
+            add_terms(alloc, scope, terms.as_slice(), first)
+        }
+    }
+}
+
+/// A list value, within the limit.
+fn list_value(alloc: Global, at: Place, items: Vec<Item>) -> Result<Value, EvalError>
+    ensures { Answers meaning result (then_do (limited (2 ^ 16) (codes "list") at items.items) (λ l. Ok (Items l))) }
+{
+    if items.len() > 1 << 16 {
+        return Err(EvalError::Bad(too_many(alloc, at, "list")?));
+    }
+    Ok(Value::Strs(items))
+}
+
+/// The items in turn.
+#[cycle(expressions)]
+fn items_of(alloc: Global, scope: &Scope, items: &[Expr]) -> Result<Vec<Item>, EvalError>
+    ensures { Answers (λ v. v.items) result (val_items (pairs_of scope.now) (trees_then (map tree_of items.now) no_tree)) }
+{
+    let mut list = Vec::new(alloc);
+    'items: for expr in items {
+        list.push(item_value(alloc, scope, expr)?)?;
+    }
+    Ok(list)
+}
+
+#[cycle(expressions)]
+fn item_value(alloc: Global, scope: &Scope, expr: &Expr) -> Result<Item, EvalError>
+    ensures { Answers (λ i. i) result (then_do (val (pairs_of scope.now) (tree_of expr.now)) (item_of (place_of (tree_of expr.now)))) }
+{
+    let value = value_of(alloc, scope, expr)?;
+    item(alloc, first_place(expr), value)
+}
+
+/// The sum of the first and the terms, in turn.
+#[cycle(expressions)]
+fn add_terms(
+    alloc: Global,
+    scope: &Scope,
+    terms: &[(Place, Expr)],
+    first: Value,
+) -> Result<Value, EvalError>
+    ensures { Answers meaning result (val_terms (pairs_of scope.now) (meaning first) (terms_then (map term_of terms.now) no_term)) }
+{
+    let mut total = first;
+    'terms: for (at, term) in terms {
+        total = add_term(alloc, scope, term, *at, total)?;
+    }
+    Ok(total)
+}
+
+#[cycle(expressions)]
+fn add_term(
+    alloc: Global,
+    scope: &Scope,
+    term: &Expr,
+    at: Place,
+    total: Value,
+) -> Result<Value, EvalError>
+    ensures { Answers meaning result (then_do (val (pairs_of scope.now) (tree_of term.now)) (sum_of at (meaning total))) }
+{
+    let other = value_of(alloc, scope, term)?;
+    add(alloc, total, other, at)
+}
+
+/// The entries of a map literal.
+#[cycle(expressions)]
+pub fn entries_of(alloc: Global, scope: &Scope, literal: &MapExpr) -> Result<Vec<Entry>, EvalError>
+    ensures { Answers (λ es. map field_of es.items) result (val_map (pairs_of scope.now) (map_of literal.now).at (map_of literal.now).entries) }
+{
+    let entries = all_entries(alloc, scope, literal.entries.as_slice())?;
+    within_depth(alloc, literal.at, entries)
+}
+
+#[cycle(expressions)]
+fn all_entries(alloc: Global, scope: &Scope, entries: &[EntryExpr]) -> Result<Vec<Entry>, EvalError>
+    ensures { Answers (λ es. map field_of es.items) result (val_entries (pairs_of scope.now) (entries_then (map entry_of entries.now) no_entry)) }
+{
+    let mut list = Vec::new(alloc);
+    'entries: for entry in entries {
+        let value = value_of(alloc, scope, &entry.value)?;
+        list.push(make_entry(entry.name.copy(alloc)?, entry.at, value))?;
+    }
+    Ok(list)
+}

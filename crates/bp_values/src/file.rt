@@ -1,0 +1,156 @@
+ghost use Rattle.std.specs.Prelude.{◌≡◌, map, IfOk, OnOk, [], Ok};
+ghost use Rattle.bp_parser.specs.Trees.{tree_of, map_of, definition_of, Assigns, Extends, Declares};
+ghost use Rattle.bp_values.specs.Values.{meaning};
+ghost use Rattle.bp_faults.specs.Answers.{Answers, Refuses, Leaves};
+ghost use Rattle.bp_values.specs.Scopes.{pairs_of, value_in};
+ghost use Rattle.bp_values.specs.Files.{raw_of, known_of, assigned, extended, declared as declared_by, defined, all_defined, evaluated};
+
+use crate::expression::{entries_of, value_of};
+use crate::marks::{mark, mark_entries};
+use crate::sums::add;
+use crate::{Entry, EvalError, Scope};
+use bp_faults::{Fault, FaultKind, Place, Text};
+use bp_parser::{Def, Expr, FileTree, MapExpr};
+use indexmap::IndexSet;
+use std::alloc::Global;
+
+/// A module as it is written, with its values.
+#[derive(Drop)]
+pub struct RawModule {
+    pub kind: Text,
+    pub at: Place,
+    pub entries: Vec<Entry>,
+}
+
+/// What is known after some definitions.
+#[derive(Drop)]
+pub struct State {
+    scope: Scope,
+    used: IndexSet<Text>,
+    modules: Vec<RawModule>,
+}
+
+fn assign(
+    alloc: Global,
+    state: &mut State,
+    name: &Text,
+    at: Place,
+    value: &Expr,
+) -> Result<(), EvalError>
+    ensures { Leaves known_of state.new result (assigned (known_of state.old) name.now at (tree_of value.now)) }
+{
+    if state.scope.get(name).is_some() {
+        return Err(EvalError::Bad(Fault::on(alloc, FaultKind::VariableSet, at, name.copy(alloc)?)));
+    }
+    let new = value_of(alloc, &state.scope, value)?;
+    mark(alloc, &mut state.used, value)?;
+    state.scope.put(alloc, name.copy(alloc)?, new)?;
+    Ok(())
+}
+
+fn extend(
+    alloc: Global,
+    state: &mut State,
+    name: &Text,
+    at: Place,
+    value: &Expr,
+) -> Result<(), EvalError>
+    ensures { Leaves known_of state.new result (extended (known_of state.old) name.now at (tree_of value.now) (value_in (known_of state.old).scope name.now)) }
+{
+    match state.scope.get(name) {
+        Some(_) => {
+            if state.used.contains(name) {
+                return Err(EvalError::Bad(Fault::on(
+                    alloc,
+                    FaultKind::AfterUse,
+                    at,
+                    name.copy(alloc)?,
+                )));
+            }
+            let other = value_of(alloc, &state.scope, value)?;
+            mark(alloc, &mut state.used, value)?;
+            let old = state.scope.take(alloc, name.copy(alloc)?)?;
+            let new = add(alloc, old, other, at)?;
+            state.scope.put(alloc, name.copy(alloc)?, new)?;
+            Ok(())
+        }
+        None => Err(EvalError::Bad(Fault::on(
+            alloc,
+            FaultKind::UnknownVariable,
+            at,
+            name.copy(alloc)?,
+        ))),
+    }
+}
+
+fn declare(
+    alloc: Global,
+    state: &mut State,
+    kind: &Text,
+    at: Place,
+    body: &MapExpr,
+) -> Result<(), EvalError>
+    ensures { Leaves known_of state.new result (declared_by (known_of state.old) kind.now at (map_of body.now)) }
+{
+    let entries = entries_of(alloc, &state.scope, body)?;
+    mark_entries(alloc, &mut state.used, body.entries.as_slice())?;
+    state.modules.push(RawModule {
+        kind: kind.copy(alloc)?,
+        at,
+        entries,
+    })?;
+    Ok(())
+}
+
+fn define(alloc: Global, inherited: &Scope, state: &mut State, def: &Def) -> Result<(), EvalError>
+    ensures { Leaves known_of state.new result (defined (pairs_of inherited.now) (known_of state.old) (definition_of def.now)) }
+{
+    match def {
+        Def::Assign { name, at, value } => assign(alloc, state, name, *at, value),
+        Def::Extend { name, at, value } => {
+            if inherited.get(name).is_some() {
+                return Err(EvalError::Bad(Fault::on(
+                    alloc,
+                    FaultKind::NotLocal,
+                    *at,
+                    name.copy(alloc)?,
+                )));
+            }
+            extend(alloc, state, name, *at, value)
+        }
+        Def::Module { kind, at, body } => declare(alloc, state, kind, *at, body),
+    }
+}
+
+/// The definitions in turn.
+fn define_all(
+    alloc: Global,
+    inherited: &Scope,
+    state: &mut State,
+    defs: &[Def],
+) -> Result<(), EvalError>
+    ensures { Leaves known_of state.new result (all_defined (pairs_of inherited.now) (known_of state.old) (map definition_of defs.now)) }
+{
+    'defs: for def in defs {
+        define(alloc, inherited, state, def)?;
+    }
+    Ok(())
+}
+
+/// The modules of a file and its final scope.
+pub fn evaluate(
+    alloc: Global,
+    tree: &FileTree,
+    inherited: &Scope,
+) -> Result<(Vec<RawModule>, Scope), EvalError>
+    ensures { Answers (λ r. (map raw_of r.0.items, pairs_of r.1)) result (evaluated (pairs_of inherited.now) (map definition_of tree.now.defs.items)) }
+{
+    let mut state = State {
+        scope: inherited.copy(alloc)?,
+        used: IndexSet::new(alloc),
+        modules: Vec::new(alloc),
+    };
+    define_all(alloc, inherited, &mut state, tree.defs.as_slice())?;
+    let State { scope, modules, .. } = state;
+    Ok((modules, scope))
+}

@@ -1,0 +1,74 @@
+ghost use Rattle.std.specs.Prelude.{◌≡◌, List, ℕ, map, IfOk, IsTrue, ◌↔◌};
+ghost use Rattle.bp_values.specs.Values.{meaning, field_of, fields_then, no_field, body, Field};
+
+use bp_faults::{Item, OutOfMemory, Place, Text, copy_all};
+use std::alloc::Global;
+
+/// What an expression stands for.
+#[cycle(value)]
+#[derive(Drop, PartialEq)]
+pub enum Value {
+    Bool(bool),
+    Int(i64),
+    Str(Text),
+    Strs(Vec<Item>),
+    Map(Vec<Entry>),
+}
+
+/// A property of a map, at the place of its name.
+#[cycle(value)]
+#[derive(Drop, PartialEq)]
+pub struct Entry {
+    pub name: Text,
+    pub at: Place,
+    pub value: Value,
+}
+
+#[cycle(copies)]
+pub fn copy_value(alloc: Global, value: &Value) -> Result<Value, OutOfMemory>
+    ensures { IfOk result (λ copy. meaning copy ≡ meaning value.now) }
+{
+    Ok(match value {
+        Value::Bool(b) => Value::Bool(*b),
+        Value::Int(n) => Value::Int(*n),
+        Value::Str(text) => Value::Str(text.copy(alloc)?),
+        Value::Strs(items) => Value::Strs(copy_all(alloc, items.as_slice())?),
+        Value::Map(entries) => Value::Map(copy_entries(alloc, entries.as_slice())?),
+    })
+}
+
+#[cycle(copies)]
+pub fn copy_entries(alloc: Global, entries: &[Entry]) -> Result<Vec<Entry>, OutOfMemory>
+    ensures { IfOk result (λ copy. map field_of copy.items ≡ map field_of entries.now) }
+{
+    let mut copy = Vec::new(alloc);
+    for entry in entries {
+        copy.push(copy_entry(alloc, entry)?)?;
+    }
+    Ok(copy)
+}
+
+#[cycle(copies)]
+pub fn copy_entry(alloc: Global, entry: &Entry) -> Result<Entry, OutOfMemory>
+    ensures { IfOk result (λ copy. field_of copy ≡ field_of entry.now) }
+{
+    Ok(Entry {
+        name: entry.name.copy(alloc)?,
+        at: entry.at,
+        value: copy_value(alloc, &entry.value)?,
+    })
+}
+
+/// The map of these entries.
+pub fn map_value(entries: Vec<Entry>) -> Value
+    ensures { meaning result ≡ body (map field_of entries.items) }
+{
+    Value::Map(entries)
+}
+
+/// An entry.
+pub fn make_entry(name: Text, at: Place, value: Value) -> Entry
+    ensures { field_of result ≡ record { name = name; at = at; value = meaning value } }
+{
+    Entry { name, at, value }
+}
