@@ -21,3 +21,5 @@ pub mod Progress
 pub mod Listed
 pub mod Readied
 pub mod AlongLegal
+pub mod HeldOuts
+pub mod PlacedValues

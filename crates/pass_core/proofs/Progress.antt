@@ -19,7 +19,8 @@ use Rattle.pass_core.proofs.Induction.{plan_induction}
 use Rattle.pass_core.proofs.Lists.{map-same}
 use Rattle.pass_core.proofs.Marks.{marked_or, filled_or, marks_most, marks_full, full_marks, fills_most, fills_full, full_fills}
 use Rattle.pass_core.proofs.Numbered.{into_sources, all_into, each_into, left_none, none_left}
-use Rattle.pass_core.proofs.Sound.{IsSound, source_inside, target_inside, made_right}
+use Rattle.pass_core.specs.CoreKept.{IsSound}
+use Rattle.pass_core.proofs.Sound.{source_inside, target_inside, made_right}
 
 -- something holds of each number below a bound, or there is something else
 each_or : {A : Type 0} (P : ℕ → Type 0) (k : ℕ) → ((e : ℕ) → e < k → A ⊎ P e) → A ⊎ ((e : ℕ) → e < k → P e)

@@ -18,19 +18,9 @@ use Rattle.pass_core.specs.Results.{NodeResult, outs_of, judged, node_result}
 use Rattle.pass_core.specs.CoreStates.{CoreState, from_of, to_of, numbers_into, IsMarked, IsUnmarked, result_in, IsFilled, held, VisitWasMade, made, Allows, after, beginning, after_all, AreAllowed, IsReached, entries}
 use Rattle.pass_core.proofs.Lists.{all_map, map-same, get_here, get_else}
 use Rattle.pass_core.proofs.Marks.{marked_before, still_filled, not_both, get_blank, marks_more, fills_more, marks_none, fills_none}
-use Rattle.pass_core.proofs.Numbered.{into_sources, left, left_begins, left_lower, left_same}
+use Rattle.pass_core.specs.CoreKept.{IsSound, left}
+use Rattle.pass_core.proofs.Numbered.{into_sources, left_begins, left_lower, left_same}
 use Rattle.pass_core.proofs.Unrolled.{result_equation}
-
-pub record IsSound {O : Type 0} (mean : ℕ → List O → Result O Fault) (plan : Plan) (s : CoreState O) : Type 0 where
-  pub counters_many : length s.counters ≡ plan.count
-  pub claimed_many : length s.claimed ≡ plan.count
-  pub filled_many : length s.filled ≡ length plan.edges
-  pub subtracted_many : length s.subtracted ≡ length plan.edges
-  pub fetched_many : length s.fetched ≡ length plan.edges
-  pub right : (e : ℕ) (r : NodeResult O) → slice_get s.filled e ≡ Some (Some r) → r ≡ node_result mean plan (from_of plan e)
-  pub taken : (e : ℕ) → IsMarked s.fetched e → IsFilled s e
-  pub counted : (n : ℕ) → n < plan.count → slice_index s.counters n ≡ left plan.edges s.subtracted n
-  pub awaited : (n : ℕ) → IsMarked s.claimed n → left plan.edges s.subtracted n ≡ 0
 
 map_map : {A B C : Type 0} (g : B → C) (f : A → B) (xs : List A) → map (λ x. g (f x)) xs ≡ map g (map f xs)
 map_map g f [] = refl
