@@ -23,3 +23,6 @@ pub mod Readied
 pub mod AlongLegal
 pub mod HeldOuts
 pub mod PlacedValues
+pub mod CoreSteps
+pub mod HeldPlaced
+pub mod CoreTables

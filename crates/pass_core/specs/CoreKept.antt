@@ -1,5 +1,5 @@
 -- What every state of a core keeps, and what a core keeps beside it. No public contract speaks of it.
-use Rattle.std.specs.Prelude.{◌≡◌, ◌<◌, ◌+◌, ◌==◌, ℕ, Bool, true, false, List, [], ◌∷◌, map, length, slice_get, slice_index, Option, Some, None, Result}
+use Rattle.std.specs.Prelude.{◌≡◌, ◌<◌, ◌+◌, ◌==◌, ℕ, Bool, true, false, List, [], ◌∷◌, map, length, slice_get, slice_index, slice_set, Option, Some, None, Result}
 use Rattle.std.specs.Option.{option_map}
 use Rattle.bp_faults.specs.declared.fault.Fault.{Fault}
 use Rattle.pass_core.specs.declared.plan.Plan.{Plan}
@@ -58,3 +58,7 @@ pub record IsCore {O : Type 0} (mean : ℕ → List O → Result O Fault) (takes
   pub right : (n : ℕ) (p : Published O) → slice_get published n ≡ Some (Some p) → (shown p ≡ node_result mean plan n) × VisitWasMade plan s n
   pub visited : (n : ℕ) → VisitWasMade plan s n → (p : Published O) × (slice_get published n ≡ Some (Some p))
   pub counted : steps ≡ entries s
+
+-- A node's result is published where it has fetched its last in-edge, and else nothing changes.
+abbrev pub PublishesLast : {O : Type 0} → Type 0 → ℕ → NodeResult O → List (Option (Published O)) → List (Option (Published O)) → Type 0
+PublishesLast {O} Last n r old new = (Last → (p : Published O) × (shown p ≡ r) × (new ≡ slice_set old n (Some p))) × ((Last → ⊥) → new ≡ old)

@@ -1,7 +1,7 @@
-ghost use Rattle.std.specs.Prelude.{◌≡◌, ◌<◌, ◌≤◌, ◌+◌, ◌-◌, length, map, take, drop, slice_index, Some, IfOk};
+ghost use Rattle.std.specs.Prelude.{◌≡◌, ◌<◌, ◌≤◌, ◌+◌, ◌-◌, length, map, take, drop, slice_index, Some, IfOk, OnOk, OnErr, IsTrue};
 ghost use Rattle.std.specs.Option.{option_map};
 ghost use Rattle.std.specs.Arc.{arc_value};
-ghost use Rattle.pass_core.specs.CoreKept.{shown_in};
+ghost use Rattle.pass_core.specs.CoreKept.{shown_in, PublishesLast};
 ghost use Rattle.pass_core.specs.CoreStates.{result_in};
 ghost use Rattle.pass_core.specs.Results.{judged, outs_of};
 ghost use Rattle.pass_core.specs.Shown.{shown};
@@ -76,4 +76,24 @@ pub fn visit_held<V: Visit>(
         Err(VisitError::Bad(fault)) => Ok(Published::Bad(fault)),
         Err(VisitError::OutOfMemory) => Err(OutOfMemory),
     }
+}
+
+/// Publishes what the visit of a node makes, where its last in-edge is fetched.
+pub fn publish_last<V: Visit>(
+    alloc: Global,
+    v: &V,
+    n: NodeId,
+    held: &[Option<Published<V::Out>>],
+    last: bool,
+    published: &mut Vec<Option<Published<V::Out>>>,
+) -> Result<(), OutOfMemory>
+    requires takes { V.takes v.now n.0 (length held.now) }
+    requires inside { n.0 < length published.old.items }
+    ensures done { OnOk result (PublishesLast (IsTrue last) n.0 (judged (V.meaning v.now n.0) (outs_of (map (λ h. result_in (Some (shown_in h))) held.now))) published.old.items published.new.items) }
+    ensures unchanged { OnErr result (published.new.items ≡ published.old.items) }
+{
+    if last {
+        published[n.0 as usize] = Some(visit_held(alloc, v, n, held)?);
+    }
+    Ok(())
 }

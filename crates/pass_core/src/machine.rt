@@ -1,7 +1,7 @@
 ghost use Rattle.std.specs.Prelude.{◌≡◌, ◌<◌, ◌↔◌, map, IfOk, IsTrue, Option};
 ghost use Rattle.std.specs.List.{range_with_len};
 
-use crate::held::{held_by, visit_held};
+use crate::held::{held_by, publish_last};
 use crate::in_edges::starts_of;
 use crate::order_run::no_marks;
 use crate::places::{empty_places, unwrapped};
@@ -73,10 +73,9 @@ impl<V: Visit> Core<V> {
         if n.0 >= self.plan.count || self.claimed[node] || self.counters[node] != 0 {
             return Err(StepError::NotAllowed(Step::Claim(n)));
         }
-        if self.unfetched[node] == 0 {
-            let held = held_by(&self.filled, &self.starts, n);
-            self.published[node] = Some(visit_held(alloc, &self.visitor, n, held)?);
-        }
+        let held = held_by(&self.filled, &self.starts, n);
+        let last = self.unfetched[node] == 0;
+        publish_last(alloc, &self.visitor, n, held, last, &mut self.published)?;
         self.claimed[node] = true;
         self.steps += 1;
         Ok(())
@@ -94,10 +93,9 @@ impl<V: Visit> Core<V> {
         if !self.claimed[node] {
             return Err(StepError::NotAllowed(Step::Fetch(e)));
         }
-        if self.unfetched[node] == 1 {
-            let held = held_by(&self.filled, &self.starts, n);
-            self.published[node] = Some(visit_held(alloc, &self.visitor, n, held)?);
-        }
+        let held = held_by(&self.filled, &self.starts, n);
+        let last = self.unfetched[node] == 1;
+        publish_last(alloc, &self.visitor, n, held, last, &mut self.published)?;
         self.unfetched[node] -= 1;
         self.fetched[edge] = true;
         self.steps += 1;
