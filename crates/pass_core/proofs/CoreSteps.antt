@@ -14,12 +14,12 @@ use Rattle.pass_core.specs.declared.step.Step.{Step}
 use Rattle.pass_core.specs.declared.step.Step.TheVariants.{Claim, Fetch, Fill, Subtract}
 use Rattle.pass_core.specs.Results.{NodeResult, node_result}
 use Rattle.pass_core.specs.Shown.{shown}
-use Rattle.pass_core.specs.CoreStates.{CoreState, to_of, numbers_into, IsMarked, VisitWasMade, made, Allows, after, entries}
-use Rattle.pass_core.specs.CoreKept.{IsSound, IsCore, PublishesLast, left}
+use Rattle.pass_core.specs.CoreStates.{CoreState, from_of, to_of, numbers_into, IsMarked, VisitWasMade, made, Allows, after, entries}
+use Rattle.pass_core.specs.CoreKept.{IsSound, IsCore, PublishesLast, left, shown_in}
 use Rattle.pass_core.proofs.Lists.{get_here, get_else}
-use Rattle.pass_core.proofs.Marks.{marks_most, fills_most, marked_before, still_marked, now_marked}
+use Rattle.pass_core.proofs.Marks.{map_set, marks_most, fills_most, marked_before, still_marked, now_marked}
 use Rattle.pass_core.proofs.Numbered.{all_into, each_into, left_none, none_left, left_lower, left_same}
-use Rattle.pass_core.proofs.Sound.{step_keeps, step_adds, made_right, target_inside, filled_inside}
+use Rattle.pass_core.proofs.Sound.{step_keeps, step_adds, made_right, source_inside, target_inside, filled_inside}
 
 module _ (plan : Plan) (marks : List Bool) (n : ℕ) where
   all_if_none : length marks ≡ length plan.edges → left plan.edges marks n ≡ 0 → AllByRecursion (IsMarked marks) (numbers_into 0 plan.edges n)
@@ -76,6 +76,13 @@ module _ {O : Type 0} (mean : ℕ → List O → Result O Fault) (takes : ℕ �
 
   pub fill_core : (e : ℕ) (may : Allows plan s (Fill e)) → IsCore mean takes plan starts (after mean plan s (Fill e)) unfetched published (steps + 1)
   fill_core e may = after_core (Fill e) may unfetched published core.unfetched_many core.unfetched_are core.published_many core.right core.visited
+
+  -- what is copied into an edge is what the visit of its source made
+  pub filled_is : (filled : List (Option (Published O))) (e : ℕ) (q : Published O) → e < length plan.edges → VisitWasMade plan s (from_of plan e) → shown q ≡ node_result mean plan (from_of plan e)
+      → map shown_in (slice_set filled e (Some q)) ≡ slice_set (map shown_in filled) e (Some (made mean plan s (from_of plan e)))
+  filled_is filled e q lt was is =
+      map_set shown_in filled e (Some q)
+      ∙ ap (λ r. slice_set (map shown_in filled) e (Some r)) (is ∙ sym (made_right mean plan core.is_plan core.free s core.sound (from_of plan e) (source_inside mean plan core.is_plan core.free e lt) was))
 
   pub subtract_core : (e : ℕ) (may : Allows plan s (Subtract e)) → IsCore mean takes plan starts (after mean plan s (Subtract e)) unfetched published (steps + 1)
   subtract_core e may = after_core (Subtract e) may unfetched published core.unfetched_many core.unfetched_are core.published_many core.right core.visited

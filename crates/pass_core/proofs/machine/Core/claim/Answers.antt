@@ -17,10 +17,6 @@ held_by-held-requires-clause-ends g c = ?
 pub publish_last-requires-clause-takes : goal.publish_last-requires-clause-takes
 publish_last-requires-clause-takes g c = ?
 
--- src/machine.rt:78:9
-pub invariant_of-self : goal.invariant_of-self
-invariant_of-self g c = ?
-
 -- src/machine.rt:80:9
 pub overflow_add-self : goal.overflow_add-self
 overflow_add-self g c = ?
