@@ -1,8 +1,9 @@
 -- What the tables of a core show of its state.
 use Rattle.std.proofs.Common.{◌≡◌, ◌+◌, ◌-◌, ◌<◌, ◌≤◌, ℕ, Bool, true, false, List, map, length, get_or, refl, ap, arith, ◌∙◌, sym, subst, Option, Some, None}
-use Rattle.std.specs.Prelude.{slice_get, slice_index, slice_set, is_some}
+use Rattle.std.specs.Prelude.{slice_get, slice_index, slice_set, is_some, nat_eq, IsTrue}
 use Rattle.std.proofs.lemmas.List.{get_or-map}
 use Rattle.std.proofs.lemmas.Option.{slice_get_read}
+use Rattle.std.proofs.lemmas.Bool.Decides.{nat_tests}
 use Rattle.pass_core.specs.declared.plan.Plan.{Plan}
 use Rattle.pass_core.specs.declared.plan.PlanEdge.{PlanEdge}
 use Rattle.pass_core.specs.declared.published.Published.{Published}
@@ -10,7 +11,7 @@ use Rattle.pass_core.specs.Results.{NodeResult}
 use Rattle.pass_core.specs.Shown.{shown}
 use Rattle.pass_core.specs.CoreStates.{CoreState, from_of, to_of}
 use Rattle.pass_core.specs.CoreViews.{CoreView}
-use Rattle.pass_core.specs.CoreKept.{shown_in}
+use Rattle.pass_core.specs.CoreKept.{shown_in, PublishesLast}
 use Rattle.pass_core.proofs.Lists.{same_at}
 use Rattle.pass_core.proofs.Marks.{get_mapped}
 
@@ -51,3 +52,13 @@ module _ (plan : Plan) (edges : List PlanEdge) (same : edges ≡ plan.edges) (e 
 
     pub lowered_is : slice_set counts (get_or edges e d).to.0 (k - 1) ≡ slice_set counts (to_of plan e) (slice_index counts (to_of plan e) - 1)
     lowered_is = λ i. slice_set counts (sym to_is i) (count_is i - 1)
+
+-- the same is published, by another test and another word for the result
+pub publishes_as : {O P Q : Type 0} (n : ℕ) (r q : NodeResult O) (old new : List (Option (Published O))) → (P → Q) → (Q → P) → r ≡ q → PublishesLast P n r old new → PublishesLast Q n q old new
+publishes_as n r q old new to back same h = ((λ last. let t = h.0 (back last) in (t.0, t.1 ∙ same, t.2)), λ no. h.1 (λ last. no (to last)))
+
+pub test_zero : (k j m : ℕ) → k ≡ j → IsTrue (nat_eq k m) → j ≡ m
+test_zero k j m same so = grind (arith, nat_tests)
+
+pub zero_test : (k j m : ℕ) → k ≡ j → j ≡ m → IsTrue (nat_eq k m)
+zero_test k j m same is = let e : k ≡ m = omega arith in grind (arith, nat_tests)
