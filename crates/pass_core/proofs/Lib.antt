@@ -26,3 +26,4 @@ pub mod PlacedValues
 pub mod CoreSteps
 pub mod HeldPlaced
 pub mod CoreTables
+pub mod CoreEnds

@@ -153,7 +153,7 @@ module _ {O : Type 0} (mean : ℕ → List O → Result O Fault) (plan : Plan) (
     step_adds (Fill e) h = let one = fills_more s.filled e (made mean plan s (from_of plan e)) h.1 in omega arith
     step_adds (Subtract e) h = let one = marks_more s.subtracted e h.1 in omega arith
 
-  begins_counted : (n : ℕ) → n < plan.count → slice_index (map (λ n. length (predecessors plan.edges n)) (range_with_len 0 plan.count)) n ≡ left plan.edges (replicate (length plan.edges) false) n
+  pub begins_counted : (n : ℕ) → n < plan.count → slice_index (map (λ n. length (predecessors plan.edges n)) (range_with_len 0 plan.count)) n ≡ left plan.edges (replicate (length plan.edges) false) n
   begins_counted n lt =
       get_or-map (λ n. length (predecessors plan.edges n)) (range_with_len 0 plan.count) n 0 0 (omega (arith, length-range_with_len 0 plan.count))
       ∙ ap (λ m. length (predecessors plan.edges m)) (get_or-range_with_len 0 plan.count n 0 lt ∙ zero-add n) ∙ sym (left_begins plan.edges n)
@@ -171,7 +171,7 @@ module _ {O : Type 0} (mean : ℕ → List O → Result O Fault) (plan : Plan) (
     awaited = λ n h. let no : false ≡ true = get_blank plan.count false n true h in absurd cc;
   }
 
-  begins_empty : entries {O = O} (beginning plan) ≡ 0
+  pub begins_empty : entries {O = O} (beginning plan) ≡ 0
   begins_empty = let a = marks_none plan.count in let b = fills_none (NodeResult O) (length plan.edges) in let c = marks_none (length plan.edges) in omega arith
 
   all_keep : (steps : List Step) (s : CoreState O) → IsSound mean plan s → AreAllowed mean plan s steps → IsSound mean plan (after_all mean plan s steps) × (entries (after_all mean plan s steps) ≡ length steps + entries s)

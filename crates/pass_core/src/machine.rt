@@ -181,6 +181,6 @@ impl<V: Visit + Drop> Core<V> {
         requires { IsFinished self.plan self.state }
         ensures { IfOk result (λ outs. map shown outs.items ≡ map (node_result (V.meaning self.visitor) self.plan) (range_with_len 0 self.plan.count)) }
     {
-        unwrapped(alloc, self.published)
+        Ok(unwrapped(alloc, self.published)?)
     }
 }
