@@ -148,8 +148,11 @@ module _ {O : Type 0} (mean : ℕ → List O → Result O Fault) (takes : ℕ �
     fetch_before m other was = (was.0, all_if_none plan s.fetched m core.sound.fetched_many (sym (same_else m other) ∙ none_if_all plan (slice_set s.fetched e true) m was.1))
 
     pub fetch_last : slice_index unfetched (to_of plan e) ≡ 1 → VisitWasMade plan (after mean plan s (Fetch e)) (to_of plan e)
-    fetch_last one = (may.0, all_if_none plan (slice_set s.fetched e true) (to_of plan e) (length-set s.fetched e true ∙ core.sound.fetched_many)
-        (let are = core.unfetched_are (to_of plan e) node_inside in let lower = lower_to in omega arith))
+    fetch_last one = (
+      may.0,
+      all_if_none plan (slice_set s.fetched e true) (to_of plan e) (length-set s.fetched e true ∙ core.sound.fetched_many)
+          (let are = core.unfetched_are (to_of plan e) node_inside in let lower = lower_to in omega arith),
+    )
 
     counts_many : length (slice_set unfetched (to_of plan e) (slice_index unfetched (to_of plan e) - 1)) ≡ plan.count
     counts_many = length-set unfetched (to_of plan e) (slice_index unfetched (to_of plan e) - 1) ∙ core.unfetched_many

@@ -1,6 +1,3 @@
-use Rattle.pass_core.proofs.HeldPlaced.{slice_many}
-use Rattle.pass_core.proofs.PlacedValues.{placed_values}
-use Rattle.pass_core.proofs.CoreSteps.{fetch_core}
 use Rattle.pass_core.specs.CoreStates.{beginning}
 use Rattle.pass_core.proofs.Repeats.{no_repeats}
 use Rattle.pass_core.proofs.laws.no_step_twice.Goals as goal
