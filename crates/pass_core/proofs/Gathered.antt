@@ -12,7 +12,7 @@ use Rattle.pass_core.specs.Results.{cons_if}
 use Rattle.pass_core.specs.Made.{made_at, value_of, all_of}
 
 module _ {O : Type 0} where
-  all_of_cons : (x : O) (r : Option (List O)) (os : List O) → cons_if x r ≡ Some os → (rest : List O) × (r ≡ Some rest) × (os ≡ x ∷ rest)
+  pub all_of_cons : (x : O) (r : Option (List O)) (os : List O) → cons_if x r ≡ Some os → (rest : List O) × (r ≡ Some rest) × (os ≡ x ∷ rest)
   all_of_cons x None os h = cc
   all_of_cons x (Some rest) os h = (rest, refl, cc)
 

@@ -10,7 +10,7 @@ use Rattle.pass_core.specs.InEdges.{edges_below}
 use Rattle.pass_core.proofs.Lists.{all_map}
 
 -- no edge of these leads to a node below n
-none_below : (n : ℕ) (es : List PlanEdge) → AllByRecursion (λ (e : PlanEdge). n ≤ e.to.0) es → edges_below es n ≡ 0
+pub none_below : (n : ℕ) (es : List PlanEdge) → AllByRecursion (λ (e : PlanEdge). n ≤ e.to.0) es → edges_below es n ≡ 0
 none_below n [] h = refl
 none_below n (e ∷ es) h = let rest = none_below n es h.1 in let here = h.0 in grind (arith, nat_tests)
 
@@ -18,10 +18,10 @@ none_into : (n : ℕ) (es : List PlanEdge) → AllByRecursion (λ (e : PlanEdge)
 none_into n [] h = refl
 none_into n (e ∷ es) h = let other : e.to.0 ≡ n → ⊥ = (λ same. let here = h.0 in omega arith) in rw (ne_eqb e.to.0 n other) (none_into n es h.1)
 
-below_hit : (e : PlanEdge) (es : List PlanEdge) (n : ℕ) → e.to.0 < n → edges_below (e ∷ es) n ≡ suc (edges_below es n)
+pub below_hit : (e : PlanEdge) (es : List PlanEdge) (n : ℕ) → e.to.0 < n → edges_below (e ∷ es) n ≡ suc (edges_below es n)
 below_hit e es n lt = grind (arith, nat_tests)
 
-below_miss : (e : PlanEdge) (es : List PlanEdge) (n : ℕ) → n ≤ e.to.0 → edges_below (e ∷ es) n ≡ edges_below es n
+pub below_miss : (e : PlanEdge) (es : List PlanEdge) (n : ℕ) → n ≤ e.to.0 → edges_below (e ∷ es) n ≡ edges_below es n
 below_miss e es n le = grind (arith, nat_tests)
 
 pub below_le_length : (es : List PlanEdge) (n : ℕ) → edges_below es n ≤ length es
@@ -32,7 +32,7 @@ pub below_rises : (es : List PlanEdge) (n : ℕ) → edges_below es n ≤ edges_
 below_rises [] n = omega arith
 below_rises (e ∷ es) n = let rest = below_rises es n in grind (arith, nat_tests)
 
-from_all : (n k : ℕ) (es : List PlanEdge) → n ≤ k → AllByRecursion (λ (e : PlanEdge). k ≤ e.to.0) es → AllByRecursion (λ (e : PlanEdge). n ≤ e.to.0) es
+pub from_all : (n k : ℕ) (es : List PlanEdge) → n ≤ k → AllByRecursion (λ (e : PlanEdge). k ≤ e.to.0) es → AllByRecursion (λ (e : PlanEdge). n ≤ e.to.0) es
 from_all n k es le h = all_map (λ (e : PlanEdge). k ≤ e.to.0) (λ (e : PlanEdge). n ≤ e.to.0) (λ e g. omega arith) es h
 
 le_first : (e : PlanEdge) (es : List PlanEdge) (i : ℕ) (d : PlanEdge) → AllByRecursion (λ (later : PlanEdge). e.to.0 ≤ later.to.0) es → i < length es → e.to.0 ≤ (get_or es i d).to.0
@@ -58,10 +58,10 @@ below_if_stands (e ∷ es) n i d by lt = dite (dec_lt e.to.0 n)
     (λ here. hit_at e es n i d (λ k lk. below_if_stands es n k d by.1 lk) here (rw (below_hit e es n here) at lt))
     (λ other. let le : n ≤ e.to.0 = omega arith in let none = none_below n (e ∷ es) (le, from_all n e.to.0 es le by.0) in absurd (omega arith))
 
-take_first : {A : Type 0} (a : ℕ) (x : A) (xs ys : List A) → take (a - 0) xs ≡ ys → take (suc a - 0) (x ∷ xs) ≡ x ∷ ys
+pub take_first : {A : Type 0} (a : ℕ) (x : A) (xs ys : List A) → take (a - 0) xs ≡ ys → take (suc a - 0) (x ∷ xs) ≡ x ∷ ys
 take_first a x xs ys h = let e : suc a - 0 ≡ suc (a - 0) = omega arith in rw e (ap (λ (l : List _). x ∷ l) h)
 
-sub_suc : (a b : ℕ) → suc a - suc b ≡ a - b
+pub sub_suc : (a b : ℕ) → suc a - suc b ≡ a - b
 sub_suc a b = omega arith
 
 -- the edges into a node are those between two of these places

@@ -21,3 +21,9 @@ pub mod Progress
 pub mod Listed
 pub mod Readied
 pub mod AlongLegal
+pub mod HeldOuts
+pub mod PlacedValues
+pub mod CoreSteps
+pub mod HeldPlaced
+pub mod CoreTables
+pub mod CoreEnds

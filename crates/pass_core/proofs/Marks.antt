@@ -1,5 +1,5 @@
 -- Marked and filled places: how many there are, and what one more changes.
-use Rattle.std.proofs.Common.{◌≡◌, ◌<◌, ◌≤◌, ℕ, zero, suc, Bool, true, false, List, [], ◌∷◌, map, length, replicate, refl, ap, arith, ◌∙◌, sym, subst, Option, Some, None, ◌⊎◌, inl, inr}
+use Rattle.std.proofs.Common.{◌≡◌, ◌≢◌, ◌<◌, ◌≤◌, ◌+◌, ℕ, zero, suc, Bool, true, false, List, [], ◌∷◌, map, length, replicate, refl, ap, arith, ◌∙◌, sym, subst, Option, Some, None, ◌⊎◌, inl, inr}
 use Rattle.std.specs.Prelude.{slice_get, slice_set, is_some}
 use mathlib.Core.Logic.{dite}
 use native.Mathlib.Decide.{ℕ_discrete}
@@ -62,12 +62,12 @@ now_marked bs j h = get_here bs j true (slice_get_within bs j false h)
 pub marked_before : (bs : List Bool) (j k : ℕ) → IsMarked (slice_set bs j true) k → (k ≡ j) ⊎ (IsMarked bs k)
 marked_before bs j k h = dite (ℕ_discrete k j) (λ same. inl same) (λ other. inr (sym (get_else bs j k true other) ∙ h))
 
-map_set : {X Y : Type 0} (f : X → Y) (xs : List X) (k : ℕ) (x : X) → map f (slice_set xs k x) ≡ slice_set (map f xs) k (f x)
+pub map_set : {X Y : Type 0} (f : X → Y) (xs : List X) (k : ℕ) (x : X) → map f (slice_set xs k x) ≡ slice_set (map f xs) k (f x)
 map_set f [] k x = refl
 map_set f (y ∷ ys) zero x = refl
 map_set f (y ∷ ys) (suc k) x = ap (λ (l : List _). f y ∷ l) (map_set f ys k x)
 
-get_mapped : {X Y : Type 0} (f : X → Y) (xs : List X) (k : ℕ) (x : X) → slice_get xs k ≡ Some x → slice_get (map f xs) k ≡ Some (f x)
+pub get_mapped : {X Y : Type 0} (f : X → Y) (xs : List X) (k : ℕ) (x : X) → slice_get xs k ≡ Some x → slice_get (map f xs) k ≡ Some (f x)
 get_mapped f [] k x h = cc
 get_mapped f (y ∷ ys) zero x h = let e : y ≡ x = cc in ap (λ z. Some (f z)) e
 get_mapped f (y ∷ ys) (suc k) x h = get_mapped f ys k x h

@@ -1,11 +1,12 @@
 -- The numbers of the edges into a node, and how many of them aren't marked.
-use Rattle.std.proofs.Common.{◌≡◌, ◌≢◌, ◌<◌, ◌+◌, ◌==◌, ℕ, zero, suc, Bool, true, false, List, [], ◌∷◌, map, length, replicate, refl, ap, arith, ◌∙◌, sym, subst, add-zero}
-use Rattle.std.specs.Prelude.{slice_index, slice_set, if◌then◌else◌}
+use Rattle.std.proofs.Common.{◌≡◌, ◌≢◌, ◌<◌, ◌≤◌, ◌+◌, ◌==◌, ℕ, zero, suc, Bool, true, false, List, [], ◌∷◌, map, length, replicate, refl, ap, arith, ◌∙◌, sym, subst, add-zero}
+use Rattle.std.specs.Prelude.{slice_get, slice_index, slice_set, if◌then◌else◌}
 use Rattle.std.specs.List.{AllByRecursion}
 use Rattle.std.proofs.lemmas.Bool.Decides.{nat_tests}
 use Rattle.pass_core.specs.declared.plan.PlanEdge.{PlanEdge}
-use Rattle.pass_core.specs.Plans.{sources, predecessors}
+use Rattle.pass_core.specs.Plans.{sources, in_edges, predecessors}
 use Rattle.pass_core.specs.CoreStates.{numbers_into, IsMarked, IsUnmarked}
+use Rattle.pass_core.specs.CoreKept.{one_if, left}
 
 abbrev pub targets : List PlanEdge → List ℕ
 targets edges = map (λ (d : PlanEdge). d.to.0) edges
@@ -48,17 +49,6 @@ module _ (P : ℕ → Type 0) where
   each_into k (d ∷ ds) n h (suc i) lt same =
       let e : suc k + i ≡ k + suc i = omega arith in
       subst P e (each_into (suc k) ds n (rest_if d k n (numbers_into (suc k) ds n) (d.to.0 == n) refl h) i (omega arith) same)
-
-abbrev pub one_if : Bool → ℕ
-one_if true = 1
-one_if false = 0
-
--- how many of the edges into a node aren't marked
-abbrev pub left : List PlanEdge → List Bool → ℕ → ℕ
-left [] marks n = 0
-left (d ∷ ds) [] n = 0
-left (d ∷ ds) (true ∷ bs) n = left ds bs n
-left (d ∷ ds) (false ∷ bs) n = one_if (d.to.0 == n) + left ds bs n
 
 one_here : (m n : ℕ) → m ≡ n → (b : Bool) → (m == n) ≡ b → one_if b ≡ 1
 one_here m n same true is = refl

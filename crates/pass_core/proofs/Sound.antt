@@ -1,5 +1,5 @@
 -- What every state of the core machine keeps.
-use Rattle.std.proofs.Common.{◌≡◌, ◌<◌, ◌-◌, ◌+◌, ℕ, suc, true, false, List, [], ◌∷◌, map, length, replicate, refl, ap, arith, ◌∙◌, sym, subst, Option, Some, None, Result, ⊎_elim, length-set, zero-add}
+use Rattle.std.proofs.Common.{◌≡◌, ◌≢◌, ◌<◌, ◌-◌, ◌+◌, ℕ, suc, Bool, true, false, List, [], ◌∷◌, map, length, replicate, get_or, refl, ap, arith, ◌∙◌, sym, subst, Option, Some, None, Result, ⊎_elim, length-set, zero-add}
 use Rattle.std.specs.Prelude.{slice_get, slice_index, slice_set}
 use Rattle.std.specs.List.{AllByRecursion, range_with_len}
 use mathlib.Core.Logic.{dite}
@@ -13,24 +13,14 @@ use Rattle.pass_core.specs.declared.plan.Plan.{Plan}
 use Rattle.pass_core.specs.declared.plan.PlanEdge.{PlanEdge}
 use Rattle.pass_core.specs.declared.step.Step.{Step}
 use Rattle.pass_core.specs.declared.step.Step.TheVariants.{Claim, Fetch, Fill, Subtract}
-use Rattle.pass_core.specs.Plans.{predecessors, HasNoCycle, IsPlan}
+use Rattle.pass_core.specs.Plans.{sources, predecessors, HasNoCycle, IsPlan}
 use Rattle.pass_core.specs.Results.{NodeResult, outs_of, judged, node_result}
 use Rattle.pass_core.specs.CoreStates.{CoreState, from_of, to_of, numbers_into, IsMarked, IsUnmarked, result_in, IsFilled, held, VisitWasMade, made, Allows, after, beginning, after_all, AreAllowed, IsReached, entries}
 use Rattle.pass_core.proofs.Lists.{all_map, map-same, get_here, get_else}
-use Rattle.pass_core.proofs.Marks.{marked_before, still_filled, get_blank, marks_more, fills_more, marks_none, fills_none}
-use Rattle.pass_core.proofs.Numbered.{into_sources, left, left_begins, left_lower, left_same}
+use Rattle.pass_core.proofs.Marks.{marked_before, still_filled, not_both, get_blank, marks_more, fills_more, marks_none, fills_none}
+use Rattle.pass_core.specs.CoreKept.{IsSound, left}
+use Rattle.pass_core.proofs.Numbered.{into_sources, left_begins, left_lower, left_same}
 use Rattle.pass_core.proofs.Unrolled.{result_equation}
-
-pub record IsSound {O : Type 0} (mean : ℕ → List O → Result O Fault) (plan : Plan) (s : CoreState O) : Type 0 where
-  pub counters_many : length s.counters ≡ plan.count
-  pub claimed_many : length s.claimed ≡ plan.count
-  pub filled_many : length s.filled ≡ length plan.edges
-  pub subtracted_many : length s.subtracted ≡ length plan.edges
-  pub fetched_many : length s.fetched ≡ length plan.edges
-  pub right : (e : ℕ) (r : NodeResult O) → slice_get s.filled e ≡ Some (Some r) → r ≡ node_result mean plan (from_of plan e)
-  pub taken : (e : ℕ) → IsMarked s.fetched e → IsFilled s e
-  pub counted : (n : ℕ) → n < plan.count → slice_index s.counters n ≡ left plan.edges s.subtracted n
-  pub awaited : (n : ℕ) → IsMarked s.claimed n → left plan.edges s.subtracted n ≡ 0
 
 map_map : {A B C : Type 0} (g : B → C) (f : A → B) (xs : List A) → map (λ x. g (f x)) xs ≡ map g (map f xs)
 map_map g f [] = refl
@@ -163,7 +153,7 @@ module _ {O : Type 0} (mean : ℕ → List O → Result O Fault) (plan : Plan) (
     step_adds (Fill e) h = let one = fills_more s.filled e (made mean plan s (from_of plan e)) h.1 in omega arith
     step_adds (Subtract e) h = let one = marks_more s.subtracted e h.1 in omega arith
 
-  begins_counted : (n : ℕ) → n < plan.count → slice_index (map (λ n. length (predecessors plan.edges n)) (range_with_len 0 plan.count)) n ≡ left plan.edges (replicate (length plan.edges) false) n
+  pub begins_counted : (n : ℕ) → n < plan.count → slice_index (map (λ n. length (predecessors plan.edges n)) (range_with_len 0 plan.count)) n ≡ left plan.edges (replicate (length plan.edges) false) n
   begins_counted n lt =
       get_or-map (λ n. length (predecessors plan.edges n)) (range_with_len 0 plan.count) n 0 0 (omega (arith, length-range_with_len 0 plan.count))
       ∙ ap (λ m. length (predecessors plan.edges m)) (get_or-range_with_len 0 plan.count n 0 lt ∙ zero-add n) ∙ sym (left_begins plan.edges n)
@@ -181,7 +171,7 @@ module _ {O : Type 0} (mean : ℕ → List O → Result O Fault) (plan : Plan) (
     awaited = λ n h. let no : false ≡ true = get_blank plan.count false n true h in absurd cc;
   }
 
-  begins_empty : entries {O = O} (beginning plan) ≡ 0
+  pub begins_empty : entries {O = O} (beginning plan) ≡ 0
   begins_empty = let a = marks_none plan.count in let b = fills_none (NodeResult O) (length plan.edges) in let c = marks_none (length plan.edges) in omega arith
 
   all_keep : (steps : List Step) (s : CoreState O) → IsSound mean plan s → AreAllowed mean plan s steps → IsSound mean plan (after_all mean plan s steps) × (entries (after_all mean plan s steps) ≡ length steps + entries s)

@@ -10,6 +10,8 @@ pub mod Laws
 pub mod CoreStates
 pub mod CoreLaws
 pub mod CoreViews
+pub mod CoreKept
+pub mod CoreAnswers
 pub mod Shown
 pub mod OrderOutcomes
 pub mod PassAsOrder

@@ -8,8 +8,10 @@
 
 mod error;
 mod height;
+mod held;
 mod in_edges;
 pub mod laws;
+mod machine;
 mod order;
 mod order_error;
 mod order_run;
@@ -18,18 +20,20 @@ mod plan;
 mod published;
 mod serial;
 mod step;
+mod unfetched;
 mod visit;
 
 pub use error::PassError;
 pub use height::heights;
 pub use in_edges::{edges_into, starts_of};
+pub use machine::Core;
 pub use order::serial_order;
 pub use order_error::OrderError;
 pub use order_run::run_order;
 pub use plan::{Plan, PlanEdge};
 pub use published::Published;
 pub use serial::run_serial;
-pub use step::Step;
+pub use step::{Step, StepError};
 pub use visit::{Visit, VisitError};
 
 #[cfg(test)]

@@ -1,4 +1,6 @@
-use bp_faults::NodeId;
+use bp_faults::{NodeId, OutOfMemory};
+use std::alloc::AllocError;
+use thiserror::Error;
 
 /// What may happen next in a pass. Edges are named by their places in the plan, from 0.
 #[derive(Clone, Copy, Debug, PartialEq, Eq)]
@@ -11,4 +13,35 @@ pub enum Step {
     Fill(u32),
     /// The target of the edge waits for one edge less.
     Subtract(u32),
+}
+
+/// Why a step wasn't taken.
+#[derive(Debug, Drop, Error, PartialEq)]
+pub enum StepError {
+    #[error("the step isn't allowed")]
+    NotAllowed(Step),
+    #[error("out of memory")]
+    OutOfMemory,
+}
+
+impl From<OutOfMemory> for StepError {
+    ghost use Rattle.std.specs.Prelude.{◌≡◌};
+    ghost use Rattle.pass_core.specs.declared.step.StepError.TheVariants.{OutOfMemory as Want};
+
+    ghost from_gives = { λ _ error. error ≡ Want };
+
+    fn from(_: OutOfMemory) -> Self {
+        StepError::OutOfMemory
+    }
+}
+
+impl From<AllocError> for StepError {
+    ghost use Rattle.std.specs.Prelude.{◌≡◌};
+    ghost use Rattle.pass_core.specs.declared.step.StepError.TheVariants.{OutOfMemory as Want};
+
+    ghost from_gives = { λ _ error. error ≡ Want };
+
+    fn from(_: AllocError) -> Self {
+        StepError::OutOfMemory
+    }
 }

@@ -3,8 +3,8 @@ ghost use Rattle.pass_core.specs.Examples.{trail_of, counted_but};
 ghost use Rattle.pass_core.specs.Plans.{IsPlan, HasNoCycle};
 
 use crate::{
-    OrderError, PassError, Plan, PlanEdge, Visit, VisitError, edges_into, heights, laws, run_order,
-    run_serial, serial_order, starts_of,
+    Core, OrderError, PassError, Plan, PlanEdge, Published, Step, StepError, Visit, VisitError,
+    edges_into, heights, laws, run_order, run_serial, serial_order, starts_of,
 };
 use bp_faults::{Fault, FaultKind, NodeId, OutOfMemory, Place, Seq};
 use std::alloc::Global;
@@ -261,5 +261,38 @@ fn a_long_chain_and_a_wide_layer(rt: HostRuntime) -> Result<(), Fail> {
     let plan = large(alloc)?;
     assert!(rt; falls(&plan));
     assert_eq!(rt; faulty(alloc, &plan, 200_000, 200_000), None);
+    Ok(())
+}
+
+#[test]
+fn core_and_board(rt: HostRuntime) -> Result<(), Fail> {
+    let alloc = rt.alloc();
+    let plan = plan(alloc, 2, &[(1, 0), (1, 0)])?;
+    assert!(rt; falls(&plan));
+    let mut core = Core::new(alloc, plan, Trail)?;
+    let early = Step::Claim(NodeId(0));
+    assert_eq!(rt; core.step(alloc, early), Err(StepError::NotAllowed(early)));
+    let twice = Step::Subtract(0);
+    let steps = [Step::Claim(NodeId(1)), Step::Fill(0), Step::Fill(1), twice];
+    for s in steps {
+        assert_eq!(rt; core.step(alloc, s), Ok(()));
+    }
+    assert_eq!(rt; core.step(alloc, twice), Err(StepError::NotAllowed(twice)));
+    assert_eq!(rt; core.step(alloc, early), Err(StepError::NotAllowed(early)));
+    let rest = [Step::Subtract(1), early, Step::Fetch(1), Step::Fetch(0)];
+    for s in rest {
+        assert!(rt; !core.finished());
+        assert_eq!(rt; core.step(alloc, s), Ok(()));
+    }
+    assert!(rt; core.finished());
+    let outs = core.into_outs(alloc)?;
+    let wants = [[1, 1, 0].as_slice(), &[1]];
+    for (out, want) in outs.iter().zip(&wants) {
+        match out {
+            Published::Done(trail) => assert_eq!(rt; trail.as_slice(), *want),
+            Published::Bad(_) => assert!(rt; false),
+            Published::Poisoned => assert!(rt; false),
+        }
+    }
     Ok(())
 }

@@ -1,0 +1,186 @@
+ghost use Rattle.std.specs.Prelude.{◌≡◌, ◌<◌, ◌↔◌, map, IfOk, IsTrue, Option};
+ghost use Rattle.std.specs.List.{range_with_len};
+
+use crate::held::{held_by, publish_last};
+use crate::in_edges::starts_of;
+use crate::order_run::no_marks;
+use crate::places::{empty_places, unwrapped};
+use crate::plan::Plan;
+use crate::published::Published;
+use crate::step::{Step, StepError};
+use crate::unfetched::in_degrees;
+use crate::visit::Visit;
+use bp_faults::{NodeId, OutOfMemory};
+use std::alloc::Global;
+use std::marker::Model;
+
+/// A pass whose steps may be taken in any order that the counters allow.
+#[derive(Drop)]
+pub struct Core<V: Visit> {
+    plan: Plan,
+    visitor: V,
+    starts: Vec<u32>,
+    counters: Vec<u32>,
+    claimed: Vec<bool>,
+    filled: Vec<Option<Published<V::Out>>>,
+    subtracted: Vec<bool>,
+    fetched: Vec<bool>,
+    unfetched: Vec<u32>,
+    published: Vec<Option<Published<V::Out>>>,
+    steps: u64,
+}
+
+impl<V: Visit> Model for Core<V> {
+    ghost use Rattle.pass_core.specs.CoreViews.{CoreView};
+    ghost use Rattle.pass_core.specs.CoreKept.{state_of, IsCore};
+
+    ghost Value = { CoreView V V.Out };
+
+    ghost view = { λ c. record { plan = c.plan; visitor = c.visitor; state = state_of c.counters.items c.claimed.items c.filled.items c.subtracted.items c.fetched.items } };
+
+    ghost invariant = { λ c. IsCore (V.meaning c.visitor) (V.takes c.visitor) c.plan c.starts.items (state_of c.counters.items c.claimed.items c.filled.items c.subtracted.items c.fetched.items) c.unfetched.items c.published.items c.steps };
+}
+
+impl<V: Visit> Core<V> {
+    ghost use Rattle.std.specs.Prelude.{◌≡◌, ◌↔◌, IsTrue};
+    ghost use Rattle.pass_core.specs.declared.step.Step.TheVariants.{Claim, Fetch, Fill, Subtract};
+    ghost use Rattle.pass_core.specs.CoreAnswers.{AnswersStep};
+    ghost use Rattle.pass_core.specs.CoreStates.{IsFinished};
+
+    /// Whether every visit was made, and every edge is filled, subtracted and fetched.
+    pub fn finished(&self) -> bool
+        ensures { IsTrue result ↔ IsFinished self.now.plan self.now.state }
+    {
+        self.steps == u64::from(self.plan.count) + 3 * self.plan.edges.as_slice().len() as u64
+    }
+
+    /// Takes a step, where it is allowed.
+    pub fn step(&mut self, alloc: Global, s: Step) -> Result<(), StepError>
+        ensures { AnswersStep (V.meaning self.old.visitor) self.old s result self.new }
+    {
+        match s {
+            Step::Claim(n) => self.claim(alloc, n),
+            Step::Fetch(e) => self.fetch(alloc, e),
+            Step::Fill(e) => self.fill(alloc, e),
+            Step::Subtract(e) => self.subtract(e),
+        }
+    }
+
+    fn claim(&mut self, alloc: Global, n: NodeId) -> Result<(), StepError>
+        ensures { AnswersStep (V.meaning self.old.visitor) self.old (Claim n) result self.new }
+    {
+        let node = n.0 as usize;
+        if n.0 >= self.plan.count || self.claimed[node] || self.counters[node] != 0 {
+            return Err(StepError::NotAllowed(Step::Claim(n)));
+        }
+        let held = held_by(&self.filled, &self.starts, n);
+        let last = self.unfetched[node] == 0;
+        publish_last(alloc, &self.visitor, n, held, last, &mut self.published)?;
+        self.claimed[node] = true;
+        self.steps += 1;
+        Ok(())
+    }
+
+    fn fetch(&mut self, alloc: Global, e: u32) -> Result<(), StepError>
+        ensures { AnswersStep (V.meaning self.old.visitor) self.old (Fetch e) result self.new }
+    {
+        let edge = e as usize;
+        if edge >= self.fetched.len() || self.filled[edge].is_none() || self.fetched[edge] {
+            return Err(StepError::NotAllowed(Step::Fetch(e)));
+        }
+        let n = self.plan.edges.as_slice()[edge].to;
+        let node = n.0 as usize;
+        if !self.claimed[node] {
+            return Err(StepError::NotAllowed(Step::Fetch(e)));
+        }
+        let held = held_by(&self.filled, &self.starts, n);
+        let last = self.unfetched[node] == 1;
+        publish_last(alloc, &self.visitor, n, held, last, &mut self.published)?;
+        self.unfetched[node] -= 1;
+        self.fetched[edge] = true;
+        self.steps += 1;
+        Ok(())
+    }
+
+    fn fill(&mut self, alloc: Global, e: u32) -> Result<(), StepError>
+        ensures { AnswersStep (V.meaning self.old.visitor) self.old (Fill e) result self.new }
+    {
+        let edge = e as usize;
+        if edge >= self.filled.len() || self.filled[edge].is_some() {
+            return Err(StepError::NotAllowed(Step::Fill(e)));
+        }
+        let source = self.plan.edges.as_slice()[edge].from.0 as usize;
+        match &self.published[source] {
+            Some(result) => {
+                self.filled[edge] = Some(result.copy(alloc)?);
+                self.steps += 1;
+                Ok(())
+            }
+            None => Err(StepError::NotAllowed(Step::Fill(e))),
+        }
+    }
+
+    fn subtract(&mut self, e: u32) -> Result<(), StepError>
+        ensures { AnswersStep (V.meaning self.old.visitor) self.old (Subtract e) result self.new }
+    {
+        let edge = e as usize;
+        if edge >= self.filled.len() || self.filled[edge].is_none() || self.subtracted[edge] {
+            return Err(StepError::NotAllowed(Step::Subtract(e)));
+        }
+        let node = self.plan.edges.as_slice()[edge].to.0 as usize;
+        self.counters[node] -= 1;
+        self.subtracted[edge] = true;
+        self.steps += 1;
+        Ok(())
+    }
+}
+
+impl<V: Visit + Drop> Core<V> {
+    ghost use Rattle.std.specs.Prelude.{◌≡◌, map};
+    ghost use Rattle.std.specs.List.{range_with_len};
+    ghost use Rattle.pass_core.specs.CoreStates.{IsFinished, beginning};
+    ghost use Rattle.pass_core.specs.Outcomes.{TakesPlan};
+    ghost use Rattle.pass_core.specs.Plans.{IsPlan, HasNoCycle};
+    ghost use Rattle.pass_core.specs.Results.{node_result};
+    ghost use Rattle.pass_core.specs.Shown.{shown};
+
+    /// A pass that hasn't begun.
+    pub fn new(alloc: Global, plan: Plan, v: V) -> Result<Core<V>, OutOfMemory>
+        requires plan { IsPlan plan }
+        requires free { HasNoCycle plan.edges }
+        requires takes { TakesPlan (V.takes v) plan }
+        ensures { IfOk result (λ core. core ≡ record { plan = plan; visitor = v; state = beginning plan }) }
+    {
+        let many = plan.edges.as_slice().len();
+        let count = plan.count as usize;
+        let starts = starts_of(alloc, &plan)?;
+        let counters = in_degrees(alloc, &plan, &starts)?;
+        let unfetched = in_degrees(alloc, &plan, &starts)?;
+        let claimed = no_marks(alloc, count)?;
+        let subtracted = no_marks(alloc, many)?;
+        let fetched = no_marks(alloc, many)?;
+        let filled = empty_places(alloc, many as u32)?;
+        let published = empty_places(alloc, plan.count)?;
+        Ok(Core {
+            plan,
+            visitor: v,
+            starts,
+            counters,
+            claimed,
+            filled,
+            subtracted,
+            fetched,
+            unfetched,
+            published,
+            steps: 0,
+        })
+    }
+
+    /// The results by node number.
+    pub fn into_outs(self, alloc: Global) -> Result<Vec<Published<V::Out>>, OutOfMemory>
+        requires { IsFinished self.plan self.state }
+        ensures { IfOk result (λ outs. map shown outs.items ≡ map (node_result (V.meaning self.visitor) self.plan) (range_with_len 0 self.plan.count)) }
+    {
+        Ok(unwrapped(alloc, self.published)?)
+    }
+}
