@@ -2,22 +2,21 @@
 use Rattle.std.proofs.Common.{◌≡◌, ℕ, Bool, true, false, cond, List, [], ◌∷◌, ◌++◌, Option, None, Some, Result, Ok, Err, refl, ap, subst, ◌∙◌, sym, if◌then◌else◌}
 use Rattle.std.specs.Prelude.{is_some}
 use Rattle.std.specs.List.{list_any}
-use Rattle.std.specs.Map.{lookup}
 use Rattle.std.specs.Str.{bytes_eq}
 use Rattle.std.proofs.lemmas.Slice.Eq.{bytes_eq-Decides}
 use Rattle.indexmap.specs.IndexMap.{insert_entry}
 use Rattle.bp_faults.specs.declared.fault.Fault.{Fault}
-use Rattle.bp_faults.specs.declared.kind.FaultKind.TheVariants.{UnknownVariable, VariableSet, NotLocal, AfterUse}
+use Rattle.bp_faults.specs.declared.kind.FaultKind.TheVariants.{VariableSet, NotLocal, AfterUse}
 use Rattle.bp_faults.specs.declared.place.Place.{Place}
 use Rattle.bp_faults.specs.Answers.{then_do}
 use Rattle.bp_faults.specs.Faults.{fault_on}
-use Rattle.bp_parser.specs.Trees.{Tree, Map, Definition, Assigns, Extends, Declares}
+use Rattle.bp_parser.specs.Trees.{Tree, Definition, Assigns, Extends, Declares}
 use Rattle.bp_values.specs.Values.{Meaning, Field}
 use Rattle.bp_values.specs.Sums.{sum}
 use Rattle.bp_values.specs.Scopes.{Pairs, value_in, Keeps}
 use Rattle.bp_values.specs.Expressions.{val, val_map}
 use Rattle.bp_values.specs.Marks.{marks, marks_entries}
-use Rattle.bp_values.specs.Files.{Raw, Known, put, marked, assigned, extended, declared, defined, all_defined, evaluated}
+use Rattle.bp_values.specs.Files.{Raw, Known, put, marked, assigned, extended, defined, all_defined, evaluated}
 
 other_name : (name k : List ℕ) (v : Meaning) (es : Pairs) → bytes_eq name k ≡ false → value_in (insert_entry bytes_eq es k v) name ≡ value_in es name
 other_name name k v [] h = rw h refl

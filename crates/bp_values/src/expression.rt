@@ -59,6 +59,7 @@ fn item(alloc: Global, at: Place, value: Value) -> Result<Item, EvalError>
     }
 }
 
+/// The value of an expression.
 #[cycle(expressions)]
 pub fn value_of(alloc: Global, scope: &Scope, expr: &Expr) -> Result<Value, EvalError>
     ensures { Answers meaning result (val (pairs_of scope.now) (tree_of expr.now)) }

@@ -22,7 +22,7 @@ pub struct RawModule {
     pub entries: Vec<Entry>,
 }
 
-/// What is known after some definitions.
+/// What is known after some definitions: the scope, the names referenced in this file, and the modules.
 #[derive(Drop)]
 pub struct State {
     scope: Scope,
@@ -30,6 +30,7 @@ pub struct State {
     modules: Vec<RawModule>,
 }
 
+/// `name = value`
 fn assign(
     alloc: Global,
     state: &mut State,
@@ -48,6 +49,7 @@ fn assign(
     Ok(())
 }
 
+/// `name += value`, where the name isn't inherited.
 fn extend(
     alloc: Global,
     state: &mut State,
@@ -83,6 +85,7 @@ fn extend(
     }
 }
 
+/// `kind { .. }`
 fn declare(
     alloc: Global,
     state: &mut State,
@@ -102,6 +105,7 @@ fn declare(
     Ok(())
 }
 
+/// One definition.
 fn define(alloc: Global, inherited: &Scope, state: &mut State, def: &Def) -> Result<(), EvalError>
     ensures { Leaves known_of state.new result (defined (pairs_of inherited.now) (known_of state.old) (definition_of def.now)) }
 {
@@ -138,6 +142,10 @@ fn define_all(
 }
 
 /// The modules of a file and its final scope.
+///
+/// Where there are none, the first fault in the order of evaluation is told: *nested too deeply*,
+/// *unknown variable*, *variable is already set*, *variable is inherited*, *variable was already used*,
+/// *cannot add*, *wrong type* or *too many*.
 pub fn evaluate(
     alloc: Global,
     tree: &FileTree,

@@ -39,7 +39,7 @@ impl Scope {
     }
 
     /// Sets a name, in its old place where it has one. The old value is handed back.
-    pub fn put(
+    pub(crate) fn put(
         &mut self,
         alloc: Global,
         name: Text,
@@ -53,7 +53,7 @@ impl Scope {
 
     /// Takes the value of a name, to put another there: `false` stands in its place until then, and is
     /// the answer where the name has none.
-    pub fn take(&mut self, alloc: Global, name: Text) -> Result<Value, OutOfMemory>
+    pub(crate) fn take(&mut self, alloc: Global, name: Text) -> Result<Value, OutOfMemory>
         ensures taken { IfOk result (λ value. meaning value ≡ unwrap_or (value_in (pairs_of self.old) name) (Truth false)) }
         ensures place { OnOk result ((v : Meaning) → insert_entry bytes_eq (pairs_of self.new) name v ≡ insert_entry bytes_eq (pairs_of self.old) name v) }
     {
@@ -64,7 +64,7 @@ impl Scope {
     }
 
     /// An equal scope.
-    pub fn copy(&self, alloc: Global) -> Result<Scope, OutOfMemory>
+    pub(crate) fn copy(&self, alloc: Global) -> Result<Scope, OutOfMemory>
         ensures { IfOk result (λ copy. pairs_of copy ≡ pairs_of self.now) }
     {
         let mut copy = Scope::empty(alloc)?;

@@ -126,6 +126,7 @@ fn has(places: &IndexMap<Text, usize>, entries: &[Entry], name: &Text) -> bool
     places.contains_key(name)
 }
 
+/// The sum of two values: *cannot add* or *too many* where there is none.
 #[cycle(sums)]
 pub fn sum(alloc: Global, a: &Value, b: &Value, at: Place) -> Result<Value, EvalError>
     ensures { Answers meaning result (sum_of at (meaning a.now) (meaning b.now)) }

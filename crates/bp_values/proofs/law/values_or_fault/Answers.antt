@@ -1,4 +1,3 @@
-use Rattle.std.proofs.Common.{sym, ◌∙◌}
 use Rattle.bp_values.proofs.law.values_or_fault.Goals as goal
 
 pub returns : goal.returns

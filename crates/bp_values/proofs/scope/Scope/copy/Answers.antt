@@ -1,7 +1,7 @@
 use Rattle.std.proofs.Common.{rules, ◌≡◌, ◌++◌, ◌∷◌, [], map, sym, ap, ◌∙◌, append_assoc, subst}
 use Rattle.std.specs.Arc.{arc_value}
 use Rattle.std.specs.Str.{bytes_eq}
-use Rattle.bp_values.specs.Values.{meaning, Meaning}
+use Rattle.bp_values.specs.Values.{meaning}
 use Rattle.std.specs.List.{IsDistinct}
 use Rattle.indexmap.specs.IndexMap.{insert_entry}
 use Rattle.bp_values.specs.Scopes.{pairs_of, pair_of}

@@ -1,7 +1,7 @@
-use Rattle.std.proofs.Common.{◌≡◌, ap, sym, ◌∙◌, option_map, Some, Option, Bor}
+use Rattle.std.proofs.Common.{ap, sym, ◌∙◌, option_map, Some}
 use Rattle.std.specs.Arc.{arc_value}
 use Rattle.std.specs.Str.{bytes_eq}
-use Rattle.bp_values.specs.Values.{meaning, Meaning}
+use Rattle.bp_values.specs.Values.{meaning}
 use Rattle.bp_values.proofs.Pairs.{lookup_pairs, borrowed}
 use Rattle.bp_values.proofs.scope.Scope.get.Goals as goal
 

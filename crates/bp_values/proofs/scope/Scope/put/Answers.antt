@@ -1,8 +1,8 @@
-use Rattle.std.proofs.Common.{◌≡◌, ap, ◌∙◌, map, option_map}
+use Rattle.std.proofs.Common.{ap, ◌∙◌, map, option_map}
 use Rattle.indexmap.specs.IndexMap.{insert_entry}
 use Rattle.std.specs.Arc.{arc_value}
 use Rattle.std.specs.Str.{bytes_eq}
-use Rattle.bp_values.specs.Values.{meaning, Meaning}
+use Rattle.bp_values.specs.Values.{meaning}
 use Rattle.bp_values.specs.Scopes.{pair_of, pairs_of}
 use Rattle.bp_values.proofs.Pairs.{insert_pairs, lookup_pairs}
 use Rattle.bp_values.proofs.scope.Scope.put.Goals as goal

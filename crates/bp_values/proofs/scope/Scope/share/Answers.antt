@@ -1,4 +1,4 @@
-use Rattle.std.proofs.Common.{◌≡◌, ap, ◌∙◌, map}
+use Rattle.std.proofs.Common.{ap, ◌∙◌, map}
 use Rattle.bp_values.specs.Scopes.{pair_of}
 use Rattle.bp_values.proofs.Pairs.{insert_pairs}
 use Rattle.bp_values.proofs.scope.Scope.share.Goals as goal
