@@ -104,7 +104,13 @@ fn paths_are_normal_and_values_are_copied(rt: HostRuntime) -> Result<(), Fail> {
         },
     })?;
     assert!(rt; copied(alloc, &seq)? == seq);
+    seq.truncate(3);
+    assert_eq!(rt; seq.as_slice().len(), 1);
+    seq.truncate(0);
     assert_eq!(rt; seq.as_slice().len(), seq.into_vec().len());
+    let mut joined = text(alloc, "é")?;
+    joined.push_str("a")?;
+    assert_eq!(rt; joined.as_str(), "éa");
     assert!(rt; copied(alloc, &NodeId(3))? == NodeId(3));
     assert!(rt; copied(alloc, &ModuleId(4))? == ModuleId(4));
     assert!(rt; text(alloc, "a")?.is(&copied(alloc, &text(alloc, "a")?)?));

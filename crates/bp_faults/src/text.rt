@@ -1,4 +1,4 @@
-ghost use Rattle.std.specs.Prelude.{◌≡◌, List, ℕ, IfOk, IsTrue, ◌↔◌, string_bytes};
+ghost use Rattle.std.specs.Prelude.{◌≡◌, List, ℕ, IfOk, OnOk, OnErr, ◌++◌, IsTrue, ◌↔◌, string_bytes};
 
 use crate::OutOfMemory;
 use std::alloc::Global;
@@ -44,6 +44,15 @@ impl Text {
     {
         let text = String::from_str(alloc, text)?;
         Ok(Text { text })
+    }
+
+    /// Puts a slice at the end.
+    pub fn push_str(&mut self, more: &str) -> Result<(), OutOfMemory>
+        ensures ok { OnOk result (self.new ≡ self.old ++ more.now) }
+        ensures err { OnErr result (self.new ≡ self.old) }
+    {
+        self.text.push_str(more)?;
+        Ok(())
     }
 
     pub fn copy(&self, alloc: Global) -> Result<Text, OutOfMemory>
