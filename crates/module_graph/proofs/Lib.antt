@@ -9,3 +9,9 @@ pub mod Targets
 pub mod Walking
 pub mod Ranked
 pub mod Turned
+pub mod Levels
+pub mod Nearer
+pub mod Climbing
+pub mod Outward
+pub mod Starting
+pub mod Ways

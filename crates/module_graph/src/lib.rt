@@ -6,13 +6,21 @@
 #![tactic(auto)]
 
 mod by_target;
+mod cycle;
 mod direction;
+mod distances;
 mod graph;
 pub mod laws;
 mod names;
+mod nearest;
+mod parts;
+mod settled;
+mod start;
 mod variation;
 mod variations;
 
+pub use bp_faults::Refusal as GraphError;
+pub use cycle::check_cycle;
 pub use direction::{Direction, plan};
 pub use graph::{Edge, EdgeKind, Graph, Node};
 pub use names::{label, variant_name};
