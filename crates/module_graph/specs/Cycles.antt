@@ -1,5 +1,5 @@
 -- The cycle that is reported where a walk in a graph returns to its start.
-use Rattle.std.specs.Prelude.{◌≡◌, ◌≢◌, ◌<◌, ◌≤◌, ◌++◌, ℕ, zero, suc, List, [], ◌∷◌, map, slice_index_or, Result, Ok, Err}
+use Rattle.std.specs.Prelude.{◌≡◌, ◌≢◌, ◌<◌, ◌≤◌, ◌++◌, ℕ, zero, suc, List, [], ◌∷◌, map, Result, Ok, Err}
 use Rattle.std.specs.List.{AllByRecursion}
 use Rattle.bp_faults.specs.declared.fault.Fault.{Fault}
 use Rattle.bp_faults.specs.declared.kind.FaultKind.TheVariants.{Cycle}
@@ -7,6 +7,7 @@ use Rattle.pass_core.specs.declared.plan.PlanEdge.{PlanEdge}
 use Rattle.module_graph.specs.declared.graph.Edge.{Edge}
 use Rattle.module_graph.specs.declared.graph.Node.{Node}
 use Rattle.module_graph.specs.Graphs.{edges_of}
+use Rattle.module_graph.specs.Names.{name_at}
 use Rattle.module_graph.specs.Walks.{Walk, Returns, NoneReturns}
 
 -- The distance from n to s is the length of a shortest walk. From s to itself it is 0.
@@ -47,14 +48,10 @@ module _ {P : Type 0} where
     pub begins : IsNearest (edges_of nodes) s (edges_at nodes s) first
     pub goes : IsWay nodes s first.to.0 rest s
 
--- The label of a node.
-abbrev pub label_at : List (List ℕ) → ℕ → List ℕ
-label_at names n = slice_index_or names n []
-
 -- The fault of a cycle stands at its first edge's place. Its chain lists the labels, the start's first and last.
 abbrev pub cycle_fault : List (List ℕ) → ℕ → Edge → List Edge → Fault
 cycle_fault names s first rest =
-    record { kind = Cycle; at = first.at; subject = []; chain = label_at names s ∷ map (λ (e : Edge). label_at names e.to.0) (first ∷ rest) }
+    record { kind = Cycle; at = first.at; subject = []; chain = name_at names s ∷ map (λ (e : Edge). name_at names e.to.0) (first ∷ rest) }
 
 module _ {P : Type 0} where
   -- The fault that is reported of a graph.

@@ -7,3 +7,4 @@ pub mod Planned
 pub mod Laws
 pub mod Cycles
 pub mod Search
+pub mod GraphText

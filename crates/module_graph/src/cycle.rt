@@ -2,15 +2,17 @@ ghost use Rattle.std.specs.Prelude.{◌≡◌, ◌∷◌, map, length, IfOk, Som
 ghost use Rattle.bp_faults.specs.Answers.{Tells};
 ghost use Rattle.module_graph.specs.declared.graph.Edge.{Edge};
 ghost use Rattle.module_graph.specs.Graphs.{IsNumbered};
-ghost use Rattle.module_graph.specs.Cycles.{IsWay, IsReported, CycleMeans, label_at};
+ghost use Rattle.module_graph.specs.Cycles.{IsWay, IsReported, CycleMeans};
+ghost use Rattle.module_graph.specs.Names.{name_at};
 ghost use Rattle.module_graph.specs.Search.{IsFoundStart};
 
+use crate::names::name_of;
 use crate::nearest::nearest;
 use crate::parts::number_parts;
 use crate::settled::settled;
 use crate::start::{Start, find_start};
 use crate::{Edge, Graph, GraphError};
-use bp_faults::{Fault, FaultKind, NodeId, OutOfMemory, Seq, Text};
+use bp_faults::{Fault, FaultKind, OutOfMemory, Seq, Text};
 use std::alloc::Global;
 
 /// The edges of the cycle after its first.
@@ -34,15 +36,6 @@ fn rest_of_cycle<P>(alloc: Global, g: &Graph<P>, start: &Start) -> Result<Vec<Ed
     Ok(rest)
 }
 
-fn label_of(names: &[Text], n: NodeId) -> &str
-    ensures { result.now ≡ label_at names.now n.0 }
-{
-    match names.get(n.0 as usize) {
-        Some(label) => label.as_str(),
-        None => "",
-    }
-}
-
 /// The labels of a node and of the targets of its cycle's edges.
 fn chain_of(
     alloc: Global,
@@ -51,13 +44,13 @@ fn chain_of(
     first: Edge,
     rest: &[Edge],
 ) -> Result<Vec<Text>, OutOfMemory>
-    ensures { IfOk result (λ chain. chain.items ≡ label_at names.now node ∷ map (λ (e : Edge). label_at names.now e.to.0) (first ∷ rest.now)) }
+    ensures { IfOk result (λ chain. chain.items ≡ name_at names.now node ∷ map (λ (e : Edge). name_at names.now e.to.0) (first ∷ rest.now)) }
 {
     let mut chain = Vec::new(alloc);
-    chain.push(Text::from_str(alloc, label_of(names, NodeId(node)))?)?;
-    chain.push(Text::from_str(alloc, label_of(names, first.to))?)?;
+    chain.push(Text::from_str(alloc, name_of(names, node as usize))?)?;
+    chain.push(Text::from_str(alloc, name_of(names, first.to.0 as usize))?)?;
     for edge in rest {
-        chain.push(Text::from_str(alloc, label_of(names, edge.to))?)?;
+        chain.push(Text::from_str(alloc, name_of(names, edge.to.0 as usize))?)?;
     }
     Ok(chain)
 }

@@ -11,6 +11,7 @@ mod direction;
 mod distances;
 mod graph;
 pub mod laws;
+mod listing;
 mod names;
 mod nearest;
 mod parts;
@@ -23,10 +24,15 @@ pub use bp_faults::Refusal as GraphError;
 pub use cycle::check_cycle;
 pub use direction::{Direction, plan};
 pub use graph::{Edge, EdgeKind, Graph, Node};
+pub use listing::graph_text;
 pub use names::{label, variant_name};
 pub use pass_core::heights;
 pub use variation::Variation;
 pub use variations::{Axis, Variations};
 
+#[cfg(test)]
+mod cycle_tests;
+#[cfg(test)]
+mod listing_tests;
 #[cfg(test)]
 mod tests;
