@@ -1,4 +1,6 @@
 //! Which cycle is reported.
+use crate::parts::number_parts;
+use crate::settled::settled;
 use crate::tests::{edges_to, graph, is_numbered};
 use crate::{
     Axis, Edge, EdgeKind, Graph, GraphError, Node, Variation, Variations, check_cycle, label,
@@ -184,5 +186,17 @@ fn a_cycle_of_a_thousand_nodes(rt: HostRuntime) -> Result<(), Fail> {
     };
     let names = numbers(alloc, 1000)?;
     assert!(rt; said(alloc, &g, &names)?.as_str() == want.as_str());
+    Ok(())
+}
+
+/// Two parts of two nodes, and the nodes before and behind them.
+#[test]
+fn parts_and_the_first_on_a_cycle(rt: HostRuntime) -> Result<(), Fail> {
+    let alloc = rt.alloc();
+    let g = graph(alloc, &[&[1, 5], &[2, 5], &[3], &[2, 4], &[], &[6], &[5]])?;
+    assert!(rt; is_numbered(&g));
+    let numbers = number_parts(alloc, &g)?;
+    assert_eq!(rt; numbers.as_slice(), [3, 4, 6, 6, 7, 5, 5].as_slice());
+    assert_eq!(rt; settled(&g, &numbers), 2);
     Ok(())
 }
