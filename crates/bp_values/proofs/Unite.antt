@@ -1,15 +1,14 @@
 -- The step of the loop that unites two maps.
-use Rattle.std.proofs.Common.{◌≡◌, ℕ, ◌+◌, ◌<◌, List, [], ◌∷◌, ◌++◌, length, get_or, map, take, drop, refl, sym, ap, ◌∙◌, Result, Ok, Err, append_assoc, Bool, true, false, not, cond, subst}
+use Rattle.std.proofs.Common.{◌≡◌, ℕ, List, [], ◌∷◌, ◌++◌, map, refl, sym, ap, ◌∙◌, Result, Ok, Err, append_assoc, subst}
 use Rattle.bp_faults.specs.declared.place.Place.{Place}
 use Rattle.bp_faults.specs.declared.fault.Fault.{Fault}
 use Rattle.bp_values.specs.declared.value.Entry.{Entry, out-Entry}
 use Rattle.bp_values.proofs.Views.{field_out}
 use Rattle.bp_faults.specs.declared.refusal.Refusal.{Refusal}
 use Rattle.bp_faults.specs.declared.refusal.Refusal.TheVariants.{Bad, OutOfMemory}
-use Rattle.bp_values.proofs.Steps.{map_take_more, map_drop_cons}
 use Rattle.bp_values.specs.Values.{field_of, meaning, Meaning, no_field, Field, fields_then, fields_of, body}
 use Rattle.bp_faults.specs.Answers.{then_do, Answers, Refuses}
-use Rattle.bp_values.specs.Sums.{field_then, met, sum, sum_fields, value_at, others, has_name}
+use Rattle.bp_values.specs.Sums.{field_then, met, sum, sum_fields, value_at, others}
 
 -- the entries done, and then what comes
 abbrev pub prefixed : List Field → Result (List Field) Fault → Result (List Field) Fault

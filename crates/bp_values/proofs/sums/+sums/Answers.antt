@@ -13,11 +13,14 @@ sum_each-loop-entry-preserved t c =
     let left = c.loop-entry.entry-iterator.rest.items in
     let rest = c.next.new.self.rest.items in
     let is : left ≡ e ∷ rest = search rules in
-    let value = meaning (out-Entry e).value in
-    (tt, tt, each_step left rest e c.args.at (map field_of c.args.second.now) (map field_of c.loop-entry.entries.items) (map field_of c.push.new.self.items)
-    (sum_fields c.args.at (fields_then (map field_of c.args.first.items) no_field) (map field_of c.args.second.now)) (meaning c.in_ok-value.value) is c.loop-entry.invariant.2
-    (ap (λ o. met value (sum c.args.at value) o) (sym c.find.ensures) ∙ c.in_ok-value.ensures)
-    (ap (map field_of) c.in_ok-push.ensures.items ∙ map-append field_of c.loop-entry.entries.items (c.make_entry.result ∷ []) ∙ ap (λ f. map field_of c.loop-entry.entries.items ++ f ∷ []) c.make_entry.ensures))
+    let value = meaning (out-Entry e).value in (
+      tt,
+      tt,
+      each_step left rest e c.args.at (map field_of c.args.second.now) (map field_of c.loop-entry.entries.items) (map field_of c.push.new.self.items)
+          (sum_fields c.args.at (fields_then (map field_of c.args.first.items) no_field) (map field_of c.args.second.now)) (meaning c.in_ok-value.value) is c.loop-entry.invariant.2
+          (ap (λ o. met value (sum c.args.at value) o) (sym c.find.ensures) ∙ c.in_ok-value.ensures)
+          (ap (map field_of) c.in_ok-push.ensures.items ∙ map-append field_of c.loop-entry.entries.items (c.make_entry.result ∷ []) ∙ ap (λ f. map field_of c.loop-entry.entries.items ++ f ∷ []) c.make_entry.ensures),
+    )
 
 pub unite_copy-returns-in_err-entries : goal.unite_copy-returns-in_err-entries
 unite_copy-returns-in_err-entries t c =
