@@ -1,1 +1,4 @@
 pub mod Tables
+pub mod Paths
+pub mod Fits
+pub mod Records
