@@ -1,1 +1,4 @@
 pub mod Search
+pub mod Joined
+pub mod Sources
+pub mod Levels

@@ -90,12 +90,17 @@ abbrev pub is_number : List ℕ → Bool
 is_number [] = false
 is_number (c ∷ word) = list_all is_ascii_digit (c ∷ word)
 
--- A level is a number from 1 to 9999. Any other word, as the name of a level, counts as not set.
+-- a level is from 1 to 9999
+abbrev pub in_levels : ℕ → Option ℕ
+in_levels n = if nat_le 1 n && nat_le n 9999 then Some n else None
+
+abbrev pub level_or : Place → List ℕ → Option ℕ → Result Fit Fault
+level_or at path (Some n) = Ok (Level n)
+level_or at path None = Err (fault_on BadValue at path)
+
+-- A number is a level or refused. Any other word, as the name of a level, counts as not set.
 abbrev pub level_in : Place → List ℕ → List ℕ → Result Fit Fault
-level_in at path word =
-    if is_number word then
-    if nat_le 1 (digits_value 10 word) && nat_le (digits_value 10 word) 9999 then Ok (Level (digits_value 10 word)) else Err (fault_on BadValue at path)
-    else Ok Unset
+level_in at path word = if is_number word then level_or at path (in_levels (digits_value 10 word)) else Ok Unset
 
 -- the directory that a property's directories are relative to: for `include_dirs` the root, else the module's
 abbrev pub base_of : List ℕ → Option Field → List ℕ

@@ -1,6 +1,6 @@
 -- Path items: which are refused, and what path an item stands for below a directory.
 -- Source: Blueprint package documentation, paths are relative to the module's directory; this project's profile.
-use Rattle.std.specs.Prelude.{ℕ, Bool, false, List, [], ◌∷◌, ◌++◌, ◌||◌, ◌==◌, nat_lt, codes, filter}
+use Rattle.std.specs.Prelude.{ℕ, Bool, false, List, [], ◌∷◌, ◌++◌, ◌||◌, ◌==◌, nat_lt, codes, filter, if◌then◌else◌}
 use Rattle.std.specs.Str.{bytes_eq}
 use Rattle.std.specs.List.{list_any, slice_split, join_with_byte}
 use Rattle.bp_faults.specs.Paths.{is_component}
@@ -33,3 +33,12 @@ components text = filter is_component (parts text)
 -- the path of an item below a directory: the components of both, joined
 abbrev pub placed : List ℕ → List ℕ → List ℕ
 placed dir text = join_with_byte 47 (components dir ++ components text)
+
+-- a component behind a path
+abbrev pub behind : List ℕ → List ℕ → List ℕ
+behind [] component = component
+behind (c ∷ path) component = (c ∷ path) ++ 47 ∷ component
+
+-- a path and one more part of an item
+abbrev pub path_and : List ℕ → List ℕ → List ℕ
+path_and path part = if is_component part then behind path part else path

@@ -3,6 +3,8 @@
 
 mod fields;
 mod fit;
+mod items;
+mod path_item;
 mod row;
 mod set_group;
 mod set_props;
