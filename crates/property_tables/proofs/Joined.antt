@@ -1,10 +1,10 @@
 -- Components joined by slashes: a path that grows part by part, and paths in normal form.
 use Rattle.std.proofs.Common.{◌≡◌, ℕ, Bool, true, false, cond, List, [], ◌∷◌, ◌++◌, refl, ap, sym, ◌∙◌, append_assoc, eqb, true≢false}
 use Rattle.std.specs.Prelude.{filter, not, ◌||◌}
-use Rattle.std.specs.List.{fold, list_all, list_any, slice_split, onto_first, join_with_byte}
+use Rattle.std.specs.List.{fold, list_all, list_any, onto_first, join_with_byte}
 use Rattle.std.proofs.lemmas.Bool.{and_parts, and_from}
 use Rattle.std.proofs.lemmas.List.{append-nil}
-use Rattle.std.proofs.lemmas.List.Splits.{join_with_byte-slice_split, slice_split-cons_no, slice_split-cons_yes}
+use Rattle.std.proofs.lemmas.List.Splits.{join_with_byte-slice_split, slice_split-cons_no}
 use Rattle.bp_faults.specs.Paths.{is_component, is_normal}
 use Rattle.property_tables.specs.Paths.{parts, components, placed, behind, path_and}
 use Rattle.property_tables.specs.Fits.{is_empty}

@@ -1,9 +1,7 @@
 -- An item that doesn't begin with a colon is a path.
-use Rattle.std.proofs.Common.{◌≡◌, ℕ, Bool, true, false, cond, List, [], ◌∷◌, refl, ap, Result, Ok, eqb, arith}
+use Rattle.std.proofs.Common.{◌≡◌, ℕ, Bool, true, false, cond, List, [], ◌∷◌, refl, ap, Ok, eqb, arith}
 use Rattle.std.proofs.lemmas.Bool.Decides.{nat_tests}
 use Rattle.bp_faults.specs.declared.place.Item.{Item}
-use Rattle.bp_faults.specs.declared.fault.Fault.{Fault}
-use Rattle.bp_props.specs.declared.source.Source.{Source}
 use Rattle.property_tables.specs.Fits.{source_by, path_in}
 
 pub no_colon : (dir : List ℕ) (item : Item) (text : List ℕ) → ((rest : List ℕ) → text ≡ 58 ∷ rest → ⊥) → source_by dir item text ≡ path_in dir item

@@ -1,5 +1,5 @@
 -- What a value stands for under a property, or the first fault in it: the type, and then item by item.
-use Rattle.std.specs.Prelude.{ℕ, Bool, true, false, List, [], ◌∷◌, ◌||◌, ◌&&◌, ◌==◌, nat_le, not, codes, if◌then◌else◌, Option, Some, None, Result, Ok, Err}
+use Rattle.std.specs.Prelude.{ℕ, Bool, true, false, List, [], ◌∷◌, ◌||◌, ◌&&◌, ◌==◌, nat_le, codes, if◌then◌else◌, Option, Some, None, Result, Ok, Err}
 use Rattle.std.specs.Str.{bytes_eq}
 use Rattle.std.specs.Str.Parse.{digits_value}
 use Rattle.std.specs.Char.{is_ascii_digit}
@@ -20,7 +20,6 @@ use Rattle.property_tables.specs.declared.row.PropKind.{PropKind}
 use Rattle.property_tables.specs.declared.row.PropKind.TheVariants as K
 use Rattle.property_tables.specs.declared.fit.Fit.{Fit}
 use Rattle.property_tables.specs.declared.fit.Fit.TheVariants.{Truth, Word, Flags, Names, Sources, Dirs, Multi, Level, Unset}
-use Rattle.property_tables.specs.Tables.{Property}
 use Rattle.property_tables.specs.Paths.{is_control, is_refused, components, placed}
 
 -- the value of an entry is of another type than its property's

@@ -2,3 +2,4 @@ pub mod Tables
 pub mod Paths
 pub mod Fits
 pub mod Records
+pub mod Typing

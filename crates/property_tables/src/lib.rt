@@ -2,14 +2,21 @@
 #![tactic(auto)]
 
 mod fields;
+mod find;
 mod fit;
+mod in_group;
+mod in_module;
 mod items;
+mod known;
+mod module_type;
+mod name;
 mod path_item;
 mod row;
 mod set_group;
 mod set_props;
 mod table;
 mod tables;
+mod typing;
 mod values;
 
 pub use bp_faults::Refusal as LoadError;
@@ -18,3 +25,4 @@ pub use table::PropTable;
 pub use tables::{
     arch, cc, defaults, filegroup, group, library, multilib, sanitize, shared_library, target, test,
 };
+pub use typing::typed;

@@ -1,6 +1,4 @@
-use Rattle.std.proofs.Common.{◌≡◌, ◌∙◌}
-use Rattle.bp_faults.specs.Answers.{Answers}
-use Rattle.property_tables.specs.Fits.{source_in}
+use Rattle.std.proofs.Common.{◌∙◌}
 use Rattle.property_tables.proofs.Sources.{no_colon}
 use Rattle.property_tables.proofs.items.source.Goals as goal
 
