@@ -139,3 +139,11 @@ some_component (p ∷ ps) = by (is_component p) (some_component ps)
     by : (kept : Bool) → list_any is_component ps ≡ not (is_empty (filter is_component ps)) → (kept || list_any is_component ps) ≡ not (is_empty (cond kept (p ∷ filter is_component ps) (filter is_component ps)))
     by true rest = refl
     by false rest = rest
+
+components_join : (cs : List (List ℕ)) → Solid cs → components (join cs) ≡ cs
+components_join [] all = refl
+components_join (c ∷ cs) all = ap (filter is_component) (split_join c cs all) ∙ filter_whole (c ∷ cs) (all_components (c ∷ cs) all)
+
+-- the path of an item has the components of its directory and its own
+pub components_placed : (dir item : List ℕ) → components (placed dir item) ≡ components dir ++ components item
+components_placed dir item = components_join (components dir ++ components item) (solid_append (components dir) (components item) (solid_components dir) (solid_components item))

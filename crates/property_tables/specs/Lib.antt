@@ -3,3 +3,4 @@ pub mod Paths
 pub mod Fits
 pub mod Records
 pub mod Typing
+pub mod Laws
