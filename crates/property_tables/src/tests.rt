@@ -4,7 +4,7 @@ use crate::{LoadError, typed};
 use bp_faults::{OutOfMemory, Path, Target, Text, fault_line};
 use bp_lexer::tokens;
 use bp_parser::parse;
-use bp_props::{GroupId, GroupProps, Listed, Module, ModuleKind, Multi};
+use bp_props::{GroupId, GroupProps, Listed, Module, ModuleKind, Multi, Props};
 use bp_values::{Scope, evaluate};
 use std::alloc::{AllocError, Global};
 use std::test::Fail;
@@ -34,6 +34,14 @@ fn fault_in(alloc: Global, text: &str) -> Result<String, OutOfMemory>
     }
 }
 
+// Whether the first fault of a text is told by this line, or none where the line is empty.
+fn tells(alloc: Global, text: &str, line: &str) -> Result<bool, OutOfMemory> {
+    if text.len() > 1 << 20 {
+        return Ok(false);
+    }
+    Ok(fault_in(alloc, text)?.as_str() == line)
+}
+
 #[test]
 fn bad_texts(rt: HostRuntime) -> Result<(), Fail> {
     let alloc = rt.alloc();
@@ -55,8 +63,7 @@ fn bad_texts(rt: HostRuntime) -> Result<(), Fail> {
             ":1:1: error 18: module without a name: cc_binary\n",
         ),
     ] {
-        assert!(rt; text.len() <= 1 << 20);
-        assert_eq!(rt; fault_in(alloc, text)?.as_str(), want);
+        assert!(rt; tells(alloc, text, want)?);
     }
     Ok(())
 }
@@ -142,10 +149,23 @@ fn the_first_fault_is_told(rt: HostRuntime) -> Result<(), Fail> {
             ":1:13: error 17: wrong type: path\n",
         ),
     ] {
-        assert!(rt; text.len() <= 1 << 20);
-        assert_eq!(rt; fault_in(alloc, text)?.as_str(), want);
+        assert!(rt; tells(alloc, text, want)?);
     }
     Ok(())
+}
+
+// Whether an item of a list is told as a bad path, or as none.
+fn item_tells(
+    alloc: Global,
+    property: &str,
+    item: &str,
+    bad: bool,
+    shown: &str,
+) -> Result<bool, OutOfMemory> {
+    let column = property.len() + 30;
+    let text = format!(in alloc; "cc_test {{ name: \"n\", {property}: [\"a\", `{item}`] }}")?;
+    let line = format!(in alloc; ":1:{column}: error 27: bad path{shown}\n")?;
+    tells(alloc, text.as_str(), if bad { line.as_str() } else { "" })
 }
 
 #[test]
@@ -168,18 +188,8 @@ fn path_items(rt: HostRuntime) -> Result<(), Fail> {
         (":a/../b", false, true, ": :a/../b"),
         (":", false, false, ""),
     ] {
-        for (property, bad, column) in [("srcs", bad_source, 34), ("include_dirs", bad_dir, 42)] {
-            let text = format!(in alloc;
-                "cc_test {{ name: \"n\", {property}: [\"a\", `{item}`] }}"
-            )?;
-            let want = if bad {
-                format!(in alloc; ":1:{column}: error 27: bad path{shown}\n")?
-            } else {
-                String::new(alloc)
-            };
-            assert!(rt; text.len() <= 1 << 20);
-            assert_eq!(rt; fault_in(alloc, text.as_str())?.as_str(), want.as_str());
-        }
+        assert!(rt; item_tells(alloc, "srcs", item, bad_source, shown)?);
+        assert!(rt; item_tells(alloc, "include_dirs", item, bad_dir, shown)?);
     }
     Ok(())
 }
@@ -219,40 +229,56 @@ const DEMO: &str = "cc_defaults {
     shared: { enabled: false },
 }";
 
+fn demo(alloc: Global) -> Result<Option<Module>, LoadError> {
+    let dir = Path::new(Text::from_str(alloc, "d/e")?).unwrap_or(Path::root(alloc));
+    typed_in(alloc, DEMO, &dir)
+}
+
+// The sources of a group of a record, and `-` where it has no such group.
+fn group_sources(alloc: Global, props: &Props, id: GroupId) -> Result<String, AllocError> {
+    match props.group(id) {
+        Some(group) => sources(alloc, group),
+        None => String::from_str(alloc, "-"),
+    }
+}
+
+fn has_lists(alloc: Global, props: &Props) -> Result<bool, AllocError> {
+    Ok(
+        sources(alloc, &props.base)?.as_str() == "d/e/x/y.c :gen d/e/:x.c "
+            && dirs(alloc, &props.base.include_dirs)?.as_str() == "a/b  "
+            && dirs(alloc, &props.base.local_include_dirs)?.as_str() == "d/e/a/b d/e ",
+    )
+}
+
+fn has_groups(alloc: Global, props: &Props) -> Result<bool, AllocError> {
+    let empty = GroupId::Named(Target::LinuxGlibcX86);
+    Ok(
+        group_sources(alloc, props, GroupId::Android)?.as_str() == "d/e/z.c "
+            && group_sources(alloc, props, empty)?.as_str() == ""
+            && group_sources(alloc, props, GroupId::Shared)?.as_str() == ""
+            && group_sources(alloc, props, GroupId::Host)?.as_str() == "-",
+    )
+}
+
+fn has_scalars(props: &Props) -> bool {
+    props.min_sdk_version.map(|level| level.value) == Some(29)
+        && props.compile_multilib.map(|multi| multi.value) == Some(Multi::Only32)
+        && props.never.map(|never| never.value) == Some(true)
+        && props.address.is_none()
+}
+
 #[test]
 fn values_go_into_the_record(rt: HostRuntime) -> Result<(), Fail> {
     let alloc = rt.alloc();
-    let dir = Path::new(Text::from_str(alloc, "d/e")?).unwrap_or(Path::root(alloc));
-    assert!(rt; DEMO.len() <= 1 << 20);
-    let demo = match typed_in(alloc, DEMO, &dir)? {
-        Some(demo) => demo,
-        None => return Err(Fail::from(OutOfMemory)),
-    };
-    assert_eq!(rt; demo.name.as_str(), "demo");
-    assert!(rt; demo.kind == ModuleKind::Defaults);
-    assert_eq!(rt; demo.dir.as_str(), "d/e");
-    let props = &demo.props;
-    assert_eq!(rt;
-        sources(alloc, &props.base)?.as_str(),
-        "d/e/x/y.c :gen d/e/:x.c "
-    );
-    assert_eq!(rt; dirs(alloc, &props.base.include_dirs)?.as_str(), "a/b  ");
-    assert_eq!(rt;
-        dirs(alloc, &props.base.local_include_dirs)?.as_str(),
-        "d/e/a/b d/e "
-    );
-    assert!(rt; props.min_sdk_version.map(|level| level.value) == Some(29));
-    assert!(rt; props.compile_multilib.map(|multi| multi.value) == Some(Multi::Only32));
-    assert!(rt; props.never.map(|never| never.value) == Some(true));
-    assert!(rt; props.address.is_none());
-    match props.group(GroupId::Android) {
-        Some(group) => assert_eq!(rt; sources(alloc, group)?.as_str(), "d/e/z.c "),
-        None => assert!(rt; false),
-    }
-    assert!(rt; props.group(GroupId::Named(Target::LinuxGlibcX86)).is_some());
-    assert!(rt; props.group(GroupId::Host).is_none());
-    match props.group(GroupId::Shared) {
-        Some(group) => assert!(rt; group.enabled.map(|enabled| enabled.value) == Some(false)),
+    match demo(alloc)? {
+        Some(demo) => {
+            assert_eq!(rt; demo.name.as_str(), "demo");
+            assert_eq!(rt; demo.dir.as_str(), "d/e");
+            assert!(rt; demo.kind == ModuleKind::Defaults);
+            assert!(rt; has_scalars(&demo.props));
+            assert!(rt; has_lists(alloc, &demo.props)?);
+            assert!(rt; has_groups(alloc, &demo.props)?);
+        }
         None => assert!(rt; false),
     }
     Ok(())
@@ -365,30 +391,105 @@ fn has_word(words: &str, word: &str) -> bool {
     words.split(' ').any(|other| other == word)
 }
 
+// Whether each name is told with a bad value as of a wrong type, or as unknown where the type doesn't have it.
+fn bad_names_tell(
+    alloc: Global,
+    kind: &str,
+    names: &str,
+    bad: &str,
+    has: bool,
+) -> Result<bool, OutOfMemory> {
+    let column = kind.len() + 15;
+    let fault = if has {
+        "17: wrong type"
+    } else {
+        "16: unknown property"
+    };
+    for name in names.split(' ') {
+        let text = format!(in alloc; "{kind} {{ name: \"m\", {name}: {bad} }}")?;
+        let line = format!(in alloc; ":1:{column}: error {fault}: {name}\n")?;
+        if !tells(alloc, text.as_str(), line.as_str())? {
+            return Ok(false);
+        }
+    }
+    Ok(true)
+}
+
+// The names with a good value, each behind a comma.
+fn good_names(alloc: Global, names: &str, good: &str) -> Result<String, AllocError> {
+    let mut text = String::new(alloc);
+    for name in names.split(' ') {
+        text.push_str(format!(in alloc; ", {name}: {good}")?.as_str())?;
+    }
+    Ok(text)
+}
+
+// Whether a type has its properties with good values, and tells all others and each bad value.
+fn type_tells(alloc: Global, kind: &str) -> Result<bool, OutOfMemory> {
+    let mut text = format!(in alloc; "{kind} {{ name: \"m\"")?;
+    for (names, types, _, good, bad) in CASES {
+        let has = has_word(types, kind);
+        if !bad_names_tell(alloc, kind, names, bad, has)? {
+            return Ok(false);
+        }
+        if has {
+            text.push_str(good_names(alloc, names, good)?.as_str())?;
+        }
+    }
+    text.push_str(" }")?;
+    tells(alloc, text.as_str(), "")
+}
+
 #[test]
 fn every_property_of_every_type_has_good_and_bad_values(rt: HostRuntime) -> Result<(), Fail> {
     let alloc = rt.alloc();
     for kind in EVERY.split(' ') {
-        let column = kind.len() + 15;
-        let mut whole = format!(in alloc; "{kind} {{ name: \"m\"")?;
-        for (names, types, _, good, bad) in CASES {
-            for name in names.split(' ') {
-                let text = format!(in alloc; "{kind} {{ name: \"m\", {name}: {bad} }}")?;
-                let want = if has_word(types, kind) {
-                    whole.push_str(format!(in alloc; ", {name}: {good}")?.as_str())?;
-                    format!(in alloc; ":1:{column}: error 17: wrong type: {name}\n")?
-                } else {
-                    format!(in alloc; ":1:{column}: error 16: unknown property: {name}\n")?
-                };
-                assert!(rt; text.len() <= 1 << 20);
-                assert_eq!(rt; fault_in(alloc, text.as_str())?.as_str(), want.as_str());
-            }
-        }
-        whole.push_str(" }")?;
-        assert!(rt; whole.len() <= 1 << 20);
-        assert_eq!(rt; fault_in(alloc, whole.as_str())?.as_str(), "");
+        assert!(rt; type_tells(alloc, kind)?);
     }
     Ok(())
+}
+
+// Whether each name in a group is told with a value by the line that ends in its dotted path, or by none.
+fn group_names_tell(
+    alloc: Global,
+    open: &str,
+    close: &str,
+    path: &str,
+    names: &str,
+    value: &str,
+    fault: &str,
+) -> Result<bool, OutOfMemory> {
+    let column = open.len() + 16;
+    for name in names.split(' ') {
+        let text = format!(in alloc;
+            "cc_defaults {{ {open} {name}: {value} {close}, name: \"m\" }}"
+        )?;
+        let line = format!(in alloc; ":1:{column}: error {fault}: {path}.{name}\n")?;
+        if !tells(
+            alloc,
+            text.as_str(),
+            if fault.is_empty() { "" } else { line.as_str() },
+        )? {
+            return Ok(false);
+        }
+    }
+    Ok(true)
+}
+
+fn group_tells(alloc: Global, open: &str, close: &str, path: &str) -> Result<bool, OutOfMemory> {
+    for (names, _, in_groups, good, bad) in CASES {
+        let (for_good, for_bad) = if in_groups {
+            ("", "17: wrong type")
+        } else {
+            ("16: unknown property", "16: unknown property")
+        };
+        if !group_names_tell(alloc, open, close, path, names, good, for_good)?
+            || !group_names_tell(alloc, open, close, path, names, bad, for_bad)?
+        {
+            return Ok(false);
+        }
+    }
+    Ok(true)
 }
 
 #[test]
@@ -402,27 +503,7 @@ fn every_group_has_the_properties_of_groups(rt: HostRuntime) -> Result<(), Fail>
         ("target: { not_windows: {", "} }", "target.not_windows"),
         ("target: { android_x86: {", "} }", "target.android_x86"),
     ] {
-        let column = open.len() + 16;
-        for (names, _, in_groups, good, bad) in CASES {
-            for name in names.split(' ') {
-                for value in [good, bad] {
-                    let text = format!(in alloc;
-                        "cc_defaults {{ {open} {name}: {value} {close}, name: \"m\" }}"
-                    )?;
-                    let want = if !in_groups {
-                        format!(in alloc;
-                            ":1:{column}: error 16: unknown property: {path}.{name}\n"
-                        )?
-                    } else if value == bad {
-                        format!(in alloc; ":1:{column}: error 17: wrong type: {path}.{name}\n")?
-                    } else {
-                        String::new(alloc)
-                    };
-                    assert!(rt; text.len() <= 1 << 20);
-                    assert_eq!(rt; fault_in(alloc, text.as_str())?.as_str(), want.as_str());
-                }
-            }
-        }
+        assert!(rt; group_tells(alloc, open, close, path)?);
     }
     Ok(())
 }
