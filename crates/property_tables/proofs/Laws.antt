@@ -1,14 +1,12 @@
 -- The laws of typing.
-use Rattle.std.proofs.Common.{◌≡◌, ◌↔◌, ℕ, Bool, true, false, cond, List, [], ◌∷◌, Option, Some, None, Result, Ok, Err, refl, ap, sym, ◌∙◌, IsTrue, true≢false, ◌||◌}
+use Rattle.std.proofs.Common.{◌≡◌, ℕ, Bool, true, false, cond, List, [], ◌∷◌, Option, Some, None, Result, Ok, Err, refl, ap, sym, true≢false, ◌||◌}
 use Rattle.std.specs.Map.{lookup}
 use Rattle.std.specs.Str.{bytes_eq}
 use Rattle.bp_faults.specs.declared.fault.Fault.{Fault}
 use Rattle.bp_faults.specs.Answers.{then_do}
 use Rattle.bp_props.specs.declared.kind.ModuleKind.{ModuleKind}
-use Rattle.bp_props.specs.declared.props.Props.{Props}
-use Rattle.bp_props.specs.declared.module.Module.{Module}
 use Rattle.bp_values.specs.Files.{Raw}
-use Rattle.property_tables.specs.Typing.{typed, typed_by, module_typed, is_dropped, name_in, types}
+use Rattle.property_tables.specs.Typing.{typed_by, is_dropped, name_in, types}
 use Rattle.std.proofs.lemmas.Slice.Eq.{bytes_eq-Decides}
 use Rattle.std.specs.Prelude.{codes}
 use Rattle.bp_values.specs.Values.{fields_then, no_field}

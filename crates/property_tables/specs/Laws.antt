@@ -1,5 +1,5 @@
 -- What follows from the definitions, as the layers above use it.
-use Rattle.std.specs.Prelude.{◌≡◌, ◌↔◌, ◌++◌, ℕ, Bool, true, List, Option, Some, None, Result, Ok, Err, IsTrue}
+use Rattle.std.specs.Prelude.{◌≡◌, ◌↔◌, ◌++◌, ℕ, List, Some, None, Ok, Err, IsTrue}
 use Rattle.std.specs.Option.{IfSome}
 use Rattle.std.specs.List.{AllByRecursion}
 use Rattle.std.specs.Map.{lookup}
@@ -11,7 +11,7 @@ use Rattle.bp_props.specs.Kinds.{has_field}
 use Rattle.bp_props.specs.Records.{props_empty}
 use Rattle.bp_values.specs.Values.{fields_then, no_field}
 use Rattle.bp_values.specs.Files.{Raw}
-use Rattle.property_tables.specs.Tables.{Offered, properties}
+use Rattle.property_tables.specs.Tables.{properties}
 use Rattle.property_tables.specs.Paths.{components, placed}
 use Rattle.property_tables.specs.Typing.{each_entry, module_entry, is_dropped, types, typed}
 
