@@ -1,0 +1,34 @@
+-- What follows from the definitions, as the layers above use it.
+use Rattle.std.specs.Prelude.{◌≡◌, ◌↔◌, ◌++◌, ℕ, List, Some, None, Ok, Err, IsTrue}
+use Rattle.std.specs.Option.{IfSome}
+use Rattle.std.specs.List.{AllByRecursion}
+use Rattle.std.specs.Map.{lookup}
+use Rattle.std.specs.Str.{bytes_eq}
+use Rattle.bp_faults.specs.Paths.{is_normal}
+use Rattle.bp_faults.specs.declared.fault.Fault.{Fault}
+use Rattle.bp_props.specs.declared.kind.ModuleKind.{ModuleKind}
+use Rattle.bp_props.specs.Kinds.{has_field}
+use Rattle.bp_props.specs.Records.{props_empty}
+use Rattle.bp_values.specs.Values.{fields_then, no_field}
+use Rattle.bp_values.specs.Files.{Raw}
+use Rattle.property_tables.specs.Tables.{properties}
+use Rattle.property_tables.specs.Paths.{components, placed}
+use Rattle.property_tables.specs.Typing.{each_entry, module_entry, is_dropped, types, typed}
+
+-- A property stands in the table of a kind exactly where the kind has the field that it sets.
+abbrev pub TablesHaveFields : Type 0
+TablesHaveFields = (kind : ModuleKind) → AllByRecursion (λ o. IfSome o.property.effect (λ field. o.kinds kind ≡ has_field kind field)) properties
+
+-- Exactly the modules of the types `package` and `license` are dropped.
+abbrev pub DropsExactly : Type 0
+DropsExactly = (raw : Raw) (dir : List ℕ) → (typed raw dir ≡ Ok None) ↔ IsTrue (is_dropped raw.kind)
+
+-- The first fault of a module's entries is the module's, whatever its name.
+abbrev pub EntriesComeFirst : Type 0
+EntriesComeFirst = (raw : Raw) (dir : List ℕ) (kind : ModuleKind) (fault : Fault) → lookup (bytes_eq raw.kind) types ≡ Some kind
+    → each_entry (module_entry dir kind) props_empty (fields_then raw.entries no_field) ≡ Err fault → typed raw dir ≡ Err fault
+
+-- The path of an item is in normal form, and its components are those of the directory and then those of the item.
+pub record StaysBelow (dir item : List ℕ) : Type 0 where
+  pub normal : IsTrue (is_normal (placed dir item))
+  pub parts : components (placed dir item) ≡ components dir ++ components item

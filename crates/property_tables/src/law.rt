@@ -1,0 +1,22 @@
+ghost use Rattle.std.specs.Prelude.{List, ℕ};
+ghost use Rattle.property_tables.specs.Laws.{TablesHaveFields, DropsExactly, EntriesComeFirst, StaysBelow};
+
+/// The tables and the fields of the kinds agree.
+pub fn tables_have_fields()
+    ensures { TablesHaveFields }
+{}
+
+/// `typed` answers no module exactly for a `package` or a `license`.
+pub fn drops_exactly()
+    ensures { DropsExactly }
+{}
+
+/// A bad property stands before a missing or a bad name.
+pub fn entries_come_first()
+    ensures { EntriesComeFirst }
+{}
+
+/// A path keeps its directory, and no item leads out of it.
+pub fn paths_stay_below()
+    ensures { (dir item : List ℕ) → StaysBelow dir item }
+{}

@@ -1,0 +1,45 @@
+use crate::Row;
+use bp_faults::Text;
+use std::marker::Model;
+
+/// `N` rows, sorted by name. Contracts see them as the list of their properties.
+#[derive(Drop)]
+pub struct PropTable<const N: usize> {
+    rows: &'static [Row],
+}
+
+impl<const N: usize> Model for PropTable<N> {
+    ghost use Rattle.std.specs.Prelude.{◌≡◌, List, map, IsTrue, length};
+    ghost use Rattle.property_tables.specs.Tables.{Property, property_of, names_ascend};
+
+    ghost Value = { List Property };
+
+    ghost view = { λ t. map property_of t.rows.now };
+
+    ghost invariant = { λ t. (length t.rows.now ≡ N) × IsTrue (names_ascend (map property_of t.rows.now)) };
+}
+
+impl<const N: usize> PropTable<N> {
+    ghost use Rattle.std.specs.Prelude.{◌≡◌, map, IsTrue, option_map, length};
+    ghost use Rattle.property_tables.specs.Tables.{property_of, names_ascend, named};
+
+    /// The table of these rows.
+    pub(crate) fn of(rows: &'static [Row]) -> PropTable<N>
+        requires count { length rows.now ≡ N }
+        requires order { IsTrue (names_ascend (map property_of rows.now)) }
+        ensures { result ≡ map property_of rows.now }
+    {
+        PropTable { rows }
+    }
+
+    /// The row of a name, where the table has one. It takes no memory.
+    pub fn row(&self, name: &Text) -> Option<&Row>
+        ensures { option_map (λ row. property_of row.now) result ≡ named self.now name.now }
+    {
+        let name = name.as_str();
+        match self.rows.binary_search_by(|row| row.name.cmp(name)) {
+            Ok(place) => Some(&self.rows[place]),
+            Err(_) => None,
+        }
+    }
+}
