@@ -1,0 +1,5 @@
+pub mod Names
+pub mod Stands
+pub mod Tokens
+pub mod Form
+pub mod Modules
