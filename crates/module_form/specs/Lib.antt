@@ -3,3 +3,5 @@ pub mod Stands
 pub mod Tokens
 pub mod Form
 pub mod Modules
+pub mod Sizes
+pub mod Laws

@@ -1,6 +1,6 @@
 -- The modules that the tokens of a file stand for.
 use Rattle.std.specs.Prelude.{ℕ, List, [], ◌∷◌, ◌++◌, map, Bool, Option, Some, None, Result, Ok, Err, if◌then◌else◌, codes, slice_get}
-use Rattle.std.specs.Option.{option_map, option_map_or, option_to_list}
+use Rattle.std.specs.Option.{option_map, option_map_or, option_to_list, is_some}
 use Rattle.std.specs.List.{filter}
 use Rattle.std.specs.Str.{bytes_eq}
 use Rattle.bp_faults.specs.declared.fault.Fault.{Fault}
@@ -23,6 +23,18 @@ is_word text word t = bytes_eq (word_of text t) word
 abbrev pub up_to : List ℕ → List ℕ → List Token → List Token
 up_to text word [] = []
 up_to text word (t ∷ ts) = if is_word text word t then [] else t ∷ up_to text word ts
+
+-- what type of a module the bytes are
+abbrev pub kind_of : List ℕ → Option ModuleKind
+kind_of word =
+    if bytes_eq word (codes "cc_binary") then Some Binary
+    else if bytes_eq word (codes "cc_library_static") then Some StaticLibrary
+    else None
+
+-- the tokens before the next type of a module
+abbrev pub up_to_type : List ℕ → List Token → List Token
+up_to_type text [] = []
+up_to_type text (t ∷ ts) = if is_some (kind_of (word_of text t)) then [] else t ∷ up_to_type text ts
 
 -- the tokens behind the first of these bytes
 abbrev pub behind : List ℕ → List ℕ → List Token → List Token
@@ -48,7 +60,7 @@ name_of text body = option_map_or (λ t. (item_of text t).text) (slice_get body 
 abbrev pub name_place : Place → List Token → Place
 name_place at body = option_map_or (λ (t : Token). t.place) (slice_get body 1) at
 
--- A module of a type at a place, from the tokens behind its type and before the brace that closes.
+-- A module of a type at a place, from the tokens behind its type and before the next.
 abbrev pub module_of : List ℕ → ModuleKind → Place → List Token → Module
 module_of text kind at body = record {
   kind = kind;
@@ -59,16 +71,9 @@ module_of text kind at body = record {
   static_libs = items_of text (codes "static_libs") body;
 }
 
--- what type of a module the bytes are
-abbrev pub kind_of : List ℕ → Option ModuleKind
-kind_of word =
-    if bytes_eq word (codes "cc_binary") then Some Binary
-    else if bytes_eq word (codes "cc_library_static") then Some StaticLibrary
-    else None
-
 -- the module whose type is the first of some tokens, if it is one
 abbrev pub module_at : List ℕ → Token → List Token → Option Module
-module_at text t ts = option_map (λ kind. module_of text kind t.place (up_to text (codes "}") ts)) (kind_of (word_of text t))
+module_at text t ts = option_map (λ kind. module_of text kind t.place (up_to_type text ts)) (kind_of (word_of text t))
 
 -- The modules of some tokens: one for each type of a module.
 abbrev pub modules_in : List ℕ → List Token → List Module

@@ -6,6 +6,7 @@
 #![tactic(auto)]
 
 mod form;
+pub mod laws;
 mod module;
 mod names;
 mod read;

@@ -1,7 +1,8 @@
 ghost use Rattle.std.specs.Prelude.{◌≡◌, ◌≤◌, ◌^◌, IfOk, length, Ok};
 ghost use Rattle.bp_faults.specs.Answers.{Answers};
 ghost use Rattle.bp_lexer.specs.Meaning.{IsToken, IsTokenList, word_of};
-ghost use Rattle.module_form.specs.Modules.{is_word, up_to, behind, item_of, strings_of, items_of, name_of, name_place, module_of, kind_of, module_at, modules_in, modules_of};
+ghost use Rattle.module_form.specs.Modules.{is_word, up_to, up_to_type, behind, item_of, strings_of, items_of, name_of, name_place, module_of, kind_of, module_at, modules_in, modules_of};
+ghost use Rattle.module_form.specs.Sizes.{size_of};
 ghost use Rattle.module_form.specs.Tokens.{AreTokens};
 ghost use Rattle.std.specs.Option.{option_map};
 
@@ -26,6 +27,32 @@ fn up_to<'a>(text: &str, word: &[u8], tokens: &'a [Token]) -> &'a [Token]
 {
     for (place, token) in tokens.iter().enumerate() {
         if is_word(text, *token, word) {
+            return &tokens[..place];
+        }
+    }
+    tokens
+}
+
+fn kind_of(word: &[u8]) -> Option<ModuleKind>
+    ensures { result ≡ kind_of word.now }
+{
+    if word == b"cc_binary".as_slice() {
+        Some(ModuleKind::Binary)
+    } else if word == b"cc_library_static".as_slice() {
+        Some(ModuleKind::StaticLibrary)
+    } else {
+        None
+    }
+}
+
+// The tokens before the next type of a module.
+fn up_to_type<'a>(text: &str, tokens: &'a [Token]) -> &'a [Token]
+    requires { AreTokens text.now tokens.now }
+    ensures list { result.now ≡ up_to_type text.now tokens.now }
+    ensures tokens { AreTokens text.now result.now }
+{
+    for (place, token) in tokens.iter().enumerate() {
+        if kind_of(token.text(text).as_bytes()).is_some() {
             return &tokens[..place];
         }
     }
@@ -97,7 +124,7 @@ fn name_place(at: Place, body: &[Token]) -> Place
     }
 }
 
-// The module of a type, from the tokens between its braces.
+// The module of a type, from the tokens behind it.
 fn read_module(
     alloc: Global,
     text: &str,
@@ -118,18 +145,6 @@ fn read_module(
     })
 }
 
-fn kind_of(word: &[u8]) -> Option<ModuleKind>
-    ensures { result ≡ kind_of word.now }
-{
-    if word == b"cc_binary".as_slice() {
-        Some(ModuleKind::Binary)
-    } else if word == b"cc_library_static".as_slice() {
-        Some(ModuleKind::StaticLibrary)
-    } else {
-        None
-    }
-}
-
 // The module whose type is that token, if it is one.
 fn module_at(
     alloc: Global,
@@ -143,7 +158,7 @@ fn module_at(
 {
     match kind_of(token.text(text).as_bytes()) {
         Some(kind) => {
-            let body = up_to(text, b"}", rest);
+            let body = up_to_type(text, rest);
             Ok(Some(read_module(alloc, text, kind, token.place, body)?))
         }
         None => Ok(None),
@@ -168,7 +183,8 @@ fn modules_in(alloc: Global, text: &str, tokens: &[Token]) -> Result<Vec<Module>
 pub fn modules(alloc: Global, text: &str, tokens: Vec<Token>) -> Result<Vec<Module>, Refusal>
     requires short { length text.now ≤ 2 ^ 20 }
     requires tokens { IsTokenList 1 text.now tokens.items }
-    ensures { Answers (λ modules. modules.items) result (modules_of text.now tokens.items) }
+    ensures exact { Answers (λ modules. modules.items) result (modules_of text.now tokens.items) }
+    ensures few { IfOk result (λ modules. size_of modules.items ≤ 2 ^ 20) }
 {
     let mut kept = tokens;
     leave_out_comments(&mut kept);

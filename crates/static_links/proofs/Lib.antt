@@ -1,0 +1,9 @@
+pub mod Noted
+pub mod Numbered
+pub mod LaterNamed
+pub mod Planned
+pub mod Visited
+pub mod Recursion
+pub mod Telling
+pub mod Passes
+pub mod Facts

@@ -1,0 +1,23 @@
+//! Binaries and static libraries: their link lines and their build statements.
+//!
+//! The modules of a file flow in; the statements that build them flow out, or the first fault. It is
+//! measured by `IsBuilt` in `specs/Built.antt`: the checks of names, the link lines, and the
+//! statements, each over all modules.
+#![tactic(auto)]
+
+mod actions;
+mod build;
+mod gather;
+mod graph;
+mod line;
+mod names;
+mod pass;
+mod sources;
+mod variants;
+
+pub use actions::ActionVisit;
+pub use build::build;
+pub use graph::make_graph;
+pub use line::LineVisit;
+pub use names::{check_names, number_names};
+pub use pass::{act_all, link_lines};
