@@ -7,3 +7,5 @@ pub mod Recursion
 pub mod Telling
 pub mod Passes
 pub mod Facts
+pub mod Phased
+pub mod OneBuilt

@@ -10,3 +10,4 @@ pub mod Order
 pub mod Nodes
 pub mod Visits
 pub mod Built
+pub mod Laws

@@ -6,9 +6,10 @@
 #![tactic(auto)]
 
 mod actions;
-mod build;
+mod built;
 mod gather;
 mod graph;
+pub mod laws;
 mod line;
 mod names;
 mod pass;
@@ -16,7 +17,7 @@ mod sources;
 mod variants;
 
 pub use actions::ActionVisit;
-pub use build::build;
+pub use built::build;
 pub use graph::make_graph;
 pub use line::LineVisit;
 pub use names::{check_names, number_names};
