@@ -16,9 +16,4 @@ mod pass;
 mod sources;
 mod variants;
 
-pub use actions::ActionVisit;
 pub use built::build;
-pub use graph::make_graph;
-pub use line::LineVisit;
-pub use names::{check_names, number_names};
-pub use pass::{act_all, link_lines};
