@@ -7,5 +7,16 @@ pub mod Sorted
 pub mod PlanOf
 pub mod Targets
 pub mod Walking
+pub mod Starts
 pub mod Ranked
 pub mod Turned
+pub mod Levels
+pub mod Nearer
+pub mod Climbing
+pub mod Outward
+pub mod Starting
+pub mod Ways
+pub mod Lines
+pub mod OneCycle
+pub mod ShortCycle
+pub mod SomeCycle

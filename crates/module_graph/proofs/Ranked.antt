@@ -1,11 +1,8 @@
 -- Where no walk returns there is a numbering that rises along every edge: the length of the longest walk to a node.
-use Rattle.std.proofs.Common.{◌≡◌, ◌<◌, ◌≤◌, ◌==◌, ℕ, zero, suc, List, [], ◌∷◌, length, map, refl, ap, ◌∙◌, sym, subst, arith, get_or, ◌⊎◌, inl, inr, ⊎_elim, true, false, ne_eqb}
-use Rattle.std.specs.List.{AllByRecursion, list_any, IsDistinct}
+use Rattle.std.proofs.Common.{◌≡◌, ◌<◌, ◌≤◌, ◌==◌, ℕ, zero, suc, List, [], ◌∷◌, map, refl, ap, ◌∙◌, sym, subst, arith, get_or, ◌⊎◌, inl, inr, ⊎_elim, false, ne_eqb}
+use Rattle.std.specs.List.{AllByRecursion, IsDistinct}
 use Rattle.std.specs.Prelude.{Contains, max}
 use Rattle.std.proofs.lemmas.List.Elements.{All-from_recursion, All-contains, recursion_from_All, All-contains_itself, Contains-get_or}
-use Rattle.std.proofs.lemmas.Map.Steps.{length-le_from_distinct_below}
-use mathlib.Core.Logic.{dite}
-use native.Mathlib.Decide.{ℕ_discrete}
 use Rattle.std.proofs.Math.Decide.{dec_lt}
 use Rattle.pass_core.specs.declared.plan.PlanEdge.{PlanEdge}
 use Rattle.pass_core.specs.Plans.{in_edges, predecessors, HasNoCycle, HaveEndsBelow}
@@ -14,15 +11,8 @@ use Rattle.module_graph.specs.Walks.{Leads, Walk, NoneReturns}
 use Rattle.pass_core.proofs.Lists.{all_map, map-same}
 use Rattle.module_graph.proofs.Alls.{all_image}
 use Rattle.module_graph.proofs.Sorted.{all_into, all_of_into}
-use Rattle.module_graph.proofs.Walking.{at_step, walk_push}
-
-distinct_cons : (x : ℕ) (xs : List ℕ) → AllByRecursion (λ y. (x == y) ≡ false) xs → IsDistinct ◌==◌ xs → IsDistinct ◌==◌ (x ∷ xs)
-unfolding IsDistinct
-distinct_cons x xs h k = (h, k)
-
-distinct_nil : IsDistinct ◌==◌ []
-unfolding IsDistinct
-distinct_nil = tt
+use Rattle.module_graph.proofs.Starts.{starts, distinct_cons, distinct_nil, distinct_short}
+use Rattle.module_graph.proofs.Walking.{walk_push}
 
 all_before : {A B : Type 0} (f : A → B) (Q : B → Type 0) (xs : List A) → AllByRecursion Q (map f xs) → AllByRecursion (λ x. Q (f x)) xs
 all_before f Q [] h = tt
@@ -48,40 +38,19 @@ top_pick f Q (m ∷ ms) h = ⊎_elim (λ e. inr (m, h.0, e))
     (λ e. ⊎_elim (λ z. inl (e ∙ z)) (λ t. inr (t.0, t.1, e ∙ t.2)) (top_pick f Q ms h.1)) (max_is (suc (f m)) (above_all (map f ms)))
 
 module _ (count : ℕ) (edges : List PlanEdge) (ends : HaveEndsBelow count edges) (none : NoneReturns edges) where
-  abbrev starts : (k n m : ℕ) → Walk edges k n m → List ℕ
-  starts zero n m w = []
-  starts (suc k) n m w = n ∷ starts k w.0 m w.2
-
-  many : (k n m : ℕ) (w : Walk edges k n m) → length (starts k n m w) ≡ k
-  many zero n m w = refl
-  many (suc k) n m w = ap suc (many k w.0 m w.2)
-
-  reached : (k n m : ℕ) (w : Walk edges k n m) → AllByRecursion (λ y. (j : ℕ) × Walk edges j n y) (starts k n m w)
+  reached : (k n m : ℕ) (w : Walk edges k n m) → AllByRecursion (λ y. (j : ℕ) × Walk edges j n y) (starts edges k n m w)
   reached zero n m w = tt
-  reached (suc k) n m w = ((0, refl), all_map (λ y. (j : ℕ) × Walk edges j w.0 y) (λ y. (j : ℕ) × Walk edges j n y) (λ y t. (suc t.0, (w.0, w.1, t.1))) (starts k w.0 m w.2) (reached k w.0 m w.2))
+  reached (suc k) n m w = ((0, refl), all_map (λ y. (j : ℕ) × Walk edges j w.0 y) (λ y. (j : ℕ) × Walk edges j n y) (λ y t. (suc t.0, (w.0, w.1, t.1))) (starts edges k w.0 m w.2) (reached k w.0 m w.2))
 
-  inside : (n m : ℕ) → Leads edges n m → n < count
-  inside n m l = (at_step (λ i j. (i < count) × (j < count)) edges ends n m l).0
-
-  below : (k n m : ℕ) (w : Walk edges k n m) → AllByRecursion (λ y. y < count) (starts k n m w)
-  below zero n m w = tt
-  below (suc k) n m w = (inside n w.0 w.1, below k w.0 m w.2)
-
-  distinct : (k n m : ℕ) (w : Walk edges k n m) → IsDistinct ◌==◌ (starts k n m w)
+  distinct : (k n m : ℕ) (w : Walk edges k n m) → IsDistinct ◌==◌ (starts edges k n m w)
   distinct zero n m w = distinct_nil
-  distinct (suc k) n m w = distinct_cons n (starts k w.0 m w.2)
+  distinct (suc k) n m w = distinct_cons n (starts edges k w.0 m w.2)
       (all_map (λ y. (j : ℕ) × Walk edges j w.0 y) (λ y. (n == y) ≡ false)
       (λ y t. ne_eqb n y (λ same. none n (t.0, (w.0, w.1, subst (λ x. Walk edges t.0 w.0 x) (sym same) t.1))))
-      (starts k w.0 m w.2) (reached k w.0 m w.2)) (distinct k w.0 m w.2)
-
-  any_below : (xs : List ℕ) → AllByRecursion (λ y. y < count) xs → (q : ℕ) → list_any (λ y. q == y) xs ≡ true → q < count
-  any_below [] h q e = cc
-  any_below (x ∷ xs) h q e = dite (ℕ_discrete q x)
-      (λ same. let a = h.0 in omega arith)
-      (λ other. let f = ne_eqb q x other in any_below xs h.1 q (rw f at e))
+      (starts edges k w.0 m w.2) (reached k w.0 m w.2)) (distinct k w.0 m w.2)
 
   walk_short : (k n m : ℕ) → Walk edges k n m → k ≤ count
-  walk_short k n m w = subst (λ j. j ≤ count) (many k n m w) (length-le_from_distinct_below (starts k n m w) count (distinct k n m w) (any_below (starts k n m w) (below k n m w)))
+  walk_short k n m w = distinct_short edges count ends k n m w (distinct k n m w)
 
   source_leads : (n : ℕ) → AllByRecursion (λ m. Leads edges m n) (predecessors edges n)
   source_leads n = all_image (λ (e : PlanEdge). Contains edges e × (e.to.0 ≡ n)) (λ m. Leads edges m n) (λ (e : PlanEdge). e.from.0) (λ e h. (e, h.0, refl, h.1)) (in_edges edges n)

@@ -5,3 +5,6 @@ pub mod Graphs
 pub mod Walks
 pub mod Planned
 pub mod Laws
+pub mod Cycles
+pub mod Search
+pub mod GraphText

@@ -1,5 +1,5 @@
 -- The names of variants, and the labels of nodes.
-use Rattle.std.specs.Prelude.{ℕ, Bool, true, false, List, [], ◌∷◌, ◌++◌, codes}
+use Rattle.std.specs.Prelude.{ℕ, Bool, true, false, List, [], ◌∷◌, ◌++◌, codes, slice_index_or}
 use Rattle.std.specs.List.{filter, join_by}
 use Rattle.std.specs.Fmt.{decimal}
 use Rattle.bp_faults.specs.Targets.{target_name}
@@ -40,3 +40,7 @@ abbrev pub added : List ℕ → List ℕ → List ℕ
 added [] part = part
 added (c ∷ name) [] = c ∷ name
 added (c ∷ name) (d ∷ part) = (c ∷ name) ++ (codes "_" ++ d ∷ part)
+
+-- The name of node n in a list of names by node number, and the empty one beyond the list.
+abbrev pub name_at : List (List ℕ) → ℕ → List ℕ
+name_at names n = slice_index_or names n []

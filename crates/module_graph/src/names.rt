@@ -1,5 +1,5 @@
 ghost use Rattle.std.specs.Prelude.{◌≡◌, ◌++◌, IfOk, OnOk, string_bytes};
-ghost use Rattle.module_graph.specs.Names.{spelling, added, variant_name_of, label_of};
+ghost use Rattle.module_graph.specs.Names.{spelling, added, variant_name_of, label_of, name_at};
 
 use crate::{Variation, Variations};
 use bp_faults::{OutOfMemory, Text};
@@ -59,4 +59,14 @@ pub fn label(alloc: Global, name: &Text, variations: &Variations) -> Result<Text
         label.push_str("}")?;
     }
     Ok(Text::new(label))
+}
+
+/// The name of a node in a list by node number, and the empty one beyond the list.
+pub fn name_of(names: &[Text], n: usize) -> &str
+    ensures { result.now ≡ name_at names.now n }
+{
+    match names.get(n) {
+        Some(name) => name.as_str(),
+        None => "",
+    }
 }

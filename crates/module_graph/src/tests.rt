@@ -13,26 +13,27 @@ use pass_core::Plan;
 use std::alloc::Global;
 use std::test::Fail;
 
-/// Edges to nodes, in order.
-fn edges_to(alloc: Global, targets: &[u32]) -> Result<Seq<Edge>, OutOfMemory> {
-    let at = Place {
+/// Edges to nodes, in order. They stand in one line, one in each column.
+pub fn edges_to(alloc: Global, line: u32, targets: &[u32]) -> Result<Seq<Edge>, OutOfMemory> {
+    let mut edges = Vec::new(alloc);
+    let mut at = Place {
         file: 1,
-        line: 1,
+        line,
         col: 1,
     };
-    let mut edges = Vec::new(alloc);
     for to in targets {
         edges.push(Edge {
             kind: EdgeKind::Static,
             to: NodeId(*to),
             at,
         })?;
+        at.col = at.col.wrapping_add(1);
     }
     Ok(Seq::new(edges))
 }
 
-/// A graph by the targets of each node's edges.
-fn graph(alloc: Global, targets: &[&[u32]]) -> Result<Graph<bool>, OutOfMemory> {
+/// A graph by the targets of each node's edges. The edges of node n stand in line n + 1.
+pub fn graph(alloc: Global, targets: &[&[u32]]) -> Result<Graph<bool>, OutOfMemory> {
     let mut nodes = Vec::new(alloc);
     let mut module = 0;
     for targets in targets {
@@ -40,7 +41,7 @@ fn graph(alloc: Global, targets: &[&[u32]]) -> Result<Graph<bool>, OutOfMemory> 
             module: ModuleId(module),
             vars: Variations::empty(alloc),
             payload: false,
-            edges: edges_to(alloc, targets)?,
+            edges: edges_to(alloc, module.wrapping_add(1), targets)?,
         })?;
         module = module.wrapping_add(1);
     }
@@ -61,7 +62,7 @@ fn lead_inside(edges: &[Edge], count: usize) -> bool
 }
 
 /// Whether a graph may be planned.
-fn is_numbered(g: &Graph<bool>) -> bool
+pub fn is_numbered(g: &Graph<bool>) -> bool
     ensures { IsTrue result → IsNumbered g.now.nodes }
 {
     let nodes = g.nodes.as_slice();
@@ -139,6 +140,9 @@ fn laws_at_a_type() {
     laws::valid_plans_have_no_cycle::<bool>();
     laws::predecessors_are_targets::<bool>();
     laws::predecessors_are_sources::<bool>();
+    laws::reported_where_a_walk_returns::<bool>();
+    laws::one_cycle_meaning::<bool>();
+    laws::the_cycle_is_shortest::<bool>();
 }
 
 #[test]

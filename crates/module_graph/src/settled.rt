@@ -1,0 +1,50 @@
+ghost use Rattle.std.specs.Prelude.{◌≡◌, ◌<◌, ◌≤◌, ℕ, length, slice_index, IsTrue};
+ghost use Rattle.std.specs.List.{AllByRecursion};
+ghost use Rattle.module_graph.specs.declared.graph.Edge.{Edge};
+ghost use Rattle.module_graph.specs.Graphs.{IsNumbered, edges_of};
+ghost use Rattle.module_graph.specs.Walks.{Returns};
+
+use crate::{Edge, Graph};
+
+/// A number that none of the edges' targets is below.
+fn least_target(numbers: &[u32], edges: &[Edge]) -> u32
+    requires { AllByRecursion (λ (e : Edge). e.to.0 < length numbers.now) edges.now }
+    ensures { AllByRecursion (λ (e : Edge). result ≤ slice_index numbers.now e.to.0) edges.now }
+{
+    let mut least = u32::MAX;
+    for edge in edges {
+        least = least.min(numbers[edge.to.0 as usize]);
+    }
+    least
+}
+
+/// The first of two nodes, of which the second may not count.
+fn narrowed(first: u32, n: u32, counts: bool) -> u32
+    ensures within { result ≤ first }
+    ensures counted { IsTrue counts → result ≤ n }
+{
+    if counts { first.min(n) } else { first }
+}
+
+/// A node below which none can reach itself, by a numbering of the nodes.
+///
+/// With the numbers of strong components it is the least node that can, and the count where none can.
+pub fn settled<P>(g: &Graph<P>, numbers: &[u32]) -> u32
+    requires numbered { IsNumbered g.now.nodes }
+    requires many { length numbers.now ≡ length g.now.nodes }
+    ensures inside { result ≤ length g.now.nodes }
+    ensures none { (n : ℕ) → n < result → Returns (edges_of g.now.nodes) n → ⊥ }
+{
+    let nodes = g.nodes.as_slice();
+    let count = nodes.len() as u32;
+    let mut first = count;
+    for n in 0..count {
+        let number = numbers[n as usize];
+        let least = least_target(numbers, nodes[n as usize].edges.as_slice());
+        if least < number {
+            return 0;
+        }
+        first = narrowed(first, n, least == number);
+    }
+    first
+}
