@@ -1,9 +1,8 @@
 pub mod Noted
 pub mod Numbered
-pub mod LaterNamed
+pub mod Inside
 pub mod Planned
 pub mod Visited
-pub mod Recursion
 pub mod Telling
 pub mod Passes
 pub mod Facts

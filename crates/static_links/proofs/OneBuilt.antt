@@ -5,13 +5,15 @@ use Rattle.std.specs.List.{range_with_len}
 use Rattle.std.proofs.Math.Decide.{dec_lt}
 use Rattle.bp_faults.specs.declared.fault.Fault.{Fault}
 use Rattle.ninja_text.specs.declared.file.Statement.{Statement}
+use Rattle.module_graph.proofs.OneCycle.{means_unique}
 use Rattle.module_form.specs.declared.module.Module.{Module}
 use Rattle.static_links.specs.Phases.{GoesOn, Then}
 use Rattle.static_links.specs.Names.{number_of, names_checked}
+use Rattle.static_links.specs.Nodes.{graph_of, labels_of}
 use Rattle.static_links.specs.Lines.{line_step, height_in}
 use Rattle.static_links.specs.Actions.{actions_step, all_statements}
-use Rattle.static_links.specs.Order.{Precedes, IsFirstFault, Gathers}
-use Rattle.static_links.specs.Built.{IsActed, IsBuilt}
+use Rattle.static_links.specs.Order.{IsFirstFault, Gathers}
+use Rattle.static_links.specs.Built.{IsActed, IsLinked, CycleSays, IsBuilt}
 
 pub goes_on_once : {A B : Type 0} (first : Result A Fault) (Next : A → Result B Fault → Type 0) → ((v : A) (a b : Result B Fault) → Next v a → Next v b → a ≡ b)
     → (a b : Result B Fault) → GoesOn first Next a → GoesOn first Next b → a ≡ b
@@ -73,7 +75,11 @@ acted_once : (ms : List Module) (a b : Result (List Statement) Fault) → IsActe
 acted_once ms a b x y =
     then_once (Gathers (height_in ms) (length ms) (actions_step ms)) (λ made outcome. Ok (all_statements ms made) ≡ outcome) (gathers_once (height_in ms) (length ms) (actions_step ms)) (λ made a b x y. sym x ∙ y) a b x y
 
+linked_once : (ms : List Module) (a b : Result (List Statement) Fault) → IsLinked ms a → IsLinked ms b → a ≡ b
+linked_once ms a b x y =
+    then_once (Gathers (height_in ms) (length ms) (line_step ms)) (λ lines. IsActed ms) (gathers_once (height_in ms) (length ms) (line_step ms)) (λ lines. acted_once ms) a b x y
+
 pub built_once : (ms : List Module) (a b : Result (List Statement) Fault) → IsBuilt ms a → IsBuilt ms b → a ≡ b
 built_once ms a b x y =
-    goes_on_once (names_checked (number_of ms) ms) (λ done. Then (Gathers (height_in ms) (length ms) (line_step ms)) (λ lines. IsActed ms))
-    (λ done. then_once (Gathers (height_in ms) (length ms) (line_step ms)) (λ lines. IsActed ms) (gathers_once (height_in ms) (length ms) (line_step ms)) (λ lines. acted_once ms)) a b x y
+    goes_on_once (names_checked (number_of ms) ms) (λ done. Then (CycleSays ms) (λ none. IsLinked ms))
+    (λ done. then_once (CycleSays ms) (λ none. IsLinked ms) (means_unique (graph_of ms) (labels_of ms)) (λ none. linked_once ms)) a b x y

@@ -2,7 +2,6 @@ pub mod Phases
 pub mod Names
 pub mod Tables
 pub mod Variants
-pub mod Later
 pub mod Lines
 pub mod Sources
 pub mod Actions

@@ -6,11 +6,10 @@ use Rattle.std.specs.List.{list_any}
 use Rattle.bp_faults.specs.declared.fault.Fault.{Fault}
 use Rattle.bp_faults.specs.declared.kind.FaultKind.TheVariants.{LinkTooLong}
 use Rattle.bp_faults.specs.Faults.{fault_on}
-use Rattle.pass_core.specs.Heights.{above_all}
+use Rattle.pass_core.specs.Heights.{unroll, above_all}
 use Rattle.module_form.specs.declared.module.Module.{Module}
 use Rattle.static_links.specs.Names.{number_of, targets_of}
-use Rattle.static_links.specs.Later.{value_from}
-use Rattle.static_links.specs.Variants.{variant_label}
+use Rattle.static_links.specs.Variants.{module_label}
 
 -- Of what repeats, the last is kept.
 abbrev pub kept_last : List ℕ → List ℕ
@@ -26,13 +25,18 @@ with_lines libraries lines = []
 abbrev pub line_over : List ℕ → List (List ℕ) → List ℕ
 line_over libraries lines = kept_last (with_lines libraries lines)
 
--- The link line of module n: the numbers of the libraries that it is linked with.
+-- the numbers of the libraries that module n names
+abbrev pub libraries_at : List Module → ℕ → List ℕ
+libraries_at ms n = option_map_or (targets_of (number_of ms)) (slice_get ms n) []
+
+-- The link line of module n: the numbers of the libraries that it is linked with. This is a recursion over the
+-- libraries that modules name, to a depth of as many as there are modules: without a cycle it never comes so deep.
 unfoldable pub link_line : List Module → ℕ → List ℕ
-link_line ms n = value_from (targets_of (number_of ms)) line_over [] 0 ms n
+link_line ms n = unroll (libraries_at ms) (λ n lines. line_over (libraries_at ms n) lines) [] (length ms) n
 
 -- A link line has at most 1,024 entries.
 abbrev pub limited : List ℕ → Module → Result (List ℕ) Fault
-limited line m = if nat_le (length line) 1024 then Ok line else Err (fault_on LinkTooLong m.at (variant_label m.name m.kind))
+limited line m = if nat_le (length line) 1024 then Ok line else Err (fault_on LinkTooLong m.at (module_label m))
 
 -- the link line of module n, or its fault
 abbrev pub line_step : List Module → ℕ → Result (List ℕ) Fault
@@ -40,4 +44,4 @@ line_step ms n = option_map_or (limited (link_line ms n)) (slice_get ms n) (Ok [
 
 -- How high module n stands: 0 where it names no library, else one more than the highest that it names.
 unfoldable pub height_in : List Module → ℕ → ℕ
-height_in ms n = value_from (targets_of (number_of ms)) (λ libraries heights. above_all heights) 0 0 ms n
+height_in ms n = unroll (libraries_at ms) (λ n heights. above_all heights) 0 (length ms) n

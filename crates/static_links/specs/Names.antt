@@ -1,10 +1,10 @@
 -- The modules that are meant by names. Modules are numbered from 0, in their order.
-use Rattle.std.specs.Prelude.{ℕ, ◌+◌, List, [], ◌∷◌, ◌++◌, map, Bool, false, nat_le, nat_lt, Option, Some, None, Result, Ok, Err, if◌then◌else◌, codes, slice_get}
+use Rattle.std.specs.Prelude.{ℕ, ◌+◌, List, [], ◌∷◌, map, Bool, false, nat_lt, Option, Some, None, Result, Ok, Err, if◌then◌else◌, slice_get}
 use Rattle.std.specs.Option.{unwrap_or, option_map_or}
 use Rattle.std.specs.Str.{bytes_eq}
 use Rattle.bp_faults.specs.declared.fault.Fault.{Fault}
 use Rattle.bp_faults.specs.declared.place.Item.{Item}
-use Rattle.bp_faults.specs.declared.kind.FaultKind.TheVariants.{NotBuilt, DuplicateName, MissingModule, MissingVariant}
+use Rattle.bp_faults.specs.declared.kind.FaultKind.TheVariants.{DuplicateName, MissingModule, MissingVariant}
 use Rattle.bp_faults.specs.Faults.{fault_on}
 use Rattle.bp_faults.specs.Answers.{then_do}
 use Rattle.module_form.specs.declared.module.Module.{Module}
@@ -25,10 +25,6 @@ number_of ms name = number_from 0 ms name
 abbrev pub some_number : (ℕ → Bool) → Option ℕ → Bool
 some_number test number = option_map_or test number false
 
--- A name holds no escape, so it stands in its token as it is.
-abbrev pub quoted : List ℕ → List ℕ
-quoted name = codes "\"" ++ (name ++ codes "\"")
-
 -- the static variant is wanted
 abbrev pub missing_variant : Item → Fault
 missing_variant item = fault_on MissingVariant item.at (variant_label item.text StaticLibrary)
@@ -44,13 +40,6 @@ library_at ms item None = Err (fault_on MissingModule item.at item.text)
 library_at ms item (Some n) = option_map_or (λ (m : Module). has_variant item m.kind) (slice_get ms n) (Ok tt)
 
 module _ (names : List ℕ → Option ℕ) where
-  -- An item of module k names neither it nor an earlier one: no cycle can be written yet.
-  abbrev pub names_later : ℕ → Item → Result Unit Fault
-  names_later k item = if some_number (λ n. nat_le n k) (names item.text) then Err (fault_on NotBuilt item.at (quoted item.text)) else Ok tt
-
-  abbrev pub all_name_later : ℕ → Module → Result Unit Fault
-  all_name_later k m = checked (names_later k) m.static_libs
-
   -- No earlier module has the name of module k.
   abbrev pub has_own_name : ℕ → Module → Result Unit Fault
   has_own_name k m = if some_number (λ n. nat_lt n k) (names m.name) then Err (fault_on DuplicateName m.name_at m.name) else Ok tt
@@ -63,10 +52,7 @@ module _ (names : List ℕ → Option ℕ) where
 
   -- the checks of names, one after another over all modules
   abbrev pub names_checked : List Module → Result Unit Fault
-  names_checked ms =
-      then_do (checked_from all_name_later 0 ms) (λ done.
-      then_do (checked_from has_own_name 0 ms) (λ done.
-      checked (has_libraries ms) ms))
+  names_checked ms = then_do (checked_from has_own_name 0 ms) (λ done. checked (has_libraries ms) ms)
 
   -- the number of the library that an item names
   abbrev pub target_of : Item → ℕ

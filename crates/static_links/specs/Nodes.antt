@@ -4,13 +4,15 @@ use Rattle.bp_faults.specs.declared.place.Item.{Item}
 use Rattle.pass_core.specs.declared.plan.Plan.{Plan}
 use Rattle.pass_core.specs.Plans.{IsPlan}
 use Rattle.module_graph.specs.declared.direction.Direction.TheVariants.{BottomUp}
+use Rattle.module_graph.specs.Graphs.{edges_of}
 use Rattle.module_graph.specs.Planned.{plan_of}
+use Rattle.module_graph.specs.Walks.{NoneReturns}
 use Rattle.module_graph.specs.declared.graph.Edge.{Edge}
 use Rattle.module_graph.specs.declared.graph.EdgeKind.TheVariants.{Static}
 use Rattle.module_graph.specs.declared.graph.Node.{Node}
 use Rattle.module_form.specs.declared.module.Module.{Module}
 use Rattle.static_links.specs.Names.{number_of, names_checked, target_of}
-use Rattle.static_links.specs.Variants.{variations_of}
+use Rattle.static_links.specs.Variants.{variations_of, module_label}
 
 module _ (names : List ℕ → Option ℕ) where
   abbrev pub edge_of : Item → Edge
@@ -24,9 +26,18 @@ module _ (names : List ℕ → Option ℕ) where
   nodes_from k [] = []
   nodes_from k (m ∷ ms) = node_of k m ∷ nodes_from (k + 1) ms
 
--- The graph of modules whose names are checked, and its plan from the bottom up.
+-- the graph of modules
+abbrev pub graph_of : List Module → List (Node Unit)
+graph_of ms = nodes_from (number_of ms) 0 ms
+
+-- the labels of its nodes
+abbrev pub labels_of : List Module → List (List ℕ)
+labels_of ms = map module_label ms
+
+-- The graph of modules whose names are checked and among which no walk returns, and its plan from the bottom up.
 pub record IsPlanned (ms : List Module) (nodes : List (Node Unit)) (plan : Plan) : Type 0 where
   pub named : names_checked (number_of ms) ms ≡ Ok tt
-  pub nodes_are : nodes ≡ nodes_from (number_of ms) 0 ms
+  pub nodes_are : nodes ≡ graph_of ms
+  pub acyclic : NoneReturns (edges_of (graph_of ms))
   pub plan_is : plan ≡ plan_of BottomUp nodes
   pub is_plan : IsPlan plan

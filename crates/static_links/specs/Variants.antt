@@ -23,3 +23,7 @@ variant_of kind = variant_name_of (variations_of kind)
 -- the label of a variant of that name
 abbrev pub variant_label : List ℕ → ModuleKind → List ℕ
 variant_label name kind = label_of name (variations_of kind)
+
+-- the label of a module's variant
+abbrev pub module_label : Module → List ℕ
+module_label m = variant_label m.name m.kind

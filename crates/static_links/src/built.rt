@@ -4,7 +4,7 @@ ghost use Rattle.module_form.specs.Sizes.{size_of};
 ghost use Rattle.static_links.specs.Built.{IsBuilt};
 
 use crate::gather::gather;
-use crate::graph::make_graph;
+use crate::graph::{check_cycles, make_graph};
 use crate::names::{check_names, number_names};
 use crate::pass::{act_all, link_lines};
 use bp_faults::Refusal;
@@ -23,6 +23,7 @@ pub fn build(alloc: Global, modules: &[Module]) -> Result<Vec<Statement>, Refusa
     let table = number_names(alloc, modules)?;
     check_names(alloc, &table, modules)?;
     let graph = make_graph(alloc, &table, modules)?;
+    check_cycles(alloc, modules, &graph)?;
     let plan = plan(alloc, &graph, Direction::BottomUp)?;
     let lines = link_lines(alloc, modules, &graph, &plan)?;
     let made = act_all(alloc, modules, &lines, &graph, &plan)?;

@@ -1,15 +1,19 @@
 ghost use Rattle.std.specs.Prelude.{◌≡◌, ◌<◌, ◌^◌, IfOk, length, map, unwrap_or};
 ghost use Rattle.std.specs.Str.{bytes_eq};
+ghost use Rattle.bp_faults.specs.Answers.{Tells};
 ghost use Rattle.indexmap.specs.IndexMap.{get};
+ghost use Rattle.module_graph.specs.Graphs.{IsNumbered};
+ghost use Rattle.module_graph.specs.Cycles.{CycleMeans};
 ghost use Rattle.static_links.specs.Names.{target_of};
-ghost use Rattle.static_links.specs.Nodes.{edge_of, node_of, nodes_from};
+ghost use Rattle.static_links.specs.Variants.{module_label};
+ghost use Rattle.static_links.specs.Nodes.{edge_of, node_of, nodes_from, labels_of};
 
 use crate::names::number_of;
-use crate::variants::variations;
-use bp_faults::{Item, ModuleId, NodeId, OutOfMemory, Seq, Text};
+use crate::variants::{module_label, variations};
+use bp_faults::{Item, ModuleId, NodeId, OutOfMemory, Refusal, Seq, Text};
 use indexmap::IndexMap;
 use module_form::Module;
-use module_graph::{Edge, EdgeKind, Graph, Node};
+use module_graph::{Edge, EdgeKind, Graph, Node, check_cycle};
 use std::alloc::Global;
 
 fn edge(table: &IndexMap<Text, u32>, item: &Item) -> Edge
@@ -52,6 +56,17 @@ fn node(
     })
 }
 
+// The labels of the nodes.
+fn labels(alloc: Global, modules: &[Module]) -> Result<Vec<Text>, OutOfMemory>
+    ensures { IfOk result (λ labels. labels.items ≡ labels_of modules.now) }
+{
+    let mut labels = Vec::new(alloc);
+    for item in modules {
+        labels.push(module_label(alloc, item)?)?;
+    }
+    Ok(labels)
+}
+
 /// The graph of some modules: a node for each, and an edge for each library that it names.
 pub fn make_graph(
     alloc: Global,
@@ -68,4 +83,13 @@ pub fn make_graph(
     Ok(Graph {
         nodes: Seq::new(nodes),
     })
+}
+
+/// No module is needed by itself, over whatever others.
+pub fn check_cycles(alloc: Global, modules: &[Module], graph: &Graph<()>) -> Result<(), Refusal>
+    requires { IsNumbered graph.now.nodes }
+    ensures { Tells (λ done. done) (CycleMeans graph.now.nodes (labels_of modules.now)) result }
+{
+    let labels = labels(alloc, modules)?;
+    check_cycle(alloc, graph, &labels)
 }

@@ -6,13 +6,13 @@ ghost use Rattle.bp_faults.specs.Answers.{Answers};
 ghost use Rattle.static_links.specs.Lines.{kept_last, line_over, limited};
 ghost use Rattle.module_graph.specs.Graphs.{targets};
 ghost use Rattle.static_links.specs.Visits.{targets_at, line_meant};
-ghost use Rattle.static_links.specs.Variants.{variant_label, variations_of};
+ghost use Rattle.static_links.specs.Variants.{module_label};
 
-use crate::variants::variations;
+use crate::variants::module_label;
 use bp_faults::{Fault, FaultKind, NodeId, OutOfMemory, Seq};
 use indexmap::IndexSet;
 use module_form::Module;
-use module_graph::{Edge, Graph, label};
+use module_graph::{Edge, Graph};
 use pass_core::{Visit, VisitError};
 use std::alloc::Global;
 use std::sync::Arc;
@@ -68,7 +68,7 @@ fn limit(alloc: Global, line: Vec<u32>, item: &Module) -> Result<Seq<u32>, Visit
     if line.len() <= ENTRIES {
         return Ok(Seq::new(line));
     }
-    let subject = label(alloc, &item.name, &variations(alloc, item.kind))?;
+    let subject = module_label(alloc, item)?;
     let fault = Fault::on(alloc, FaultKind::LinkTooLong, item.at, subject);
     Err(VisitError::Bad(fault))
 }

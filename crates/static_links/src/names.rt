@@ -2,16 +2,15 @@ ghost use Rattle.std.specs.Prelude.{◌≡◌, ◌<◌, ◌^◌, IfOk, length};
 ghost use Rattle.std.specs.Str.{bytes_eq};
 ghost use Rattle.bp_faults.specs.Answers.{Answers};
 ghost use Rattle.indexmap.specs.IndexMap.{get};
-ghost use Rattle.static_links.specs.Names.{number_of, quoted, names_later, all_name_later, has_own_name, missing_variant, has_variant, library_at, is_library, has_libraries, names_checked, target_of};
-ghost use Rattle.static_links.specs.Variants.{variations_of, variant_label};
+ghost use Rattle.static_links.specs.Names.{number_of, has_own_name, missing_variant, has_variant, library_at, is_library, has_libraries, names_checked, target_of};
+ghost use Rattle.static_links.specs.Variants.{variant_label};
 ghost use Rattle.static_links.specs.Phases.{checked, checked_from};
 ghost use Rattle.static_links.specs.Tables.{IsTable};
 
-use crate::variants::variations;
+use crate::variants::variant_label;
 use bp_faults::{Fault, FaultKind, Item, OutOfMemory, Refusal, Text};
 use indexmap::IndexMap;
 use module_form::{Module, ModuleKind};
-use module_graph::label;
 use std::alloc::Global;
 
 /// The number of the first module of each name.
@@ -36,63 +35,6 @@ pub fn number_of(table: &IndexMap<Text, u32>, name: &Text) -> Option<u32>
     ensures { result ≡ get bytes_eq table.now name.now }
 {
     table.get(name).copied()
-}
-
-fn quoted(alloc: Global, name: &Text) -> Result<Text, OutOfMemory>
-    ensures { IfOk result (λ text. text ≡ quoted name.now) }
-{
-    let name = name.as_str();
-    Ok(Text::new(format!(in alloc; "\"{name}\"")?))
-}
-
-// An item of a module names neither it nor an earlier one.
-fn check_later(
-    alloc: Global,
-    table: &IndexMap<Text, u32>,
-    number: u32,
-    item: &Item,
-) -> Result<(), Refusal>
-    ensures { Answers (λ done. done) result (names_later (get bytes_eq table.now) number item.now) }
-{
-    match number_of(table, &item.text) {
-        Some(named) => {
-            if named <= number {
-                let subject = quoted(alloc, &item.text)?;
-                let fault = Fault::on(alloc, FaultKind::NotBuilt, item.at, subject);
-                return Err(Refusal::Bad(fault));
-            }
-            Ok(())
-        }
-        None => Ok(()),
-    }
-}
-
-fn check_all_later(
-    alloc: Global,
-    table: &IndexMap<Text, u32>,
-    number: u32,
-    items: &[Item],
-) -> Result<(), Refusal>
-    ensures { Answers (λ done. done) result (checked (names_later (get bytes_eq table.now) number) items.now) }
-{
-    for item in items {
-        check_later(alloc, table, number, item)?;
-    }
-    Ok(())
-}
-
-fn check_order(
-    alloc: Global,
-    table: &IndexMap<Text, u32>,
-    modules: &[Module],
-) -> Result<(), Refusal>
-    requires { length modules.now < 2 ^ 32 }
-    ensures { Answers (λ done. done) result (checked_from (all_name_later (get bytes_eq table.now)) 0 modules.now) }
-{
-    for (number, module) in modules.iter().enumerate() {
-        check_all_later(alloc, table, number as u32, module.static_libs.as_slice())?;
-    }
-    Ok(())
 }
 
 // No earlier module has the name of a module.
@@ -134,7 +76,7 @@ fn check_own_names(
 fn missing_variant(alloc: Global, item: &Item) -> Result<Fault, OutOfMemory>
     ensures { IfOk result (λ fault. fault ≡ missing_variant item.now) }
 {
-    let subject = label(alloc, &item.text, &variations(alloc, ModuleKind::StaticLibrary))?;
+    let subject = variant_label(alloc, &item.text, ModuleKind::StaticLibrary)?;
     Ok(Fault::on(alloc, FaultKind::MissingVariant, item.at, subject))
 }
 
@@ -188,7 +130,7 @@ fn check_libraries(
     Ok(())
 }
 
-/// The names are right: of later modules, no two alike, and of libraries.
+/// The names are right: no two are alike, and each item names a library.
 pub fn check_names(
     alloc: Global,
     table: &IndexMap<Text, u32>,
@@ -197,7 +139,6 @@ pub fn check_names(
     requires { length modules.now < 2 ^ 32 }
     ensures { Answers (λ done. done) result (names_checked (get bytes_eq table.now) modules.now) }
 {
-    check_order(alloc, table, modules)?;
     check_own_names(alloc, table, modules)?;
     check_libraries(alloc, table, modules)
 }
