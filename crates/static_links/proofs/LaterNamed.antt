@@ -50,15 +50,17 @@ module _ (all : List Module) where
 
   items_later : (k : ℕ) (items : List Item) → checked (names_later names k) items ≡ Ok tt → checked (is_library names all) items ≡ Ok tt → AreLater k items
   items_later k [] after library = tt
-  items_later k (i ∷ is) after library =
-      (item_later k i (done_first (names_later names k i) (checked (names_later names k) is) tt after) (done_first (is_library names all i) (checked (is_library names all) is) tt library),
-      items_later k is (done_then (names_later names k i) (checked (names_later names k) is) tt after) (done_then (is_library names all i) (checked (is_library names all) is) tt library))
+  items_later k (i ∷ is) after library = (
+    item_later k i (done_first (names_later names k i) (checked (names_later names k) is) tt after) (done_first (is_library names all i) (checked (is_library names all) is) tt library),
+    items_later k is (done_then (names_later names k i) (checked (names_later names k) is) tt after) (done_then (is_library names all i) (checked (is_library names all) is) tt library),
+  )
 
   modules_later : (k : ℕ) (ms : List Module) → checked_from (all_name_later names) k ms ≡ Ok tt → checked (has_libraries names all) ms ≡ Ok tt → LaterFrom k ms
   modules_later k [] after library = tt
-  modules_later k (m ∷ ms) after library =
-      (items_later k m.static_libs (done_first (all_name_later names k m) (checked_from (all_name_later names) (k + 1) ms) tt after) (done_first (has_libraries names all m) (checked (has_libraries names all) ms) tt library),
-      modules_later (k + 1) ms (done_then (all_name_later names k m) (checked_from (all_name_later names) (k + 1) ms) tt after) (done_then (has_libraries names all m) (checked (has_libraries names all) ms) tt library))
+  modules_later k (m ∷ ms) after library = (
+    items_later k m.static_libs (done_first (all_name_later names k m) (checked_from (all_name_later names) (k + 1) ms) tt after) (done_first (has_libraries names all m) (checked (has_libraries names all) ms) tt library),
+    modules_later (k + 1) ms (done_then (all_name_later names k m) (checked_from (all_name_later names) (k + 1) ms) tt after) (done_then (has_libraries names all m) (checked (has_libraries names all) ms) tt library),
+  )
 
   pub all_later : names_checked names all ≡ Ok tt → LaterFrom 0 all
   all_later h =

@@ -81,10 +81,12 @@ module _ {O : Type 0} where
         (done_settled step (node_result mean plan) (range_with_len 0 plan.count) (all_range (λ n. Settled (node_result mean plan n) (step n)) 0 plan.count (λ k le lt. node_settled k (omega arith))) outs h)
     pass_gathers high heights count same (Err fault) h =
         let n = h.0 in
-        let inside = h.1.0.inside in
-        (n, record {
-          inside = let i = inside in omega arith;
-          here = subst (λ r. Settled r (step n)) h.1.1 (node_settled n inside);
-          first = λ m lt precedes. let l : m < plan.count = omega arith in
-              settled_ok (node_result mean plan m) (step m) (h.1.0.first m l (before_from high m n (heights m l) (heights n inside) precedes)) (node_settled m l);
-        })
+        let inside = h.1.0.inside in (
+          n,
+          record {
+            inside = let i = inside in omega arith;
+            here = subst (λ r. Settled r (step n)) h.1.1 (node_settled n inside);
+            first = λ m lt precedes. let l : m < plan.count = omega arith in
+                settled_ok (node_result mean plan m) (step m) (h.1.0.first m l (before_from high m n (heights m l) (heights n inside) precedes)) (node_settled m l);
+          },
+        )

@@ -15,10 +15,7 @@ use module_graph::label;
 use std::alloc::Global;
 
 /// The number of the first module of each name.
-pub fn number_names(
-    alloc: Global,
-    modules: &[Module],
-) -> Result<IndexMap<Text, u32>, OutOfMemory>
+pub fn number_names(alloc: Global, modules: &[Module]) -> Result<IndexMap<Text, u32>, OutOfMemory>
     requires { length modules.now < 2 ^ 32 }
     ensures { IfOk result (λ table. IsTable table (number_of modules.now)) }
 {
@@ -134,7 +131,11 @@ fn check_own_names(
 fn missing_variant(alloc: Global, item: &Item) -> Result<Fault, OutOfMemory>
     ensures { IfOk result (λ fault. fault ≡ missing_variant item.now) }
 {
-    let subject = label(alloc, &item.text, &variations(alloc, ModuleKind::StaticLibrary))?;
+    let subject = label(
+        alloc,
+        &item.text,
+        &variations(alloc, ModuleKind::StaticLibrary),
+    )?;
     Ok(Fault::on(alloc, FaultKind::MissingVariant, item.at, subject))
 }
 
