@@ -1,5 +1,5 @@
 -- What holds of the plan of modules whose names are checked.
-use Rattle.std.proofs.Common.{◌≡◌, ◌<◌, ◌≤◌, ◌+◌, ℕ, zero, suc, List, [], ◌∷◌, length, map, get_or, Option, Some, None, Result, Ok, Err, refl, sym, ap, subst, ◌∙◌, arith, Bool, true, false, cond, nat_le, zero-add}
+use Rattle.std.proofs.Common.{◌≡◌, ◌<◌, ◌+◌, ℕ, zero, suc, List, [], ◌∷◌, length, map, get_or, Some, Result, Ok, Err, refl, sym, ap, subst, ◌∙◌, arith, Bool, true, false, cond, nat_le, zero-add}
 use Rattle.std.specs.Prelude.{slice_get}
 use Rattle.std.specs.Option.{option_map_or}
 use Rattle.std.specs.List.{AllByRecursion, range_with_len}
@@ -7,7 +7,7 @@ use Rattle.bp_faults.specs.declared.fault.Fault.{Fault}
 use Rattle.bp_faults.specs.Faults.{fault_on}
 use Rattle.bp_faults.specs.declared.kind.FaultKind.TheVariants.{LinkTooLong}
 use Rattle.pass_core.specs.declared.plan.Plan.{Plan}
-use Rattle.pass_core.specs.Plans.{IsPlan, HasNoCycle, predecessors}
+use Rattle.pass_core.specs.Plans.{HasNoCycle, predecessors}
 use Rattle.pass_core.specs.Heights.{height, above_all}
 use Rattle.pass_core.proofs.Unrolled.{height_equation}
 use Rattle.pass_core.proofs.Induction.{plan_induction}
@@ -23,7 +23,7 @@ use Rattle.static_links.specs.Names.{number_of, targets_of}
 use Rattle.static_links.specs.Later.{value_from}
 use Rattle.static_links.specs.Lines.{line_over, link_line, limited, line_step, height_in}
 use Rattle.static_links.specs.Actions.{acted, actions_step}
-use Rattle.static_links.specs.Nodes.{nodes_from, IsPlanned}
+use Rattle.static_links.specs.Nodes.{IsPlanned}
 use Rattle.static_links.specs.Visits.{line_meant, actions_meant}
 use Rattle.static_links.specs.Variants.{variant_label}
 use Rattle.static_links.proofs.LaterNamed.{LaterFrom, all_later, later_at}

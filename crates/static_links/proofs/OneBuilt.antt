@@ -10,7 +10,7 @@ use Rattle.static_links.specs.Phases.{GoesOn, Then}
 use Rattle.static_links.specs.Names.{number_of, names_checked}
 use Rattle.static_links.specs.Lines.{line_step, height_in}
 use Rattle.static_links.specs.Actions.{actions_step, all_statements}
-use Rattle.static_links.specs.Order.{Precedes, IsFirstFault, Gathers}
+use Rattle.static_links.specs.Order.{IsFirstFault, Gathers}
 use Rattle.static_links.specs.Built.{IsActed, IsBuilt}
 
 pub goes_on_once : {A B : Type 0} (first : Result A Fault) (Next : A → Result B Fault → Type 0) → ((v : A) (a b : Result B Fault) → Next v a → Next v b → a ≡ b)

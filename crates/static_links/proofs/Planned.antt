@@ -1,20 +1,19 @@
 -- The plan of the private graph.
-use Rattle.std.proofs.Common.{◌≡◌, ◌<◌, ◌≤◌, ◌+◌, ◌-◌, ◌^◌, ◌++◌, ℕ, zero, suc, List, [], ◌∷◌, length, map, get_or, length-append, Option, Some, None, Result, Ok, Err, refl, sym, ap, subst, ◌∙◌, arith}
-use Rattle.std.specs.Prelude.{⊤}
+use Rattle.std.proofs.Common.{◌≡◌, ◌<◌, ◌≤◌, ◌+◌, ◌-◌, ◌^◌, ◌++◌, ℕ, zero, suc, List, [], ◌∷◌, length, map, get_or, length-append, Option, refl, ap, ◌∙◌, arith}
 use Rattle.std.specs.List.{AllByRecursion}
-use Rattle.std.proofs.lemmas.List.{length-map, map-append}
+use Rattle.std.proofs.lemmas.List.{length-map}
 use Rattle.bp_faults.specs.declared.place.Item.{Item}
 use Rattle.pass_core.specs.declared.plan.PlanEdge.{PlanEdge}
-use Rattle.pass_core.specs.Plans.{HasNoCycle, predecessors}
+use Rattle.pass_core.specs.Plans.{HasNoCycle}
 use Rattle.module_graph.specs.declared.direction.Direction.TheVariants.{BottomUp}
 use Rattle.module_graph.specs.declared.graph.Edge.{Edge}
 use Rattle.module_graph.specs.declared.graph.Node.{Node}
 use Rattle.module_graph.specs.Numbered.{by_number}
-use Rattle.module_graph.specs.Graphs.{outward, edges_of, targets, NameNodes, IsNumbered}
+use Rattle.module_graph.specs.Graphs.{outward, targets, IsNumbered}
 use Rattle.module_graph.specs.Planned.{turned, plan_edges}
 use Rattle.module_form.specs.declared.module.Module.{Module}
 use Rattle.static_links.specs.Names.{number_of, target_of, targets_of}
-use Rattle.static_links.specs.Nodes.{edge_of, node_of, nodes_from}
+use Rattle.static_links.specs.Nodes.{edge_of, nodes_from}
 use Rattle.module_form.specs.Sizes.{size_of}
 use Rattle.static_links.proofs.LaterNamed.{AreLater, LaterFrom}
 

@@ -1,5 +1,5 @@
 -- What modules are built by: the statements, or the first fault.
-use Rattle.std.specs.Prelude.{◌≡◌, ℕ, List, length, Result, Ok, Err}
+use Rattle.std.specs.Prelude.{◌≡◌, List, length, Result, Ok}
 use Rattle.bp_faults.specs.declared.fault.Fault.{Fault}
 use Rattle.ninja_text.specs.declared.file.Statement.{Statement}
 use Rattle.module_form.specs.declared.module.Module.{Module}
