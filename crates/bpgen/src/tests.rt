@@ -237,7 +237,7 @@ default out/all
 // The file is built, and what is written ends with this text.
 fn builds(alloc: Global, file: &str, end: &str) -> Result<bool, OutOfMemory> {
     let tree = files(alloc, b"Android.bp\n", file.as_bytes())?;
-    let mut store = MemStore::new(alloc, tree, 9000, Vec::new(alloc))?;
+    let mut store = MemStore::new(alloc, tree, 1 << 20, Vec::new(alloc))?;
     let (status, said) = told(alloc, BUILD, &mut store, 300)?;
     let written = match store.held("build.ninja") {
         Some(text) => text.ends_with(end.as_bytes()),
@@ -252,11 +252,18 @@ fn diamond(rt: HostRuntime) -> Result<(), Fail> {
     assert!(rt; builds(alloc, DIAMOND, DIAMOND_WRITTEN)?);
     let empty = "  description = SOLINK ${out}\nbuild out/all: phony\ndefault out/all\n";
     assert!(rt; builds(alloc, "// x", empty)?);
-    assert!(rt; builds(alloc, "cc_binary { name: \"a\" }", "build out/m/a/android_arm64/bin/a: link\n  target = --target=aarch64-linux-android\nbuild out/all: phony out/m/a/android_arm64/bin/a\ndefault out/all\n")?);
+    assert!(rt;
+        builds(
+            alloc,
+            "cc_binary { name: \"a\" }",
+            "build out/m/a/android_arm64/bin/a: link\n  target = --target=aarch64-linux-android\nbuild out/all: phony out/m/a/android_arm64/bin/a\ndefault out/all\n"
+        )?
+    );
     Ok(())
 }
 
-const TWO_FAULTS: &str = "cc_binary { name: \"app\", srcs: [\"x.c\", \"x.c\"], static_libs: [\"ok\"] }
+const TWO_FAULTS: &str =
+    "cc_binary { name: \"app\", srcs: [\"x.c\", \"x.c\"], static_libs: [\"ok\"] }
 cc_library_static { name: \"ok\", srcs: [\"ok.c\"] }
 cc_library_static { name: \"z\", srcs: [\"z.txt\"] }
 ";
@@ -266,10 +273,7 @@ fn two_faults(rt: HostRuntime) -> Result<(), Fail> {
     let alloc = rt.alloc();
     let list = b"Android.bp\n".as_slice();
     for (file, line) in [
-        (
-            TWO_FAULTS,
-            "Android.bp:3:39: error 25: bad source: z.txt\n",
-        ),
+        (TWO_FAULTS, "Android.bp:3:39: error 25: bad source: z.txt\n"),
         (
             "cc_binary { name: \"app\", srcs: [\"x.c\", \"x.c\"], static_libs: [\"ok\"] }\ncc_library_static { name: \"ok\", srcs: [\"ok.c\"] }\n",
             "Android.bp:1:40: error 28: duplicate source: x.c\n",
@@ -328,7 +332,7 @@ fn lists_of_more_items_than_their_limits(rt: HostRuntime) -> Result<(), Fail> {
     let alloc = rt.alloc();
     let list = b"Android.bp\n".as_slice();
     let file = many_libraries(alloc, 1024)?;
-    assert!(rt; refuses(alloc, list, file.as_bytes(), 4, "bpgen: cannot write build.ninja\n")?);
+    assert!(rt; builds(alloc, file.as_str(), "\ndefault out/all\n")?);
     let file = many_libraries(alloc, 1025)?;
     let line = "Android.bp:1:1: error 29: link line is too long: app{android_arm64}\n";
     assert!(rt; refuses(alloc, list, file.as_bytes(), 1, line)?);

@@ -1,5 +1,5 @@
 -- The tokens of a text that are no comments.
-use Rattle.std.proofs.Common.{◌≡◌, ℕ, List, All, get_or, length, subst, sym, not}
+use Rattle.std.proofs.Common.{◌≡◌, ℕ, List, get_or, length, subst, sym, not}
 use Rattle.std.proofs.lemmas.List.Elements.{All-filter}
 use Rattle.bp_lexer.specs.declared.token.Token.{Token}
 use Rattle.bp_lexer.specs.Meaning.{IsToken, IsTokenList}

@@ -1,5 +1,5 @@
 -- The modules of a text are no larger than it.
-use Rattle.std.proofs.Common.{◌≡◌, ◌≤◌, ◌<◌, ◌+◌, ◌++◌, ℕ, zero, suc, List, [], ◌∷◌, Bool, true, false, cond, not, length, map, filter, Option, Some, None, refl, sym, ap, subst, ◌∙◌, arith}
+use Rattle.std.proofs.Common.{◌≡◌, ◌≤◌, ◌+◌, ◌++◌, ℕ, suc, List, [], ◌∷◌, Bool, true, false, cond, not, length, filter, Option, Some, None, sym, ap, subst, arith}
 use Rattle.std.specs.Option.{option_map, option_to_list, is_some}
 use Rattle.std.proofs.lemmas.List.{length-map}
 use Rattle.bp_lexer.specs.declared.token.Token.{Token}
@@ -8,7 +8,7 @@ use Rattle.bp_lexer.proofs.OneMeaning.{token_first}
 use Rattle.module_form.specs.declared.module.Module.{Module}
 use Rattle.module_form.specs.declared.module.ModuleKind.{ModuleKind}
 use Rattle.module_form.specs.Form.{is_comment, without_comments, is_quoted}
-use Rattle.module_form.specs.Modules.{is_word, up_to, up_to_type, behind, item_of, strings_of, items_of, kind_of, module_of, module_at, modules_in}
+use Rattle.module_form.specs.Modules.{is_word, up_to, up_to_type, behind, item_of, strings_of, kind_of, module_of, modules_in}
 use Rattle.module_form.specs.Sizes.{size_of}
 
 filter_short : (p : Token → Bool) (ts : List Token) → length (filter p ts) ≤ length ts

@@ -1,5 +1,5 @@
 -- The modules that the tokens of a file stand for.
-use Rattle.std.specs.Prelude.{ℕ, List, [], ◌∷◌, ◌++◌, map, Bool, Option, Some, None, Result, Ok, Err, if◌then◌else◌, codes, slice_get}
+use Rattle.std.specs.Prelude.{ℕ, List, [], ◌∷◌, ◌++◌, map, Bool, Option, Some, None, Result, Ok, if◌then◌else◌, codes, slice_get}
 use Rattle.std.specs.Option.{option_map, option_map_or, option_to_list, is_some}
 use Rattle.std.specs.List.{filter}
 use Rattle.std.specs.Str.{bytes_eq}

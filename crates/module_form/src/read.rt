@@ -98,7 +98,12 @@ fn strings(alloc: Global, text: &str, tokens: &[Token]) -> Result<Seq<Item>, Out
 }
 
 // The items of a list.
-fn items(alloc: Global, text: &str, property: &[u8], body: &[Token]) -> Result<Seq<Item>, OutOfMemory>
+fn items(
+    alloc: Global,
+    text: &str,
+    property: &[u8],
+    body: &[Token],
+) -> Result<Seq<Item>, OutOfMemory>
     requires { AreTokens text.now body.now }
     ensures { IfOk result (λ items. items ≡ items_of text.now property.now body.now) }
 {

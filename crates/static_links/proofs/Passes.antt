@@ -1,5 +1,5 @@
 -- What a pass comes to, where its visits mean what a step makes of their nodes.
-use Rattle.std.proofs.Common.{◌≡◌, ◌<◌, ◌≤◌, ◌+◌, ℕ, zero, suc, List, [], ◌∷◌, length, map, Option, Some, None, Result, Ok, Err, refl, sym, ap, subst, ◌∙◌, arith, ⊎_elim, inl, inr, ◌⊎◌}
+use Rattle.std.proofs.Common.{◌≡◌, ◌<◌, ◌≤◌, ◌+◌, ℕ, zero, suc, List, [], ◌∷◌, map, Option, Some, None, Result, Ok, Err, refl, sym, ap, subst, ◌∙◌, arith, ◌⊎◌}
 use Rattle.std.specs.Prelude.{⊤}
 use Rattle.std.specs.Result.{IsOk, is_ok}
 use Rattle.std.specs.List.{AllByRecursion, range_with_len}
@@ -10,7 +10,7 @@ use Rattle.pass_core.specs.Heights.{height, IsBefore}
 use Rattle.pass_core.specs.Results.{NodeResult, Done, Bad, Poisoned, IsDone, cons_if, outs_of, visited, judged, node_result}
 use Rattle.pass_core.proofs.Unrolled.{result_equation}
 use Rattle.pass_core.proofs.Induction.{plan_induction}
-use Rattle.static_links.specs.Order.{Precedes, IsFirstFault, Gathers}
+use Rattle.static_links.specs.Order.{Precedes, Gathers}
 use Rattle.static_links.specs.Visits.{IsPassOutcome}
 
 pub all_range : (P : ℕ → Type 0) (a n : ℕ) → ((k : ℕ) → a ≤ k → k < a + n → P k) → AllByRecursion P (range_with_len a n)
@@ -81,10 +81,12 @@ module _ {O : Type 0} where
         (done_settled step (node_result mean plan) (range_with_len 0 plan.count) (all_range (λ n. Settled (node_result mean plan n) (step n)) 0 plan.count (λ k le lt. node_settled k (omega arith))) outs h)
     pass_gathers high heights count same (Err fault) h =
         let n = h.0 in
-        let inside = h.1.0.inside in
-        (n, record {
-          inside = let i = inside in omega arith;
-          here = subst (λ r. Settled r (step n)) h.1.1 (node_settled n inside);
-          first = λ m lt precedes. let l : m < plan.count = omega arith in
-              settled_ok (node_result mean plan m) (step m) (h.1.0.first m l (before_from high m n (heights m l) (heights n inside) precedes)) (node_settled m l);
-        })
+        let inside = h.1.0.inside in (
+          n,
+          record {
+            inside = let i = inside in omega arith;
+            here = subst (λ r. Settled r (step n)) h.1.1 (node_settled n inside);
+            first = λ m lt precedes. let l : m < plan.count = omega arith in
+                settled_ok (node_result mean plan m) (step m) (h.1.0.first m l (before_from high m n (heights m l) (heights n inside) precedes)) (node_settled m l);
+          },
+        )

@@ -110,7 +110,13 @@ fn compile(alloc: Global, item: &Module, source: &Text) -> Result<Statement, Out
     let mut ins = Seq::new(Vec::new(alloc));
     ins.push(source.copy(alloc)?)?;
     let object = object_path(alloc, item, source)?;
-    step(alloc, object, "cc", ins, compile_variables(alloc, item.kind)?)
+    step(
+        alloc,
+        object,
+        "cc",
+        ins,
+        compile_variables(alloc, item.kind)?,
+    )
 }
 
 fn compiles(alloc: Global, item: &Module) -> Result<Vec<Statement>, OutOfMemory>
@@ -171,11 +177,23 @@ fn join(
     let output = output_path(alloc, item)?;
     match item.kind {
         ModuleKind::StaticLibrary => {
-            step(alloc, output, "ar", Seq::new(ins), Seq::new(Vec::new(alloc)))
+            step(
+                alloc,
+                output,
+                "ar",
+                Seq::new(ins),
+                Seq::new(Vec::new(alloc)),
+            )
         }
         ModuleKind::Binary => {
             add_outputs(alloc, modules, line, &mut ins)?;
-            step(alloc, output, "link", Seq::new(ins), target_variable(alloc)?)
+            step(
+                alloc,
+                output,
+                "link",
+                Seq::new(ins),
+                target_variable(alloc)?,
+            )
         }
     }
 }

@@ -10,7 +10,10 @@ use ninja_text::Statement;
 use std::alloc::Global;
 use std::sync::Arc;
 
-fn copy_variables(alloc: Global, variables: &[(Text, Text)]) -> Result<Seq<(Text, Text)>, OutOfMemory>
+fn copy_variables(
+    alloc: Global,
+    variables: &[(Text, Text)],
+) -> Result<Seq<(Text, Text)>, OutOfMemory>
     ensures { IfOk result (λ copies. copies ≡ variables.now) }
 {
     let mut copies = Vec::new(alloc);

@@ -1,6 +1,6 @@
 use Rattle.std.proofs.Common.{◌≡◌, map, take}
 use Rattle.bp_faults.specs.declared.place.Item.{Item}
-use Rattle.static_links.specs.Actions.{compiled, object_path}
+use Rattle.static_links.specs.Actions.{object_path}
 use Rattle.static_links.proofs.actions.objects.Given as goal
 
 abbrev pub invariant-loop-source : goal.invariant-loop-source

@@ -1,4 +1,4 @@
-use Rattle.std.proofs.Common.{◌∙◌, ap, sym, length, map, arith}
+use Rattle.std.proofs.Common.{ap, length, arith}
 use Rattle.static_links.specs.Lines.{line_step, height_in}
 use Rattle.static_links.specs.Visits.{line_meant}
 use Rattle.static_links.proofs.Facts.{count_is, many_nodes, plan_free, before_targets, height_is, line_right}

@@ -1,7 +1,6 @@
 use Rattle.std.proofs.Common.{◌∙◌, ap, map, get_or, subst}
 use Rattle.std.specs.Arc.{arc_value}
 use Rattle.bp_faults.specs.Answers.{Answers}
-use Rattle.module_graph.specs.declared.graph.Node.{Node}
 use Rattle.static_links.proofs.Visited.{many_lines, line_is_meant}
 use Rattle.static_links.proofs.line.LineVisitVisit.visit.Goals as goal
 
