@@ -291,16 +291,76 @@ fn two_faults(rt: HostRuntime) -> Result<(), Fail> {
             "Android.bp:1:38: error 21: missing module: ?\n",
         ),
         (
-            "cc_library_static { name: \"a\", static_libs: [\"a\"] }",
-            "Android.bp:1:46: error 37: not built yet: \"a\"\n",
-        ),
-        (
             "cc_binary { name: \"a\" }\ncc_binary { name: \"a\", static_libs: [\"x\"] }",
             "Android.bp:2:13: error 20: duplicate module name: a\n",
         ),
     ] {
         assert!(rt; refuses(alloc, list, file.as_bytes(), 1, line)?);
     }
+    Ok(())
+}
+
+const CYCLES: &str = "cc_library_static { name: \"a\", static_libs: [\"b\"] }
+cc_library_static { name: \"b\", static_libs: [\"c\", \"a\"] }
+cc_library_static { name: \"c\", static_libs: [\"a\"] }
+";
+
+/// The example *cycles*, and what stands before a cycle and behind it.
+#[test]
+fn cycles(rt: HostRuntime) -> Result<(), Fail> {
+    let alloc = rt.alloc();
+    let list = b"Android.bp\n".as_slice();
+    for (file, line) in [
+        (
+            CYCLES,
+            "Android.bp:1:46: error 23: dependency cycle: a{android_arm64_static} -> b{android_arm64_static} -> a{android_arm64_static}\n",
+        ),
+        (
+            "cc_library_static { name: \"a\", static_libs: [\"a\"] }",
+            "Android.bp:1:46: error 23: dependency cycle: a{android_arm64_static} -> a{android_arm64_static}\n",
+        ),
+        (
+            "cc_library_static { name: \"a\", static_libs: [\"a\"] }\ncc_binary { name: \"b\", static_libs: [\"x\"] }",
+            "Android.bp:2:38: error 21: missing module: x\n",
+        ),
+        (
+            "cc_library_static { name: \"a\", static_libs: [\"a\"] }\ncc_binary { name: \"b\", static_libs: [\"b\"] }",
+            "Android.bp:2:38: error 24: missing variant: b{android_arm64_static}\n",
+        ),
+        (
+            "cc_binary { name: \"b\", srcs: [\"b\"] }\ncc_library_static { name: \"a\", static_libs: [\"a\"] }",
+            "Android.bp:2:46: error 23: dependency cycle: a{android_arm64_static} -> a{android_arm64_static}\n",
+        ),
+    ] {
+        assert!(rt; refuses(alloc, list, file.as_bytes(), 1, line)?);
+    }
+    let mut file = many_libraries(alloc, 1025)?;
+    file.push_str("cc_library_static { name: \"a\", static_libs: [\"a\"] }\n")?;
+    let line = "Android.bp:1027:46: error 23: dependency cycle: a{android_arm64_static} -> a{android_arm64_static}\n";
+    assert!(rt; refuses(alloc, list, file.as_bytes(), 1, line)?);
+    Ok(())
+}
+
+const EARLIER: &str = "cc_library_static { name: \"base\", srcs: [\"base.c\"] }
+cc_binary { name: \"app\", static_libs: [\"l\"] }
+cc_library_static { name: \"l\", static_libs: [\"base\"] }
+";
+
+const EARLIER_WRITTEN: &str = "build out/m/base/android_arm64_static/obj/base.c.o: cc base.c
+  target = --target=aarch64-linux-android
+  cflags = -fPIC
+build out/m/base/android_arm64_static/bin/base.a: ar out/m/base/android_arm64_static/obj/base.c.o
+build out/m/app/android_arm64/bin/app: link out/m/l/android_arm64_static/bin/l.a out/m/base/android_arm64_static/bin/base.a
+  target = --target=aarch64-linux-android
+build out/m/l/android_arm64_static/bin/l.a: ar
+build out/all: phony out/m/base/android_arm64_static/bin/base.a out/m/app/android_arm64/bin/app out/m/l/android_arm64_static/bin/l.a
+default out/all
+";
+
+#[test]
+fn an_item_names_an_earlier_module(rt: HostRuntime) -> Result<(), Fail> {
+    let alloc = rt.alloc();
+    assert!(rt; builds(alloc, EARLIER, EARLIER_WRITTEN)?);
     Ok(())
 }
 
