@@ -1,9 +1,9 @@
 -- The plan of the private graph.
-use Rattle.std.proofs.Common.{◌≡◌, ◌<◌, ◌≤◌, ◌+◌, ◌^◌, ℕ, zero, suc, List, [], ◌∷◌, length, map, length-append, Option, refl, ap, ◌∙◌, arith}
+use Rattle.std.proofs.Common.{◌≡◌, ◌<◌, ◌≤◌, ◌+◌, ◌^◌, ℕ, zero, suc, List, [], ◌∷◌, length, map, length-append, Option, refl, sym, ap, ◌∙◌, arith, ◌++◌, take, get_or}
 use Rattle.std.specs.Prelude.{slice_get}
 use Rattle.std.specs.Option.{option_map_or}
 use Rattle.std.specs.List.{AllByRecursion}
-use Rattle.std.proofs.lemmas.List.{length-map}
+use Rattle.std.proofs.lemmas.List.{length-map, map-append, take_more}
 use Rattle.bp_faults.specs.declared.place.Item.{Item}
 use Rattle.pass_core.specs.Plans.{HasNoCycle}
 use Rattle.module_graph.specs.declared.direction.Direction.TheVariants.{BottomUp}
@@ -16,6 +16,7 @@ use Rattle.module_graph.specs.Walks.{NoneReturns}
 use Rattle.module_graph.proofs.Turned.{plan_free}
 use Rattle.module_form.specs.declared.module.Module.{Module}
 use Rattle.static_links.specs.Names.{number_of, target_of, targets_of}
+use Rattle.static_links.specs.Variants.{module_label}
 use Rattle.static_links.specs.Nodes.{edge_of, nodes_from, graph_of}
 use Rattle.module_form.specs.Sizes.{size_of}
 use Rattle.static_links.proofs.Inside.{AreInside, AllInside}
@@ -49,6 +50,10 @@ count_modules (m ∷ ms) = let rest = count_modules ms in omega arith
 
 pub few_modules : (ms : List Module) → size_of ms ≤ 2 ^ 20 → length ms < 2 ^ 32
 few_modules ms few = let h = count_modules ms in omega arith
+
+-- the label of one module more
+pub one_more_label : (ms : List Module) (i : ℕ) (m : Module) → i < length ms → map module_label (take i ms) ++ module_label (get_or ms i m) ∷ [] ≡ map module_label (take (i + 1) ms)
+one_more_label ms i m lt = sym (ap (map module_label) (take_more ms i m lt) ∙ map-append module_label (take i ms) (get_or ms i m ∷ []))
 
 module _ (all : List Module) where
   abbrev names : List ℕ → Option ℕ
