@@ -1,6 +1,5 @@
 -- What a source gives, step by step.
-use Rattle.std.proofs.Common.{◌≡◌, ℕ, ◌^◌, ◌∙◌, List, [], ◌∷◌, Vec, All, length, ap, sym, refl, subst, zero, suc, arith, Option, Some, None, Result, Ok, Err, not}
-use Rattle.std.proofs.lemmas.List.Elements.{All-filter}
+use Rattle.std.proofs.Common.{◌≡◌, ℕ, ◌^◌, ◌∙◌, List, Vec, ap, sym, refl, subst, Option, Some, None, Result, Ok, Err}
 use Rattle.std.specs.Prelude.{IfSome}
 use Rattle.std.specs.Result.{IsErrAnd}
 use Rattle.std.specs.FinMap.{get}
@@ -8,62 +7,72 @@ use Rattle.std.specs.declared.alloc.Global.{Global}
 use Rattle.bp_faults.specs.declared.fault.Fault.{Fault}
 use Rattle.bp_faults.specs.declared.refusal.Refusal.{Refusal}
 use Rattle.bp_faults.specs.declared.refusal.Refusal.TheVariants.{Bad, OutOfMemory as NoMemory}
-use Rattle.bp_faults.specs.Answers.{then_do, Tells}
+use Rattle.bp_faults.specs.Answers.{then_do, Tells, Refuses}
 use Rattle.bp_ports.specs.Files.{Files}
 use Rattle.bp_lexer.specs.declared.token.Token.{Token}
-use Rattle.bp_lexer.specs.Meaning.{Covers, LexMeans}
-use Rattle.bp_lexer.proofs.OneMeaning.{token_first}
+use Rattle.bp_lexer.specs.Meaning.{LexMeans}
+use Rattle.ninja_text.specs.declared.file.Statement.{Statement}
+use Rattle.module_form.specs.declared.module.Module.{Module}
+use Rattle.module_form.specs.Modules.{modules_of}
+use Rattle.static_links.specs.Phases.{GoesOn}
+use Rattle.static_links.specs.Built.{IsBuilt}
 use Rattle.bpgen.specs.declared.words.Configuration.{Configuration}
-use Rattle.bpgen.specs.declared.form.Binary.{Binary}
 use Rattle.bpgen.specs.declared.stop.Stop.{Stop}
-use Rattle.bpgen.specs.Form.{IsWithin, binary_of, is_comment, without_comments}
-use Rattle.bpgen.specs.Actions.{file_of}
-use Rattle.bpgen.specs.Job.{IsMade, IsJob, GoesOn, made_of, written, path_of, read_of, ascii_text}
+use Rattle.bpgen.specs.File.{file_of}
+use Rattle.bpgen.specs.Job.{IsMade, IsWritten, IsJob, written, path_of, read_of, ascii_text}
 use Rattle.bpgen.specs.Steps.{Meets, Is, Never, CannotRead, stop_of}
-use Rattle.bpgen.proofs.Meeting.{meets, stops}
+use Rattle.bpgen.proofs.Meeting.{meets}
 
--- the spans of a token list lie in its text
-all_within : (file : ℕ) (text : List ℕ) (i j : ℕ) (ts : List Token) → Covers file text i j ts → All (IsWithin (length text)) ts
-all_within file text i j [] covers k d h = absurd (omega arith)
-all_within file text i j (t ∷ ts) covers zero d h = let first = token_first file text t covers.1 in (omega (arith, first.0), first.1)
-all_within file text i j (t ∷ ts) covers (suc k) d h = all_within file text t.end j ts covers.2 k d (omega arith)
+-- a layer that refuses, and the whole with it
+tells_here : {T U V W : Type 0} (view : T → V) (whole_view : U → W) (Part : Result V Fault → Type 0) (Whole : Result W Fault → Type 0) → ((fault : Fault) → Part (Err fault) → Whole (Err fault))
+    → (e : Refusal) → Tells view Part (Err e) → Meets whole_view Whole Never (Err (stop_of e))
+tells_here view whole_view Part Whole on (Bad fault) h = on fault h
+tells_here view whole_view Part Whole on NoMemory h = tt
 
-made_from : (text : List ℕ) (lexed : Result (List Token) Fault) (outcome : Result (List ℕ) Fault) → LexMeans 1 text lexed → then_do lexed (made_of text) ≡ outcome → IsMade text outcome
-made_from text lexed outcome means same = (lexed, means, same)
+told : {T U V W : Type 0} (view : T → V) (whole_view : U → W) (Part : Result V Fault → Type 0) (Whole : Result W Fault → Type 0) → ((fault : Fault) → Part (Err fault) → Whole (Err fault))
+    → (e : Refusal) (r : Result U Stop) → IsErrAnd r (λ x. x ≡ stop_of e) → Tells view Part (Err e) → Meets whole_view Whole Never r
+told view whole_view Part Whole on e (Ok x) same h = absurd same
+told view whole_view Part Whole on e (Err x) same h = subst (λ s. Meets whole_view Whole Never (Err s)) (sym same) (tells_here view whole_view Part Whole on e h)
 
-refused_here : (text : List ℕ) (refusal : Refusal) → Tells {T = Vec Token Global} {V = List Token} (λ tokens. tokens.items) (LexMeans 1 text) (Err refusal)
-    → Meets {T = Vec ℕ Global} {V = List ℕ} (λ made. made.items) (IsMade text) Never (Err (stop_of refusal))
-refused_here text (Bad fault) h = made_from text (Err fault) (Err fault) h refl
-refused_here text NoMemory h = tt
+answers_here : {U V W : Type 0} (whole_view : U → W) (meant : Result V Fault) (Whole : Result W Fault → Type 0) → ((fault : Fault) → meant ≡ Err fault → Whole (Err fault))
+    → (e : Refusal) → Refuses e meant → Meets whole_view Whole Never (Err (stop_of e))
+answers_here whole_view meant Whole on (Bad fault) h = on fault h
+answers_here whole_view meant Whole on NoMemory h = tt
 
--- the tokens have a fault
-pub refused : (text : List ℕ) (refusal : Refusal) (r : Result (Vec ℕ Global) Stop) → IsErrAnd r (λ x. x ≡ stop_of refusal) → Tells {T = Vec Token Global} {V = List Token} (λ tokens. tokens.items) (LexMeans 1 text) (Err refusal)
-    → Meets {T = Vec ℕ Global} {V = List ℕ} (λ made. made.items) (IsMade text) Never r
-refused text refusal (Ok x) same h = absurd same
-refused text refusal (Err x) same h = subst (λ s. Meets {T = Vec ℕ Global} {V = List ℕ} (λ made. made.items) (IsMade text) Never (Err s)) (sym same) (refused_here text refusal h)
+answered : {U V W : Type 0} (whole_view : U → W) (meant : Result V Fault) (Whole : Result W Fault → Type 0) → ((fault : Fault) → meant ≡ Err fault → Whole (Err fault))
+    → (e : Refusal) (r : Result U Stop) → IsErrAnd r (λ x. x ≡ stop_of e) → Refuses e meant → Meets whole_view Whole Never r
+answered whole_view meant Whole on e (Ok x) same h = absurd same
+answered whole_view meant Whole on e (Err x) same h = subst (λ s. Meets whole_view Whole Never (Err s)) (sym same) (answers_here whole_view meant Whole on e h)
 
--- what is made of the tokens that are left
-made_of_kept : (text : List ℕ) (ts kept : List Token) (outcome : Result (List ℕ) Fault) → kept ≡ without_comments ts → then_do (binary_of text kept) (λ b. written (file_of b)) ≡ outcome → made_of text ts ≡ outcome
-made_of_kept text ts kept outcome left same = subst (λ l. then_do (binary_of text l) (λ b. written (file_of b)) ≡ outcome) left same
+module _ (text : List ℕ) where
+  abbrev MadeBy : Result (Vec ℕ Global) Stop → Type 0
+  MadeBy r = Meets {T = Vec ℕ Global} {V = List ℕ} (λ made. made.items) (IsMade text) Never r
 
--- the tokens aren't of the form
-pub unformed : (text : List ℕ) (ts kept : List Token) (e : Stop) (r : Result (Vec ℕ Global) Stop) → kept ≡ without_comments ts → LexMeans 1 text (Ok ts) → IsErrAnd r (λ x. x ≡ e)
-    → Meets {T = Binary} {V = Binary} (λ binary. binary) (Is (binary_of text kept)) Never (Err e) → Meets {T = Vec ℕ Global} {V = List ℕ} (λ made. made.items) (IsMade text) Never r
-unformed text ts kept e r left means same h =
-    stops {T = Binary} {U = Vec ℕ Global} (λ binary. binary) (λ made. made.items) (Is (binary_of text kept)) (IsMade text) Never Never
-    (λ fault is. made_from text (Ok ts) (Err fault) means (made_of_kept text ts kept (Err fault) left (ap (λ b. then_do b (λ b. written (file_of b))) is))) (λ path never. absurd never) e r same h
+  -- the tokens have a fault
+  pub unlexed : (e : Refusal) (r : Result (Vec ℕ Global) Stop) → IsErrAnd r (λ x. x ≡ stop_of e) → Tells {T = Vec Token Global} {V = List Token} (λ tokens. tokens.items) (LexMeans 1 text) (Err e) → MadeBy r
+  unlexed e r same h = told {T = Vec Token Global} {U = Vec ℕ Global} (λ tokens. tokens.items) (λ made. made.items) (LexMeans 1 text) (IsMade text) (λ fault means. (Err fault, means, refl)) e r same h
 
--- the text is what the form stands for
-pub formed : (text : List ℕ) (ts kept : List Token) (b : Binary) (r : Result (Vec ℕ Global) Stop) → kept ≡ without_comments ts → LexMeans 1 text (Ok ts) → binary_of text kept ≡ Ok b
-    → Meets {T = Vec ℕ Global} {V = List ℕ} (λ made. made.items) (Is (written (file_of b))) Never r → Meets {T = Vec ℕ Global} {V = List ℕ} (λ made. made.items) (IsMade text) Never r
-formed text ts kept b r left means is h =
-    meets {T = Vec ℕ Global} (λ made. made.items) (Is (written (file_of b))) (IsMade text) Never Never
-    (λ outcome same. made_from text (Ok ts) outcome means (made_of_kept text ts kept outcome left (ap (λ b. then_do b (λ b. written (file_of b))) is ∙ same))) (λ path never. absurd never) r h
+  module _ (ts : List Token) (means : LexMeans 1 text (Ok ts)) where
+    from_modules : (modules : Result (List Module) Fault) (outcome : Result (List ℕ) Fault) → modules_of text ts ≡ modules → GoesOn modules IsWritten outcome → IsMade text outcome
+    from_modules modules outcome is goes = (Ok ts, means, subst (λ r. GoesOn r IsWritten outcome) (sym is) goes)
 
--- the spans of the tokens that are left lie in the text
-pub kept_within : (text : List ℕ) (ts kept : List Token) → kept ≡ without_comments ts → LexMeans 1 text (Ok ts) → All (IsWithin (length text)) kept
-kept_within text ts kept left means =
-    subst (All (IsWithin (length text))) (sym left) (All-filter (λ t. not (is_comment t.kind)) (IsWithin (length text)) ts (all_within 1 text 0 (length text) ts means))
+    -- the tokens aren't of the form
+    pub unformed : (e : Refusal) (r : Result (Vec ℕ Global) Stop) → IsErrAnd r (λ x. x ≡ stop_of e) → Refuses e (modules_of text ts) → MadeBy r
+    unformed e r same h = answered {U = Vec ℕ Global} (λ made. made.items) (modules_of text ts) (IsMade text) (λ fault is. from_modules (Err fault) (Err fault) is refl) e r same h
+
+    module _ (ms : List Module) (formed : modules_of text ts ≡ Ok ms) where
+      -- the modules have a fault
+      pub unbuilt : (e : Refusal) (r : Result (Vec ℕ Global) Stop) → IsErrAnd r (λ x. x ≡ stop_of e) → Tells {T = Vec Statement Global} {V = List Statement} (λ statements. statements.items) (IsBuilt ms) (Err e) → MadeBy r
+      unbuilt e r same h =
+          told {T = Vec Statement Global} {U = Vec ℕ Global} (λ statements. statements.items) (λ made. made.items) (IsBuilt ms) (IsMade text)
+          (λ fault built. from_modules (Ok ms) (Err fault) formed (Err fault, built, refl)) e r same h
+
+      -- the text is that of what the modules are built by
+      pub made_whole : (statements : List Statement) (r : Result (Vec ℕ Global) Stop) → IsBuilt ms (Ok statements)
+          → Meets {T = Vec ℕ Global} {V = List ℕ} (λ made. made.items) (Is (written (file_of statements))) Never r → MadeBy r
+      made_whole statements r built h =
+          meets {T = Vec ℕ Global} (λ made. made.items) (Is (written (file_of statements))) (IsMade text) Never Never
+          (λ outcome same. from_modules (Ok ms) outcome formed (Ok statements, built, same)) (λ path never. absurd never) r h
 
 -- what the two reads gave, and what was made of it
 read_both : (c : Configuration) (files : Files) (path bytes : List ℕ) (r : Result (Vec ℕ Global) Stop) → path_of c files ≡ Ok path → read_of 1 (2 ^ 20) (get files path) ≡ Ok bytes

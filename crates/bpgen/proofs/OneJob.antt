@@ -1,23 +1,28 @@
 -- A job has one outcome.
-use Rattle.std.proofs.Common.{◌≡◌, ◌∙◌, ℕ, List, ap, sym, subst, Option, Some, Result, Ok, Err}
+use Rattle.std.proofs.Common.{◌≡◌, ◌∙◌, ℕ, List, sym, subst, Option, Some, Result, Ok, Err}
 use Rattle.std.specs.Prelude.{IfSome, IsSomeAnd}
 use Rattle.bp_faults.specs.declared.fault.Fault.{Fault}
-use Rattle.bp_faults.specs.Answers.{then_do}
 use Rattle.bp_ports.specs.Files.{Files}
+use Rattle.bp_lexer.specs.Meaning.{LexMeans}
 use Rattle.bp_lexer.proofs.OneMeaning.{one_meaning}
+use Rattle.module_form.specs.declared.module.Module.{Module}
+use Rattle.module_form.specs.Modules.{modules_of}
+use Rattle.static_links.specs.Phases.{GoesOn}
+use Rattle.static_links.specs.Built.{IsBuilt}
+use Rattle.static_links.proofs.OneBuilt.{goes_on_once, then_once, built_once}
+use Rattle.bpgen.specs.File.{file_of}
 use Rattle.bpgen.specs.declared.words.Configuration.{Configuration}
-use Rattle.bpgen.specs.Job.{IsMade, IsJob, GoesOn, made_of, source_of}
+use Rattle.bpgen.specs.Job.{IsWritten, IsMade, IsJob, written, source_of}
 use Rattle.bpgen.specs.Run.{World, DoneBy, FaultBy}
 
-one_made : (text : List ℕ) (a b : Result (List ℕ) Fault) → IsMade text a → IsMade text b → a ≡ b
-one_made text a b (l, means, same) (m, also, equal) = sym same ∙ ap (λ x. then_do x (made_of text)) (one_meaning 1 text l m means also) ∙ equal
+one_written : (ms : List Module) (a b : Result (List ℕ) Fault) → IsWritten ms a → IsWritten ms b → a ≡ b
+one_written ms = then_once (IsBuilt ms) (λ statements outcome. written (file_of statements) ≡ outcome) (built_once ms) (λ statements a b x y. sym x ∙ y)
 
-goes_on_once : (source : Result (List ℕ) Fault) (a b : Result (List ℕ) Fault) → GoesOn source IsMade a → GoesOn source IsMade b → a ≡ b
-goes_on_once (Ok text) a b first second = one_made text a b first second
-goes_on_once (Err fault) a b first second = sym first ∙ second
+one_made : (text : List ℕ) (a b : Result (List ℕ) Fault) → IsMade text a → IsMade text b → a ≡ b
+one_made text = then_once (LexMeans 1 text) (λ ts. GoesOn (modules_of text ts) IsWritten) (one_meaning 1 text) (λ ts. goes_on_once (modules_of text ts) IsWritten one_written)
 
 pub one_job : (c : Configuration) (files : Files) (a b : Result (List ℕ) Fault) → IsJob c files a → IsJob c files b → a ≡ b
-one_job c files a b first second = goes_on_once (source_of c files) a b first second
+one_job c files a b first second = goes_on_once (source_of c files) IsMade one_made a b first second
 
 excluded : (c : Configuration) (files : Files) (text : List ℕ) (fault : Fault) → IsJob c files (Ok text) → IsJob c files (Err fault) → ⊥
 excluded c files text fault first second = let same : Ok text ≡ Err fault = one_job c files (Ok text) (Err fault) first second in cc

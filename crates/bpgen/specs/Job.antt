@@ -9,13 +9,15 @@ use Rattle.bp_faults.specs.declared.kind.FaultKind.TheVariants.{NoFile, FileTooL
 use Rattle.bp_faults.specs.Faults.{fault_at, file_start}
 use Rattle.bp_faults.specs.Answers.{then_do}
 use Rattle.bp_ports.specs.Files.{Files}
-use Rattle.bp_lexer.specs.declared.token.Token.{Token}
 use Rattle.bp_lexer.specs.Meaning.{LexMeans}
+use Rattle.module_form.specs.declared.module.Module.{Module}
+use Rattle.module_form.specs.Modules.{modules_of}
+use Rattle.static_links.specs.Phases.{GoesOn, Then}
+use Rattle.static_links.specs.Built.{IsBuilt}
 use Rattle.ninja_text.specs.declared.file.NinjaFile.{NinjaFile}
 use Rattle.ninja_text.specs.Text.{text_of}
 use Rattle.bpgen.specs.declared.words.Configuration.{Configuration}
-use Rattle.bpgen.specs.Form.{binary_of, without_comments}
-use Rattle.bpgen.specs.Actions.{file_of}
+use Rattle.bpgen.specs.File.{file_of}
 
 -- the one Android.bp file
 abbrev pub source_path : List ℕ
@@ -50,18 +52,13 @@ source_of c files = then_do (path_of c files) (λ path. then_do (read_of 1 (2 ^ 
 abbrev pub written : NinjaFile → Result (List ℕ) Fault
 written file = if nat_le (length (text_of file)) (2 ^ 29) then Ok (text_of file) else Err (fault_at OutputTooLarge (file_start 0))
 
--- what the tokens of a source give; comments are left out
-abbrev pub made_of : List ℕ → List Token → Result (List ℕ) Fault
-made_of text ts = then_do (binary_of text (without_comments ts)) (λ b. written (file_of b))
+-- What modules give: the text of what they are built by.
+abbrev pub IsWritten : List Module → Result (List ℕ) Fault → Type 0
+IsWritten ms outcome = Then (IsBuilt ms) (λ statements outcome. written (file_of statements) ≡ outcome) outcome
 
--- What a source gives: its tokens, or their first fault, decide.
+-- What a source gives: its tokens, or their first fault, decide; then its modules; then what they are built by.
 abbrev pub IsMade : List ℕ → Result (List ℕ) Fault → Type 0
-IsMade text outcome = (lexed : Result (List Token) Fault) × LexMeans 1 text lexed × (then_do lexed (made_of text) ≡ outcome)
-
--- One phase before a relation: the first fault stands.
-abbrev pub GoesOn : {A B : Type 0} → Result A Fault → (A → Result B Fault → Type 0) → Result B Fault → Type 0
-GoesOn (Ok value) Next outcome = Next value outcome
-GoesOn (Err fault) Next outcome = Err fault ≡ outcome
+IsMade text outcome = Then (LexMeans 1 text) (λ ts. GoesOn (modules_of text ts) IsWritten) outcome
 
 -- The job of a configuration over files: the phases in their order.
 abbrev pub IsJob : Configuration → Files → Result (List ℕ) Fault → Type 0

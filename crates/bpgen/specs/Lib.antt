@@ -1,7 +1,6 @@
 pub mod Words
-pub mod Form
 pub mod Head
-pub mod Actions
+pub mod File
 pub mod Job
 pub mod Steps
 pub mod Run

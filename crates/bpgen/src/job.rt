@@ -2,18 +2,20 @@ ghost use Rattle.std.specs.Prelude.{◌≡◌, ◌≤◌, ◌^◌, IfOk, IfSome,
 ghost use Rattle.std.specs.Str.{IsAscii};
 ghost use Rattle.std.specs.FinMap.{get};
 ghost use Rattle.bp_faults.specs.Faults.{fault_at, file_start};
-ghost use Rattle.bpgen.specs.Job.{read_of, listed, path_of, ascii_text, written, IsMade, GoesOn, IsJob};
-ghost use Rattle.bpgen.specs.Actions.{file_of};
+ghost use Rattle.static_links.specs.Phases.{GoesOn};
+ghost use Rattle.bpgen.specs.Job.{read_of, listed, path_of, ascii_text, written, IsMade, IsJob};
+ghost use Rattle.bpgen.specs.File.{file_of};
 ghost use Rattle.bpgen.specs.Steps.{Meets, Is, Never, ReadCause, CannotRead};
 
-use crate::actions::file;
 use crate::ascii::{ascii_str, is_ascii};
-use crate::form::{leave_out_comments, recognize};
-use crate::{Binary, Configuration, Stop};
+use crate::file::make_file;
+use crate::{Configuration, Stop};
 use bp_faults::{Fault, FaultKind, OutOfMemory, Place, Text};
 use bp_lexer::tokens;
 use bp_ports::{ReadError, Store};
-use ninja_text::{WriteError, write};
+use module_form::modules;
+use ninja_text::{NinjaFile, Statement, WriteError, write};
+use static_links::build;
 use std::alloc::Global;
 
 /// How many bytes a list file may have.
@@ -83,16 +85,23 @@ fn read_list<S: Store>(
     check_list(alloc, &bytes)
 }
 
-// The text for Ninja, where it isn't too large.
-fn write_file(alloc: Global, binary: &Binary) -> Result<Vec<u8>, Stop>
-    ensures { Meets (λ text. text.items) (Is (written (file_of binary.now))) Never result }
+// The text of a file for Ninja, where it isn't too large.
+fn write_text(alloc: Global, file: &NinjaFile) -> Result<Vec<u8>, Stop>
+    ensures { Meets (λ text. text.items) (Is (written file.now)) Never result }
 {
-    let file = file(alloc, binary)?;
-    match write(alloc, &file) {
+    match write(alloc, file) {
         Ok(text) => Ok(text),
         Err(WriteError::TooLarge) => Err(file_fault(alloc, FaultKind::OutputTooLarge, 0)),
         Err(WriteError::OutOfMemory) => Err(Stop::OutOfMemory),
     }
+}
+
+// The text of the file that holds some statements.
+fn write_file(alloc: Global, statements: Vec<Statement>) -> Result<Vec<u8>, Stop>
+    ensures { Meets (λ text. text.items) (Is (written (file_of statements.items))) Never result }
+{
+    let file = make_file(alloc, statements)?;
+    write_text(alloc, &file)
 }
 
 // What the text of a source gives.
@@ -101,10 +110,10 @@ fn make(alloc: Global, text: &str) -> Result<Vec<u8>, Stop>
     requires ascii { IsAscii text.now }
     ensures { Meets (λ made. made.items) (IsMade text.now) Never result }
 {
-    let mut tokens = tokens(alloc, text, 1)?;
-    leave_out_comments(&mut tokens);
-    let binary = recognize(alloc, text, &tokens)?;
-    write_file(alloc, &binary)
+    let tokens = tokens(alloc, text, 1)?;
+    let modules = modules(alloc, text, tokens)?;
+    let statements = build(alloc, &modules)?;
+    write_file(alloc, statements)
 }
 
 // What the bytes of a source give.

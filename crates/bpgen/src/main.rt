@@ -5,10 +5,9 @@
 //! configuration of the words, and `specs/Job.antt`, the job of a configuration over files.
 #![tactic(auto)]
 
-mod actions;
 mod ascii;
 mod end;
-mod form;
+mod file;
 mod head;
 mod job;
 mod stop;
@@ -21,7 +20,6 @@ mod work;
 use bp_faults::Text;
 use bp_ports::{FsStore, OpenGate, StdSink};
 pub use end::End;
-pub use form::Binary;
 pub use job::do_job;
 use std::io::ErrorKind;
 use std::process::ExitCode;

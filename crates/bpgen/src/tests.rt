@@ -157,10 +157,6 @@ fn faults_stand_at_their_places(rt: HostRuntime) -> Result<(), Fail> {
             "Android.bp:1:5: error 3: unterminated string\n",
         ),
         (
-            "// x",
-            "Android.bp:1:5: error 37: not built yet: end of file\n",
-        ),
-        (
             "cc_binary { // x\n",
             "Android.bp:2:1: error 37: not built yet: end of file\n",
         ),
@@ -182,11 +178,230 @@ fn faults_stand_at_their_places(rt: HostRuntime) -> Result<(), Fail> {
         ),
         (
             "cc_binary { name: \"a\", srcs: [\"a.c\"], } cc_binary",
-            "Android.bp:1:41: error 37: not built yet: cc_binary\n",
+            "Android.bp:1:50: error 37: not built yet: end of file\n",
+        ),
+        (
+            "cc_binary { }",
+            "Android.bp:1:13: error 37: not built yet: }\n",
+        ),
+        (
+            "cc_binary { name: `a`",
+            "Android.bp:1:19: error 37: not built yet: `a`\n",
+        ),
+        (
+            "cc_binary { name: \"a\", srcs: [\"\"]",
+            "Android.bp:1:31: error 37: not built yet: \"\"\n",
+        ),
+        (
+            "cc_binary { name: \"a\", srcs: [\"a.h\"]",
+            "Android.bp:1:31: error 37: not built yet: \"a.h\"\n",
+        ),
+        (
+            "cc_binary { name: \"a\", srcs: [], srcs",
+            "Android.bp:1:34: error 37: not built yet: srcs\n",
         ),
     ] {
         assert!(rt; refuses(alloc, list, file.as_bytes(), 1, line)?);
     }
+    Ok(())
+}
+
+/// A binary over two libraries that stand over one.
+const DIAMOND: &str = "cc_binary { name: \"app\", srcs: [\"app.c\"], static_libs: [\"l\", \"r\"] }
+cc_library_static { name: \"l\", srcs: [\"l.c\"], static_libs: [\"base\"] }
+cc_library_static { name: \"r\", srcs: [\"r.c\"], static_libs: [\"base\"] }
+cc_library_static { name: \"base\", srcs: [\"base.c\"] }
+";
+
+/// The statements of *diamond*.
+const DIAMOND_WRITTEN: &str = "build out/m/app/android_arm64/obj/app.c.o: cc app.c
+  target = --target=aarch64-linux-android
+build out/m/app/android_arm64/bin/app: link out/m/app/android_arm64/obj/app.c.o out/m/l/android_arm64_static/bin/l.a out/m/r/android_arm64_static/bin/r.a out/m/base/android_arm64_static/bin/base.a
+  target = --target=aarch64-linux-android
+build out/m/l/android_arm64_static/obj/l.c.o: cc l.c
+  target = --target=aarch64-linux-android
+  cflags = -fPIC
+build out/m/l/android_arm64_static/bin/l.a: ar out/m/l/android_arm64_static/obj/l.c.o
+build out/m/r/android_arm64_static/obj/r.c.o: cc r.c
+  target = --target=aarch64-linux-android
+  cflags = -fPIC
+build out/m/r/android_arm64_static/bin/r.a: ar out/m/r/android_arm64_static/obj/r.c.o
+build out/m/base/android_arm64_static/obj/base.c.o: cc base.c
+  target = --target=aarch64-linux-android
+  cflags = -fPIC
+build out/m/base/android_arm64_static/bin/base.a: ar out/m/base/android_arm64_static/obj/base.c.o
+build out/all: phony out/m/app/android_arm64/bin/app out/m/l/android_arm64_static/bin/l.a out/m/r/android_arm64_static/bin/r.a out/m/base/android_arm64_static/bin/base.a
+default out/all
+";
+
+// The file is built, and what is written ends with this text.
+fn builds(alloc: Global, file: &str, end: &str) -> Result<bool, OutOfMemory> {
+    let tree = files(alloc, b"Android.bp\n", file.as_bytes())?;
+    let mut store = MemStore::new(alloc, tree, 1 << 20, Vec::new(alloc))?;
+    let (status, said) = told(alloc, BUILD, &mut store, 300)?;
+    let written = match store.held("build.ninja") {
+        Some(text) => text.ends_with(end.as_bytes()),
+        None => false,
+    };
+    Ok(status == 0 && said.is_empty() && written)
+}
+
+#[test]
+fn diamond(rt: HostRuntime) -> Result<(), Fail> {
+    let alloc = rt.alloc();
+    assert!(rt; builds(alloc, DIAMOND, DIAMOND_WRITTEN)?);
+    let empty = "  description = SOLINK ${out}\nbuild out/all: phony\ndefault out/all\n";
+    assert!(rt; builds(alloc, "// x", empty)?);
+    assert!(rt;
+        builds(
+            alloc,
+            "cc_binary { name: \"a\" }",
+            "build out/m/a/android_arm64/bin/a: link\n  target = --target=aarch64-linux-android\nbuild out/all: phony out/m/a/android_arm64/bin/a\ndefault out/all\n"
+        )?
+    );
+    Ok(())
+}
+
+const TWO_FAULTS: &str =
+    "cc_binary { name: \"app\", srcs: [\"x.c\", \"x.c\"], static_libs: [\"ok\"] }
+cc_library_static { name: \"ok\", srcs: [\"ok.c\"] }
+cc_library_static { name: \"z\", srcs: [\"z.txt\"] }
+";
+
+#[test]
+fn two_faults(rt: HostRuntime) -> Result<(), Fail> {
+    let alloc = rt.alloc();
+    let list = b"Android.bp\n".as_slice();
+    for (file, line) in [
+        (TWO_FAULTS, "Android.bp:3:39: error 25: bad source: z.txt\n"),
+        (
+            "cc_binary { name: \"app\", srcs: [\"x.c\", \"x.c\"], static_libs: [\"ok\"] }\ncc_library_static { name: \"ok\", srcs: [\"ok.c\"] }\n",
+            "Android.bp:1:40: error 28: duplicate source: x.c\n",
+        ),
+        (
+            "cc_binary { name: \"app\", static_libs: [\"z\"] }",
+            "Android.bp:1:40: error 21: missing module: z\n",
+        ),
+        (
+            "cc_binary { name: \"a\", static_libs: [\"b\"] }\ncc_binary { name: \"b\" }",
+            "Android.bp:1:38: error 24: missing variant: b{android_arm64_static}\n",
+        ),
+        (
+            "cc_binary { name: \"a\", static_libs: [\"\\t\"] }",
+            "Android.bp:1:38: error 21: missing module: ?\n",
+        ),
+        (
+            "cc_binary { name: \"a\" }\ncc_binary { name: \"a\", static_libs: [\"x\"] }",
+            "Android.bp:2:13: error 20: duplicate module name: a\n",
+        ),
+    ] {
+        assert!(rt; refuses(alloc, list, file.as_bytes(), 1, line)?);
+    }
+    Ok(())
+}
+
+const CYCLES: &str = "cc_library_static { name: \"a\", static_libs: [\"b\"] }
+cc_library_static { name: \"b\", static_libs: [\"c\", \"a\"] }
+cc_library_static { name: \"c\", static_libs: [\"a\"] }
+";
+
+/// The example *cycles*, and what stands before a cycle and behind it.
+#[test]
+fn cycles(rt: HostRuntime) -> Result<(), Fail> {
+    let alloc = rt.alloc();
+    let list = b"Android.bp\n".as_slice();
+    for (file, line) in [
+        (
+            CYCLES,
+            "Android.bp:1:46: error 23: dependency cycle: a{android_arm64_static} -> b{android_arm64_static} -> a{android_arm64_static}\n",
+        ),
+        (
+            "cc_library_static { name: \"a\", static_libs: [\"a\"] }",
+            "Android.bp:1:46: error 23: dependency cycle: a{android_arm64_static} -> a{android_arm64_static}\n",
+        ),
+        (
+            "cc_library_static { name: \"a\", static_libs: [\"a\"] }\ncc_binary { name: \"b\", static_libs: [\"x\"] }",
+            "Android.bp:2:38: error 21: missing module: x\n",
+        ),
+        (
+            "cc_library_static { name: \"a\", static_libs: [\"a\"] }\ncc_binary { name: \"b\", static_libs: [\"b\"] }",
+            "Android.bp:2:38: error 24: missing variant: b{android_arm64_static}\n",
+        ),
+        (
+            "cc_binary { name: \"b\", srcs: [\"b\"] }\ncc_library_static { name: \"a\", static_libs: [\"a\"] }",
+            "Android.bp:2:46: error 23: dependency cycle: a{android_arm64_static} -> a{android_arm64_static}\n",
+        ),
+    ] {
+        assert!(rt; refuses(alloc, list, file.as_bytes(), 1, line)?);
+    }
+    let mut file = many_libraries(alloc, 1025)?;
+    file.push_str("cc_library_static { name: \"a\", static_libs: [\"a\"] }\n")?;
+    let line = "Android.bp:1027:46: error 23: dependency cycle: a{android_arm64_static} -> a{android_arm64_static}\n";
+    assert!(rt; refuses(alloc, list, file.as_bytes(), 1, line)?);
+    Ok(())
+}
+
+const EARLIER: &str = "cc_library_static { name: \"base\", srcs: [\"base.c\"] }
+cc_binary { name: \"app\", static_libs: [\"l\"] }
+cc_library_static { name: \"l\", static_libs: [\"base\"] }
+";
+
+const EARLIER_WRITTEN: &str = "build out/m/base/android_arm64_static/obj/base.c.o: cc base.c
+  target = --target=aarch64-linux-android
+  cflags = -fPIC
+build out/m/base/android_arm64_static/bin/base.a: ar out/m/base/android_arm64_static/obj/base.c.o
+build out/m/app/android_arm64/bin/app: link out/m/l/android_arm64_static/bin/l.a out/m/base/android_arm64_static/bin/base.a
+  target = --target=aarch64-linux-android
+build out/m/l/android_arm64_static/bin/l.a: ar
+build out/all: phony out/m/base/android_arm64_static/bin/base.a out/m/app/android_arm64/bin/app out/m/l/android_arm64_static/bin/l.a
+default out/all
+";
+
+#[test]
+fn an_item_names_an_earlier_module(rt: HostRuntime) -> Result<(), Fail> {
+    let alloc = rt.alloc();
+    assert!(rt; builds(alloc, EARLIER, EARLIER_WRITTEN)?);
+    Ok(())
+}
+
+// A binary with that many libraries, and the libraries.
+fn many_libraries(alloc: Global, count: u32) -> Result<String, OutOfMemory> {
+    let mut file = String::from_str(alloc, "cc_binary { name: \"app\", static_libs: [")?;
+    for number in 0..count {
+        file.push_str(&format!(in alloc; "\"l{number}\",")?)?;
+    }
+    file.push_str("] }\n")?;
+    for number in 0..count {
+        file.push_str(&format!(in alloc; "cc_library_static {{ name: \"l{number}\" }}\n")?)?;
+    }
+    Ok(file)
+}
+
+// A binary with that many sources.
+fn many_sources(alloc: Global, count: u32) -> Result<String, OutOfMemory> {
+    let mut file = String::from_str(alloc, "cc_binary { name: \"a\", srcs: [")?;
+    for _ in 0..count {
+        file.push_str("\"a\",")?;
+    }
+    file.push_str("] }\n")?;
+    Ok(file)
+}
+
+#[test]
+fn lists_of_more_items_than_their_limits(rt: HostRuntime) -> Result<(), Fail> {
+    let alloc = rt.alloc();
+    let list = b"Android.bp\n".as_slice();
+    let file = many_libraries(alloc, 1024)?;
+    assert!(rt; builds(alloc, file.as_str(), "\ndefault out/all\n")?);
+    let file = many_libraries(alloc, 1025)?;
+    let line = "Android.bp:1:1: error 29: link line is too long: app{android_arm64}\n";
+    assert!(rt; refuses(alloc, list, file.as_bytes(), 1, line)?);
+    let file = many_sources(alloc, 1 << 16)?;
+    let line = "Android.bp:1:31: error 25: bad source: a\n";
+    assert!(rt; refuses(alloc, list, file.as_bytes(), 1, line)?);
+    let file = many_sources(alloc, (1 << 16) + 1)?;
+    let line = "Android.bp:1:262175: error 37: not built yet: \"a\"\n";
+    assert!(rt; refuses(alloc, list, file.as_bytes(), 1, line)?);
     Ok(())
 }
 

@@ -17,7 +17,7 @@ fn say<D: Sink>(diag: &mut D, text: &str)
 /// All that the program does, for the words after its name: the exit status.
 ///
 /// 0 is done, 1 a fault of the input, 2 faulty words, 3 a file that can't be read, 4 one that can't
-/// be written, and 5 want of memory. Each but 0 puts one line on `diag`. No pass has visits yet, so
+/// be written, and 5 want of memory. Each but 0 puts one line on `diag`. Passes run on this thread, so
 /// the gate isn't entered.
 pub fn run<S: Store, O: Sink, D: Sink, G: Gate>(
     alloc: Global,

@@ -1,0 +1,10 @@
+pub mod Noted
+pub mod Numbered
+pub mod Inside
+pub mod Planned
+pub mod Visited
+pub mod Telling
+pub mod Passes
+pub mod Facts
+pub mod Phased
+pub mod OneBuilt

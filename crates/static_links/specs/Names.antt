@@ -1,0 +1,63 @@
+-- The modules that are meant by names. Modules are numbered from 0, in their order.
+use Rattle.std.specs.Prelude.{ℕ, ◌+◌, List, [], ◌∷◌, map, Bool, false, nat_lt, Option, Some, None, Result, Ok, Err, if◌then◌else◌, slice_get}
+use Rattle.std.specs.Option.{unwrap_or, option_map_or}
+use Rattle.std.specs.Str.{bytes_eq}
+use Rattle.bp_faults.specs.declared.fault.Fault.{Fault}
+use Rattle.bp_faults.specs.declared.place.Item.{Item}
+use Rattle.bp_faults.specs.declared.kind.FaultKind.TheVariants.{DuplicateName, MissingModule, MissingVariant}
+use Rattle.bp_faults.specs.Faults.{fault_on}
+use Rattle.bp_faults.specs.Answers.{then_do}
+use Rattle.module_form.specs.declared.module.Module.{Module}
+use Rattle.module_form.specs.declared.module.ModuleKind.{ModuleKind}
+use Rattle.module_form.specs.declared.module.ModuleKind.TheVariants.{Binary, StaticLibrary}
+use Rattle.static_links.specs.Phases.{checked, checked_from}
+use Rattle.static_links.specs.Variants.{variant_label}
+
+-- The number of the first module of a name, counted on from k.
+abbrev pub number_from : ℕ → List Module → List ℕ → Option ℕ
+number_from k [] name = None
+number_from k (m ∷ ms) name = if bytes_eq m.name name then Some k else number_from (k + 1) ms name
+
+abbrev pub number_of : List Module → List ℕ → Option ℕ
+number_of ms name = number_from 0 ms name
+
+-- what is a number, and passes the test
+abbrev pub some_number : (ℕ → Bool) → Option ℕ → Bool
+some_number test number = option_map_or test number false
+
+-- the static variant is wanted
+abbrev pub missing_variant : Item → Fault
+missing_variant item = fault_on MissingVariant item.at (variant_label item.text StaticLibrary)
+
+-- A binary has no static variant.
+abbrev pub has_variant : Item → ModuleKind → Result Unit Fault
+has_variant item Binary = Err (missing_variant item)
+has_variant item StaticLibrary = Ok tt
+
+-- An item names no module, or one that may be no library.
+abbrev pub library_at : List Module → Item → Option ℕ → Result Unit Fault
+library_at ms item None = Err (fault_on MissingModule item.at item.text)
+library_at ms item (Some n) = option_map_or (λ (m : Module). has_variant item m.kind) (slice_get ms n) (Ok tt)
+
+module _ (names : List ℕ → Option ℕ) where
+  -- No earlier module has the name of module k.
+  abbrev pub has_own_name : ℕ → Module → Result Unit Fault
+  has_own_name k m = if some_number (λ n. nat_lt n k) (names m.name) then Err (fault_on DuplicateName m.name_at m.name) else Ok tt
+
+  abbrev pub is_library : List Module → Item → Result Unit Fault
+  is_library ms item = library_at ms item (names item.text)
+
+  abbrev pub has_libraries : List Module → Module → Result Unit Fault
+  has_libraries ms m = checked (is_library ms) m.static_libs
+
+  -- the checks of names, one after another over all modules
+  abbrev pub names_checked : List Module → Result Unit Fault
+  names_checked ms = then_do (checked_from has_own_name 0 ms) (λ done. checked (has_libraries ms) ms)
+
+  -- the number of the library that an item names
+  abbrev pub target_of : Item → ℕ
+  target_of item = unwrap_or (names item.text) 0
+
+  -- the numbers of the libraries that a module names, item by item
+  abbrev pub targets_of : Module → List ℕ
+  targets_of m = map target_of m.static_libs

@@ -1,0 +1,21 @@
+-- The first fault of the modules: by height, and then by number.
+use Rattle.std.specs.Prelude.{◌≡◌, ◌<◌, ◌⊎◌, ℕ, List, map, Result, Ok, Err}
+use Rattle.std.specs.Result.{IsOk}
+use Rattle.std.specs.List.{range_with_len}
+use Rattle.bp_faults.specs.declared.fault.Fault.{Fault}
+
+-- lower, or as high and of a lesser number
+abbrev pub Precedes : (ℕ → ℕ) → ℕ → ℕ → Type 0
+Precedes height m n = (height m < height n) ⊎ ((height m ≡ height n) × (m < n))
+
+module _ {O : Type 0} where
+  -- n is a module with that fault, and those that precede it have none
+  pub record IsFirstFault (height : ℕ → ℕ) (count : ℕ) (step : ℕ → Result O Fault) (fault : Fault) (n : ℕ) : Type 0 where
+    pub inside : n < count
+    pub here : step n ≡ Err fault
+    pub first : (m : ℕ) → m < count → Precedes height m n → IsOk (step m)
+
+  -- What a step makes of all modules, in their order, or the first fault.
+  abbrev pub Gathers : (ℕ → ℕ) → ℕ → (ℕ → Result O Fault) → Result (List O) Fault → Type 0
+  Gathers height count step (Ok values) = map Ok values ≡ map step (range_with_len 0 count)
+  Gathers height count step (Err fault) = (n : ℕ) × IsFirstFault height count step fault n

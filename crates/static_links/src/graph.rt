@@ -1,0 +1,95 @@
+ghost use Rattle.std.specs.Prelude.{◌≡◌, ◌<◌, ◌^◌, IfOk, length, map, unwrap_or};
+ghost use Rattle.std.specs.Str.{bytes_eq};
+ghost use Rattle.bp_faults.specs.Answers.{Tells};
+ghost use Rattle.indexmap.specs.IndexMap.{get};
+ghost use Rattle.module_graph.specs.Graphs.{IsNumbered};
+ghost use Rattle.module_graph.specs.Cycles.{CycleMeans};
+ghost use Rattle.static_links.specs.Names.{target_of};
+ghost use Rattle.static_links.specs.Variants.{module_label};
+ghost use Rattle.static_links.specs.Nodes.{edge_of, node_of, nodes_from, labels_of};
+
+use crate::names::number_of;
+use crate::variants::{module_label, variations};
+use bp_faults::{Item, ModuleId, NodeId, OutOfMemory, Refusal, Seq, Text};
+use indexmap::IndexMap;
+use module_form::Module;
+use module_graph::{Edge, EdgeKind, Graph, Node, check_cycle};
+use std::alloc::Global;
+
+fn edge(table: &IndexMap<Text, u32>, item: &Item) -> Edge
+    ensures { result ≡ edge_of (get bytes_eq table.now) item.now }
+{
+    Edge {
+        kind: EdgeKind::Static,
+        to: NodeId(number_of(table, &item.text).unwrap_or(0)),
+        at: item.at,
+    }
+}
+
+fn edges(
+    alloc: Global,
+    table: &IndexMap<Text, u32>,
+    items: &[Item],
+) -> Result<Vec<Edge>, OutOfMemory>
+    ensures { IfOk result (λ edges. edges.items ≡ map (edge_of (get bytes_eq table.now)) items.now) }
+{
+    let mut edges = Vec::new(alloc);
+    for item in items {
+        edges.push(edge(table, item))?;
+    }
+    Ok(edges)
+}
+
+fn node(
+    alloc: Global,
+    table: &IndexMap<Text, u32>,
+    number: u32,
+    item: &Module,
+) -> Result<Node<()>, OutOfMemory>
+    ensures { IfOk result (λ node. node ≡ node_of (get bytes_eq table.now) number item.now) }
+{
+    Ok(Node {
+        module: ModuleId(number),
+        vars: variations(alloc, item.kind),
+        payload: (),
+        edges: Seq::new(edges(alloc, table, item.static_libs.as_slice())?),
+    })
+}
+
+// The labels of the nodes.
+fn labels(alloc: Global, modules: &[Module]) -> Result<Vec<Text>, OutOfMemory>
+    ensures { IfOk result (λ labels. labels.items ≡ labels_of modules.now) }
+{
+    let mut labels = Vec::new(alloc);
+    for item in modules {
+        labels.push(module_label(alloc, item)?)?;
+    }
+    Ok(labels)
+}
+
+/// The graph of some modules: a node for each, and an edge for each library that it names.
+pub fn make_graph(
+    alloc: Global,
+    table: &IndexMap<Text, u32>,
+    modules: &[Module],
+) -> Result<Graph<()>, OutOfMemory>
+    requires { length modules.now < 2 ^ 32 }
+    ensures { IfOk result (λ graph. graph.nodes ≡ nodes_from (get bytes_eq table.now) 0 modules.now) }
+{
+    let mut nodes = Vec::new(alloc);
+    for (number, item) in modules.iter().enumerate() {
+        nodes.push(node(alloc, table, number as u32, item)?)?;
+    }
+    Ok(Graph {
+        nodes: Seq::new(nodes),
+    })
+}
+
+/// No module is needed by itself, over whatever others.
+pub fn check_cycles(alloc: Global, modules: &[Module], graph: &Graph<()>) -> Result<(), Refusal>
+    requires { IsNumbered graph.now.nodes }
+    ensures { Tells (λ done. done) (CycleMeans graph.now.nodes (labels_of modules.now)) result }
+{
+    let labels = labels(alloc, modules)?;
+    check_cycle(alloc, graph, &labels)
+}

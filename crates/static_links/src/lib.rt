@@ -1,0 +1,19 @@
+//! Binaries and static libraries: their link lines and their build statements.
+//!
+//! The modules of a file flow in; the statements that build them flow out, or the first fault. It is
+//! measured by `IsBuilt` in `specs/Built.antt`: the checks of names, the link lines, and the
+//! statements, each over all modules.
+#![tactic(auto)]
+
+mod actions;
+mod built;
+mod gather;
+mod graph;
+pub mod laws;
+mod line;
+mod names;
+mod pass;
+mod sources;
+mod variants;
+
+pub use built::build;
