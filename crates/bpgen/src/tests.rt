@@ -336,7 +336,8 @@ fn cycles(rt: HostRuntime) -> Result<(), Fail> {
     }
     let mut file = many_libraries(alloc, 1025)?;
     file.push_str("cc_library_static { name: \"a\", static_libs: [\"a\"] }\n")?;
-    let line = "Android.bp:1027:46: error 23: dependency cycle: a{android_arm64_static} -> a{android_arm64_static}\n";
+    let line =
+        "Android.bp:1027:46: error 23: dependency cycle: a{android_arm64_static} -> a{android_arm64_static}\n";
     assert!(rt; refuses(alloc, list, file.as_bytes(), 1, line)?);
     Ok(())
 }

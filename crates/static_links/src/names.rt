@@ -14,10 +14,7 @@ use module_form::{Module, ModuleKind};
 use std::alloc::Global;
 
 /// The number of the first module of each name.
-pub fn number_names(
-    alloc: Global,
-    modules: &[Module],
-) -> Result<IndexMap<Text, u32>, OutOfMemory>
+pub fn number_names(alloc: Global, modules: &[Module]) -> Result<IndexMap<Text, u32>, OutOfMemory>
     requires { length modules.now < 2 ^ 32 }
     ensures { IfOk result (λ table. IsTable table (number_of modules.now)) }
 {

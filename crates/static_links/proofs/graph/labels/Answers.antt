@@ -1,4 +1,4 @@
-use Rattle.std.proofs.Common.{List, [], ◌∷◌, ◌∙◌, ◌++◌, ap, map, take}
+use Rattle.std.proofs.Common.{[], ◌∷◌, ◌∙◌, ◌++◌, ap}
 use Rattle.static_links.specs.Variants.{module_label}
 use Rattle.static_links.proofs.Planned.{one_more_label}
 use Rattle.static_links.proofs.graph.labels.Goals as goal
