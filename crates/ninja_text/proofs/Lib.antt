@@ -8,4 +8,7 @@ pub mod PieceReading
 pub mod Reading
 pub mod Runs
 pub mod TextSets
+pub mod ValueRead
+pub mod SignRead
+pub mod FormRead
 pub mod Wholes

@@ -6,15 +6,20 @@
 //! is meant for, and `laws` what makes the text believable.
 #![tactic(auto)]
 
+mod book;
 mod escape;
 mod file;
+mod form;
+mod head;
 mod laws;
 mod letters;
 mod listing;
 mod output;
+mod read;
 #[cfg(test)]
 mod tests;
 mod text;
+mod value;
 mod well_formed;
 
 pub use file::{NinjaFile, NinjaRule, Piece, Statement};
@@ -23,5 +28,6 @@ pub use laws::{
     different_values_are_written_differently, lines_hold_no_line_feed, written_paths_are_guarded,
 };
 pub use output::WriteError;
+pub use read::NinjaError;
 pub use text::write;
 pub use well_formed::is_well_formed;
