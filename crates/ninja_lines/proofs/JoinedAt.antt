@@ -33,17 +33,14 @@ whole_at lines i d h good whole = at lines i d h ∙ rw (good, whole) refl
 glued_at : (lines : List (Bor (List ℕ))) (i : ℕ) (d : Bor (List ℕ)) → i < length lines → is_utf8 (get_or lines i d).now ≡ true → dangles false (get_or lines i d).now ≡ true → Begins lines i (glue (i + 1) (without_last (get_or lines i d).now) (behind lines i))
 glued_at lines i d h good joins = at lines i d h ∙ rw (good, joins) refl
 
-numbered_by : (lines : List (Bor (List ℕ))) (line : Line) (n : ℕ) (text : Option (List ℕ)) → shown_line line ≡ record { number = n; text = text } → n ≤ length lines → line.number ≤ length lines
-numbered_by lines line n text is within = let e : line.number ≡ n = ap (λ x. x.number) is in omega arith
-
 -- one line is a joined line
 pub one_not_text : (lines : List (Bor (List ℕ))) (i : ℕ) (d : Bor (List ℕ)) (line : Line) → i < length lines → is_utf8 (get_or lines i d).now ≡ false → shown_line line ≡ record { number = i + 1; text = None } → IsNextLine lines i line (i + 1)
-one_not_text lines i d line h bad is = record { more = omega arith; within = omega arith; numbered = numbered_by lines line (i + 1) None is (omega arith); same = not_text_at lines i d h bad ∙ ap (λ x. x ∷ behind lines i) (sym is) }
+one_not_text lines i d line h bad is = record { more = omega arith; within = omega arith; same = not_text_at lines i d h bad ∙ ap (λ x. x ∷ behind lines i) (sym is) }
 
 pub one_whole : (lines : List (Bor (List ℕ))) (i : ℕ) (d : Bor (List ℕ)) (line : Line) (text : List ℕ) → i < length lines → is_utf8 (get_or lines i d).now ≡ true → text ≡ (get_or lines i d).now → dangles false text ≡ false → shown_line line ≡ record { number = i + 1; text = Some text } → IsNextLine lines i line (i + 1)
 one_whole lines i d line text h good same whole is =
     let shown : shown_line line ≡ record { number = i + 1; text = Some (get_or lines i d).now } = is ∙ ap (λ t. record { number = i + 1; text = Some t }) same in
-    record { more = omega arith; within = omega arith; numbered = numbered_by lines line (i + 1) (Some text) is (omega arith); same = whole_at lines i d h good (ap (dangles false) (sym same) ∙ whole) ∙ ap (λ x. x ∷ behind lines i) (sym shown) }
+    record { more = omega arith; within = omega arith; same = whole_at lines i d h good (ap (dangles false) (sym same) ∙ whole) ∙ ap (λ x. x ∷ behind lines i) (sym shown) }
 
 -- what was joined so far, before the joined line that begins at an index
 abbrev pub IsOpen : List (Bor (List ℕ)) → ℕ → List ℕ → ℕ → Type 0
@@ -57,7 +54,6 @@ pub closed_by_not_text : (lines : List (Bor (List ℕ))) (first i : ℕ) (text :
 closed_by_not_text lines first i text d line less h open_ bad is = record {
   more = omega arith;
   within = omega arith;
-  numbered = numbered_by lines line (i + 1) None is (omega arith);
   same = open_ ∙ ap (glue (first + 1) text) (not_text_at lines i d h bad) ∙ ap (λ x. x ∷ behind lines i) (sym is);
 }
 
@@ -68,8 +64,7 @@ closed_by_line lines first i text rest whole d line less h open_ good same ends 
     record {
       more = omega arith;
       within = omega arith;
-      numbered = numbered_by lines line (first + 1) (Some whole) is (omega arith);
-      same = open_ ∙ ap (glue (first + 1) text) (whole_at lines i d h good plain) ∙ ap (λ x. x ∷ behind lines i) (sym shown);
+          same = open_ ∙ ap (glue (first + 1) text) (whole_at lines i d h good plain) ∙ ap (λ x. x ∷ behind lines i) (sym shown);
     }
 
 pub stays_open : (lines : List (Bor (List ℕ))) (first i : ℕ) (text rest front whole : List ℕ) (d : Bor (List ℕ)) → i < length lines → IsOpen lines first text i → is_utf8 (get_or lines i d).now ≡ true → rest ≡ drop_spaces (get_or lines i d).now → dangles false rest ≡ true → front ≡ without_last rest → whole ≡ text ++ front → IsOpen lines first whole (i + 1)

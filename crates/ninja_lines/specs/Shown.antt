@@ -21,5 +21,4 @@ texts lines = map (λ line. line.now) lines
 pub record IsNextLine (lines : List (Bor (List ℕ))) (at : ℕ) (line : Line) (next : ℕ) : Type 0 where
   pub more : at < next
   pub within : next ≤ length lines
-  pub numbered : line.number ≤ length lines
   pub same : joined (at + 1) (drop at (texts lines)) ≡ shown_line line ∷ joined (next + 1) (drop next (texts lines))

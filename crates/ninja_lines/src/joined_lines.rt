@@ -1,5 +1,4 @@
-ghost use Rattle.std.specs.Prelude.{◌≡◌, ◌≤◌, ◌<◌, ◌+◌, ◌-◌, true, false, IfOk, MatchOption, map, length, drop, get_or, [], ◌^◌, Some, None};
-ghost use Rattle.std.specs.List.{All};
+ghost use Rattle.std.specs.Prelude.{◌≡◌, ◌<◌, ◌+◌, ◌-◌, true, false, IfOk, MatchOption, map, length, drop, get_or, [], ◌^◌, Some, None};
 ghost use Rattle.std.specs.Str.{is_utf8};
 ghost use Rattle.ninja_lines.specs.Lines.{lines, line_length, joined_lines, dangles, without_last};
 ghost use Rattle.ninja_lines.specs.Shown.{shown_line, texts, IsNextLine};
@@ -75,32 +74,32 @@ fn without_dollar(text: &str) -> &str
 
 // A line that isn't UTF-8, by its index.
 fn not_text<'a>(at: usize) -> Line<'a>
-    requires { at < 2 ^ 63 }
+    requires { at + 1 < 2 ^ 32 }
     ensures { shown_line result ≡ record { number = at + 1; text = None } }
 {
     Line {
-        number: at + 1,
+        number: (at + 1) as u32,
         content: LineText::NotText,
     }
 }
 
 // A line as it stands.
 fn whole_line(at: usize, text: &str) -> Line<'_>
-    requires { at < 2 ^ 63 }
+    requires { at + 1 < 2 ^ 32 }
     ensures { shown_line result ≡ record { number = at + 1; text = Some text.now } }
 {
     Line {
-        number: at + 1,
+        number: (at + 1) as u32,
         content: LineText::Whole(text),
     }
 }
 
 fn joined_line<'a>(at: usize, text: Text) -> Line<'a>
-    requires { at < 2 ^ 63 }
+    requires { at + 1 < 2 ^ 32 }
     ensures { shown_line result ≡ record { number = at + 1; text = Some text } }
 {
     Line {
-        number: at + 1,
+        number: (at + 1) as u32,
         content: LineText::Joined(text),
     }
 }
@@ -113,6 +112,7 @@ fn join<'a>(
     front: &str,
 ) -> Result<(Line<'a>, usize), OutOfMemory>
     requires within { first < length lines.now }
+    requires few { length lines.now < 2 ^ 32 }
     requires line { front.now ≡ get_or (texts lines.now) first [] }
     requires utf8 { is_utf8 front.now ≡ true }
     requires dangles { dangles false front.now ≡ true }
@@ -142,7 +142,8 @@ fn next_line<'a>(
     lines: &[&'a [u8]],
     at: usize,
 ) -> Result<(Line<'a>, usize), OutOfMemory>
-    requires { at < length lines.now }
+    requires within { at < length lines.now }
+    requires few { length lines.now < 2 ^ 32 }
     ensures { IfOk result (λ found. IsNextLine lines.now at found.0 found.1) }
 {
     let Some(line) = utf8(lines[at]) else {
@@ -155,10 +156,10 @@ fn next_line<'a>(
     }
 }
 
-/// The joined lines of a text. Their numbers are at most the text's length.
+/// The joined lines of a text of fewer than 2^32 bytes.
 pub fn joined<'a>(alloc: Global, text: &'a [u8]) -> Result<Vec<Line<'a>>, OutOfMemory>
-    ensures lines { IfOk result (λ found. map shown_line found.items ≡ joined_lines text.now) }
-    ensures numbered { IfOk result (λ found. All (λ line. line.number ≤ length text.now) found.items) }
+    requires { length text.now < 2 ^ 32 }
+    ensures { IfOk result (λ found. map shown_line found.items ≡ joined_lines text.now) }
 {
     let listed = lines(alloc, text)?;
     let lines = listed.as_slice();

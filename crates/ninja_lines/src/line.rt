@@ -15,7 +15,7 @@ pub enum LineText<'a> {
 /// number of that line. Lines are counted from 1.
 #[derive(Debug, Drop)]
 pub struct Line<'a> {
-    pub number: usize,
+    pub number: u32,
     pub content: LineText<'a>,
 }
 

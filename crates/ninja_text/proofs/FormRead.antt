@@ -1,7 +1,13 @@
 -- What stands behind a word.
-use Rattle.std.proofs.Common.{◌≡◌, ℕ, Bool, true, false, cond, List, [], ◌∷◌, ◌++◌, eqb, eqb-true, eq-eqb, length, drop, Option, Some, None, MatchOption, option_map, ap, sym, ◌∙◌, refl, arith}
+use Rattle.std.proofs.Common.{◌≡◌, ℕ, suc, ◌+◌, ◌<◌, ◌≤◌, take, Bool, true, false, cond, List, [], ◌∷◌, ◌++◌, eqb, eqb-true, eq-eqb, length, drop, Option, Some, None, MatchOption, option_map, ap, sym, ◌∙◌, refl, arith}
 use Rattle.std.specs.Borrow.{Bor}
-use Rattle.ninja_text.specs.Heads.{behind_word}
+use Rattle.std.specs.Str.{bytes_eq}
+use Rattle.std.proofs.lemmas.List.{length-map}
+use Rattle.ninja_lines.specs.Cuts.{cut}
+use Rattle.ninja_lines.specs.Lines.{drop_spaces}
+use Rattle.ninja_lines.specs.Shown.{texts}
+use Rattle.ninja_text.specs.Heads.{behind_word, before_mark, behind_mark, value_behind, binding_behind, binding_of, defaults_of_parts, defaults_of, statement_of_parts, build_of}
+use Rattle.ninja_text.specs.Values.{name_length}
 
 pub behind_some : (word rest : List ℕ) → behind_word word (word ++ rest) ≡ Some rest
 behind_some [] rest = refl
@@ -19,3 +25,63 @@ behind_none (w ∷ word) (b ∷ text) h = behind_none_by w b word text (eqb b w)
 pub behind_is : (word text : List ℕ) (r : Option (Bor (List ℕ))) → MatchOption r ((rest : List ℕ) → text ≡ word ++ rest → ⊥) (λ x. text ≡ word ++ x.now) → option_map (λ rest. rest.now) r ≡ behind_word word text
 behind_is word text None h = sym (behind_none word text h)
 behind_is word text (Some x) h = sym (ap (behind_word word) h ∙ behind_some word x.now)
+
+-- up to a mark, and behind it
+before_mark_by : (word : Bor (List ℕ)) (mark : List ℕ) (more : List (Bor (List ℕ))) (e : Bool) → texts (take (length (before_mark mark (texts more))) more) ≡ before_mark mark (texts more) → texts (take (length (cond e [] (word.now ∷ before_mark mark (texts more)))) (word ∷ more)) ≡ cond e [] (word.now ∷ before_mark mark (texts more))
+before_mark_by word mark more true h = refl
+before_mark_by word mark more false h = ap (λ x. word.now ∷ x) h
+
+pub before_mark_is : (mark : List ℕ) (words : List (Bor (List ℕ))) → texts (take (length (before_mark mark (texts words))) words) ≡ before_mark mark (texts words)
+before_mark_is mark [] = refl
+before_mark_is mark (word ∷ more) = before_mark_by word mark more (bytes_eq word.now mark) (before_mark_is mark more)
+
+behind_mark_by : (word : Bor (List ℕ)) (mark : List ℕ) (more : List (Bor (List ℕ))) (e : Bool) → (length (before_mark mark (texts more)) < length more → Some (texts (drop (suc (length (before_mark mark (texts more)))) more)) ≡ behind_mark mark (texts more)) → length (cond e [] (word.now ∷ before_mark mark (texts more))) < suc (length more) → Some (texts (drop (suc (length (cond e [] (word.now ∷ before_mark mark (texts more))))) (word ∷ more))) ≡ cond e (Some (texts more)) (behind_mark mark (texts more))
+behind_mark_by word mark more true found h = refl
+behind_mark_by word mark more false found h = found (omega arith)
+
+pub behind_mark_is : (mark : List ℕ) (words : List (Bor (List ℕ))) → length (before_mark mark (texts words)) < length words → Some (texts (drop (suc (length (before_mark mark (texts words)))) words)) ≡ behind_mark mark (texts words)
+behind_mark_is mark [] h = absurd (omega arith)
+behind_mark_is mark (word ∷ more) h = behind_mark_by word mark more (bytes_eq word.now mark) (λ k. behind_mark_is mark more k) h
+
+no_mark_by : (word : Bor (List ℕ)) (mark : List ℕ) (more : List (Bor (List ℕ))) (e : Bool) → (length more ≤ length (before_mark mark (texts more)) → None ≡ behind_mark mark (texts more)) → suc (length more) ≤ length (cond e [] (word.now ∷ before_mark mark (texts more))) → None ≡ cond e (Some (texts more)) (behind_mark mark (texts more))
+no_mark_by word mark more true found h = absurd (omega arith)
+no_mark_by word mark more false found h = found (omega arith)
+
+pub no_mark : (mark : List ℕ) (words : List (Bor (List ℕ))) → length words ≤ length (before_mark mark (texts words)) → None ≡ behind_mark mark (texts words)
+no_mark mark [] h = refl
+no_mark mark (word ∷ more) h = no_mark_by word mark more (bytes_eq word.now mark) (λ k. no_mark mark more k) h
+
+-- no `=` behind the key
+no_value_by : (b : ℕ) (key text : List ℕ) (e : Bool) → eqb b 61 ≡ e → (b ≡ 61 → ⊥) → cond {A = Option (List ℕ × List ℕ)} e (Some (key, drop_spaces text)) None ≡ None
+no_value_by b key text true is h = absurd (h (eqb-true b 61 is))
+no_value_by b key text false is h = refl
+
+no_value : (key behind : List ℕ) → ((rest : List ℕ) → behind ≡ 61 ∷ rest → ⊥) → value_behind key behind ≡ None
+no_value key [] h = refl
+no_value key (b ∷ text) h = no_value_by b key text (eqb b 61) refl (λ is. h text (ap (λ x. x ∷ text) is))
+
+either_none : (e : Bool) (o : Option (List ℕ × List ℕ)) → o ≡ None → cond e None o ≡ None
+either_none true o h = refl
+either_none false o h = h
+
+pub no_binding : (text spaced key behind rest : List ℕ) → spaced ≡ drop_spaces text → behind ≡ drop (name_length spaced) spaced → rest ≡ drop_spaces behind → ((more : List ℕ) → rest ≡ 61 ∷ more → ⊥) → None ≡ binding_of text
+no_binding text spaced key behind rest is k r h = sym (
+    ap binding_behind (sym is)
+    ∙ either_none (eqb (name_length spaced) 0) (value_behind (take (name_length spaced) spaced) (drop_spaces (drop (name_length spaced) spaced))) (ap (value_behind (take (name_length spaced) spaced)) (ap drop_spaces (sym k) ∙ sym r) ∙ no_value (take (name_length spaced) spaced) rest h))
+
+pub no_defaults : (parts : List (List ℕ)) → (length parts ≡ 1 → ⊥) → defaults_of_parts parts ≡ None
+no_defaults [] h = refl
+no_defaults (text ∷ []) h = absurd (h refl)
+no_defaults (text ∷ other ∷ more) h = refl
+
+pub no_statement : (parts : List (List ℕ)) → (length parts ≡ 2 → ⊥) → statement_of_parts parts ≡ None
+no_statement [] h = refl
+no_statement (makes ∷ []) h = refl
+no_statement (makes ∷ takes ∷ []) h = absurd (h refl)
+no_statement (makes ∷ takes ∷ other ∷ more) h = refl
+
+pub no_defaults_of : (text : List ℕ) (parts : List (Bor (List ℕ))) → texts parts ≡ cut 58 false text → (length parts ≡ 1 → ⊥) → None ≡ defaults_of text
+no_defaults_of text parts is h = sym (ap defaults_of_parts (sym is) ∙ no_defaults (texts parts) (λ n. h (simp length-map at n)))
+
+pub no_build_of : (text : List ℕ) (parts : List (Bor (List ℕ))) → texts parts ≡ cut 58 false text → (length parts ≡ 2 → ⊥) → None ≡ build_of text
+no_build_of text parts is h = sym (ap statement_of_parts (sym is) ∙ no_statement (texts parts) (λ n. h (simp length-map at n)))

@@ -122,9 +122,9 @@ fn statement_of_words(
 ) -> Result<Option<Statement>, OutOfMemory>
     ensures { IfOk result (λ statement. statement ≡ statement_of_words (texts makes.now) (texts takes.now)) }
 {
-    match takes {
-        [] => Ok(None),
-        [rule, takes @ ..] => statement(alloc, makes, rule, takes),
+    match takes.split_first() {
+        None => Ok(None),
+        Some((rule, takes)) => statement(alloc, makes, rule, takes),
     }
 }
 
