@@ -11,4 +11,5 @@ pub mod TextSets
 pub mod ValueRead
 pub mod SignRead
 pub mod FormRead
+pub mod BookSteps
 pub mod Wholes

@@ -10,3 +10,4 @@ pub mod Heads
 pub mod Reading
 pub mod Reads
 pub mod Built
+pub mod Learnt

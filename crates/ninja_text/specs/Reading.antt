@@ -139,14 +139,22 @@ file_of book = record { rules = rules_of book; statements = map (λ statement. s
 abbrev pub outs_of_book : Book → List (List ℕ)
 outs_of_book book = flat_map (λ statement. statement.1.outs) (statements_of book)
 
--- a line that is refused, or else what is meant
-abbrev pub unless_refused : {F : Type 0} → Option ℕ → Result F ℕ → Result F ℕ
-unless_refused None meant = meant
-unless_refused (Some line) meant = Err line
+-- the first of two
+abbrev pub or_line : Option ℕ → Option ℕ → Option ℕ
+or_line None other = other
+or_line (Some line) other = Some line
 
--- A statement that names an out again stands before the line at which reading stopped. Defaults are tested last.
+-- The line that is refused, if any. A statement that names an out again stands before the line at which reading
+-- stopped. Defaults are tested last.
+abbrev pub refused : Book → Option ℕ → Option ℕ
+refused book stop = or_line (repeated [] (statements_of book)) (or_line stop (stray (outs_of_book book) book.defaults))
+
+abbrev pub unless_refused : Option ℕ → NinjaFile → Result NinjaFile ℕ
+unless_refused None file = Ok file
+unless_refused (Some line) file = Err line
+
 abbrev pub answer : Book × Option ℕ → Result NinjaFile ℕ
-answer read = unless_refused (repeated [] (statements_of read.0)) (unless_refused read.1 (unless_refused (stray (outs_of_book read.0) read.0.defaults) (Ok (file_of read.0))))
+answer read = unless_refused (refused read.0 read.1) (file_of read.0)
 
 -- The file that a text stands for, or the first line that is refused.
 abbrev pub reading : List ℕ → Result NinjaFile ℕ

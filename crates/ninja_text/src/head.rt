@@ -1,4 +1,4 @@
-ghost use Rattle.std.specs.Prelude.{◌≡◌, IfOk, length, option_map};
+ghost use Rattle.std.specs.Prelude.{◌≡◌, [], IfOk, IfSome, length, option_map};
 ghost use Rattle.ninja_text.specs.Heads.{path_of, paths_of, some_paths, before_mark, behind_mark, marked_paths, statement_of, statement_of_words, build_of, defaults_of, rule_name_of, binding_of};
 ghost use Rattle.ninja_lines.specs.Shown.{texts};
 
@@ -89,7 +89,8 @@ fn statement(
     rule: &str,
     takes: &[&str],
 ) -> Result<Option<Statement>, OutOfMemory>
-    ensures { IfOk result (λ statement. statement ≡ statement_of (texts makes.now) rule.now (texts takes.now)) }
+    ensures meant { IfOk result (λ statement. statement ≡ statement_of (texts makes.now) rule.now (texts takes.now)) }
+    ensures no_vars { IfOk result (λ statement. IfSome statement (λ s. s.vars ≡ [])) }
 {
     let (front, last) = split_at_mark(takes, "||");
     let (first, middle) = split_at_mark(front, "|");
@@ -120,7 +121,8 @@ fn statement_of_words(
     makes: &[&str],
     takes: &[&str],
 ) -> Result<Option<Statement>, OutOfMemory>
-    ensures { IfOk result (λ statement. statement ≡ statement_of_words (texts makes.now) (texts takes.now)) }
+    ensures meant { IfOk result (λ statement. statement ≡ statement_of_words (texts makes.now) (texts takes.now)) }
+    ensures no_vars { IfOk result (λ statement. IfSome statement (λ s. s.vars ≡ [])) }
 {
     match takes.split_first() {
         None => Ok(None),
@@ -130,17 +132,16 @@ fn statement_of_words(
 
 /// The statement that stands behind `build`, without variables.
 pub fn build_of(alloc: Global, text: &str) -> Result<Option<Statement>, OutOfMemory>
-    ensures { IfOk result (λ statement. statement ≡ build_of text.now) }
+    ensures meant { IfOk result (λ statement. statement ≡ build_of text.now) }
+    ensures no_vars { IfOk result (λ statement. IfSome statement (λ s. s.vars ≡ [])) }
 {
     let parts = parts_at(alloc, text, b':')?;
-    match parts.as_slice() {
-        [makes, takes] => {
-            let makes = words(alloc, makes)?;
-            let takes = words(alloc, takes)?;
-            statement_of_words(alloc, makes.as_slice(), takes.as_slice())
-        }
-        _ => Ok(None),
+    if parts.len() != 2 {
+        return Ok(None);
     }
+    let makes = words(alloc, parts[0])?;
+    let takes = words(alloc, parts[1])?;
+    statement_of_words(alloc, makes.as_slice(), takes.as_slice())
 }
 
 /// The paths that stand behind `default`.
@@ -148,13 +149,11 @@ pub fn defaults_of(alloc: Global, text: &str) -> Result<Option<Seq<Text>>, OutOf
     ensures { IfOk result (λ paths. paths ≡ defaults_of text.now) }
 {
     let parts = parts_at(alloc, text, b':')?;
-    match parts.as_slice() {
-        [text] => {
-            let words = words(alloc, text)?;
-            some_paths(alloc, words.as_slice())
-        }
-        _ => Ok(None),
+    if parts.len() != 1 {
+        return Ok(None);
     }
+    let words = words(alloc, parts[0])?;
+    some_paths(alloc, words.as_slice())
 }
 
 /// The name that stands behind `rule`.

@@ -7,6 +7,7 @@
 #![tactic(auto)]
 
 mod book;
+mod command;
 mod escape;
 mod file;
 mod form;
