@@ -12,4 +12,5 @@ pub mod ValueRead
 pub mod SignRead
 pub mod FormRead
 pub mod BookSteps
+pub mod Outs
 pub mod Wholes

@@ -8,7 +8,7 @@ ghost use Rattle.ninja_text.specs.Heads.{form_of, binding_of, rule_name_of, buil
 ghost use Rattle.ninja_text.specs.Reading.{no_book, bind, opened, with_rule, with_statement, with_defaults, with_binding, with_form, with_line, binds_command, statements_of, rules_of, names_of, has};
 
 use crate::command::binds_command;
-use crate::file::{NinjaRule, Statement};
+use crate::file::{NinjaFile, NinjaRule, Statement};
 use crate::form::{LineForm, form_of};
 use crate::head::{binding_of, build_of, defaults_of, rule_name_of};
 use crate::letters::is_rule_key;
@@ -37,6 +37,17 @@ pub struct Book<'a> {
     last: Open,
     names: HashSet<&'a str>,
     keys: HashSet<&'a str>,
+}
+
+// The second part of each pair.
+fn seconds<T: Drop>(alloc: Global, pairs: Vec<(u32, T)>) -> Result<Seq<T>, OutOfMemory>
+    ensures { IfOk result (λ found. found ≡ map (λ pair. pair.1) pairs.items) }
+{
+    let mut found = Vec::new(alloc);
+    for (_, value) in pairs {
+        found.push(value)?;
+    }
+    Ok(Seq::new(found))
 }
 
 fn bind_to_rule<'a>(
@@ -143,6 +154,17 @@ impl<'a> Book<'a> {
         ensures defaults { OnOk result (self.new.defaults.items ≡ self.old.defaults.items) }
     {
         self.begin(alloc, Open::Nothing)
+    }
+
+    /// The file, where the last rule or statement is ended.
+    pub fn into_file(self, alloc: Global) -> Result<NinjaFile, OutOfMemory>
+        ensures { IfOk result (λ f. f ≡ record { rules = self.entry.rules.items; statements = map (λ s. s.1) self.entry.statements.items; defaults = map (λ d. d.1) self.entry.defaults.items }) }
+    {
+        Ok(NinjaFile {
+            rules: Seq::new(self.rules),
+            statements: seconds(alloc, self.statements)?,
+            defaults: seconds(alloc, self.defaults)?,
+        })
     }
 
     fn take_rule(

@@ -16,7 +16,7 @@ mod laws;
 mod letters;
 mod listing;
 mod output;
-mod read;
+mod reader;
 #[cfg(test)]
 mod tests;
 mod text;
@@ -29,6 +29,6 @@ pub use laws::{
     different_values_are_written_differently, lines_hold_no_line_feed, written_paths_are_guarded,
 };
 pub use output::WriteError;
-pub use read::NinjaError;
+pub use reader::{NinjaError, read};
 pub use text::write;
 pub use well_formed::is_well_formed;
