@@ -13,4 +13,5 @@ pub mod SignRead
 pub mod FormRead
 pub mod BookSteps
 pub mod Outs
+pub mod ReadAll
 pub mod Wholes
