@@ -18,6 +18,8 @@ mod listing;
 mod output;
 mod reader;
 #[cfg(test)]
+mod reader_tests;
+#[cfg(test)]
 mod tests;
 mod text;
 mod value;
