@@ -14,4 +14,8 @@ pub mod FormRead
 pub mod BookSteps
 pub mod Outs
 pub mod ReadAll
+pub mod OutsDiffer
+pub mod TripLines
+pub mod TripBytes
+pub mod TripValues
 pub mod Wholes
