@@ -18,4 +18,5 @@ pub mod OutsDiffer
 pub mod TripLines
 pub mod TripBytes
 pub mod TripValues
+pub mod TripWords
 pub mod Wholes
