@@ -19,4 +19,8 @@ pub mod TripLines
 pub mod TripBytes
 pub mod TripValues
 pub mod TripWords
+pub mod TripBinding
+pub mod TripBook
+pub mod TripWhole
+pub mod TripFile
 pub mod Wholes

@@ -28,12 +28,20 @@ pub lines_joined : (list : List (List ℕ)) → All IsOneLine list → lines (fl
 lines_joined [] h = refl
 lines_joined (line ∷ list) h = ap lines (append_assoc line (10 ∷ []) (flat_map ended list)) ∙ line_ended line (flat_map ended list) (h 0 line (omega arith)) ∙ ap (λ x. line ∷ x) (lines_joined list (λ k d inside. h (suc k) d (omega arith)))
 
-pub joined_plain : (n : ℕ) (list : List (List ℕ)) → All (λ line. is_utf8 line ≡ true) list → All (λ line. dangles false line ≡ false) list → joined n list ≡ plain n list
+-- no line has a dollar open at its end
+abbrev pub AreWhole : List (List ℕ) → Type 0
+AreWhole list = list_all (λ line. not (dangles false line)) list ≡ true
+
+closed_of : (e : Bool) → not e ≡ true → e ≡ false
+closed_of true h = absurd (cc)
+closed_of false h = refl
+
+pub joined_plain : (n : ℕ) (list : List (List ℕ)) → All (λ line. is_utf8 line ≡ true) list → AreWhole list → joined n list ≡ plain n list
 joined_plain n [] utf8 whole = refl
 joined_plain n (line ∷ list) utf8 whole =
     let u : is_utf8 line ≡ true = utf8 0 line (omega arith) in
-    let w : dangles false line ≡ false = whole 0 line (omega arith) in
-    rw (u, w) (ap (λ x. record { number = n; text = Some line } ∷ x) (joined_plain (n + 1) list (λ k d inside. utf8 (suc k) d (omega arith)) (λ k d inside. whole (suc k) d (omega arith))))
+    let w : dangles false line ≡ false = closed_of (dangles false line) (first (not (dangles false line)) (list_all (λ l. not (dangles false l)) list) whole) in
+    rw (u, w) (ap (λ x. record { number = n; text = Some line } ∷ x) (joined_plain (n + 1) list (λ k d inside. utf8 (suc k) d (omega arith)) (second (not (dangles false line)) (list_all (λ l. not (dangles false l)) list) whole)))
 
 -- text before and behind an LF
 cut_utf8 : (line rest : List ℕ) → IsUtf8 (line ++ 10 ∷ rest) → IsUtf8 line × IsUtf8 rest

@@ -34,7 +34,7 @@ reads_text escape (b ∷ text) rest =
     ∙ option_map_twice (with_byte b) (with_text text) (pieces_from in_text rest)
 
 -- a name that a byte follows that is of no name
-name_before : (name rest : List ℕ) (c : ℕ) → is_name_byte c ≡ false → list_all is_name_byte name ≡ true → name_length (name ++ c ∷ rest) ≡ length name
+pub name_before : (name rest : List ℕ) (c : ℕ) → is_name_byte c ≡ false → list_all is_name_byte name ≡ true → name_length (name ++ c ∷ rest) ≡ length name
 name_before [] rest c h k = ap (λ e. cond e (suc (name_length rest)) 0) h
 name_before (b ∷ name) rest c h k =
     ap (λ e. cond e (suc (name_length (name ++ c ∷ rest))) 0) (first (is_name_byte b) (list_all is_name_byte name) k)

@@ -50,6 +50,10 @@ path_some (b ∷ path) h = byte_some b (path_text path) (is_escaped Path b) refl
 name_some : (name : List ℕ) → is_name name ≡ true → is_word name ≡ true
 name_some name h = first (not (is_nil name)) (list_all is_name_byte name) h
 
+-- a name alone
+pub word_alone : (name : List ℕ) → is_name name ≡ true → words name ≡ name ∷ []
+word_alone name h = ap words (sym (append-nil name)) ∙ word_then name [] (passes_test 32 is_name_byte refl refl name (second (not (is_nil name)) (list_all is_name_byte name) h)) (name_some name h) ends_nil
+
 spaced_ends : (paths : List (List ℕ)) (rest : List ℕ) → Ends rest → Ends (spaced paths ++ rest)
 spaced_ends [] rest ends = ends
 spaced_ends (path ∷ paths) rest ends = ends_space _
@@ -84,7 +88,7 @@ mark_then mark passes some (path ∷ paths) rest h ends =
 abbrev takes_words : Statement → List (List ℕ)
 takes_words s = map path_text s.ins ++ (mark_words bar s.implicit ++ mark_words bars s.order_only)
 
-abbrev HasPaths : Statement → Type 0
+abbrev pub HasPaths : Statement → Type 0
 HasPaths s = (list_all is_path s.ins ≡ true) × (list_all is_path s.implicit ≡ true) × (list_all is_path s.order_only ≡ true)
 
 ins_ends : (s : Statement) → Ends (ins_text s)
