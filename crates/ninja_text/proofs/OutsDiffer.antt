@@ -1,6 +1,6 @@
 -- A text that is read names no out twice.
-use Rattle.std.proofs.Common.{◌≡◌, ℕ, Bool, true, false, cond, ◌||◌, List, [], ◌∷◌, ◌++◌, map, Option, Some, None, Result, Ok, Err, append_assoc, append-nil, ap, sym, subst, ◌∙◌, refl}
-use Rattle.std.specs.List.{flat_map, list_any, IsDistinct}
+use Rattle.std.proofs.Common.{◌≡◌, ℕ, Bool, true, false, cond, ◌||◌, List, [], ◌∷◌, ◌++◌, Option, Some, None, Result, Ok, append_assoc, append-nil, sym, subst, ◌∙◌, refl}
+use Rattle.std.specs.List.{flat_map, IsDistinct}
 use Rattle.std.specs.Str.{bytes_eq}
 use Rattle.std.proofs.lemmas.Cmp.{nat_list_eq_equiv}
 use Rattle.std.proofs.lemmas.List.Folds.{flat_map-map}

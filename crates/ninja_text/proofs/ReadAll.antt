@@ -1,9 +1,8 @@
 -- The answer of a whole text.
-use Rattle.std.proofs.Common.{◌≡◌, ℕ, List, [], map, Option, Some, None, Result, Ok, ap, sym, ◌∙◌, refl}
+use Rattle.std.proofs.Common.{◌≡◌, ℕ, List, [], map, Option, ap, sym, ◌∙◌}
 use Rattle.std.specs.List.{flat_map}
 use Rattle.ninja_lines.specs.Lines.{JoinedLine, joined_lines}
 use Rattle.ninja_text.specs.Reading.{Book, no_book, read_lines, reading, answer, refused, or_line, repeated, stray, unless_refused, file_of, statements_of, rules_of}
-use Rattle.ninja_text.specs.declared.file.NinjaFile.{NinjaFile}
 use Rattle.ninja_text.specs.declared.file.NinjaRule.{NinjaRule}
 use Rattle.ninja_text.specs.declared.file.Statement.{Statement}
 

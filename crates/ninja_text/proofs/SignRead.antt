@@ -1,18 +1,16 @@
 -- What stands behind a dollar.
-use Rattle.std.proofs.Common.{◌≡◌, ℕ, suc, ◌+◌, ◌<◌, ◌≤◌, Bool, true, false, cond, List, [], ◌∷◌, ◌++◌, eqb, eqb-true, length, take, drop, get_or, add-one, Option, Some, None, MatchOption, IsUtf8, IsCharBoundary, option_map, append_assoc, append-nil, ap, sym, subst, ◌∙◌, refl, arith}
-use Rattle.std.specs.Borrow.{Bor}
+use Rattle.std.proofs.Common.{◌≡◌, ℕ, suc, ◌+◌, ◌<◌, ◌≤◌, Bool, true, false, cond, List, [], ◌∷◌, ◌++◌, eqb, eqb-true, length, take, drop, get_or, add-one, Option, Some, None, IsUtf8, IsCharBoundary, option_map, append_assoc, append-nil, ap, sym, subst, ◌∙◌, refl, arith}
 use Rattle.std.proofs.lemmas.Bool.{eqb-false}
 use Rattle.std.proofs.lemmas.Bool.Decides.{nat_tests}
 use Rattle.std.proofs.lemmas.Str.{IsCharBoundary-after_ascii}
-use Rattle.ninja_text.specs.Built.{with_text, with_sign, built, dollar_at, IsSign}
+use Rattle.ninja_text.specs.Built.{with_text, with_sign, built, dollar_at}
 use Rattle.ninja_text.specs.declared.value.Sign.{Sign}
-use Rattle.ninja_text.specs.declared.value.Sign.TheVariants.{Escaped, Variable}
 use Rattle.ninja_text.specs.declared.value.Pieces.{Pieces}
 use Rattle.ninja_text.specs.declared.file.Piece.{Piece}
 use Rattle.ninja_text.specs.declared.file.Piece.TheVariants.{Var}
 use Rattle.ninja_text.specs.declared.escape.Escape.TheVariants.{Path}
 use Rattle.ninja_text.specs.Escapes.{dollar, is_escaped}
-use Rattle.ninja_text.specs.Values.{Place, in_text, behind_dollar, in_name, in_braces, name_length, with_variable, brace_byte, dollar_byte, pieces_from, pieces_of}
+use Rattle.ninja_text.specs.Values.{in_text, behind_dollar, in_name, in_braces, name_length, with_variable, pieces_from, pieces_of}
 use Rattle.ninja_text.specs.WellFormed.{is_name_byte, is_nil}
 use Rattle.ninja_text.proofs.ValueRead.{in_name_reads, run, last_run, option_map_twice, option_map_same, dollar_within}
 

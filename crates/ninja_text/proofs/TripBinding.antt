@@ -1,18 +1,16 @@
 -- Written bindings are read back.
-use Rattle.std.proofs.Common.{◌≡◌, ℕ, zero, suc, length-append, ◌+◌, ◌<◌, Bool, true, false, cond, not, ◌&&◌, ◌||◌, List, [], ◌∷◌, ◌++◌, eqb, eqb-true, length, take, drop, map, get_or, Option, Some, None, option_map, option_and_then, codes, append_assoc, append-nil, ap, sym, subst, ◌∙◌, refl, arith}
+use Rattle.std.proofs.Common.{◌≡◌, ℕ, zero, suc, length-append, ◌<◌, Bool, true, false, cond, not, ◌&&◌, ◌||◌, List, [], ◌∷◌, ◌++◌, eqb, length, take, drop, get_or, Option, Some, None, codes, append_assoc, ap, sym, ◌∙◌, refl, arith}
 use Rattle.std.specs.List.{flat_map, list_all, list_any}
-use Rattle.std.specs.Map.{keys_of, values_of}
 use Rattle.std.specs.Str.{bytes_eq}
 use Rattle.std.proofs.Math.Seq.{take-append_seam, get_or-append_seam}
-use Rattle.std.proofs.lemmas.List.{map-append}
 use Rattle.std.proofs.lemmas.Slice.Eq.{bytes_eq-Decides}
 use Rattle.ninja_lines.specs.Lines.{drop_spaces}
 use Rattle.ninja_text.specs.declared.escape.Escape.TheVariants.{Value}
 use Rattle.ninja_text.specs.declared.file.Piece.{Piece}
 use Rattle.ninja_text.specs.declared.file.Piece.TheVariants.{Lit, Var}
 use Rattle.ninja_text.specs.Escapes.{is_escaped, escaped_byte, escaped, lead, value_text}
-use Rattle.ninja_text.specs.Text.{piece_text, lead_of, pieces_text, bound, binding_line, variable_line}
-use Rattle.ninja_text.specs.Heads.{a_binding, form_of, says_nothing, begins_with_space, value_behind, binding_behind, binding_of}
+use Rattle.ninja_text.specs.Text.{piece_text, pieces_text, bound}
+use Rattle.ninja_text.specs.Heads.{a_binding, form_of, value_behind, binding_behind, binding_of}
 use Rattle.ninja_text.specs.Values.{name_length}
 use Rattle.ninja_text.specs.WellFormed.{AllDiffer, is_nil, is_name, is_name_byte, is_value, is_piece, is_rule_value, is_rule_key, are_apart}
 use Rattle.ninja_text.proofs.ByteTests.{first, second, apart_by}

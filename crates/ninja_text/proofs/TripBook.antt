@@ -1,28 +1,25 @@
 -- Written lines, one after another, make the book of their file.
-use Rattle.std.proofs.Common.{◌≡◌, ◌≢◌, ℕ, zero, suc, ◌+◌, ◌<◌, Bool, true, false, cond, not, ◌&&◌, ◌||◌, List, [], ◌∷◌, ◌++◌, eqb, length, map, get_or, Option, Some, None, option_map, option_and_then, codes, append_assoc, append-nil, ap, sym, subst, ◌∙◌, refl, arith}
-use Rattle.std.specs.List.{All, Contains, flat_map, list_all, list_any}
+use Rattle.std.proofs.Common.{◌≡◌, ◌≢◌, ℕ, ◌+◌, Bool, true, false, cond, ◌||◌, List, [], ◌∷◌, ◌++◌, map, Option, Some, None, option_map, option_and_then, codes, append_assoc, append-nil, ap, sym, subst, ◌∙◌, refl}
+use Rattle.std.specs.List.{list_all, list_any}
 use Rattle.std.specs.Map.{keys_of, values_of}
 use Rattle.std.specs.Str.{bytes_eq}
 use Rattle.std.proofs.lemmas.List.{map-append}
 use Rattle.std.proofs.lemmas.Slice.Eq.{bytes_eq-Decides}
-use Rattle.ninja_lines.specs.Lines.{JoinedLine}
-use Rattle.ninja_lines.specs.Cuts.{words}
 use Rattle.ninja_text.specs.declared.book.Open.{Open}
-use Rattle.ninja_text.specs.declared.book.Open.TheVariants.{Nothing, Rule, Build}
+use Rattle.ninja_text.specs.declared.book.Open.TheVariants.{Rule, Build}
 use Rattle.ninja_text.specs.declared.file.Piece.{Piece}
 use Rattle.ninja_text.specs.declared.file.NinjaRule.{NinjaRule}
 use Rattle.ninja_text.specs.declared.file.Statement.{Statement}
-use Rattle.ninja_text.specs.declared.file.NinjaFile.{NinjaFile}
-use Rattle.ninja_text.specs.Escapes.{path_text, value_text}
-use Rattle.ninja_text.specs.Text.{pieces_text, bound, binding_line, variable_line, spaced, ins_text, build_line, rule_line, rule_lines, statement_lines, default_lines, head_line, lines_of}
-use Rattle.ninja_text.specs.Heads.{Form, skipped, a_binding, a_rule, a_build, a_default, form_of, binding_of, rule_name_of, rule_name_of_words, build_of, defaults_of}
-use Rattle.ninja_text.specs.Reading.{Book, has, rules_of, statements_of, names_of, opened, bind, with_rule, with_statement, with_defaults, with_binding, with_form, is_command, binds_command, binds_command_by, or_stop, read_lines}
-use Rattle.ninja_text.specs.WellFormed.{AllDiffer, is_nil, is_name, is_name_byte, is_value, is_path, is_rule_value, is_rule_key, IsRule, IsStatement}
+use Rattle.ninja_text.specs.Escapes.{value_text}
+use Rattle.ninja_text.specs.Text.{pieces_text, bound, binding_line, variable_line, rule_line, rule_lines}
+use Rattle.ninja_text.specs.Heads.{form_of, binding_of, rule_name_of, rule_name_of_words}
+use Rattle.ninja_text.specs.Reading.{Book, has, names_of, opened, bind, with_rule, with_binding, with_form, is_command, binds_command, binds_command_by, or_stop, read_lines}
+use Rattle.ninja_text.specs.WellFormed.{AllDiffer, is_name, is_value, is_rule_value, is_rule_key, IsRule}
 use Rattle.ninja_text.proofs.ByteTests.{first, second}
-use Rattle.ninja_text.proofs.BookSteps.{rule_bound, statement_bound, rule_taken, statement_taken, names_with_rule, names_with_statement}
+use Rattle.ninja_text.proofs.BookSteps.{rule_bound, statement_bound, rule_taken}
 use Rattle.ninja_text.proofs.TripLines.{plain}
 use Rattle.ninja_text.proofs.TripValues.{pieces_read_back, value_read_back}
-use Rattle.ninja_text.proofs.TripWords.{HasPaths, Ends, ends_nil, word_alone, build_read, defaults_read}
+use Rattle.ninja_text.proofs.TripWords.{word_alone}
 use Rattle.ninja_text.proofs.TripBinding.{binding_form, binding_found, pieces_first, value_first, rule_key_name, fresh, has_at}
 
 -- one line read
@@ -112,7 +109,7 @@ rule_read n book rule rest good is_new =
     let begun : Book = opened (Rule (record { name = rule.name; bindings = [] })) book in
     let command : binds_command (plain (n + 1) (map binding_line rule.bindings ++ rest)) ≡ true = command_bound (n + 1) rule.bindings rest good.keys good.values (has_at bytes_eq same_texts (keys_of rule.bindings) (codes "command") good.command.0 good.command.1 good.command.2) in
     let taken : with_form n (binds_command (plain (n + 1) (map binding_line rule.bindings ++ rest))) book (rule_line rule) (form_of (rule_line rule)) ≡ Some begun =
-      ap (option_and_then (with_rule (binds_command (plain (n + 1) (map binding_line rule.bindings ++ rest))) book)) (name_read rule.name good.name good.not_phony) ∙ rule_taken (binds_command (plain (n + 1) (map binding_line rule.bindings ++ rest))) rule.name book command is_new in
+    ap (option_and_then (with_rule (binds_command (plain (n + 1) (map binding_line rule.bindings ++ rest))) book)) (name_read rule.name good.name good.not_phony) ∙ rule_taken (binds_command (plain (n + 1) (map binding_line rule.bindings ++ rest))) rule.name book command is_new in
     let one = step n book begun (rule_line rule) (map binding_line rule.bindings ++ rest) taken in
     let more = bindings_read (n + 1) (opened (Rule rule) book) rule.name [] rule.bindings rest good.keys good.values good.keys_differ in
     record { number = more.number; same = one ∙ more.same }

@@ -1,7 +1,6 @@
 -- Written bytes: no dollar is left open, no delimiter is bare.
-use Rattle.std.proofs.Common.{◌≡◌, ℕ, Bool, true, false, cond, not, ◌&&◌, ◌||◌, List, [], ◌∷◌, ◌++◌, eqb, append_assoc, ap, sym, ◌∙◌, refl, arith}
+use Rattle.std.proofs.Common.{◌≡◌, ℕ, Bool, true, false, not, ◌&&◌, ◌||◌, List, [], ◌∷◌, ◌++◌, eqb, append_assoc, ap, sym, ◌∙◌, refl}
 use Rattle.std.specs.List.{flat_map, list_all, onto_first}
-use Rattle.std.proofs.lemmas.Bool.Decides.{nat_tests}
 use Rattle.ninja_lines.specs.Lines.{dangles}
 use Rattle.ninja_lines.specs.Cuts.{cut}
 use Rattle.ninja_text.specs.declared.escape.Escape.{Escape}

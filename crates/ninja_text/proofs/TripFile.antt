@@ -1,24 +1,24 @@
 -- A written file is read back.
-use Rattle.std.proofs.Common.{◌≡◌, ◌≢◌, ℕ, suc, ◌+◌, ◌<◌, Bool, true, false, cond, not, ◌&&◌, ◌||◌, List, [], ◌∷◌, ◌++◌, length, map, get_or, Option, Some, None, option_map, option_and_then, Result, Ok, Err, codes, IsUtf8, append_assoc, append-nil, ap, sym, subst, ◌∙◌, refl, arith}
-use Rattle.std.specs.List.{All, Contains, flat_map, list_all, list_any}
+use Rattle.std.proofs.Common.{◌≡◌, ◌≢◌, ℕ, suc, ◌+◌, Bool, true, false, cond, ◌||◌, List, [], ◌∷◌, ◌++◌, map, Some, None, option_map, option_and_then, Ok, codes, IsUtf8, append_assoc, append-nil, ap, sym, subst, ◌∙◌, refl, arith}
+use Rattle.std.specs.List.{All, Contains, flat_map, list_all}
 use Rattle.std.specs.Str.{bytes_eq}
 use Rattle.std.proofs.lemmas.List.{map-append}
 use Rattle.std.proofs.lemmas.List.Folds.{list_all-append, flat_map-map}
-use Rattle.ninja_lines.specs.Lines.{JoinedLine, lines, joined, joined_lines}
-use Rattle.ninja_text.specs.declared.book.Open.TheVariants.{Nothing, Rule, Build}
+use Rattle.ninja_lines.specs.Lines.{joined, joined_lines}
+use Rattle.ninja_text.specs.declared.book.Open.TheVariants.{Rule, Build}
 use Rattle.ninja_text.specs.declared.file.NinjaRule.{NinjaRule}
 use Rattle.ninja_text.specs.declared.file.Statement.{Statement}
 use Rattle.ninja_text.specs.declared.file.NinjaFile.{NinjaFile}
 use Rattle.ninja_text.specs.Escapes.{path_text}
-use Rattle.ninja_text.specs.Text.{ended, spaced, ins_text, variable_line, build_line, rule_lines, statement_lines, default_lines, head_line, lines_of, text_of}
-use Rattle.ninja_text.specs.Heads.{skipped, a_build, a_default, form_of, build_of, defaults_of}
+use Rattle.ninja_text.specs.Text.{spaced, ins_text, variable_line, build_line, rule_lines, statement_lines, default_lines, head_line, lines_of, text_of}
+use Rattle.ninja_text.specs.Heads.{skipped, form_of, build_of}
 use Rattle.ninja_text.specs.Reading.{Book, no_book, has, repeats, repeated, stray, or_line, refused, unless_refused, answer, file_of, outs_of_book, rules_of, statements_of, names_of, opened, with_statement, with_defaults, with_form, binds_command, read_lines, reading}
 use Rattle.ninja_text.specs.WellFormed.{AllDiffer, is_name, is_path, IsRule, IsStatement, IsWellFormed, rule_names, outs_of}
 use Rattle.ninja_text.proofs.ByteTests.{both, first, second}
 use Rattle.ninja_text.proofs.OneLine.{lines_of_whole, contained_passes}
 use Rattle.ninja_text.proofs.BookSteps.{statement_taken, names_with_rule, names_with_statement}
 use Rattle.ninja_text.proofs.TripBinding.{fresh, has_at}
-use Rattle.ninja_text.proofs.TripBook.{Reads, step, with_vars, with_last, variables_read, rule_read, same_texts}
+use Rattle.ninja_text.proofs.TripBook.{Reads, step, with_vars, variables_read, rule_read, same_texts}
 use Rattle.ninja_text.proofs.TripLines.{plain, lines_joined, joined_plain, utf8_lines}
 use Rattle.ninja_text.proofs.TripWhole.{whole_lines, names_are_names, rule_is_name}
 use Rattle.ninja_text.proofs.TripWords.{HasPaths, build_read, defaults_read}

@@ -1,12 +1,12 @@
 -- The lines of a text that is put together from lines.
-use Rattle.std.proofs.Common.{◌≡◌, ℕ, suc, ◌+◌, ◌<◌, Bool, true, false, cond, not, ◌&&◌, List, [], ◌∷◌, ◌++◌, eqb, length, take, drop, get_or, Option, Some, None, IsUtf8, IsCharBoundary, codes, append_assoc, length-append, ap, sym, subst, ◌∙◌, refl, arith}
+use Rattle.std.proofs.Common.{◌≡◌, ℕ, suc, ◌+◌, ◌<◌, Bool, true, false, cond, not, List, [], ◌∷◌, ◌++◌, eqb, length, take, drop, get_or, Some, IsUtf8, append_assoc, length-append, ap, sym, subst, ◌∙◌, refl, arith}
 use Rattle.std.specs.List.{All, flat_map, list_all, onto_first}
 use Rattle.std.specs.Str.{is_utf8}
 use Rattle.std.proofs.Math.Seq.{get_or-append_seam, take-append_seam}
 use Rattle.std.proofs.lemmas.List.Elements.{All-cons}
 use Rattle.std.proofs.lemmas.List.Prefix.{front_rest}
 use Rattle.std.proofs.lemmas.Str.{IsUtf8-take, IsUtf8-drop, IsCharBoundary-before_ascii, IsCharBoundary-after_ascii, is_utf8-from_IsUtf8}
-use Rattle.ninja_lines.specs.Lines.{JoinedLine, lines, joined, dangles, line_feed}
+use Rattle.ninja_lines.specs.Lines.{JoinedLine, lines, joined, dangles}
 use Rattle.ninja_text.specs.Laws.{IsOneLine}
 use Rattle.ninja_text.specs.Text.{ended}
 use Rattle.ninja_text.proofs.ByteTests.{first, second}

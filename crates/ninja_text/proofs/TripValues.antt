@@ -1,17 +1,16 @@
 -- A written value is read back.
-use Rattle.std.proofs.Common.{◌≡◌, ℕ, suc, ◌<◌, Bool, true, false, cond, not, ◌&&◌, ◌||◌, List, [], ◌∷◌, ◌++◌, eqb, eqb-true, length, take, drop, map, Option, Some, None, option_map, option_and_then, codes, append_assoc, append-nil, ap, sym, subst, ◌∙◌, refl, arith}
+use Rattle.std.proofs.Common.{◌≡◌, ℕ, suc, Bool, true, false, cond, not, ◌&&◌, List, [], ◌∷◌, ◌++◌, eqb, eqb-true, length, take, drop, map, Some, None, option_map, option_and_then, codes, append_assoc, append-nil, ap, sym, ◌∙◌, refl}
 use Rattle.std.specs.List.{flat_map, list_all}
-use Rattle.ninja_lines.specs.Lines.{drop_spaces}
 use Rattle.ninja_text.specs.declared.escape.Escape.{Escape}
 use Rattle.ninja_text.specs.declared.escape.Escape.TheVariants.{Path, Value}
 use Rattle.ninja_text.specs.declared.file.Piece.{Piece}
 use Rattle.ninja_text.specs.declared.file.Piece.TheVariants.{Lit, Var}
-use Rattle.ninja_text.specs.Escapes.{dollar, is_escaped, escaped_byte, escaped, path_text, lead, value_text}
-use Rattle.ninja_text.specs.Text.{piece_text, lead_of, pieces_text}
+use Rattle.ninja_text.specs.Escapes.{is_escaped, escaped_byte, escaped, path_text, lead, value_text}
+use Rattle.ninja_text.specs.Text.{piece_text, pieces_text}
 use Rattle.ninja_text.specs.Built.{with_text}
-use Rattle.ninja_text.specs.Values.{in_text, behind_dollar, in_braces, name_length, with_byte, pieces_from, pieces_of, literal, value_of}
+use Rattle.ninja_text.specs.Values.{in_text, name_length, with_byte, pieces_from, pieces_of, literal, value_of}
 use Rattle.ninja_text.specs.Heads.{path_of, paths_of, if_path}
-use Rattle.ninja_text.specs.WellFormed.{is_nil, is_name, is_name_byte, is_value, is_path, is_piece, is_literal, begins_literally, are_apart, is_rule_value}
+use Rattle.ninja_text.specs.WellFormed.{is_nil, is_name, is_name_byte, is_value, is_path, is_piece, begins_literally, are_apart, is_rule_value}
 use Rattle.std.proofs.Math.Seq.{take-append_seam, drop-append_seam}
 use Rattle.ninja_text.proofs.ByteTests.{first, second}
 use Rattle.ninja_text.proofs.SignRead.{braces_closed}

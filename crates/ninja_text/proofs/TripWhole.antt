@@ -1,5 +1,5 @@
 -- No written line has a dollar open at its end.
-use Rattle.std.proofs.Common.{◌≡◌, ℕ, suc, ◌<◌, Bool, true, false, cond, not, ◌&&◌, List, [], ◌∷◌, ◌++◌, eqb, eqb-true, length, map, get_or, codes, append-nil, ap, sym, ◌∙◌, refl, arith}
+use Rattle.std.proofs.Common.{◌≡◌, ℕ, suc, Bool, true, false, cond, not, ◌&&◌, List, [], ◌∷◌, ◌++◌, eqb, eqb-true, map, codes, append-nil, ap, sym, ◌∙◌, refl, arith}
 use Rattle.std.specs.List.{All, flat_map, list_all}
 use Rattle.std.specs.Map.{keys_of, values_of}
 use Rattle.std.proofs.lemmas.List.Folds.{list_all-append}
@@ -11,7 +11,7 @@ use Rattle.ninja_text.specs.declared.file.Piece.{Piece}
 use Rattle.ninja_text.specs.declared.file.Piece.TheVariants.{Lit, Var}
 use Rattle.ninja_text.specs.declared.file.Statement.{Statement}
 use Rattle.ninja_text.specs.Escapes.{escaped, path_text, lead, value_text}
-use Rattle.ninja_text.specs.Text.{piece_text, lead_of, pieces_text, bound, binding_line, variable_line, spaced_path, spaced, marked, ins_text, build_line, rule_line, rule_lines, statement_lines, default_lines, head_line, lines_of}
+use Rattle.ninja_text.specs.Text.{piece_text, pieces_text, bound, binding_line, variable_line, spaced_path, spaced, marked, ins_text, build_line, rule_line, rule_lines, statement_lines, default_lines, head_line, lines_of}
 use Rattle.ninja_text.specs.WellFormed.{is_nil, is_name, is_name_byte, is_piece, are_apart, is_rule_key, is_rule_value, IsRule, IsStatement, IsWellFormed, rule_names}
 use Rattle.ninja_text.proofs.ByteTests.{both, first, second}
 use Rattle.ninja_text.proofs.OneLine.{contained_passes}

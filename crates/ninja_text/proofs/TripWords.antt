@@ -1,16 +1,16 @@
 -- The words of written lines.
-use Rattle.std.proofs.Common.{◌≡◌, ℕ, suc, ◌+◌, ◌<◌, Bool, true, false, cond, not, ◌&&◌, ◌||◌, List, [], ◌∷◌, ◌++◌, eqb, length, map, filter, Option, Some, None, option_map, option_and_then, codes, append_assoc, append-nil, length-append, ap, sym, subst, ◌∙◌, refl, arith}
-use Rattle.std.specs.List.{flat_map, list_all}
+use Rattle.std.proofs.Common.{◌≡◌, ℕ, Bool, true, false, cond, not, List, [], ◌∷◌, ◌++◌, eqb, length, map, filter, Option, Some, option_map, option_and_then, codes, append_assoc, append-nil, ap, sym, subst, ◌∙◌, refl, arith}
+use Rattle.std.specs.List.{list_all}
 use Rattle.std.specs.Str.{bytes_eq}
 use Rattle.std.proofs.lemmas.Bool.Decides.{nat_tests}
 use Rattle.ninja_lines.specs.Cuts.{cut, words}
 use Rattle.ninja_text.specs.declared.escape.Escape.TheVariants.{Path}
 use Rattle.ninja_text.specs.declared.file.Statement.{Statement}
-use Rattle.ninja_text.specs.Escapes.{dollar, is_escaped, escaped_byte, path_text}
-use Rattle.ninja_text.specs.Text.{spaced_path, spaced, marked, ins_text}
+use Rattle.ninja_text.specs.Escapes.{is_escaped, escaped_byte, path_text}
+use Rattle.ninja_text.specs.Text.{spaced, marked, ins_text}
 use Rattle.ninja_text.specs.Heads.{paths_of, some_paths, before_mark, behind_mark, marked_paths, bar, bars, statement_of, statement_of_words, statement_of_parts, build_of, defaults_of, defaults_of_parts}
-use Rattle.ninja_text.specs.WellFormed.{is_nil, is_name, is_name_byte, is_value, is_shown, is_path}
-use Rattle.ninja_text.proofs.ByteTests.{first, second, apart_by}
+use Rattle.ninja_text.specs.WellFormed.{is_nil, is_name, is_name_byte, is_value, is_path}
+use Rattle.ninja_text.proofs.ByteTests.{first, second}
 use Rattle.ninja_text.proofs.Guarded.{guarded}
 use Rattle.ninja_text.proofs.TripBytes.{Passes, onto_text, onto_text-cons, passes_beside, plain_byte, passes_test, guarded_whole}
 use Rattle.ninja_text.proofs.TripValues.{paths_read_back}

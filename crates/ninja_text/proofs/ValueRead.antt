@@ -2,13 +2,12 @@
 use Rattle.std.proofs.Common.{◌≡◌, ℕ, suc, ◌+◌, ◌<◌, ◌≤◌, Bool, true, false, cond, List, [], ◌∷◌, ◌++◌, eqb, eqb-true, length, take, drop, get_or, drop-cons, add-one, IsUtf8, IsCharBoundary, Option, Some, None, option_map, append_assoc, append-nil, ap, sym, ◌∙◌, refl, arith}
 use Rattle.std.proofs.lemmas.Bool.Decides.{nat_tests}
 use Rattle.std.proofs.lemmas.Str.{IsUtf8-past_char, encode_ascii, IsCharBoundary-from_drop}
-use Rattle.ninja_text.specs.Built.{with_text, with_sign, built, dollar_at}
+use Rattle.ninja_text.specs.Built.{with_text, dollar_at}
 use Rattle.ninja_text.specs.declared.file.Piece.{Piece}
 use Rattle.ninja_text.specs.declared.file.Piece.TheVariants.{Lit, Var}
-use Rattle.ninja_text.specs.Escapes.{dollar, is_escaped}
-use Rattle.ninja_text.specs.declared.escape.Escape.TheVariants.{Path}
-use Rattle.ninja_text.specs.Values.{Place, name_length, in_text, behind_dollar, in_name, in_braces, with_byte, with_variable, text_byte, dollar_byte, brace_byte, pieces_from}
-use Rattle.ninja_text.specs.WellFormed.{is_name_byte, is_nil}
+use Rattle.ninja_text.specs.Escapes.{dollar}
+use Rattle.ninja_text.specs.Values.{name_length, in_text, behind_dollar, in_name, with_byte, with_variable, text_byte, pieces_from}
+use Rattle.ninja_text.specs.WellFormed.{is_name_byte}
 
 pub option_map_twice : {A B C : Type 0} (f : B → C) (g : A → B) (o : Option A) → option_map f (option_map g o) ≡ option_map (λ x. f (g x)) o
 option_map_twice f g None = refl

@@ -5,7 +5,7 @@ use Rattle.ninja_text.specs.Escapes.{dollar}
 use Rattle.ninja_text.specs.Values.{Place, in_text, with_byte, pieces_from}
 use Rattle.ninja_text.specs.Heads.{Form, no_form, skipped, a_binding, a_rule, a_build, a_default}
 use Rattle.ninja_text.specs.declared.file.Piece.{Piece}
-use Rattle.ninja_text.specs.declared.file.Piece.TheVariants.{Lit, Var}
+use Rattle.ninja_text.specs.declared.file.Piece.TheVariants.{Var}
 use Rattle.ninja_text.specs.declared.value.Sign.{Sign}
 use Rattle.ninja_text.specs.declared.value.Sign.TheVariants.{Escaped, Variable}
 use Rattle.ninja_text.specs.declared.value.Pieces.{Pieces}

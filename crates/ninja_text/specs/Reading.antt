@@ -1,13 +1,12 @@
 -- What a text for Ninja stands for: a file, or the first line that is refused. Ninja manual, "Ninja file reference"; the
 -- profile is in docs/NINJA.md.
-use Rattle.std.specs.Prelude.{◌≡◌, ℕ, Bool, true, false, not, ◌&&◌, ◌||◌, List, [], ◌∷◌, ◌++◌, ⊤, map, Option, Some, None, option_map, option_and_then, Result, Ok, Err, codes, if◌then◌else◌}
+use Rattle.std.specs.Prelude.{ℕ, Bool, false, not, ◌&&◌, ◌||◌, List, [], ◌∷◌, ◌++◌, map, Option, Some, None, option_map, option_and_then, Result, Ok, Err, codes, if◌then◌else◌}
 use Rattle.std.specs.List.{list_any, flat_map}
 use Rattle.std.specs.Map.{keys_of}
 use Rattle.std.specs.Str.{bytes_eq}
 use Rattle.ninja_lines.specs.Lines.{JoinedLine, joined_lines}
 use Rattle.ninja_text.specs.declared.book.Open.{Open}
 use Rattle.ninja_text.specs.declared.book.Open.TheVariants.{Nothing, Rule, Build}
-use Rattle.ninja_text.specs.declared.file.Piece.{Piece}
 use Rattle.ninja_text.specs.declared.file.NinjaRule.{NinjaRule}
 use Rattle.ninja_text.specs.declared.file.Statement.{Statement}
 use Rattle.ninja_text.specs.declared.file.NinjaFile.{NinjaFile}

@@ -1,6 +1,6 @@
 -- What a value's written form stands for. Ninja manual, "Ninja file reference", "Lexical syntax": `$$`, `$ ` and `$:`
 -- are the byte behind the dollar, `$name` and `${name}` a variable.
-use Rattle.std.specs.Prelude.{ℕ, suc, Bool, List, [], ◌∷◌, ◌++◌, ◌==◌, Option, Some, None, option_map, option_and_then, if◌then◌else◌}
+use Rattle.std.specs.Prelude.{ℕ, suc, List, [], ◌∷◌, ◌++◌, ◌==◌, Option, Some, None, option_map, option_and_then, if◌then◌else◌}
 use Rattle.ninja_text.specs.Escapes.{dollar, is_escaped}
 use Rattle.ninja_text.specs.WellFormed.{is_name_byte, is_nil}
 use Rattle.ninja_text.specs.declared.escape.Escape.TheVariants.{Path}

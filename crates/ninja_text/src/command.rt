@@ -22,13 +22,7 @@ fn text_says(text: &str) -> Option<bool>
 {
     match form_of(text) {
         LineForm::NoForm | LineForm::Skipped | LineForm::Default(_) => None,
-        LineForm::Binding => {
-            if is_command(text) {
-                Some(true)
-            } else {
-                None
-            }
-        }
+        LineForm::Binding => { if is_command(text) { Some(true) } else { None } }
         LineForm::Rule(_) | LineForm::Build(_) => Some(false),
     }
 }

@@ -58,10 +58,7 @@ fn mark_at(words: &[&str], mark: &str) -> usize
 }
 
 // The words up to a mark, and those behind it.
-fn split_at_mark<'a, 'b>(
-    words: &'b [&'a str],
-    mark: &str,
-) -> (&'b [&'a str], Option<&'b [&'a str]>)
+fn split_at_mark<'a, 'b>(words: &'b [&'a str], mark: &str) -> (&'b [&'a str], Option<&'b [&'a str]>)
     ensures before { texts result.0.now ≡ before_mark mark.now (texts words.now) }
     ensures behind { option_map (λ rest. texts rest.now) result.1 ≡ behind_mark mark.now (texts words.now) }
 {

@@ -27,9 +27,9 @@ mod well_formed;
 
 pub use file::{NinjaFile, NinjaRule, Piece, Statement};
 pub use laws::{
-    a_text_has_one_file, a_text_names_no_output_twice,
-    different_paths_are_written_differently, different_rule_values_are_written_differently,
-    different_values_are_written_differently, lines_hold_no_line_feed, written_paths_are_guarded,
+    a_text_has_one_file, a_text_names_no_output_twice, different_paths_are_written_differently,
+    different_rule_values_are_written_differently, different_values_are_written_differently,
+    lines_hold_no_line_feed, written_paths_are_guarded,
 };
 pub use output::WriteError;
 pub use reader::{NinjaError, read};

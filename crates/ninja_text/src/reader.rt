@@ -117,7 +117,12 @@ pub fn read(alloc: Global, bytes: &[u8]) -> Result<NinjaFile, NinjaError>
     let lines = joined(alloc, bytes)?;
     let (mut book, stop) = read_lines(alloc, lines.as_slice())?;
     book.end(alloc)?;
-    let refused = refused(alloc, book.statements.as_slice(), book.defaults.as_slice(), stop)?;
+    let refused = refused(
+        alloc,
+        book.statements.as_slice(),
+        book.defaults.as_slice(),
+        stop,
+    )?;
     match refused {
         Some(line) => Err(NinjaError::BadLine(line)),
         None => {

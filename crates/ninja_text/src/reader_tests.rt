@@ -35,7 +35,9 @@ const READ: [Case; 34] = [
     ),
     (
         b"rule cc\n  deps = gcc\n  depfile = ${out}.d\n  command = cc\n  description = CC $out\n",
-        Ok("rule cc\n  deps = gcc\n  depfile = ${out}.d\n  command = cc\n  description = CC ${out}\n"),
+        Ok(
+            "rule cc\n  deps = gcc\n  depfile = ${out}.d\n  command = cc\n  description = CC ${out}\n",
+        ),
     ),
     (
         b"  # indented\nrule cat\n  command = x\n  # generator = 1\n  \n  description = y\n",
@@ -45,7 +47,10 @@ const READ: [Case; 34] = [
         b"rule link\n  command = foo bar $\n      baz\n\nbuild a: link c $\n d e f\n",
         Ok("rule link\n  command = foo bar baz\nbuild a: link c d e f\n"),
     ),
-    (b"rule r\n  command = a\\b # c\n", Ok("rule r\n  command = a\\b # c\n")),
+    (
+        b"rule r\n  command = a\\b # c\n",
+        Ok("rule r\n  command = a\\b # c\n"),
+    ),
     (
         b"rule r\n  command = ${out}bar$$baz$$$\n  blah\n",
         Ok("rule r\n  command = ${out}bar$$baz$$blah\n"),
@@ -54,8 +59,14 @@ const READ: [Case; 34] = [
         b"build foo$ bar: phony $$one two$$$ three a$:b\n",
         Ok("build foo$ bar: phony $$one two$$$ three a$:b\n"),
     ),
-    (b"build ./a: phony ../b/./c\n", Ok("build ./a: phony ../b/./c\n")),
-    (b"build a: phony b | c d || e f\n", Ok("build a: phony b | c d || e f\n")),
+    (
+        b"build ./a: phony ../b/./c\n",
+        Ok("build ./a: phony ../b/./c\n"),
+    ),
+    (
+        b"build a: phony b | c d || e f\n",
+        Ok("build a: phony b | c d || e f\n"),
+    ),
     (b"build a: phony | b\n", Ok("build a: phony | b\n")),
     (b"build a: phony || b\n", Ok("build a: phony || b\n")),
     (b"build a b  c : phony\n", Ok("build a b c: phony\n")),
@@ -63,27 +74,65 @@ const READ: [Case; 34] = [
     (b"bu$\nild a: ph$\n    ony b\n", Ok("build a: phony b\n")),
     (
         b"rule build\n  command = x\nrule rule\n  command = y\nbuild default: build include\nbuild rule: rule subninja\ndefault default rule\n",
-        Ok("rule build\n  command = x\nrule rule\n  command = y\nbuild default: build include\nbuild rule: rule subninja\ndefault default rule\n"),
+        Ok(
+            "rule build\n  command = x\nrule rule\n  command = y\nbuild default: build include\nbuild rule: rule subninja\ndefault default rule\n",
+        ),
     ),
-    (b"rule r\n  command   =   x  \n", Ok("rule r\n  command = x  \n")),
+    (
+        b"rule r\n  command   =   x  \n",
+        Ok("rule r\n  command = x  \n"),
+    ),
     (b"rule r\n command=x\n", Ok("rule r\n  command = x\n")),
     (b"rule r\n  command =\n", Ok("rule r\n  command = \n")),
-    (b"rule r  \n  command = $ x\n", Ok("rule r\n  command = $ x\n")),
-    (b"rule r\n  command = $a-$b_1$$c${d}e\n", Ok("rule r\n  command = ${a}-${b_1}$$c${d}e\n")),
-    (b"rule r\n  command = a$ b$:c d:e|f\n", Ok("rule r\n  command = a b:c d:e|f\n")),
-    (b"rule r\n  command = a\tb\n", Ok("rule r\n  command = a\tb\n")),
-    (b"build a: phony\n  k = v = w\n  k_2 =x|:y\n", Ok("build a: phony\n  k = v = w\n  k_2 = x|:y\n")),
-    (b"build a: phony\n  v = x$$\n  w = y\n", Ok("build a: phony\n  v = x$$\n  w = y\n")),
-    (b"build a: phony\ndefault a\n  k = v\n", Ok("build a: phony\n  k = v\ndefault a\n")),
-    (b"default a\nbuild a: phony\n", Ok("build a: phony\ndefault a\n")),
+    (
+        b"rule r  \n  command = $ x\n",
+        Ok("rule r\n  command = $ x\n"),
+    ),
+    (
+        b"rule r\n  command = $a-$b_1$$c${d}e\n",
+        Ok("rule r\n  command = ${a}-${b_1}$$c${d}e\n"),
+    ),
+    (
+        b"rule r\n  command = a$ b$:c d:e|f\n",
+        Ok("rule r\n  command = a b:c d:e|f\n"),
+    ),
+    (
+        b"rule r\n  command = a\tb\n",
+        Ok("rule r\n  command = a\tb\n"),
+    ),
+    (
+        b"build a: phony\n  k = v = w\n  k_2 =x|:y\n",
+        Ok("build a: phony\n  k = v = w\n  k_2 = x|:y\n"),
+    ),
+    (
+        b"build a: phony\n  v = x$$\n  w = y\n",
+        Ok("build a: phony\n  v = x$$\n  w = y\n"),
+    ),
+    (
+        b"build a: phony\ndefault a\n  k = v\n",
+        Ok("build a: phony\n  k = v\ndefault a\n"),
+    ),
+    (
+        b"default a\nbuild a: phony\n",
+        Ok("build a: phony\ndefault a\n"),
+    ),
     (
         b"build a: phony\nbuild b: phony a\ndefault b\ndefault  a\n",
         Ok("build a: phony\nbuild b: phony a\ndefault b a\n"),
     ),
     (b"build a: phony b", Ok("build a: phony b\n")),
-    (b"build a: phony $\n\nbuild b: phony $\n  $\n   c\n", Ok("build a: phony\nbuild b: phony c\n")),
-    (b"build \xc3\xbc$ \xe2\x82\xac: phony \xf0\x9f\x98\x80\n", Ok("build ü$ €: phony 😀\n")),
-    (b"rule r\n  command = x\nbuild a: r\n  command = y\n", Ok("rule r\n  command = x\nbuild a: r\n  command = y\n")),
+    (
+        b"build a: phony $\n\nbuild b: phony $\n  $\n   c\n",
+        Ok("build a: phony\nbuild b: phony c\n"),
+    ),
+    (
+        b"build \xc3\xbc$ \xe2\x82\xac: phony \xf0\x9f\x98\x80\n",
+        Ok("build ü$ €: phony 😀\n"),
+    ),
+    (
+        b"rule r\n  command = x\nbuild a: r\n  command = y\n",
+        Ok("rule r\n  command = x\nbuild a: r\n  command = y\n"),
+    ),
 ];
 
 // Texts that are refused.
@@ -176,5 +225,28 @@ fn texts_that_are_refused(rt: HostRuntime) -> Result<(), Fail> {
     for case in &ENDS {
         assert!(rt; holds(rt.alloc(), case)?, "{:?}", case.0);
     }
+    Ok(())
+}
+
+// The example of escapes: what was written comes back, with its spaces, its dollar and its colon.
+#[test]
+fn escapes_are_read_back(rt: HostRuntime) -> Result<(), Fail> {
+    let alloc = rt.alloc();
+    let text = b"build out/m/x/obj/a$ b$:$$.c.o: phony a$ b$:$$.c
+  cflags = $ -X
+build y: phony
+  cflags = -D$$
+";
+    let file = read(alloc, text)?;
+    let statements = file.statements.as_slice();
+    assert_eq!(rt; statements.len(), 2);
+    let first = &statements[0];
+    let last = &statements[1];
+    assert_eq!(rt; first.ins.as_slice().len(), 1);
+    assert_eq!(rt; first.ins.as_slice()[0].as_str(), "a b:$.c");
+    assert_eq!(rt; first.vars.as_slice().len(), 1);
+    assert_eq!(rt; first.vars.as_slice()[0].1.as_str(), " -X");
+    assert_eq!(rt; last.vars.as_slice().len(), 1);
+    assert_eq!(rt; last.vars.as_slice()[0].1.as_str(), "-D$");
     Ok(())
 }

@@ -1,4 +1,4 @@
-use Rattle.std.proofs.Common.{◌≡◌, ap, sym, ◌∙◌, ◌++◌, ◌∷◌, [], option_map}
+use Rattle.std.proofs.Common.{ap, sym, ◌∙◌, ◌++◌, ◌∷◌, [], option_map}
 use Rattle.ninja_text.proofs.BookSteps.{rule_bound, keys_more}
 use Rattle.ninja_text.proofs.book.bind_to_rule.Goals as goal
 

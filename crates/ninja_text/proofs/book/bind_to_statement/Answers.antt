@@ -1,4 +1,4 @@
-use Rattle.std.proofs.Common.{◌≡◌, ap, sym, ◌∙◌, ◌++◌, ◌∷◌, []}
+use Rattle.std.proofs.Common.{ap, sym, ◌∙◌, ◌++◌, ◌∷◌, []}
 use Rattle.ninja_text.proofs.BookSteps.{statement_bound, keys_more}
 use Rattle.ninja_text.proofs.book.bind_to_statement.Goals as goal
 

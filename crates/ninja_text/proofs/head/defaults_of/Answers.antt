@@ -1,4 +1,4 @@
-use Rattle.std.proofs.Common.{◌≡◌, ap, sym, ◌∙◌, subst, arith, length}
+use Rattle.std.proofs.Common.{◌≡◌, ap, ◌∙◌, subst, arith, length}
 use Rattle.std.specs.Result.{IfOk}
 use Rattle.ninja_lines.specs.Shown.{texts}
 use Rattle.ninja_text.proofs.FormRead.{defaults_cut}

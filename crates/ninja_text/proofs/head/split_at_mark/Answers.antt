@@ -1,7 +1,6 @@
 use Rattle.std.proofs.lemmas.List.{take_all}
-use Rattle.std.proofs.Common.{suc, Some, length-drop, ◌≡◌, ◌<◌, ◌≤◌, ◌-◌, ◌+◌, length, take, drop, add-one, sym, ap, subst, ◌∙◌, arith}
+use Rattle.std.proofs.Common.{suc, Some, length-drop, ◌≡◌, ◌-◌, ◌+◌, length, take, drop, add-one, sym, ap, ◌∙◌, arith}
 use Rattle.ninja_lines.specs.Shown.{texts}
-use Rattle.ninja_text.specs.Heads.{before_mark}
 use Rattle.ninja_text.proofs.FormRead.{before_mark_is, behind_mark_is, no_mark}
 use Rattle.ninja_text.proofs.head.split_at_mark.Goals as goal
 

@@ -1,4 +1,4 @@
-use Rattle.std.proofs.Common.{[], refl, append-nil, sym, subst, ap}
+use Rattle.std.proofs.Common.{append-nil, sym, subst, ap}
 use Rattle.ninja_text.specs.Reading.{repeats}
 use Rattle.ninja_text.specs.Listing.{IsSetOf}
 use Rattle.ninja_text.proofs.Outs.{adds_refused, adds_more, adds_all, adds_none}

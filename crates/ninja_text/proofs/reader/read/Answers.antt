@@ -1,4 +1,4 @@
-use Rattle.std.proofs.Common.{Ok, Some, None, map, ap, sym, ◌∙◌}
+use Rattle.std.proofs.Common.{Ok, map, ap, sym, ◌∙◌}
 use Rattle.ninja_lines.specs.Shown.{shown_line}
 use Rattle.ninja_text.specs.Learnt.{shown_book}
 use Rattle.ninja_text.specs.Reading.{Book, file_of, read_lines, no_book, unless_refused}

@@ -1,4 +1,4 @@
-use Rattle.std.proofs.Common.{◌≡◌, ◌∷◌, Some, None, lit<, sym, ◌∙◌}
+use Rattle.std.proofs.Common.{◌≡◌, ◌∷◌, Some, None, lit<, sym}
 use Rattle.std.proofs.lemmas.Str.Pattern.{strip_prefix_char}
 use Rattle.ninja_text.proofs.SignRead.{braces_empty, braces_open, braces_closed}
 use Rattle.ninja_text.proofs.value.braced.Goals as goal

@@ -1,4 +1,4 @@
-use Rattle.std.proofs.Common.{◌≡◌, lit<, sym, ap, ◌∙◌, option_map, Some, None, subst, IsUtf8}
+use Rattle.std.proofs.Common.{sym, ap, ◌∙◌, option_map, Some, subst, IsUtf8}
 use native.Mathlib.Nat.{sub-zero}
 use Rattle.std.proofs.lemmas.Str.{IsCharBoundary-before_ascii, IsCharBoundary-after_ascii}
 use Rattle.ninja_text.specs.Built.{built, dollar_at}

@@ -1,5 +1,5 @@
-use Rattle.std.proofs.Common.{arith, ◌≡◌, ◌∷◌, Some, None, lit<, sym, ◌∙◌}
-use Rattle.ninja_text.proofs.SignRead.{first_boundary, escaped_ascii, sign_escaped, sign_braces, sign_named, sign_nothing}
+use Rattle.std.proofs.Common.{arith, sym}
+use Rattle.ninja_text.proofs.SignRead.{first_boundary, escaped_ascii, sign_escaped, sign_named}
 use Rattle.ninja_text.proofs.value.sign_of.Goals as goal
 
 pub split_at-requires : goal.split_at-requires

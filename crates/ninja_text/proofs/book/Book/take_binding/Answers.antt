@@ -1,4 +1,4 @@
-use Rattle.std.proofs.Common.{refl, ap, sym, ◌∙◌, option_map}
+use Rattle.std.proofs.Common.{refl}
 use Rattle.ninja_text.proofs.BookSteps.{binding_taken}
 use Rattle.ninja_text.proofs.book.Book.take_binding.Goals as goal
 

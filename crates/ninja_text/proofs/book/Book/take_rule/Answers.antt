@@ -1,4 +1,4 @@
-use Rattle.std.proofs.Common.{◌≡◌, Some, ap, sym, subst, ◌∙◌, ◌++◌, ◌∷◌, [], refl}
+use Rattle.std.proofs.Common.{◌≡◌, Some, ap, sym, subst, ◌∙◌, [], refl}
 use Rattle.ninja_text.specs.Listing.{IsSetOf}
 use Rattle.ninja_text.specs.Learnt.{shown_book}
 use Rattle.ninja_text.specs.Reading.{Book, opened, names_of}

@@ -1,9 +1,9 @@
-use Rattle.std.proofs.Common.{◌≡◌, ◌||◌, codes, Some, ap, sym, subst, ◌∙◌, refl}
+use Rattle.std.proofs.Common.{◌||◌, codes, Some, ap, sym, subst, ◌∙◌}
 use Rattle.std.specs.Str.{bytes_eq}
 use Rattle.std.specs.Map.{keys_of}
 use Rattle.ninja_text.specs.Listing.{IsSetOf}
 use Rattle.ninja_text.specs.Learnt.{shown_book}
-use Rattle.ninja_text.specs.Reading.{Book, has, opened, names_of}
+use Rattle.ninja_text.specs.Reading.{Book, has, names_of}
 use Rattle.ninja_text.specs.declared.book.Open.TheVariants.{Build}
 use Rattle.ninja_text.proofs.BookSteps.{statement_taken, names_with_statement, learnt_new}
 use Rattle.ninja_text.proofs.book.Book.take_statement.Goals as goal

@@ -1,4 +1,4 @@
-use Rattle.std.proofs.Common.{length, eqb, ap, sym, ◌∙◌, ◌++◌, ◌∷◌, [], rules, arith}
+use Rattle.std.proofs.Common.{length, eqb, ap, sym, ◌∙◌, ◌++◌, ◌∷◌, [], rules}
 use Rattle.ninja_text.specs.declared.file.Piece.TheVariants.{Lit}
 use Rattle.ninja_text.proofs.ValueRead.{nothing_put, literal_put}
 use Rattle.ninja_text.proofs.value.Pieces.end_text.Goals as goal

@@ -1,4 +1,4 @@
-use Rattle.std.proofs.Common.{◌++◌, ◌∷◌, [], ap, sym, ◌∙◌}
+use Rattle.std.proofs.Common.{◌++◌, ◌∷◌, [], ap, ◌∙◌}
 use Rattle.ninja_text.specs.Built.{with_text}
 use Rattle.ninja_text.specs.declared.file.Piece.TheVariants.{Var}
 use Rattle.ninja_text.proofs.ValueRead.{variable_put}
