@@ -116,7 +116,7 @@ variable_lines [] h k = refl
 variable_lines (v ∷ variables) h k = both _ _ (bound_line v.0 (value_text v.1) (named v.0 (first _ _ h)) (value_line v.1 (first _ _ k))) (variable_lines variables (second _ _ h) (second _ _ k))
 
 -- what every text of a list passes, each that it holds passes
-contained_passes : (test : List ℕ → Bool) (texts : List (List ℕ)) (text : List ℕ) → list_all test texts ≡ true → Contains texts text → test text ≡ true
+pub contained_passes : (test : List ℕ → Bool) (texts : List (List ℕ)) (text : List ℕ) → list_all test texts ≡ true → Contains texts text → test text ≡ true
 contained_passes test texts text h held = ap test (sym held.2) ∙ AllPass-from_list_all test texts h held.0 text held.1
 
 names_of : (rules : List NinjaRule) → All IsRule rules → AreLines (map (λ rule. rule.name) rules)

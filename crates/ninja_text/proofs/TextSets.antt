@@ -36,7 +36,7 @@ IsSetOf-more xs i s n h updates set = λ q.
     let more : list_any (bytes_eq q) (take (i + 1) ys) ≡ (list_any (bytes_eq q) (take i ys) || bytes_eq q (get_or ys i [])) = list_any_more (bytes_eq q) ys i [] (simp length-map h) in
     updates (at_bytes q) ∙ ap (λ b. cond b true (contains same s (at_bytes q))) (nat_list_eq_equiv.symm (get_or xs i none).now q ∙ ap (bytes_eq q) (sym here)) ∙ ap (cond (bytes_eq q (get_or ys i [])) true) (set q) ∙ either (list_any (bytes_eq q) (take i ys)) (bytes_eq q (get_or ys i [])) ∙ sym more
 
-turned : (a b : Bool) → b ≡ not a → a ≡ not b
+pub turned : (a b : Bool) → b ≡ not a → a ≡ not b
 turned true b e = sym (ap not e)
 turned false b e = sym (ap not e)
 

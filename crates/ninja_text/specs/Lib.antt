@@ -5,3 +5,9 @@ pub mod Escapes
 pub mod Parts
 pub mod Text
 pub mod WellFormed
+pub mod Values
+pub mod Heads
+pub mod Reading
+pub mod Reads
+pub mod Built
+pub mod Learnt

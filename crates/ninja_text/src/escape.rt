@@ -12,7 +12,8 @@ pub enum Escape {
     Value,
 }
 
-fn is_escaped_byte(escape: Escape, byte: u8) -> bool
+/// Whether a dollar stands before a byte.
+pub fn is_escaped_byte(escape: Escape, byte: u8) -> bool
     ensures { result ≡ is_escaped escape byte }
 {
     match escape {

@@ -1,8 +1,8 @@
 ghost use Rattle.std.specs.Prelude.{◌≡◌, ◌==◌, not};
 ghost use Rattle.std.specs.List.{list_all};
-ghost use Rattle.ninja_text.specs.WellFormed.{is_name_byte, is_name, is_shown, is_value, is_path};
+ghost use Rattle.ninja_text.specs.WellFormed.{is_name_byte, is_name, is_shown, is_value, is_path, is_rule_key};
 
-fn is_name_byte(byte: u8) -> bool
+pub fn is_name_byte(byte: u8) -> bool
     ensures { result ≡ is_name_byte byte }
 {
     byte.is_ascii_alphanumeric() || byte == b'_'
@@ -49,4 +49,11 @@ pub fn is_path(text: &str) -> bool
     ensures { result ≡ is_path text.now }
 {
     is_value(text) && has_no_bar(text.as_bytes())
+}
+
+/// Whether a rule may have a key.
+pub fn is_rule_key(key: &str) -> bool
+    ensures { result ≡ is_rule_key key.now }
+{
+    matches!(key, "command" | "description" | "depfile" | "deps")
 }

@@ -7,7 +7,7 @@ ghost use Rattle.ninja_text.specs.Listing.{IsSetOf};
 ghost use Rattle.ninja_text.specs.Parts.{HasRuleParts, HasStatementParts};
 ghost use Rattle.ninja_text.specs.WellFormed.{is_name, is_value, is_path, is_literal, is_piece, are_apart, is_rule_value, is_rule_key, IsRule, IsStatement, IsWellFormed, outs_of};
 
-use crate::letters::{is_name, is_path, is_value};
+use crate::letters::{is_name, is_path, is_rule_key, is_value};
 use crate::listing::{add_texts, keys, set_of};
 use crate::{NinjaFile, NinjaRule, Piece, Statement};
 use bp_faults::{OutOfMemory, Seq, Text};
@@ -75,12 +75,6 @@ fn are_paths(paths: &[Text]) -> bool
     ensures { result ≡ list_all is_path paths.now }
 {
     paths.iter().all(|path| is_path(path.as_str()))
-}
-
-fn is_rule_key(key: &str) -> bool
-    ensures { result ≡ is_rule_key key.now }
-{
-    matches!(key, "command" | "description" | "depfile" | "deps")
 }
 
 fn are_rule_keys(keys: &[&str]) -> bool

@@ -1,0 +1,5 @@
+pub mod Cuts
+pub mod TextBehind
+pub mod LinesRead
+pub mod Glue
+pub mod JoinedAt
