@@ -1,10 +1,11 @@
 #!/bin/sh
-# Refuses each allocation of the program in turn, on the sample tree, outside the gate: the status is 5 or the run's own,
-# and after status 5 no file has changed. It needs the built program (./bpgen) and a C compiler.
+# Refuses each allocation of the program in turn, on a sample tree (examples/hello, or the folder that is named), outside
+# the gate: the status is 5 or the run's own, and after status 5 no file has changed. It needs the built program (./bpgen) and a C compiler.
 set -eu
 
 top=$(cd "$(dirname "$0")/.." && pwd)
 program=$top/crates/bpgen/out/bpgen
+tree=$(cd "${1:-$top/examples/hello}" && pwd)
 if [ ! -x "$program" ] || ! command -v cc > /dev/null; then
     echo "refuse_allocations: skipped, since there is no built program or no C compiler"
     exit 0
@@ -53,7 +54,7 @@ cc -shared -fPIC -O1 -o "$work/refuse.so" "$work/refuse.c" -ldl
 
 mkdir "$work/tree"
 cd "$work/tree"
-cp "$top/examples/hello/list" "$top/examples/hello/Android.bp" .
+cp "$tree/list" "$tree/Android.bp" .
 COUNTED=$work/count LD_PRELOAD=$work/refuse.so "$program" build -l list -o build.ninja -t android_arm64
 total=$(cat "$work/count")
 mv build.ninja "$work/whole"

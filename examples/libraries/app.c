@@ -1,0 +1,4 @@
+int l(void);
+int r(void);
+
+int main(void) { return l() + r() - 42; }

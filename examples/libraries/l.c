@@ -1,0 +1,3 @@
+int base(void);
+
+int l(void) { return base() + 1; }

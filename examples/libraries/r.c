@@ -1,0 +1,3 @@
+int base(void);
+
+int r(void) { return base() + 1 - 40; }
