@@ -64,7 +64,7 @@ closed_by_line lines first i text rest whole d line less h open_ good same ends 
     record {
       more = omega arith;
       within = omega arith;
-          same = open_ ∙ ap (glue (first + 1) text) (whole_at lines i d h good plain) ∙ ap (λ x. x ∷ behind lines i) (sym shown);
+      same = open_ ∙ ap (glue (first + 1) text) (whole_at lines i d h good plain) ∙ ap (λ x. x ∷ behind lines i) (sym shown);
     }
 
 pub stays_open : (lines : List (Bor (List ℕ))) (first i : ℕ) (text rest front whole : List ℕ) (d : Bor (List ℕ)) → i < length lines → IsOpen lines first text i → is_utf8 (get_or lines i d).now ≡ true → rest ≡ drop_spaces (get_or lines i d).now → dangles false rest ≡ true → front ≡ without_last rest → whole ≡ text ++ front → IsOpen lines first whole (i + 1)
