@@ -110,15 +110,15 @@ impl GroupProps {
         ensures ok { OnOk result (self.new ≡ group_merged winner self.old other.now) }
         ensures err { OnErr result (self.new ≡ self.old) }
     {
-        group_lists!(or_cut self, alloc, self.extend_all(alloc, other, winner))
+        group_lists!(or_cut self, self.extend_all(alloc, other, winner))
     }
 
     /// Drops the fields that the kind's table lacks. It takes no memory.
-    pub(crate) fn restrict(&mut self, alloc: Global, kind: ModuleKind)
+    pub(crate) fn restrict(&mut self, kind: ModuleKind)
         ensures { self.new ≡ group_restricted kind self.old }
     {
         group_scalars!(keep_scalars self, kind);
-        group_lists!(keep_lists self, alloc, kind);
+        group_lists!(keep_lists self, kind);
     }
 }
 

@@ -5,7 +5,6 @@ ghost use Rattle.bp_props.specs.Undo.{mark_of, list_cut, ListBegins};
 use crate::mark::Mark;
 use bp_faults::{OutOfMemory, Payload, Place, Seq};
 use std::alloc::Global;
-use std::mem;
 
 /// A list, with the place of its entry where it is set.
 #[derive(Debug, Drop, PartialEq)]
@@ -52,21 +51,19 @@ impl<T: Drop> Listed<T> {
     }
 
     /// Takes back what was put behind since the mark. It takes no memory.
-    pub(crate) fn cut(&mut self, alloc: Global, mark: Mark)
+    pub(crate) fn cut(&mut self, mark: Mark)
         ensures { self.new ≡ list_cut mark self.old }
     {
-        let items = mem::replace(&mut self.items, Seq::new(Vec::new(alloc)));
-        let mut items = items.into_vec();
-        items.truncate(mark.count);
-        self.items = Seq::new(items);
+        self.items.truncate(mark.count);
         self.at = mark.at;
     }
 
-    pub(crate) fn keep_if(&mut self, alloc: Global, keeps: bool)
+    pub(crate) fn keep_if(&mut self, keeps: bool)
         ensures { self.new ≡ kept_list keeps self.old }
     {
         if !keeps {
-            *self = Listed::empty(alloc);
+            self.items.truncate(0);
+            self.at = None;
         }
     }
 }

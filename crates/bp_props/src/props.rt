@@ -162,7 +162,7 @@ impl Props {
         ensures groups { OnOk result (EachMerged winner self.old.groups other.now.groups self.new.groups) }
         ensures begins { OnErr result (BaseBegins self.old self.new) }
     {
-        lists!(or_cut self, alloc, self.extend(alloc, other, winner))
+        lists!(or_cut self, self.extend(alloc, other, winner))
     }
 
     // Merges a record into this one, but for `name` and `defaults`.
@@ -171,7 +171,7 @@ impl Props {
         ensures groups { OnOk result (EachMerged winner self.old.groups other.now.groups self.new.groups) }
         ensures err { OnErr result (self.new ≡ self.old) }
     {
-        group_lists!(or_cut self.base, alloc, self.extend_base(alloc, other, winner))
+        group_lists!(or_cut self.base, self.extend_base(alloc, other, winner))
     }
 
     /// Appends a group: its lists go behind, and each scalar that it sets replaces.
@@ -209,14 +209,14 @@ impl Props {
 
     /// Drops the fields that the table of the kind lacks. What the mutators compute stays. It takes no
     /// memory.
-    pub fn restrict(&mut self, alloc: Global, kind: ModuleKind)
+    pub fn restrict(&mut self, kind: ModuleKind)
         ensures { self.new ≡ props_restricted kind self.old }
     {
-        self.base.restrict(alloc, kind);
+        self.base.restrict(kind);
         keep_scalar(&mut self.name, kind.has(Field::Name));
-        self.defaults.keep_if(alloc, kind.has(Field::Defaults));
+        self.defaults.keep_if(kind.has(Field::Defaults));
         scalars!(keep_scalars self, kind);
-        lists!(keep_lists self, alloc, kind);
+        lists!(keep_lists self, kind);
         self.groups.restrict(kind);
     }
 }

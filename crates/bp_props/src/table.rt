@@ -82,12 +82,12 @@ macro_rules! copy_scalars {
 
 /// What an attempt answers; after a refusal each list is cut back to what it was.
 macro_rules! or_cut {
-    ([$record:expr, $alloc:expr, $attempt:expr] $(($name:ident $field:ident))*) => {{
+    ([$record:expr, $attempt:expr] $(($name:ident $field:ident))*) => {{
         $(let $name = $record.$name.mark();)*
         match $attempt {
             Ok(()) => Ok(()),
             Err(refusal) => {
-                $($record.$name.cut($alloc, $name);)*
+                $($record.$name.cut($name);)*
                 Err(refusal)
             }
         }
@@ -101,8 +101,8 @@ macro_rules! merge_scalars {
 }
 
 macro_rules! keep_lists {
-    ([$record:expr, $alloc:expr, $kind:expr] $(($name:ident $field:ident))*) => {{
-        $($record.$name.keep_if($alloc, $kind.has(Field::$field));)*
+    ([$record:expr, $kind:expr] $(($name:ident $field:ident))*) => {{
+        $($record.$name.keep_if($kind.has(Field::$field));)*
     }};
 }
 

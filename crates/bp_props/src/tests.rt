@@ -406,7 +406,7 @@ fn records_are_merged_field_by_field(rt: HostRuntime) -> Result<(), Fail> {
     assert_eq!(rt; shown(alloc, &followed)?.as_str(), FOLLOWED);
     assert_eq!(rt; shown(alloc, &over)?.as_str(), OVER);
     assert_eq!(rt; shown(alloc, &appended)?.as_str(), APPENDED);
-    over.restrict(alloc, ModuleKind::Filegroup);
+    over.restrict(ModuleKind::Filegroup);
     assert_eq!(rt; shown(alloc, &over)?.as_str(), OF_A_FILEGROUP);
     Ok(())
 }

@@ -1,15 +1,14 @@
 -- The step of the loop that unites two maps.
-use Rattle.std.proofs.Common.{◌≡◌, ℕ, ◌+◌, ◌<◌, List, [], ◌∷◌, ◌++◌, length, get_or, map, take, drop, refl, sym, ap, ◌∙◌, Result, Ok, Err, append_assoc, Bool, true, false, not, cond, subst}
+use Rattle.std.proofs.Common.{◌≡◌, ℕ, List, [], ◌∷◌, ◌++◌, map, refl, sym, ap, ◌∙◌, Result, Ok, Err, append_assoc, subst}
 use Rattle.bp_faults.specs.declared.place.Place.{Place}
 use Rattle.bp_faults.specs.declared.fault.Fault.{Fault}
 use Rattle.bp_values.specs.declared.value.Entry.{Entry, out-Entry}
 use Rattle.bp_values.proofs.Views.{field_out}
 use Rattle.bp_faults.specs.declared.refusal.Refusal.{Refusal}
 use Rattle.bp_faults.specs.declared.refusal.Refusal.TheVariants.{Bad, OutOfMemory}
-use Rattle.bp_values.proofs.Steps.{map_take_more, map_drop_cons}
 use Rattle.bp_values.specs.Values.{field_of, meaning, Meaning, no_field, Field, fields_then, fields_of, body}
 use Rattle.bp_faults.specs.Answers.{then_do, Answers, Refuses}
-use Rattle.bp_values.specs.Sums.{field_then, met, sum, sum_fields, value_at, others, has_name}
+use Rattle.bp_values.specs.Sums.{field_then, met, sum, sum_fields, value_at, others}
 
 -- the entries done, and then what comes
 abbrev pub prefixed : List Field → Result (List Field) Fault → Result (List Field) Fault
@@ -30,46 +29,22 @@ pub stops : (done : List Field) (name : List ℕ) (at : Place) (f : Fault) (r : 
     → prefixed done (field_then name at r more) ≡ Err f
 stops done name at f r more e = rw e refl
 
--- an entry that the others lack is kept
-pub others_more : (fs gs : List Field) (f : Field) → others (fs ++ f ∷ []) gs ≡ others fs gs ++ cond (has_name gs f.name) [] (f ∷ [])
-others_more [] gs f = by (has_name gs f.name)
-  where
-    by : (b : Bool) → cond (not b) (f ∷ []) [] ≡ [] ++ cond b [] (f ∷ [])
-    by true = refl
-    by false = refl
-others_more (x ∷ fs) gs f = by (has_name gs x.name) (others_more fs gs f)
-  where
-    by : (b : Bool) → others (fs ++ f ∷ []) gs ≡ others fs gs ++ cond (has_name gs f.name) [] (f ∷ []) → cond (not b) (x ∷ others (fs ++ f ∷ []) gs) (others (fs ++ f ∷ []) gs) ≡ cond (not b) (x ∷ others fs gs) (others fs gs) ++ cond (has_name gs f.name) [] (f ∷ [])
-    by true e = e
-    by false e = ap (λ l. x ∷ l) e
-
 -- the sum of two maps, by their lists
 pub sum_bodies : (at : Place) (fs gs : List Field) → sum at (body fs) (body gs) ≡ then_do (sum_fields at (fields_then fs no_field) gs) (λ hs. Ok (body (hs ++ others gs fs)))
 sum_bodies at fs gs = rw (fields_back gs, fields_back fs) refl
 
--- the step of the loop over the second map's entries
-pub others_step : (es : List Entry) (i : ℕ) (e : Entry) (gs start done now : List Field) (known : Bool) → i < length es → e ≡ get_or es i e
-    → done ≡ start ++ others (map field_of (take i es)) gs → known ≡ has_name gs (field_of e).name → now ≡ done ++ cond known [] (field_of e ∷ [])
-    → now ≡ start ++ others (map field_of (take (i + 1) es)) gs
-others_step es i e gs start done now known within item before is after =
-    let kept : map field_of (take (i + 1) es) ≡ map field_of (take i es) ++ field_of e ∷ [] =
-    map_take_more field_of es i e within ∙ ap (λ x. map field_of (take i es) ++ field_of x ∷ []) (sym item) in
-    after ∙ rw (before, is, kept, others_more (map field_of (take i es)) gs (field_of e)) (append_assoc start (others (map field_of (take i es)) gs) (cond (has_name gs (field_of e).name) [] (field_of e ∷ [])))
-
 -- the step of the loop over the first map's entries
-pub each_step : (es : List Entry) (i : ℕ) (e : Entry) (at : Place) (gs done now : List Field) (whole : Result (List Field) Fault) (v : Meaning) (name : List ℕ) → i < length es → e ≡ get_or es i e
-    → whole ≡ prefixed done (sum_fields at (fields_then (map field_of (drop i es)) no_field) gs)
+pub each_step : (left rest : List Entry) (e : Entry) (at : Place) (gs done now : List Field) (whole : Result (List Field) Fault) (v : Meaning) → left ≡ e ∷ rest
+    → whole ≡ prefixed done (sum_fields at (fields_then (map field_of left) no_field) gs)
     → met (meaning (out-Entry e).value) (sum at (meaning (out-Entry e).value)) (value_at (out-Entry e).name gs) ≡ Ok v
-    → name ≡ (out-Entry e).name → now ≡ done ++ (record { name = name; at = (out-Entry e).at; value = v }) ∷ []
-    → whole ≡ prefixed now (sum_fields at (fields_then (map field_of (drop (i + 1) es)) no_field) gs)
-each_step es i e at gs done now whole v name within item before had named after =
-    let rest : map field_of (drop i es) ≡ field_of e ∷ map field_of (drop (i + 1) es) =
-    map_drop_cons field_of es i e within ∙ ap (λ x. field_of x ∷ map field_of (drop (i + 1) es)) (sym item) in
+    → now ≡ done ++ (record { name = (out-Entry e).name; at = (out-Entry e).at; value = v }) ∷ []
+    → whole ≡ prefixed now (sum_fields at (fields_then (map field_of rest) no_field) gs)
+each_step left rest e at gs done now whole v is before had after =
     let had2 : met (field_of e).value (sum at (field_of e).value) (value_at (field_of e).name gs) ≡ Ok v = rw (field_out e) had in
-    let after2 : now ≡ done ++ (record { name = (field_of e).name; at = (field_of e).at; value = v }) ∷ [] = rw (field_out e, ← named) after in
-    before ∙ ap (λ l. prefixed done (sum_fields at (fields_then l no_field) gs)) rest
-    ∙ one_more done (field_of e).name (field_of e).at v (met (field_of e).value (sum at (field_of e).value) (value_at (field_of e).name gs)) (sum_fields at (fields_then (map field_of (drop (i + 1) es)) no_field) gs) had2
-    ∙ ap (λ l. prefixed l (sum_fields at (fields_then (map field_of (drop (i + 1) es)) no_field) gs)) (sym after2)
+    let after2 : now ≡ done ++ (record { name = (field_of e).name; at = (field_of e).at; value = v }) ∷ [] = rw (field_out e) after in
+    before ∙ ap (λ es. prefixed done (sum_fields at (fields_then (map field_of es) no_field) gs)) is
+    ∙ one_more done (field_of e).name (field_of e).at v (met (field_of e).value (sum at (field_of e).value) (value_at (field_of e).name gs)) (sum_fields at (fields_then (map field_of rest) no_field) gs) had2
+    ∙ ap (λ l. prefixed l (sum_fields at (fields_then (map field_of rest) no_field) gs)) (sym after2)
 
 -- a refusal of the first is the answer
 pub passes : {Y Z W : Type 0} (other : Z → W) (r : Result Z Refusal) (e : Refusal) (first : Result Y Fault) (next : Y → Result W Fault)

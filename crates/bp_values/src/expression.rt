@@ -7,7 +7,7 @@ ghost use Rattle.bp_values.specs.Scopes.{pairs_of, value_in};
 ghost use Rattle.bp_values.specs.Expressions.{val, val_items, val_terms, val_entries, val_map, item_of, first_place as place_of, known as known_as};
 
 use crate::depth::within_depth;
-use crate::sums::{add, too_many};
+use crate::sums::{add, add_copy, too_many};
 use crate::value::{copy_value, make_entry, map_value};
 use crate::{Entry, EvalError, Scope, Value};
 use bp_faults::{Fault, FaultKind, Item, Place, Text};
@@ -29,12 +29,17 @@ fn first_place(expr: &Expr) -> Place
     }
 }
 
-/// The value of a name.
-fn read(alloc: Global, scope: &Scope, at: Place, name: &Text) -> Result<Value, EvalError>
-    ensures { Answers meaning result (known_as at name.now (value_in (pairs_of scope.now) name.now)) }
+/// The value of a name, which the scope keeps.
+fn named<'a>(
+    alloc: Global,
+    scope: &'a Scope,
+    at: Place,
+    name: &Text,
+) -> Result<&'a Value, EvalError>
+    ensures { Answers (λ v. meaning v.now) result (known_as at name.now (value_in (pairs_of scope.now) name.now)) }
 {
     match scope.get(name) {
-        Some(value) => Ok(copy_value(alloc, value)?),
+        Some(value) => Ok(value),
         None => Err(EvalError::Bad(Fault::on(
             alloc,
             FaultKind::UnknownVariable,
@@ -42,6 +47,14 @@ fn read(alloc: Global, scope: &Scope, at: Place, name: &Text) -> Result<Value, E
             name.copy(alloc)?,
         ))),
     }
+}
+
+/// A copy of the value of a name.
+fn read(alloc: Global, scope: &Scope, at: Place, name: &Text) -> Result<Value, EvalError>
+    ensures { Answers meaning result (known_as at name.now (value_in (pairs_of scope.now) name.now)) }
+{
+    let value = named(alloc, scope, at, name)?;
+    Ok(copy_value(alloc, value)?)
 }
 
 /// The item that a value is, where it is a string.
@@ -141,6 +154,10 @@ fn add_term(
 ) -> Result<Value, EvalError>
     ensures { Answers meaning result (then_do (val (pairs_of scope.now) (tree_of term.now)) (sum_of at (meaning total))) }
 {
+    if let Expr::Name(place, name) = term {
+        let other = named(alloc, scope, *place, name)?;
+        return add_copy(alloc, total, other, at);
+    }
     let other = value_of(alloc, scope, term)?;
     add(alloc, total, other, at)
 }

@@ -1,15 +1,16 @@
-ghost use Rattle.std.specs.Prelude.{◌≡◌, ℤ, ◌+ℤ◌, List, ℕ, map, IfOk, length, position, [], ◌∷◌, OnOk, unwrap_or, option_map, ◌++◌, Some, None, if◌then◌else◌};
+ghost use Rattle.std.specs.Prelude.{◌≡◌, ℤ, ◌+ℤ◌, List, ℕ, map, IfOk, length, position, [], ◌∷◌, OnOk, unwrap_or, option_map, ◌++◌, Some, None, if◌then◌else◌, ◌||◌, ◌&&◌, is_some};
+ghost use Rattle.std.specs.List.{list_any};
 ghost use Rattle.std.specs.Str.{bytes_eq};
 ghost use Rattle.indexmap.specs.IndexMap.{get, Updates};
 ghost use Rattle.bp_values.specs.Values.{meaning, field_of, fields_then, no_field, Field, fields_of, Truth, Number, Str, Items, Body, body};
 ghost use Rattle.bp_faults.specs.Answers.{Answers};
 ghost use Rattle.bp_faults.specs.Faults.{fault_on};
-ghost use Rattle.bp_values.specs.Sums.{sum as sum_of, sum_fields, sum_number, sum_text, sum_item, sum_texts, sum_items, sum_numbers, cannot_add as cannot_be_added, word as word_of, fits, others, met, value_at, place_of, has_name, IsIndex};
+ghost use Rattle.bp_values.specs.Sums.{sum as sum_of, sum_fields, sum_number, sum_text, sum_item, sum_texts, sum_items, sum_numbers, cannot_add as cannot_be_added, word as word_of, fits, met, value_at, place_of, IsIndex, HasMet, not_among};
 
 use crate::value::{copy_entry, copy_value, make_entry, map_value};
 use crate::{Entry, EvalError, Value};
 use bp_faults::{Fault, FaultKind, Item, OutOfMemory, Payload, Place, Text, copy_all};
-use indexmap::IndexMap;
+use indexmap::{IndexMap, IndexSet};
 use std::alloc::Global;
 
 /// The word for a value's type.
@@ -42,37 +43,31 @@ pub(crate) fn too_many(alloc: Global, at: Place, what: &str) -> Result<Fault, Ou
     Ok(Fault::on(alloc, FaultKind::TooMany, at, Text::new(subject)))
 }
 
-fn sum_texts(alloc: Global, at: Place, a: &Text, b: &Text) -> Result<Value, EvalError>
-    ensures { Answers meaning result (sum_texts at a.now b.now) }
+/// Both texts, the second put behind the first.
+fn join(alloc: Global, at: Place, mut first: Text, second: &Text) -> Result<Value, EvalError>
+    ensures { Answers meaning result (sum_texts at first second.now) }
 {
-    let first = a.as_str();
-    let second = b.as_str();
-    if first.len() + second.len() > 1 << 20 {
+    if first.as_str().len() + second.as_str().len() > 1 << 20 {
         return Err(EvalError::Bad(too_many(alloc, at, "string")?));
     }
-    let text = format!(in alloc; "{first}{second}")?;
-    Ok(Value::Str(Text::new(text)))
+    first.push_str(second.as_str())?;
+    Ok(Value::Str(first))
 }
 
-/// The items of both, those of `a` first.
-fn joined(alloc: Global, a: &[Item], b: &[Item]) -> Result<Vec<Item>, OutOfMemory>
-    ensures { IfOk result (λ items. items.items ≡ a.now ++ b.now) }
+/// The items of both, those of `first` first.
+fn append(
+    alloc: Global,
+    at: Place,
+    mut first: Vec<Item>,
+    mut second: Vec<Item>,
+) -> Result<Value, EvalError>
+    ensures { Answers meaning result (sum_items at first.items second.items) }
 {
-    let mut items = copy_all(alloc, a)?;
-    for item in b {
-        items.push(item.copy(alloc)?)?;
-    }
-    Ok(items)
-}
-
-fn sum_lists(alloc: Global, at: Place, a: &[Item], b: &[Item]) -> Result<Value, EvalError>
-    ensures { Answers meaning result (sum_items at a.now b.now) }
-{
-    if a.len() + b.len() > 1 << 16 {
+    if first.len() + second.len() > 1 << 16 {
         return Err(EvalError::Bad(too_many(alloc, at, "list")?));
     }
-    let items = joined(alloc, a, b)?;
-    Ok(Value::Strs(items))
+    first.append(&mut second)?;
+    Ok(Value::Strs(first))
 }
 
 fn added(a: i64, b: i64) -> Option<i64>
@@ -118,119 +113,188 @@ fn find<'a>(places: &IndexMap<Text, usize>, entries: &'a [Entry], name: &Text) -
     }
 }
 
-/// Whether there is an entry of that name.
-fn has(places: &IndexMap<Text, usize>, entries: &[Entry], name: &Text) -> bool
-    requires { IsIndex places.now (map field_of entries.now) }
-    ensures { result ≡ has_name (map field_of entries.now) name.now }
-{
-    places.contains_key(name)
-}
-
 /// The sum of two values: *cannot add* or *too many* where there is none.
-#[cycle(sums)]
 pub fn sum(alloc: Global, a: &Value, b: &Value, at: Place) -> Result<Value, EvalError>
     ensures { Answers meaning result (sum_of at (meaning a.now) (meaning b.now)) }
 {
-    match (a, b) {
-        (Value::Int(m), Value::Int(n)) => match added(*m, *n) {
-            Some(total) => Ok(Value::Int(total)),
-            None => Err(EvalError::Bad(cannot_add(alloc, at, a, b)?)),
-        },
-        (Value::Str(m), Value::Str(n)) => sum_texts(alloc, at, m, n),
-        (Value::Strs(m), Value::Strs(n)) => sum_lists(alloc, at, m.as_slice(), n.as_slice()),
-        (Value::Map(m), Value::Map(n)) => unite(alloc, m.as_slice(), n.as_slice(), at),
-        _ => Err(EvalError::Bad(cannot_add(alloc, at, a, b)?)),
-    }
+    let total = copy_value(alloc, a)?;
+    add_copy(alloc, total, b, at)
 }
 
-/// The sum of two values that are no longer needed: the items of lists are moved.
-pub fn add(alloc: Global, a: Value, b: Value, at: Place) -> Result<Value, EvalError>
+/// The sum of two values that are no longer needed: what is only passed on is moved.
+pub(crate) fn add(alloc: Global, a: Value, b: Value, at: Place) -> Result<Value, EvalError>
     ensures { Answers meaning result (sum_of at (meaning a) (meaning b)) }
 {
     match (a, b) {
         (Value::Strs(first), Value::Strs(second)) => append(alloc, at, first, second),
-        (a, b) => sum(alloc, &a, &b, at),
+        (Value::Map(first), Value::Map(second)) => unite(alloc, at, first, second),
+        (a, b) => add_copy(alloc, a, &b, at),
     }
 }
 
-/// The items of both, those of `first` first.
-fn append(
+/// The sum of a value that is no longer needed and of one that stays.
+#[cycle(sums)]
+pub(crate) fn add_copy(alloc: Global, a: Value, b: &Value, at: Place) -> Result<Value, EvalError>
+    ensures { Answers meaning result (sum_of at (meaning a) (meaning b.now)) }
+{
+    match (a, b) {
+        (Value::Int(m), Value::Int(n)) => match added(m, *n) {
+            Some(total) => Ok(Value::Int(total)),
+            None => Err(EvalError::Bad(cannot_add(alloc, at, &Value::Int(m), b)?)),
+        },
+        (Value::Str(first), Value::Str(second)) => join(alloc, at, first, second),
+        (Value::Strs(first), Value::Strs(second)) => {
+            append(alloc, at, first, copy_all(alloc, second.as_slice())?)
+        }
+        (Value::Map(first), Value::Map(second)) => {
+            unite_copy(alloc, at, first, second.as_slice())
+        }
+        (a, b) => Err(EvalError::Bad(cannot_add(alloc, at, &a, b)?)),
+    }
+}
+
+/// The entries of `first`, each with its sum, then a copy of the others of `second`.
+#[cycle(sums)]
+fn unite_copy(
     alloc: Global,
     at: Place,
-    mut first: Vec<Item>,
-    mut second: Vec<Item>,
+    first: Vec<Entry>,
+    second: &[Entry],
 ) -> Result<Value, EvalError>
-    ensures { Answers meaning result (sum_items at first.items second.items) }
+    ensures { Answers meaning result (sum_of at (body (map field_of first.items)) (body (map field_of second.now))) }
 {
-    if first.len() + second.len() > 1 << 16 {
-        return Err(EvalError::Bad(too_many(alloc, at, "list")?));
-    }
-    first.append(&mut second)?;
-    Ok(Value::Strs(first))
-}
-
-/// The entries of `a`, each with its sum, then the others of `b`.
-#[cycle(sums)]
-fn unite(alloc: Global, a: &[Entry], b: &[Entry], at: Place) -> Result<Value, EvalError>
-    ensures { Answers meaning result (sum_of at (body (map field_of a.now)) (body (map field_of b.now))) }
-{
-    let mut entries = sum_each(alloc, a, b, at)?;
-    add_others(alloc, &mut entries, a, b)?;
+    let places = index(alloc, second)?;
+    let met = names_met(alloc, first.as_slice(), &places)?;
+    let mut entries = sum_each(alloc, at, first, second, &places)?;
+    copy_others(alloc, &mut entries, second, &met)?;
     Ok(map_value(entries))
 }
 
-/// The entries of `a`, each with its sum.
-#[cycle(sums)]
-fn sum_each(alloc: Global, a: &[Entry], b: &[Entry], at: Place) -> Result<Vec<Entry>, EvalError>
-    ensures { Answers (λ es. map field_of es.items) result (sum_fields at (fields_then (map field_of a.now) no_field) (map field_of b.now)) }
+/// The entries of `first`, each with its sum, then the others of `second`.
+fn unite(
+    alloc: Global,
+    at: Place,
+    first: Vec<Entry>,
+    second: Vec<Entry>,
+) -> Result<Value, EvalError>
+    ensures { Answers meaning result (sum_of at (body (map field_of first.items)) (body (map field_of second.items))) }
 {
-    let places = index(alloc, b)?;
+    let places = index(alloc, second.as_slice())?;
+    let met = names_met(alloc, first.as_slice(), &places)?;
+    let mut entries = sum_each(alloc, at, first, second.as_slice(), &places)?;
+    move_others(&mut entries, second, &met)?;
+    Ok(map_value(entries))
+}
+
+/// Each entry of `first`, with its sum where `second` has its name.
+#[cycle(sums)]
+fn sum_each(
+    alloc: Global,
+    at: Place,
+    first: Vec<Entry>,
+    second: &[Entry],
+    places: &IndexMap<Text, usize>,
+) -> Result<Vec<Entry>, EvalError>
+    requires { IsIndex places.now (map field_of second.now) }
+    ensures { Answers (λ es. map field_of es.items) result (sum_fields at (fields_then (map field_of first.items) no_field) (map field_of second.now)) }
+{
     let mut entries = Vec::new(alloc);
-    for entry in a {
-        let value = meet(alloc, &entry.value, find(&places, b, &entry.name), at)?;
-        entries.push(make_entry(entry.name.copy(alloc)?, entry.at, value))?;
+    for entry in first {
+        let value = meet(alloc, entry.value, find(places, second, &entry.name), at)?;
+        entries.push(make_entry(entry.name, entry.at, value))?;
     }
     Ok(entries)
 }
 
 /// The value alone, or its sum with another.
 #[cycle(sums)]
-fn meet(alloc: Global, value: &Value, other: Option<&Entry>, at: Place) -> Result<Value, EvalError>
-    ensures { Answers meaning result (met (meaning value.now) (sum_of at (meaning value.now)) (option_map (λ e. (field_of e.now).value) other.entry)) }
+fn meet(alloc: Global, value: Value, other: Option<&Entry>, at: Place) -> Result<Value, EvalError>
+    ensures { Answers meaning result (met (meaning value) (sum_of at (meaning value)) (option_map (λ e. (field_of e.now).value) other.entry)) }
 {
     match other {
-        Some(entry) => sum(alloc, value, &entry.value, at),
-        None => Ok(copy_value(alloc, value)?),
+        Some(entry) => add_copy(alloc, value, &entry.value, at),
+        None => Ok(value),
     }
 }
 
-/// Adds those of `b` whose names `a` lacks.
-fn add_others(
+/// Notes a name where it has a place.
+fn meet_name(
     alloc: Global,
-    entries: &mut Vec<Entry>,
-    a: &[Entry],
-    b: &[Entry],
+    met: &mut IndexSet<Text>,
+    name: &Text,
+    places: &IndexMap<Text, usize>,
 ) -> Result<(), OutOfMemory>
-    ensures { OnOk result (map field_of entries.new.items ≡ map field_of entries.old.items ++ others (map field_of b.now) (map field_of a.now)) }
+    ensures { OnOk result ((q : List ℕ) → list_any (bytes_eq q) met.new.keys ≡ (list_any (bytes_eq q) met.old.keys || (bytes_eq q name.now && is_some (get bytes_eq places.now q)))) }
 {
-    let places = index(alloc, a)?;
-    for entry in b {
-        add_unless(alloc, entries, entry, has(&places, a, &entry.name))?;
+    if places.contains_key(name) {
+        met.insert(name.copy(alloc)?)?;
     }
     Ok(())
 }
 
-fn add_unless(
+/// The names of `entries` that have a place.
+fn names_met(
+    alloc: Global,
+    entries: &[Entry],
+    places: &IndexMap<Text, usize>,
+) -> Result<IndexSet<Text>, OutOfMemory>
+    ensures { IfOk result (λ met. HasMet met.keys places.now (map field_of entries.now)) }
+{
+    let mut met = IndexSet::new(alloc);
+    for entry in entries {
+        meet_name(alloc, &mut met, &entry.name, places)?;
+    }
+    Ok(met)
+}
+
+/// Puts the entries behind whose names weren't met.
+fn move_others(
+    entries: &mut Vec<Entry>,
+    others: Vec<Entry>,
+    met: &IndexSet<Text>,
+) -> Result<(), OutOfMemory>
+    ensures { OnOk result (map field_of entries.new.items ≡ map field_of entries.old.items ++ not_among met.now.keys (map field_of others.items)) }
+{
+    for entry in others {
+        push_unless(entries, met.contains(&entry.name), entry)?;
+    }
+    Ok(())
+}
+
+fn push_unless(entries: &mut Vec<Entry>, met: bool, entry: Entry) -> Result<(), OutOfMemory>
+    ensures { OnOk result (map field_of entries.new.items ≡ map field_of entries.old.items ++ (if met then [] else (field_of entry ∷ []))) }
+{
+    if !met {
+        entries.push(entry)?;
+    }
+    Ok(())
+}
+
+/// Puts a copy of the entries behind whose names weren't met.
+fn copy_others(
     alloc: Global,
     entries: &mut Vec<Entry>,
-    entry: &Entry,
-    known: bool,
+    others: &[Entry],
+    met: &IndexSet<Text>,
 ) -> Result<(), OutOfMemory>
-    ensures { OnOk result (map field_of entries.new.items ≡ map field_of entries.old.items ++ (if known then [] else (field_of entry.now ∷ []))) }
+    ensures { OnOk result (map field_of entries.new.items ≡ map field_of entries.old.items ++ not_among met.now.keys (map field_of others.now)) }
 {
-    if known {
+    for entry in others {
+        copy_unless(alloc, entries, met.contains(&entry.name), entry)?;
+    }
+    Ok(())
+}
+
+fn copy_unless(
+    alloc: Global,
+    entries: &mut Vec<Entry>,
+    met: bool,
+    entry: &Entry,
+) -> Result<(), OutOfMemory>
+    ensures { OnOk result (map field_of entries.new.items ≡ map field_of entries.old.items ++ (if met then [] else (field_of entry.now ∷ []))) }
+{
+    if met {
         return Ok(());
     }
-    entries.push(copy_entry(alloc, entry)?)?;
-    Ok(())
+    push_unless(entries, met, copy_entry(alloc, entry)?)
 }

@@ -1,5 +1,5 @@
 -- A run along a legal order.
-use Rattle.std.proofs.Common.{◌≡◌, ◌+◌, ◌<◌, ◌≤◌, ℕ, List, [], ◌∷◌, ◌++◌, map, length, get_or, take, ap, arith, ◌∙◌, sym, subst, Option, Some, Result, IsSome}
+use Rattle.std.proofs.Common.{◌≡◌, ◌+◌, ◌<◌, ◌≤◌, ℕ, List, [], ◌∷◌, ◌++◌, length, get_or, take, ap, arith, ◌∙◌, sym, subst, Option, Some, Result, IsSome}
 use Rattle.std.specs.Prelude.{slice_index, slice_set}
 use Rattle.std.specs.List.{AllByRecursion, Contains}
 use Rattle.std.specs.declared.sync.Arc.{Arc}
@@ -12,7 +12,7 @@ use Rattle.bp_faults.specs.declared.ids.NodeId.{NodeId}
 use Rattle.pass_core.specs.declared.plan.Plan.{Plan}
 use Rattle.pass_core.specs.Plans.{predecessors}
 use Rattle.pass_core.specs.Orders.{IsLegal, numbers}
-use Rattle.pass_core.specs.Results.{NodeResult, Done, node_result}
+use Rattle.pass_core.specs.Results.{Done, node_result}
 use Rattle.pass_core.specs.Made.{made_at, IsMade}
 use Rattle.pass_core.proofs.Along.{made_more}
 use Rattle.pass_core.proofs.Lists.{all_map, all_contained}

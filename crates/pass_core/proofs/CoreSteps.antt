@@ -1,5 +1,5 @@
 -- Each step keeps what a core keeps.
-use Rattle.std.proofs.Common.{◌≡◌, ◌≢◌, ◌+◌, ◌-◌, ◌*◌, ◌<◌, ◌≤◌, ℕ, suc, true, Bool, List, map, length, refl, ap, arith, ◌∙◌, sym, subst, Option, Some, None, Result, ⊎_elim, length-set, zero-add}
+use Rattle.std.proofs.Common.{◌≡◌, ◌≢◌, ◌+◌, ◌-◌, ◌*◌, ◌<◌, ◌≤◌, ℕ, suc, true, Bool, List, map, length, refl, ap, arith, ◌∙◌, sym, subst, Option, Some, Result, ⊎_elim, length-set, zero-add}
 use Rattle.std.specs.Prelude.{slice_get, slice_index, slice_set}
 use Rattle.std.specs.List.{AllByRecursion}
 use mathlib.Core.Logic.{dite}
@@ -12,14 +12,14 @@ use Rattle.pass_core.specs.declared.plan.Plan.{Plan}
 use Rattle.pass_core.specs.declared.published.Published.{Published}
 use Rattle.pass_core.specs.declared.step.Step.{Step}
 use Rattle.pass_core.specs.declared.step.Step.TheVariants.{Claim, Fetch, Fill, Subtract}
-use Rattle.pass_core.specs.Results.{NodeResult, node_result}
+use Rattle.pass_core.specs.Results.{node_result}
 use Rattle.pass_core.specs.Shown.{shown}
-use Rattle.pass_core.specs.CoreStates.{CoreState, from_of, to_of, numbers_into, IsMarked, VisitWasMade, made, Allows, after, entries}
+use Rattle.pass_core.specs.CoreStates.{CoreState, from_of, to_of, numbers_into, IsMarked, VisitWasMade, made, Allows, after}
 use Rattle.pass_core.specs.CoreKept.{IsSound, IsCore, PublishesLast, left, shown_in}
 use Rattle.pass_core.proofs.Lists.{get_here, get_else}
 use Rattle.pass_core.proofs.Marks.{map_set, marks_most, fills_most, marked_before, still_marked, now_marked}
 use Rattle.pass_core.proofs.Numbered.{all_into, each_into, left_none, none_left, left_lower, left_same}
-use Rattle.pass_core.proofs.Sound.{step_keeps, step_adds, made_right, source_inside, target_inside, filled_inside}
+use Rattle.pass_core.proofs.Sound.{step_keeps, step_adds, made_right, source_inside, target_inside}
 
 module _ (plan : Plan) (marks : List Bool) (n : ℕ) where
   all_if_none : length marks ≡ length plan.edges → left plan.edges marks n ≡ 0 → AllByRecursion (IsMarked marks) (numbers_into 0 plan.edges n)

@@ -1,5 +1,5 @@
 -- What the tables of a core show of its state.
-use Rattle.std.proofs.Common.{◌≡◌, ◌+◌, ◌-◌, ◌<◌, ◌≤◌, ℕ, Bool, true, false, List, map, length, get_or, refl, ap, arith, ◌∙◌, sym, subst, Option, Some, None}
+use Rattle.std.proofs.Common.{◌≡◌, ◌-◌, ◌<◌, ℕ, Bool, true, false, List, map, length, get_or, refl, ap, arith, ◌∙◌, sym, Option, Some, None}
 use Rattle.std.specs.Prelude.{slice_get, slice_index, slice_set, is_some, nat_eq, IsTrue}
 use Rattle.std.proofs.lemmas.List.{get_or-map}
 use Rattle.std.proofs.lemmas.Option.{slice_get_read}

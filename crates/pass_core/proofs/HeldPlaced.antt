@@ -1,12 +1,12 @@
 -- The in-edges of a node hold what stands between two places of the table.
-use Rattle.std.proofs.Common.{◌≡◌, ◌+◌, ◌-◌, ◌<◌, ◌≤◌, ℕ, List, map, length, take, drop, refl, ap, arith, ◌∙◌, sym, subst, Option, Some, None, Result, zero-add}
+use Rattle.std.proofs.Common.{◌≡◌, ◌+◌, ◌-◌, ◌<◌, ◌≤◌, ℕ, List, map, length, take, drop, ap, arith, ◌∙◌, sym, Option, Some, Result, zero-add}
 use Rattle.std.specs.Prelude.{slice_get, slice_index}
 use Rattle.std.proofs.lemmas.List.{length-map}
 use Rattle.bp_faults.specs.declared.fault.Fault.{Fault}
 use Rattle.pass_core.specs.declared.plan.Plan.{Plan}
 use Rattle.pass_core.specs.declared.published.Published.{Published}
 use Rattle.pass_core.specs.Plans.{predecessors, IsPlan}
-use Rattle.pass_core.specs.InEdges.{AreStarts, edges_below}
+use Rattle.pass_core.specs.InEdges.{AreStarts}
 use Rattle.pass_core.specs.Results.{NodeResult, judged, outs_of}
 use Rattle.pass_core.specs.CoreStates.{from_of, numbers_into, result_in}
 use Rattle.pass_core.specs.CoreKept.{shown_in}

@@ -1,5 +1,5 @@
 -- Lists of nodes that are legal orders, and where others are refused.
-use Rattle.std.proofs.Common.{◌≡◌, ◌≢◌, ◌<◌, ◌≤◌, ◌+◌, ℕ, zero, suc, true, false, List, [], ◌∷◌, ◌++◌, length, replicate, get_or, take, refl, ap, arith, ◌∙◌, sym, subst, Bool, Some, Result, ⊎_elim, length-set}
+use Rattle.std.proofs.Common.{◌≡◌, ◌≢◌, ◌<◌, ◌≤◌, ◌+◌, ℕ, suc, true, false, List, [], ◌∷◌, ◌++◌, length, replicate, get_or, take, refl, ap, arith, ◌∙◌, sym, subst, Bool, Result, ⊎_elim, length-set}
 use Rattle.std.specs.Prelude.{slice_index, slice_set}
 use Rattle.std.specs.List.{AllByRecursion, AllPairs, Contains}
 use Rattle.std.proofs.Math.Decide.{dec_lt}
@@ -8,8 +8,8 @@ use Rattle.std.proofs.lemmas.List.{take_more, get_or-take, length-take-le, lengt
 use mathlib.Core.Logic.{dite}
 use Rattle.bp_faults.specs.declared.fault.Fault.{Fault}
 use Rattle.pass_core.specs.declared.plan.Plan.{Plan}
-use Rattle.pass_core.specs.Plans.{predecessors, HasNoCycle, IsPlan}
-use Rattle.pass_core.specs.Orders.{HasEachOnce, IsLegal}
+use Rattle.pass_core.specs.Plans.{predecessors}
+use Rattle.pass_core.specs.Orders.{IsLegal}
 use Rattle.pass_core.specs.CoreStates.{IsMarked, IsUnmarked, marks}
 use Rattle.pass_core.specs.OrderOutcomes.{IsReady, IsReadyAt, IsFirstRefused, IsShort, OrderOutcome, Ran, Refused, Short, IsOrderOutcome}
 use Rattle.pass_core.proofs.Lists.{all_map, all_pushed, all_contained, same_at}

@@ -1,10 +1,10 @@
 -- The numbers of the edges into a node, and how many of them aren't marked.
-use Rattle.std.proofs.Common.{◌≡◌, ◌≢◌, ◌<◌, ◌≤◌, ◌+◌, ◌==◌, ℕ, zero, suc, Bool, true, false, List, [], ◌∷◌, map, length, replicate, refl, ap, arith, ◌∙◌, sym, subst, add-zero}
-use Rattle.std.specs.Prelude.{slice_get, slice_index, slice_set, if◌then◌else◌}
+use Rattle.std.proofs.Common.{◌≡◌, ◌≢◌, ◌<◌, ◌+◌, ◌==◌, ℕ, zero, suc, Bool, true, false, List, [], ◌∷◌, map, length, replicate, refl, ap, arith, ◌∙◌, sym, subst, add-zero}
+use Rattle.std.specs.Prelude.{slice_index, slice_set, if◌then◌else◌}
 use Rattle.std.specs.List.{AllByRecursion}
 use Rattle.std.proofs.lemmas.Bool.Decides.{nat_tests}
 use Rattle.pass_core.specs.declared.plan.PlanEdge.{PlanEdge}
-use Rattle.pass_core.specs.Plans.{sources, in_edges, predecessors}
+use Rattle.pass_core.specs.Plans.{sources, predecessors}
 use Rattle.pass_core.specs.CoreStates.{numbers_into, IsMarked, IsUnmarked}
 use Rattle.pass_core.specs.CoreKept.{one_if, left}
 

@@ -1,5 +1,5 @@
 -- What the in-edges of a node hold stands together, where the edges stand by target.
-use Rattle.std.proofs.Common.{◌≡◌, ◌+◌, ◌-◌, ◌<◌, ◌≤◌, ◌==◌, ℕ, zero, suc, List, [], ◌∷◌, map, length, take, drop, refl, ap, arith, ◌∙◌, sym, subst, eq-eqb, ne_eqb, Some, add-zero}
+use Rattle.std.proofs.Common.{◌≡◌, ◌+◌, ◌-◌, ◌≤◌, ℕ, suc, List, [], ◌∷◌, map, length, take, drop, refl, ap, arith, ◌∙◌, sym, subst, eq-eqb, ne_eqb, Some, add-zero}
 use Rattle.std.specs.Prelude.{slice_get}
 use Rattle.std.specs.List.{AllByRecursion}
 use Rattle.std.proofs.Math.Decide.{dec_lt}
@@ -8,7 +8,6 @@ use Rattle.pass_core.specs.declared.plan.PlanEdge.{PlanEdge}
 use Rattle.pass_core.specs.Plans.{StandByTarget}
 use Rattle.pass_core.specs.InEdges.{edges_below}
 use Rattle.pass_core.specs.CoreStates.{numbers_into}
-use Rattle.pass_core.proofs.Lists.{all_map}
 use Rattle.pass_core.proofs.InEdgesPlaced.{none_below, below_hit, below_miss, from_all, take_first, sub_suc}
 
 none_numbered : (k n : ℕ) (es : List PlanEdge) → AllByRecursion (λ (e : PlanEdge). n + 1 ≤ e.to.0) es → numbers_into k es n ≡ []

@@ -1,6 +1,5 @@
 -- The core machine is finished, or some step is allowed.
-use Rattle.std.proofs.Common.{◌≡◌, ◌<◌, ◌≤◌, ◌+◌, ◌*◌, ℕ, zero, suc, List, [], ◌∷◌, map, length, refl, ap, arith, ◌∙◌, sym, subst, Option, Some, None, Result, ◌⊎◌, inl, inr, ⊎_elim, zero-add}
-use Rattle.std.specs.Prelude.{slice_get}
+use Rattle.std.proofs.Common.{◌≡◌, ◌<◌, ◌+◌, ◌*◌, ℕ, zero, suc, List, [], ◌∷◌, map, length, refl, ap, arith, ◌∙◌, sym, subst, Some, Result, ◌⊎◌, inl, inr, ⊎_elim, zero-add}
 use Rattle.std.specs.List.{AllByRecursion, range_with_len}
 use Rattle.std.proofs.Math.Decide.{dec_lt}
 use mathlib.Core.Logic.{dite}
@@ -13,8 +12,8 @@ use Rattle.pass_core.specs.declared.plan.Plan.{Plan}
 use Rattle.pass_core.specs.declared.step.Step.{Step}
 use Rattle.pass_core.specs.declared.step.Step.TheVariants.{Claim, Fetch, Fill, Subtract}
 use Rattle.pass_core.specs.Plans.{predecessors, HasNoCycle, IsPlan}
-use Rattle.pass_core.specs.Results.{NodeResult, node_result}
-use Rattle.pass_core.specs.CoreStates.{CoreState, from_of, to_of, numbers_into, IsMarked, IsUnmarked, IsFilled, IsUnfilled, VisitWasMade, made, Allows, IsFinished, entries}
+use Rattle.pass_core.specs.Results.{node_result}
+use Rattle.pass_core.specs.CoreStates.{CoreState, from_of, to_of, numbers_into, IsMarked, IsFilled, VisitWasMade, made, Allows, IsFinished, entries}
 use Rattle.pass_core.proofs.Induction.{plan_induction}
 use Rattle.pass_core.proofs.Lists.{map-same}
 use Rattle.pass_core.proofs.Marks.{marked_or, filled_or, marks_most, marks_full, full_marks, fills_most, fills_full, full_fills}

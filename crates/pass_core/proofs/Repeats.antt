@@ -1,6 +1,5 @@
 -- The core machine takes no step twice.
-use Rattle.std.proofs.Common.{◌≡◌, ◌≢◌, ◌<◌, ℕ, zero, suc, true, List, [], ◌∷◌, length, get_or, arith, ◌∙◌, sym, subst, Some, None, Result}
-use Rattle.std.specs.Prelude.{slice_get}
+use Rattle.std.proofs.Common.{◌≡◌, ◌≢◌, ℕ, zero, suc, List, [], ◌∷◌, arith, ◌∙◌, sym, subst, Some, None, Result}
 use Rattle.std.specs.List.{AllByRecursion, AllPairs}
 use Rattle.std.proofs.lemmas.List.Elements.{All-from_recursion}
 use Rattle.std.proofs.lemmas.Option.{slice_get_within}
@@ -8,8 +7,7 @@ use Rattle.bp_faults.specs.declared.fault.Fault.{Fault}
 use Rattle.pass_core.specs.declared.plan.Plan.{Plan}
 use Rattle.pass_core.specs.declared.step.Step.{Step}
 use Rattle.pass_core.specs.declared.step.Step.TheVariants.{Claim, Fetch, Fill, Subtract}
-use Rattle.pass_core.specs.Results.{NodeResult}
-use Rattle.pass_core.specs.CoreStates.{CoreState, from_of, IsMarked, IsFilled, made, Allows, after, beginning, AreAllowed}
+use Rattle.pass_core.specs.CoreStates.{CoreState, from_of, IsMarked, IsFilled, made, Allows, after, AreAllowed}
 use Rattle.pass_core.proofs.Lists.{get_here}
 use Rattle.pass_core.proofs.Marks.{now_marked, still_marked, still_filled, not_both}
 

@@ -1,5 +1,5 @@
 -- What every state of the core machine keeps.
-use Rattle.std.proofs.Common.{◌≡◌, ◌≢◌, ◌<◌, ◌-◌, ◌+◌, ℕ, suc, Bool, true, false, List, [], ◌∷◌, map, length, replicate, get_or, refl, ap, arith, ◌∙◌, sym, subst, Option, Some, None, Result, ⊎_elim, length-set, zero-add}
+use Rattle.std.proofs.Common.{◌≡◌, ◌<◌, ◌-◌, ◌+◌, ℕ, suc, true, false, List, [], ◌∷◌, map, length, replicate, refl, ap, arith, ◌∙◌, sym, subst, Option, Some, None, Result, ⊎_elim, length-set, zero-add}
 use Rattle.std.specs.Prelude.{slice_get, slice_index, slice_set}
 use Rattle.std.specs.List.{AllByRecursion, range_with_len}
 use mathlib.Core.Logic.{dite}
@@ -13,11 +13,11 @@ use Rattle.pass_core.specs.declared.plan.Plan.{Plan}
 use Rattle.pass_core.specs.declared.plan.PlanEdge.{PlanEdge}
 use Rattle.pass_core.specs.declared.step.Step.{Step}
 use Rattle.pass_core.specs.declared.step.Step.TheVariants.{Claim, Fetch, Fill, Subtract}
-use Rattle.pass_core.specs.Plans.{sources, predecessors, HasNoCycle, IsPlan}
+use Rattle.pass_core.specs.Plans.{predecessors, HasNoCycle, IsPlan}
 use Rattle.pass_core.specs.Results.{NodeResult, outs_of, judged, node_result}
 use Rattle.pass_core.specs.CoreStates.{CoreState, from_of, to_of, numbers_into, IsMarked, IsUnmarked, result_in, IsFilled, held, VisitWasMade, made, Allows, after, beginning, after_all, AreAllowed, IsReached, entries}
 use Rattle.pass_core.proofs.Lists.{all_map, map-same, get_here, get_else}
-use Rattle.pass_core.proofs.Marks.{marked_before, still_filled, not_both, get_blank, marks_more, fills_more, marks_none, fills_none}
+use Rattle.pass_core.proofs.Marks.{marked_before, still_filled, get_blank, marks_more, fills_more, marks_none, fills_none}
 use Rattle.pass_core.specs.CoreKept.{IsSound, left}
 use Rattle.pass_core.proofs.Numbered.{into_sources, left_begins, left_lower, left_same}
 use Rattle.pass_core.proofs.Unrolled.{result_equation}

@@ -1,7 +1,5 @@
 -- What the calls of a core answer.
-use Rattle.std.specs.Prelude.{◌≡◌, ℕ, List, map, Vec, Result, Ok, Err, ⊤}
-use Rattle.std.specs.Global.{Global}
-use Rattle.std.specs.List.{range_with_len}
+use Rattle.std.specs.Prelude.{◌≡◌, ℕ, List, Result, Ok, Err}
 use Rattle.bp_faults.specs.declared.fault.Fault.{Fault}
 use Rattle.pass_core.specs.declared.step.Step.{Step}
 use Rattle.pass_core.specs.declared.step.StepError.{StepError}

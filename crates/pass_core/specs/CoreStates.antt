@@ -1,6 +1,6 @@
 -- The core machine: the states of a pass whose nodes are visited in any order that the counters allow, and the four
 -- steps that lead from one state to the next.
-use Rattle.std.specs.Prelude.{◌≡◌, ◌<◌, ◌+◌, ◌-◌, ◌==◌, ℕ, zero, suc, Bool, true, false, List, [], ◌∷◌, length, map, replicate, slice_get, slice_index, slice_set, if◌then◌else◌, Option, Some, None, is_some, Result, ⊤}
+use Rattle.std.specs.Prelude.{◌≡◌, ◌<◌, ◌+◌, ◌-◌, ◌==◌, ℕ, suc, Bool, true, false, List, [], ◌∷◌, length, map, replicate, slice_get, slice_index, slice_set, if◌then◌else◌, Option, Some, None, is_some, Result, ⊤}
 use Rattle.std.specs.List.{AllByRecursion, range_with_len}
 use Rattle.bp_faults.specs.declared.fault.Fault.{Fault}
 use Rattle.pass_core.specs.declared.plan.Plan.{Plan}

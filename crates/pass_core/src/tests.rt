@@ -1,4 +1,4 @@
-ghost use Rattle.std.specs.Prelude.{◌<◌, ◌^◌, IsTrue, ⊤};
+ghost use Rattle.std.specs.Prelude.{◌<◌, ◌^◌, IsTrue, IfOk, ⊤};
 ghost use Rattle.pass_core.specs.Examples.{trail_of, counted_but};
 ghost use Rattle.pass_core.specs.Plans.{IsPlan, HasNoCycle};
 
@@ -236,6 +236,7 @@ fn illegal_orders(rt: HostRuntime) -> Result<(), Fail> {
         ("not ready", 4)
     );
     assert_eq!(rt; along(alloc, &plan, none, &[base, left]), ("ends", 2));
+    assert_eq!(rt; along(alloc, &plan, none, &[]), ("ends", 0));
     assert_eq!(rt;
         along(alloc, &plan, right.0, &[base, right, left, app]),
         ("fault", 2)
@@ -264,34 +265,54 @@ fn a_long_chain_and_a_wide_layer(rt: HostRuntime) -> Result<(), Fail> {
     Ok(())
 }
 
+/// Two nodes, with two edges from node 0 to node 1.
+fn two_edges(alloc: Global) -> Result<Plan, OutOfMemory>
+    ensures plan { IfOk result IsPlan }
+    ensures free { IfOk result (λ plan. HasNoCycle plan.edges) }
+{
+    let edge = PlanEdge {
+        from: NodeId(0),
+        to: NodeId(1),
+    };
+    Ok(Plan {
+        count: 2,
+        edges: Seq::new(Vec::from_array(alloc, [edge; 2])?),
+    })
+}
+
 #[test]
 fn core_and_board(rt: HostRuntime) -> Result<(), Fail> {
     let alloc = rt.alloc();
-    let plan = plan(alloc, 2, &[(1, 0), (1, 0)])?;
-    assert!(rt; falls(&plan));
+    let plan = two_edges(alloc)?;
     let mut core = Core::new(alloc, plan, Trail)?;
-    let early = Step::Claim(NodeId(0));
-    assert_eq!(rt; core.step(alloc, early), Err(StepError::NotAllowed(early)));
-    let twice = Step::Subtract(0);
-    let steps = [Step::Claim(NodeId(1)), Step::Fill(0), Step::Fill(1), twice];
-    for s in steps {
+    let refused = |s| Err(StepError::NotAllowed(s));
+    let claim = Step::Claim(NodeId(1));
+    assert_eq!(rt; core.step(alloc, claim), refused(claim));
+    for s in [Step::Claim(NodeId(0)), Step::Fill(0), Step::Subtract(0)] {
         assert_eq!(rt; core.step(alloc, s), Ok(()));
     }
-    assert_eq!(rt; core.step(alloc, twice), Err(StepError::NotAllowed(twice)));
-    assert_eq!(rt; core.step(alloc, early), Err(StepError::NotAllowed(early)));
-    let rest = [Step::Subtract(1), early, Step::Fetch(1), Step::Fetch(0)];
+    for s in [claim, Step::Subtract(0), Step::Fill(0), Step::Fetch(0)] {
+        assert_eq!(rt; core.step(alloc, s), refused(s));
+    }
+    let rest = [
+        Step::Fill(1),
+        Step::Subtract(1),
+        claim,
+        Step::Fetch(1),
+        Step::Fetch(0),
+    ];
     for s in rest {
         assert!(rt; !core.finished());
         assert_eq!(rt; core.step(alloc, s), Ok(()));
     }
     assert!(rt; core.finished());
     let outs = core.into_outs(alloc)?;
-    let wants = [[1, 1, 0].as_slice(), &[1]];
+    let wants = [[0].as_slice(), &[0, 0, 1]];
+    assert_eq!(rt; outs.len(), wants.len());
     for (out, want) in outs.iter().zip(&wants) {
         match out {
             Published::Done(trail) => assert_eq!(rt; trail.as_slice(), *want),
-            Published::Bad(_) => assert!(rt; false),
-            Published::Poisoned => assert!(rt; false),
+            _ => assert!(rt; false),
         }
     }
     Ok(())

@@ -1,4 +1,4 @@
-use Rattle.std.proofs.Common.{◌∙◌, ap, sym, subst, map, length, Some, Ok, Err}
+use Rattle.std.proofs.Common.{◌∙◌, ap, sym, subst, map, Some, Ok, Err}
 use Rattle.std.proofs.lemmas.List.{length-map}
 use Rattle.pass_core.specs.CoreKept.{shown_in}
 use Rattle.pass_core.specs.CoreStates.{result_in}

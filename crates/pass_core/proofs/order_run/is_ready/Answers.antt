@@ -1,4 +1,4 @@
-use Rattle.std.proofs.Common.{arith, get_or, ◌<◌, length, sym, subst, refl, true, false}
+use Rattle.std.proofs.Common.{arith, get_or, ◌<◌, sym, subst, refl, true, false}
 use Rattle.pass_core.specs.declared.plan.PlanEdge.{PlanEdge}
 use Rattle.pass_core.proofs.Marks.{not_both}
 use Rattle.pass_core.proofs.Readied.{mark_read, source_below, marked_one_more, marked_source, marked_whole}

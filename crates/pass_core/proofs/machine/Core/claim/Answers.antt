@@ -1,14 +1,13 @@
-use Rattle.std.proofs.Common.{◌≡◌, ◌+◌, ◌-◌, ◌∙◌, ◌<◌, ◌≤◌, ℕ, List, length, not, true, false, ap, sym, subst, arith, rules, refl, Some, None}
-use Rattle.std.specs.Prelude.{slice_set, slice_index, slice_get}
+use Rattle.std.proofs.Common.{◌≡◌, ◌+◌, ◌∙◌, ◌<◌, ◌≤◌, length, false, ap, sym, subst, arith, rules, refl, Some}
+use Rattle.std.specs.Prelude.{slice_index}
 use Rattle.std.proofs.lemmas.List.{length-map}
-use Rattle.pass_core.specs.declared.plan.PlanEdge.{PlanEdge}
-use Rattle.pass_core.specs.declared.step.Step.TheVariants.{Claim, Fetch, Fill, Subtract}
-use Rattle.pass_core.specs.CoreStates.{Allows, to_of, from_of, after}
-use Rattle.pass_core.specs.CoreKept.{IsCore, state_of, shown_in}
+use Rattle.pass_core.specs.declared.step.Step.TheVariants.{Claim}
+use Rattle.pass_core.specs.CoreStates.{Allows}
+use Rattle.pass_core.specs.CoreKept.{state_of, shown_in}
 use Rattle.std.proofs.lemmas.Option.{slice_get_read}
 use Rattle.pass_core.specs.CoreStates.{made}
 use Rattle.pass_core.proofs.CoreSteps.{claim_core, steps_most}
-use Rattle.pass_core.proofs.CoreTables.{seen, mark_shows, publishes_as, test_zero, zero_test}
+use Rattle.pass_core.proofs.CoreTables.{mark_shows, publishes_as, test_zero, zero_test}
 use Rattle.pass_core.proofs.HeldPlaced.{starts_rise, starts_end, slice_judged, slice_many}
 use Rattle.pass_core.proofs.Lists.{same_at}
 use Rattle.pass_core.proofs.machine.Core.claim.Goals as goal

@@ -1,9 +1,9 @@
-use Rattle.std.proofs.Common.{◌≡◌, ◌+◌, ◌-◌, ◌∙◌, ◌<◌, ◌≤◌, ℕ, List, length, not, true, false, ap, sym, subst, arith, rules, refl, Some, None}
-use Rattle.std.specs.Prelude.{slice_set, slice_index, slice_get}
+use Rattle.std.proofs.Common.{◌≡◌, ◌+◌, ◌∙◌, ◌<◌, ◌≤◌, length, not, true, false, ap, sym, subst, arith, rules, refl}
+use Rattle.std.specs.Prelude.{slice_index}
 use Rattle.std.proofs.lemmas.List.{length-map}
 use Rattle.pass_core.specs.declared.plan.PlanEdge.{PlanEdge}
-use Rattle.pass_core.specs.declared.step.Step.TheVariants.{Claim, Fetch, Fill, Subtract}
-use Rattle.pass_core.specs.CoreStates.{Allows, to_of, from_of, after}
+use Rattle.pass_core.specs.declared.step.Step.TheVariants.{Fetch}
+use Rattle.pass_core.specs.CoreStates.{Allows, to_of, after}
 use Rattle.pass_core.specs.CoreKept.{IsCore, state_of, shown_in}
 use Rattle.std.proofs.Common.{get_or}
 use Rattle.pass_core.specs.CoreStates.{IsMarked, made}

@@ -1,9 +1,9 @@
-use Rattle.std.proofs.Common.{◌≡◌, ◌+◌, ◌-◌, ◌∙◌, ◌<◌, ◌≤◌, ℕ, List, length, not, true, false, ap, sym, subst, arith, rules, refl, Some, None}
-use Rattle.std.specs.Prelude.{slice_set, slice_index, slice_get}
+use Rattle.std.proofs.Common.{◌≡◌, ◌+◌, ◌∙◌, ◌<◌, length, ap, sym, subst, rules, refl, Some, None}
+use Rattle.std.specs.Prelude.{slice_get}
 use Rattle.std.proofs.lemmas.List.{length-map}
 use Rattle.pass_core.specs.declared.plan.PlanEdge.{PlanEdge}
-use Rattle.pass_core.specs.declared.step.Step.TheVariants.{Claim, Fetch, Fill, Subtract}
-use Rattle.pass_core.specs.CoreStates.{Allows, to_of, from_of, after}
+use Rattle.pass_core.specs.declared.step.Step.TheVariants.{Fill}
+use Rattle.pass_core.specs.CoreStates.{Allows, from_of}
 use Rattle.pass_core.specs.CoreKept.{IsCore, state_of, shown_in}
 use Rattle.std.proofs.lemmas.Option.{slice_get_read}
 use Rattle.pass_core.proofs.CoreSteps.{fill_core, filled_is, steps_most}

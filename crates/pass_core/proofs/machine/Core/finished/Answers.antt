@@ -1,7 +1,5 @@
-use Rattle.std.proofs.Common.{◌≡◌, ◌+◌, ◌*◌, ◌∙◌, length, ap, sym, arith, nat_eq, rules, subst}
-use Rattle.std.specs.Prelude.{◌↔◌, IsTrue}
+use Rattle.std.proofs.Common.{◌≡◌, ◌+◌, ◌*◌, ◌∙◌, length, ap, sym, arith}
 use Rattle.std.proofs.lemmas.Bool.Decides.{nat_tests}
-use Rattle.pass_core.specs.CoreStates.{IsFinished, entries}
 use Rattle.pass_core.proofs.Progress.{entries_when_finished, finished_with_entries}
 use Rattle.pass_core.proofs.machine.Core.finished.Goals as goal
 

@@ -1,5 +1,3 @@
-use Rattle.std.proofs.Common.{◌≡◌, sym, subst}
-use Rattle.pass_core.specs.CoreStates.{IsFinished}
 use Rattle.pass_core.specs.CoreKept.{state_of}
 use Rattle.pass_core.proofs.CoreEnds.{all_published, outs_are}
 use Rattle.pass_core.proofs.machine.Core.into_outs.Goals as goal

@@ -1,5 +1,4 @@
-use Rattle.std.proofs.Common.{◌≡◌, ◌∙◌, ap, sym, refl, length, replicate, map, None}
-use Rattle.pass_core.specs.CoreKept.{shown_in}
+use Rattle.std.proofs.Common.{ap, refl, length}
 use Rattle.pass_core.proofs.CoreEnds.{none_shown, begins_core}
 use Rattle.pass_core.proofs.machine.Core.new.Goals as goal
 

@@ -1,9 +1,9 @@
-use Rattle.std.proofs.Common.{◌≡◌, ◌+◌, ◌-◌, ◌∙◌, ◌<◌, ◌≤◌, ℕ, List, length, not, true, false, ap, sym, subst, arith, rules, refl, Some, None}
-use Rattle.std.specs.Prelude.{slice_set, slice_index, slice_get}
+use Rattle.std.proofs.Common.{◌+◌, ◌∙◌, ◌<◌, length, not, true, false, ap, sym, subst, arith, rules}
+use Rattle.std.specs.Prelude.{slice_set}
 use Rattle.std.proofs.lemmas.List.{length-map}
 use Rattle.pass_core.specs.declared.plan.PlanEdge.{PlanEdge}
-use Rattle.pass_core.specs.declared.step.Step.TheVariants.{Claim, Fetch, Fill, Subtract}
-use Rattle.pass_core.specs.CoreStates.{Allows, to_of, from_of, after}
+use Rattle.pass_core.specs.declared.step.Step.TheVariants.{Subtract}
+use Rattle.pass_core.specs.CoreStates.{Allows, to_of}
 use Rattle.pass_core.specs.CoreKept.{IsCore, state_of, shown_in}
 use Rattle.pass_core.proofs.CoreSteps.{subtract_core, subtract_some, steps_most}
 use Rattle.pass_core.proofs.CoreTables.{seen, filled_shows, mark_shows, count_is, lowered_is}

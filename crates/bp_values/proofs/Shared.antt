@@ -1,0 +1,87 @@
+-- Which names of one list of entries stand in another, and the entries that are left.
+use Rattle.std.proofs.Common.{◌≡◌, ℕ, Bool, true, false, List, [], ◌∷◌, ◌++◌, ◌&&◌, ◌||◌, not, cond, refl, sym, ap, ◌∙◌, append_assoc, is_some}
+use Rattle.std.specs.Str.{bytes_eq}
+use Rattle.std.specs.List.{list_any}
+use Rattle.std.specs.Cmp.Lexicographic.{nat_list_eq_equiv}
+use Rattle.std.proofs.lemmas.Slice.Eq.{bytes_eq-Decides}
+use Rattle.indexmap.specs.IndexMap.{IndexMap}
+use Rattle.indexmap.specs.IndexSet.{insert_key}
+use Rattle.bp_values.specs.Values.{Field}
+use Rattle.bp_values.specs.Sums.{has_name, others, not_among, IsIndex, HasMet}
+use Rattle.bp_values.proofs.Index.{has_place}
+
+or_last : (b c : Bool) → (b || (c || false)) ≡ (c || b)
+or_last true true = refl
+or_last true false = refl
+or_last false true = refl
+or_last false false = refl
+
+or_more : (a b c : Bool) → (a || (b || c)) ≡ ((a || b) || c)
+or_more true b c = refl
+or_more false b c = refl
+
+any_push : (test : List ℕ → Bool) (ks : List (List ℕ)) (k : List ℕ) → list_any test (ks ++ k ∷ []) ≡ (list_any test ks || (test k || false))
+any_push test [] k = refl
+any_push test (x ∷ ks) k = ap (λ b. test x || b) (any_push test ks k) ∙ or_more (test x) (list_any test ks) (test k || false)
+
+-- a name that is added is among the keys, and the others are as before
+pub among_added : (q k : List ℕ) (ks : List (List ℕ)) → list_any (bytes_eq q) (insert_key bytes_eq ks k) ≡ (bytes_eq q k || list_any (bytes_eq q) ks)
+among_added q k ks = by (list_any (bytes_eq k) ks) refl
+  where
+    old : (b : Bool) → bytes_eq q k ≡ b → list_any (bytes_eq k) ks ≡ true → list_any (bytes_eq q) ks ≡ (b || list_any (bytes_eq q) ks)
+    old true same there = ap (λ n. list_any (bytes_eq n) ks) ((bytes_eq-Decides q k).0 same) ∙ there
+    old false apart there = refl
+
+    by : (b : Bool) → list_any (bytes_eq k) ks ≡ b → list_any (bytes_eq q) (cond b ks (ks ++ k ∷ [])) ≡ (bytes_eq q k || list_any (bytes_eq q) ks)
+    by true there = old (bytes_eq q k) refl there
+    by false there = any_push (bytes_eq q) ks k ∙ or_last (list_any (bytes_eq q) ks) (bytes_eq q k)
+
+pub has_push : (fs : List Field) (f : Field) (q : List ℕ) → has_name (fs ++ f ∷ []) q ≡ (has_name fs q || bytes_eq q f.name)
+has_push [] f q = by (bytes_eq q f.name)
+  where
+    by : (b : Bool) → (b || false) ≡ (false || b)
+    by true = refl
+    by false = refl
+has_push (x ∷ fs) f q = ap (λ b. bytes_eq q x.name || b) (has_push fs f q) ∙ or_more (bytes_eq q x.name) (has_name fs q) (bytes_eq q f.name)
+
+-- of a name more that is met, and of those before
+pub met_more : (l h b s : Bool) → l ≡ (h && s) → (l || (b && s)) ≡ ((h || b) && s)
+met_more l true true true e = rw e refl
+met_more l true true false e = rw e refl
+met_more l true false true e = rw e refl
+met_more l true false false e = rw e refl
+met_more l false true true e = rw e refl
+met_more l false true false e = rw e refl
+met_more l false false true e = rw e refl
+met_more l false false false e = rw e refl
+
+-- Where the keys are the names that both lists have, the entries whose names are not among them are those whose names the first lacks.
+pub others_left : (keys : List (List ℕ)) (first whole fs : List Field) → ((q : List ℕ) → list_any (bytes_eq q) keys ≡ (has_name first q && has_name whole q))
+    → ((q : List ℕ) → has_name fs q ≡ true → has_name whole q ≡ true) → not_among keys fs ≡ others fs first
+others_left keys first whole [] met within = refl
+others_left keys first whole (f ∷ fs) met within =
+    let here : has_name whole f.name ≡ true = within f.name (ap (λ b. b || has_name fs f.name) (nat_list_eq_equiv.refl f.name)) in
+    let same : list_any (bytes_eq f.name) keys ≡ has_name first f.name = met f.name ∙ ap (λ b. has_name first f.name && b) here ∙ and_true (has_name first f.name) in
+    rw (same, others_left keys first whole fs met (λ q has. within q (ap (λ b. bytes_eq q f.name || b) has ∙ or_true (bytes_eq q f.name)))) refl
+  where
+    and_true : (b : Bool) → (b && true) ≡ b
+    and_true true = refl
+    and_true false = refl
+
+    or_true : (b : Bool) → (b || true) ≡ true
+    or_true true = refl
+    or_true false = refl
+
+-- an entry more, which is kept unless its name is among the keys
+pub kept_more : (keys : List (List ℕ)) (f : Field) (fs done now whole : List Field) → whole ≡ done ++ not_among keys (f ∷ fs)
+    → now ≡ done ++ cond (list_any (bytes_eq f.name) keys) [] (f ∷ []) → whole ≡ now ++ not_among keys fs
+kept_more keys f fs done now whole before after = by (list_any (bytes_eq f.name) keys) before after
+  where
+    by : (b : Bool) → whole ≡ done ++ cond (not b) (f ∷ not_among keys fs) (not_among keys fs) → now ≡ done ++ cond b [] (f ∷ []) → whole ≡ now ++ not_among keys fs
+    by true before after = before ∙ sym (ap (λ l. l ++ not_among keys fs) after ∙ append_assoc done [] (not_among keys fs))
+    by false before after = before ∙ sym (ap (λ l. l ++ not_among keys fs) after ∙ append_assoc done (f ∷ []) (not_among keys fs))
+
+-- The same, by the index of the second list.
+pub others_of : {S : Type 0} (m : IndexMap (List ℕ) ℕ S) (keys : List (List ℕ)) (first second : List Field) → IsIndex m second → HasMet keys m first → not_among keys second ≡ others second first
+others_of m keys first second index met =
+    others_left keys first second second (λ q. met.met q ∙ ap (λ b. has_name first q && b) (ap is_some (index.places q) ∙ sym (has_place q second))) (λ q has. has)
