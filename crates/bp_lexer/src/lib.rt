@@ -24,6 +24,6 @@ mod value;
 pub use bp_faults::Refusal as LexError;
 pub use law::{columns_count_characters, list_or_fault, one_fault, one_meaning, one_token_list};
 pub use lex::tokens;
-pub use span::place_of_end;
+pub use span::{place_in, place_of_end};
 pub use token::{Punct, Token, TokenKind};
 pub use value::value_of;

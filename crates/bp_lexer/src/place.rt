@@ -30,7 +30,7 @@ pub fn place_after(place: Place, byte: u8) -> Place
 pub fn advance(bytes: &[u8], from: usize, to: usize, place: Place) -> Place
     requires order { from ≤ to }
     requires within { to ≤ length bytes.now }
-    requires short { length bytes.now ≤ 2 ^ 20 }
+    requires short { length bytes.now ≤ 2 ^ 22 }
     requires at { place ≡ place_at place.file bytes.now from }
     ensures { result ≡ place_at place.file bytes.now to }
 {

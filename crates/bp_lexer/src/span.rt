@@ -18,16 +18,24 @@ impl Token {
     }
 }
 
-/// The place of the end of a text, which has at most 2^20 bytes.
-pub fn place_of_end(text: &str, file: u32) -> Place
-    requires { length text.now ≤ 2 ^ 20 }
-    ensures { result ≡ place_at file text.now (length text.now) }
+/// The place of a byte, or of the end, of a file that has at most 2^22 bytes. Up to there it is UTF-8.
+pub fn place_in(bytes: &[u8], at: usize, file: u32) -> Place
+    requires within { at ≤ length bytes.now }
+    requires short { length bytes.now ≤ 2 ^ 22 }
+    ensures { result ≡ place_at file bytes.now at }
 {
-    let bytes = text.as_bytes();
     let start = Place {
         file,
         line: 1,
         col: 1,
     };
-    advance(bytes, 0, bytes.len(), start)
+    advance(bytes, 0, at, start)
+}
+
+/// The place of the end of a text, which has at most 2^20 bytes.
+pub fn place_of_end(text: &str, file: u32) -> Place
+    requires { length text.now ≤ 2 ^ 20 }
+    ensures { result ≡ place_at file text.now (length text.now) }
+{
+    place_in(text.as_bytes(), text.len(), file)
 }

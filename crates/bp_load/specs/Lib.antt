@@ -1,0 +1,4 @@
+pub mod Directories
+pub mod Texts
+pub mod ListFile
+pub mod Listing

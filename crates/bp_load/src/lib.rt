@@ -1,0 +1,8 @@
+//! The loading of a tree: the list file, and all files of the tree phase by phase.
+#![tactic(auto)]
+
+mod directory;
+mod list_file;
+
+pub use bp_faults::Refusal as LoadError;
+pub use list_file::file_list;
