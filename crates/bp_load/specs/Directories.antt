@@ -1,6 +1,7 @@
 -- Directories of files, and file order.
-use Rattle.std.specs.Prelude.{ℕ, ◌-◌, List, map, length, take}
-use Rattle.std.specs.List.{join_with_byte}
+use Rattle.std.specs.Prelude.{ℕ, ◌-◌, Bool, List, map, length, take}
+use Rattle.std.specs.List.{join_with_byte, starts_with}
+use Rattle.std.specs.Str.{bytes_eq}
 use Rattle.std.specs.List.Sorted.{IsStrictlySortedBy}
 use Rattle.std.specs.declared.cmp.Ordering.{Ordering}
 use Rattle.std.specs.Ordering.{nat_cmp}
@@ -22,3 +23,7 @@ directory_cmp a b = slice_cmp (slice_cmp nat_cmp) a b
 -- File order: the directories strictly ascend. So an ancestor's file stands before its descendants'.
 abbrev pub AreInFileOrder : List (List ℕ) → Type 0
 AreInFileOrder paths = IsStrictlySortedBy directory_cmp (map directories paths)
+
+-- a directory is above another, or the same
+abbrev pub is_above : List (List ℕ) → List (List ℕ) → Bool
+is_above above directory = starts_with bytes_eq directory above

@@ -1,5 +1,5 @@
 ghost use Rattle.std.specs.Prelude.{◌≡◌, IfOk, List, ℕ};
-ghost use Rattle.bp_load.specs.Directories.{directories};
+ghost use Rattle.bp_load.specs.Directories.{directories, is_above};
 
 use bp_faults::{OutOfMemory, Path, Text};
 use std::alloc::Global;
@@ -22,7 +22,7 @@ impl Model for Directory {
 }
 
 impl Directory {
-    ghost use Rattle.bp_load.specs.Directories.{directories};
+    ghost use Rattle.bp_load.specs.Directories.{directories, is_above};
 
     /// The directory of a file.
     pub fn of(alloc: Global, file: &Path) -> Result<Directory, OutOfMemory>
@@ -34,6 +34,16 @@ impl Directory {
         }
         components.pop();
         Ok(Directory { components })
+    }
+
+    /// Whether it is above another directory, or the same.
+    pub fn is_above(&self, other: &Directory) -> bool
+        ensures { result ≡ is_above self.now other.now }
+    {
+        other
+            .components
+            .as_slice()
+            .starts_with(self.components.as_slice())
     }
 }
 

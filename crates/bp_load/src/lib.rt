@@ -3,6 +3,11 @@
 
 mod directory;
 mod list_file;
+mod not_utf8;
+mod opened;
+mod parsed;
+mod raw;
 
 pub use bp_faults::Refusal as LoadError;
 pub use list_file::file_list;
+pub use raw::raw_modules;

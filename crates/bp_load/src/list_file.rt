@@ -13,8 +13,8 @@ ghost use Rattle.bp_load.specs.Listing.{with_line, with_path, counted};
 
 use crate::LoadError;
 use crate::directory::Directory;
+use crate::not_utf8::not_utf8;
 use bp_faults::{Fault, FaultKind, OutOfMemory, Path, Place, Text};
-use bp_lexer::place_in;
 use std::alloc::Global;
 use std::collections::BTreeMap;
 
@@ -145,9 +145,6 @@ pub fn file_list(alloc: Global, bytes: &[u8]) -> Result<Vec<Path>, LoadError>
 {
     match str::from_utf8(bytes) {
         Ok(text) => Ok(files_of(alloc, text)?.into_values().collect(alloc)?),
-        Err(error) => {
-            let place = place_in(bytes, error.valid_up_to(), 0);
-            Err(LoadError::Bad(Fault::at(alloc, FaultKind::NotUtf8, place)))
-        }
+        Err(error) => Err(LoadError::Bad(not_utf8(alloc, bytes, error.valid_up_to(), 0))),
     }
 }
