@@ -7,3 +7,4 @@ pub mod Turns
 pub mod Orders
 pub mod Members
 pub mod Listing
+pub mod Typed

@@ -6,3 +6,5 @@ pub mod Phases
 pub mod Trees
 pub mod Inherited
 pub mod Opened
+pub mod Loaded
+pub mod Known

@@ -3,11 +3,15 @@
 
 mod directory;
 mod list_file;
+mod names;
 mod not_utf8;
 mod opened;
 mod parsed;
 mod raw;
+mod tree;
+mod typing;
 
 pub use bp_faults::Refusal as LoadError;
 pub use list_file::file_list;
 pub use raw::raw_modules;
+pub use tree::load;
