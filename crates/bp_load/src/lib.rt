@@ -8,6 +8,8 @@ mod not_utf8;
 mod opened;
 mod parsed;
 mod raw;
+#[cfg(test)]
+mod tests;
 mod tree;
 mod typing;
 
