@@ -1,0 +1,10 @@
+pub mod Told
+pub mod Cut
+pub mod Eachs
+pub mod Above
+pub mod Stack
+pub mod Turns
+pub mod Orders
+pub mod Members
+pub mod Listing
+pub mod Typed

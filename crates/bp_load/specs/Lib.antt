@@ -1,0 +1,10 @@
+pub mod Directories
+pub mod Texts
+pub mod ListFile
+pub mod Listing
+pub mod Phases
+pub mod Trees
+pub mod Inherited
+pub mod Opened
+pub mod Loaded
+pub mod Known

@@ -1,0 +1,25 @@
+-- In what words private functions say how a list is read: a map from directories to paths takes line after line.
+use Rattle.std.specs.Prelude.{ℕ, ◌^◌, List, length, nat_le, codes, if◌then◌else◌, Result, Ok, Err}
+use Rattle.std.specs.BTreeMap.{insert_entry}
+use Rattle.bp_faults.specs.declared.fault.Fault.{Fault}
+use Rattle.bp_faults.specs.declared.kind.FaultKind.TheVariants.{BadList, TooMany}
+use Rattle.bp_faults.specs.Faults.{fault_on}
+use Rattle.bp_load.specs.Directories.{directories, directory_cmp}
+use Rattle.bp_load.specs.ListFile.{is_blank, undotted, is_listed, line_place}
+
+abbrev pub Entries : Type 0
+Entries = List (List (List ℕ) × List ℕ)
+
+-- no more than the limit
+abbrev pub counted : ℕ → Entries → Result Entries Fault
+counted at entries = if nat_le (length entries) (2 ^ 14) then Ok entries else Err (fault_on TooMany (line_place at) (codes "files"))
+
+abbrev pub with_path : ℕ → Entries → List ℕ → Result Entries Fault
+with_path at entries path = counted at (insert_entry directory_cmp entries (directories path) path)
+
+-- the map after the line at an index
+abbrev pub with_line : ℕ → Entries → List ℕ → Result Entries Fault
+with_line at entries line =
+    if is_blank line then Ok entries
+    else if is_listed (undotted line) then with_path at entries (undotted line)
+    else Err (fault_on BadList (line_place at) line)

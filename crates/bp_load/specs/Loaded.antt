@@ -1,0 +1,55 @@
+-- What a tree loads as: all modules in order, or the first fault of the first phase that has one.
+use Rattle.std.specs.Prelude.{◌≡◌, ℕ, ◌^◌, Bool, nat_le, List, [], ◌∷◌, ◌++◌, length, codes, Option, Some, None, Result, Ok, Err, if◌then◌else◌}
+use Rattle.std.specs.List.{list_any}
+use Rattle.std.specs.Option.{option_to_list}
+use Rattle.std.specs.Str.{bytes_eq}
+use Rattle.bp_faults.specs.declared.place.Place.{Place}
+use Rattle.bp_faults.specs.declared.fault.Fault.{Fault}
+use Rattle.bp_faults.specs.declared.kind.FaultKind.TheVariants.{DuplicateName, TooMany}
+use Rattle.bp_faults.specs.Answers.{then_do}
+use Rattle.bp_faults.specs.Faults.{fault_on}
+use Rattle.bp_props.specs.declared.given.Given.{Given}
+use Rattle.bp_props.specs.declared.module.Module.{Module}
+use Rattle.bp_values.specs.Files.{Raw}
+use Rattle.property_tables.specs.Typing.{typed}
+use Rattle.bp_load.specs.Phases.{Then}
+use Rattle.bp_load.specs.Trees.{Source}
+use Rattle.bp_load.specs.Inherited.{RawMean}
+
+-- The phase of typing: every module in turn. One that is typed as nothing is dropped.
+abbrev pub all_typed : List (List ℕ × Raw) → Result (List Module) Fault
+all_typed [] = Ok []
+all_typed (m ∷ ms) = then_do (typed m.1 m.0) (λ made. then_do (all_typed ms) (λ more. Ok (option_to_list made ++ more)))
+
+-- where a module has its name
+abbrev pub name_place : Place → Option (Given (List ℕ)) → Place
+name_place at None = at
+name_place at (Some name) = name.at
+
+-- some module has that name
+abbrev pub is_named : List ℕ → List Module → Bool
+is_named name modules = list_any (λ m. bytes_eq m.name name) modules
+
+-- A module behind so many others is first counted, and then it matters whether its name was seen.
+abbrev pub tested : ℕ → Bool → Module → Result Unit Fault
+tested count seen m =
+    if nat_le (2 ^ 17) count then Err (fault_on TooMany m.at (codes "modules"))
+    else if seen then Err (fault_on DuplicateName (name_place m.at m.props.name) m.name)
+    else Ok tt
+
+-- A module is counted behind those before it, and its name is compared with theirs.
+abbrev pub name_tested : List Module → Module → Result Unit Fault
+name_tested before m = tested (length before) (is_named m.name before) m
+
+-- The phase of names: every module in turn, behind those before it.
+abbrev pub names_tested : List Module → List Module → Result Unit Fault
+names_tested before [] = Ok tt
+names_tested before (m ∷ ms) = then_do (name_tested before m) (λ fine. names_tested (before ++ m ∷ []) ms)
+
+-- what raw modules load as: first every module is typed, and then every name is tested
+abbrev pub all_named : List (List ℕ × Raw) → Result (List Module) Fault
+all_named raws = then_do (all_typed raws) (λ modules. then_do (names_tested [] modules) (λ fine. Ok modules))
+
+-- What files load as: first they mean raw modules.
+abbrev pub LoadMeans : List Source → Result (List Module) Fault → Type 0
+LoadMeans files outcome = Then (RawMean files) (λ raws o. o ≡ all_named raws) outcome

@@ -1,0 +1,19 @@
+//! The loading of a tree: the list file, and all files of the tree phase by phase.
+#![tactic(auto)]
+
+mod directory;
+mod list_file;
+mod names;
+mod not_utf8;
+mod opened;
+mod parsed;
+mod raw;
+#[cfg(test)]
+mod tests;
+mod tree;
+mod typing;
+
+pub use bp_faults::Refusal as LoadError;
+pub use list_file::file_list;
+pub use raw::raw_modules;
+pub use tree::load;

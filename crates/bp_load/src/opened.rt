@@ -1,0 +1,103 @@
+ghost use Rattle.std.specs.Prelude.{◌≡◌, [], ◌++◌, List, map, reverse, OnOk};
+ghost use Rattle.std.specs.List.Sorted.{IsStrictlySortedBy};
+ghost use Rattle.bp_faults.specs.Answers.{Answers, Leaves};
+ghost use Rattle.bp_values.specs.Scopes.{pairs_of};
+ghost use Rattle.bp_values.specs.Files.{raw_of};
+ghost use Rattle.bp_load.specs.Directories.{directory_cmp};
+ghost use Rattle.bp_load.specs.Trees.{placed_of};
+ghost use Rattle.bp_load.specs.Inherited.{scope_of, in_directory, placed_raw, all_evaluated};
+ghost use Rattle.bp_load.specs.Opened.{open_of, turn_of, closed, innermost, turned};
+
+use crate::LoadError;
+use crate::directory::Directory;
+use crate::parsed::Parsed;
+use bp_faults::{OutOfMemory, Path};
+use bp_values::{RawModule, Scope, evaluate};
+use std::alloc::Global;
+
+/// A directory that is above the last file, or the file's own, and the final scope of its file.
+#[derive(Drop)]
+pub struct Open {
+    directory: Directory,
+    scope: Scope,
+}
+
+/// What is kept from file to file: the open directories, outermost first, and the modules so far.
+#[derive(Drop)]
+pub struct Evaluation {
+    opened: Vec<Open>,
+    modules: Vec<(Path, RawModule)>,
+}
+
+/// Closes directories until one is above the other.
+fn close(opened: &mut Vec<Open>, directory: &Directory)
+    ensures { reverse (map open_of opened.new.items) ≡ closed directory.now (reverse (map open_of opened.old.items)) }
+{
+    while let Some(last) = opened.last() {
+        if last.directory.is_above(directory) {
+            return;
+        }
+        opened.pop();
+    }
+}
+
+/// The scope of the innermost directory.
+fn scope<'a>(opened: &'a [Open], none: &'a Scope) -> &'a Scope
+    requires { pairs_of none.now ≡ [] }
+    ensures { pairs_of result.now ≡ scope_of (innermost (reverse (map open_of opened.now))) }
+{
+    match opened.last() {
+        Some(last) => &last.scope,
+        None => none,
+    }
+}
+
+/// Puts modules behind others, in their directory.
+fn put_modules(
+    alloc: Global,
+    modules: &mut Vec<(Path, RawModule)>,
+    dir: &Path,
+    more: Vec<RawModule>,
+) -> Result<(), OutOfMemory>
+    ensures { OnOk result (map placed_raw modules.new.items ≡ map placed_raw modules.old.items ++ in_directory dir.now (map raw_of more.items)) }
+{
+    for module in more {
+        modules.push((dir.copy(alloc)?, module))?;
+    }
+    Ok(())
+}
+
+/// Evaluates a file, in the scope of its nearest ancestor directory that is open.
+fn evaluate_file(
+    alloc: Global,
+    none: &Scope,
+    evaluation: &mut Evaluation,
+    file: Parsed,
+) -> Result<(), LoadError>
+    requires { pairs_of none.now ≡ [] }
+    ensures { Leaves turn_of evaluation.new result (turned (turn_of evaluation.old) (placed_of file)) }
+{
+    close(&mut evaluation.opened, &file.directory);
+    let inherited = scope(evaluation.opened.as_slice(), none);
+    let (modules, scope) = evaluate(alloc, &file.tree, inherited)?;
+    put_modules(alloc, &mut evaluation.modules, &file.dir, modules)?;
+    let Parsed { directory, .. } = file;
+    evaluation.opened.push(Open { directory, scope })?;
+    Ok(())
+}
+
+/// The modules of all files, which stand in file order.
+pub fn evaluate_all(alloc: Global, files: Vec<Parsed>) -> Result<Vec<(Path, RawModule)>, LoadError>
+    requires { IsStrictlySortedBy directory_cmp (map (λ f. f.directory) (map placed_of files.items)) }
+    ensures { Answers (λ modules. map placed_raw modules.items) result (all_evaluated [] (map placed_of files.items)) }
+{
+    let none = Scope::empty(alloc)?;
+    let mut evaluation = Evaluation {
+        opened: Vec::new(alloc),
+        modules: Vec::new(alloc),
+    };
+    for file in files {
+        evaluate_file(alloc, &none, &mut evaluation, file)?;
+    }
+    Ok(evaluation.modules)
+}

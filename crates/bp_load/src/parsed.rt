@@ -1,0 +1,85 @@
+ghost use Rattle.std.specs.Prelude.{◌≡◌, ◌≤◌, ◌^◌, List, length, map, IfOk};
+ghost use Rattle.std.specs.List.{All};
+ghost use Rattle.bp_faults.specs.Answers.{Tells};
+ghost use Rattle.bp_parser.specs.Trees.{tree_view};
+ghost use Rattle.bp_load.specs.Directories.{directory_of};
+ghost use Rattle.bp_load.specs.Texts.{AsText};
+ghost use Rattle.bp_load.specs.Trees.{placed_of, placed, sources, TextMeans, FileMeans, TreesMean};
+
+use crate::LoadError;
+use crate::directory::Directory;
+use crate::not_utf8::not_utf8;
+use bp_faults::{OutOfMemory, Path, Text};
+use bp_lexer::tokens;
+use bp_parser::{FileTree, parse};
+use std::alloc::Global;
+
+/// A file as it is parsed: its directory, by components and as a path, and its tree.
+#[derive(Drop)]
+pub struct Parsed {
+    pub directory: Directory,
+    pub dir: Path,
+    pub tree: FileTree,
+}
+
+/// The directory of a file, as a path.
+fn dir_of(alloc: Global, file: &Path) -> Result<Path, OutOfMemory>
+    ensures { IfOk result (λ dir. dir ≡ directory_of file.now) }
+{
+    let path = file.as_text().as_str();
+    match path.rfind('/') {
+        Some(end) => {
+            let dir = Text::from_str(alloc, &path[..end])?;
+            Ok(Path::new(dir).unwrap_or(Path::root(alloc)))
+        }
+        None => Ok(Path::root(alloc)),
+    }
+}
+
+/// The tree of a text.
+fn tree_of(alloc: Global, text: &str, number: u32) -> Result<FileTree, LoadError>
+    requires { length text.now ≤ 2 ^ 20 }
+    ensures { Tells tree_view (TextMeans number text.now) result }
+{
+    let tokens = tokens(alloc, text, number)?;
+    parse(alloc, text, tokens.as_slice())
+}
+
+/// The tree of the bytes of a file, which must be UTF-8.
+fn tree_of_bytes(alloc: Global, bytes: &[u8], number: u32) -> Result<FileTree, LoadError>
+    requires { length bytes.now ≤ 2 ^ 20 }
+    ensures { Tells tree_view (AsText number bytes.now (TextMeans number bytes.now)) result }
+{
+    match str::from_utf8(bytes) {
+        Ok(text) => tree_of(alloc, text, number),
+        Err(error) => Err(LoadError::Bad(not_utf8(alloc, bytes, error.valid_up_to(), number))),
+    }
+}
+
+/// A file, parsed.
+fn parse_file(alloc: Global, file: &(Path, Vec<u8>), number: u32) -> Result<Parsed, LoadError>
+    requires { length file.now.1.items ≤ 2 ^ 20 }
+    ensures { Tells placed_of (FileMeans number (file.now.0, file.now.1.items)) result }
+{
+    let tree = tree_of_bytes(alloc, file.1.as_slice(), number)?;
+    Ok(Parsed {
+        directory: Directory::of(alloc, &file.0)?,
+        dir: dir_of(alloc, &file.0)?,
+        tree,
+    })
+}
+
+/// All files, parsed. The first has the number 1.
+pub fn all_parsed(alloc: Global, files: &[(Path, Vec<u8>)]) -> Result<Vec<Parsed>, LoadError>
+    requires few { length files.now ≤ 2 ^ 14 }
+    requires short { All (λ f. length f.1 ≤ 2 ^ 20) (sources files.now) }
+    ensures { Tells (λ parsed. map placed_of parsed.items) (TreesMean (sources files.now)) result }
+{
+    let mut all = Vec::new(alloc);
+    let mut number = 1;
+    'files: for file in files {
+        all.push(parse_file(alloc, file, number)?)?;
+        number += 1;
+    }
+    Ok(all)
+}

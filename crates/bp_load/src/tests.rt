@@ -1,0 +1,239 @@
+ghost use Rattle.std.specs.Prelude.{◌≡◌, ◌≤◌, ◌^◌, length, map, IfOk};
+ghost use Rattle.std.specs.List.{All};
+ghost use Rattle.bp_load.specs.Directories.{AreInFileOrder};
+ghost use Rattle.bp_load.specs.Trees.{sources};
+
+use crate::{LoadError, file_list, load, raw_modules};
+use bp_faults::{OutOfMemory, Path, fault_line};
+use std::alloc::Global;
+use std::test::Fail;
+
+// The bytes of a small file.
+fn bytes_of(alloc: Global, text: &str) -> Result<Vec<u8>, OutOfMemory>
+    ensures { IfOk result (λ bytes. length bytes.items ≤ 2 ^ 20) }
+{
+    let mut bytes = Vec::new(alloc);
+    if text.len() <= 1_048_576 {
+        bytes.extend_from_slice(text.as_bytes())?;
+    }
+    Ok(bytes)
+}
+
+// The files of a list, with the contents that are given in file order.
+fn files_of(alloc: Global, list: &str, contents: &[&str]) -> Result<Vec<(Path, Vec<u8>)>, LoadError>
+    requires { length list.now ≤ 2 ^ 22 }
+    ensures few { IfOk result (λ files. length files.items ≤ 2 ^ 14) }
+    ensures order { IfOk result (λ files. AreInFileOrder (map (λ f. f.0) (sources files.items))) }
+    ensures short { IfOk result (λ files. All (λ f. length f.1 ≤ 2 ^ 20) (sources files.items)) }
+{
+    let paths = file_list(alloc, list.as_bytes())?;
+    let mut files = Vec::new(alloc);
+    for path in paths {
+        let text = contents.get(files.len()).copied().unwrap_or("");
+        files.push((path, bytes_of(alloc, text)?))?;
+    }
+    Ok(files)
+}
+
+// What a list file is: its paths, each with LF, or the line of its fault.
+fn listed(alloc: Global, bytes: &[u8]) -> Result<String, OutOfMemory>
+    requires { length bytes.now ≤ 2 ^ 22 }
+{
+    match file_list(alloc, bytes) {
+        Ok(paths) => {
+            let mut text = String::new(alloc);
+            for path in &paths {
+                text.push_str(path.as_str())?;
+                text.push_str("\n")?;
+            }
+            Ok(text)
+        }
+        Err(LoadError::Bad(fault)) => fault_line(alloc, &fault, &[]),
+        Err(LoadError::OutOfMemory) => Err(OutOfMemory),
+    }
+}
+
+// What files load as: the names of the modules with their directories, or the line of the first fault, with
+// the number of the file before it.
+fn loaded(alloc: Global, list: &str, contents: &[&str]) -> Result<String, OutOfMemory>
+    requires { length list.now ≤ 2 ^ 22 }
+{
+    let answer = match files_of(alloc, list, contents) {
+        Ok(files) => load(alloc, files.as_slice(), 4),
+        Err(refusal) => Err(refusal),
+    };
+    match answer {
+        Ok(modules) => {
+            let mut text = String::new(alloc);
+            for module in &modules {
+                text.push_str(module.dir.as_str())?;
+                text.push_str(":")?;
+                text.push_str(module.name.as_str())?;
+                text.push_str("\n")?;
+            }
+            Ok(text)
+        }
+        Err(LoadError::Bad(fault)) => {
+            let line = fault_line(alloc, &fault, &[])?;
+            let file = fault.at.file;
+            Ok(format!(in alloc; "{file}{line}")?)
+        }
+        Err(LoadError::OutOfMemory) => Err(OutOfMemory),
+    }
+}
+
+// The raw modules of files, each with its directory.
+fn raw_shown(alloc: Global, list: &str, contents: &[&str]) -> Result<String, LoadError>
+    requires { length list.now ≤ 2 ^ 22 }
+{
+    let files = files_of(alloc, list, contents)?;
+    let mut shown = String::new(alloc);
+    for (dir, raw) in &raw_modules(alloc, files.as_slice())? {
+        shown.push_str(dir.as_str())?;
+        shown.push_str(":")?;
+        shown.push_str(raw.kind.as_str())?;
+        shown.push_str("\n")?;
+    }
+    Ok(shown)
+}
+
+#[test]
+fn a_list_is_read_as_a_finder_writes_it(rt: HostRuntime) -> Result<(), Fail> {
+    let alloc = rt.alloc();
+    for (list, want) in [
+        ("./a/Android.bp\n\na/Android.bp\n", "a/Android.bp\n"),
+        (
+            "./b/a/Android.bp\r\n \t\n././b/Android.bp\nb.c/Android.bp\nAndroid.bp\nb/A/Android.bp",
+            "Android.bp\nb/Android.bp\nb/A/Android.bp\nb/a/Android.bp\nb.c/Android.bp\n",
+        ),
+        ("", ""),
+        ("a*/Android.bp", "a*/Android.bp\n"),
+        (
+            "../x/Android.bp",
+            ":1:1: error 33: bad path in list: ../x/Android.bp\n",
+        ),
+        (
+            "Android.bp\n./x//Android.bp\r\n",
+            ":2:1: error 33: bad path in list: ./x//Android.bp\n",
+        ),
+        (
+            "a/Android.bp\r",
+            ":1:1: error 33: bad path in list: a/Android.bp?\n",
+        ),
+        (
+            "a|b/Android.bp",
+            ":1:1: error 33: bad path in list: a|b/Android.bp\n",
+        ),
+        (
+            "aAndroid.bp",
+            ":1:1: error 33: bad path in list: aAndroid.bp\n",
+        ),
+        (
+            "/Android.bp",
+            ":1:1: error 33: bad path in list: /Android.bp\n",
+        ),
+    ] {
+        assert_eq!(rt; listed(alloc, list.as_bytes())?.as_str(), want, "of {list}");
+    }
+    assert_eq!(rt;
+        listed(alloc, b"a/Android.bp\n\xc3\xa4\xff")?.as_str(),
+        ":2:2: error 1: not UTF-8\n"
+    );
+    Ok(())
+}
+
+#[test]
+fn a_file_inherits_the_scope_of_its_nearest_ancestor(rt: HostRuntime) -> Result<(), Fail> {
+    let alloc = rt.alloc();
+    let two = "Android.bp\na/Android.bp";
+    let sisters = "a/Android.bp\nb/Android.bp";
+    let deep = "Android.bp\na/Android.bp\na/b/c/Android.bp\nd/Android.bp";
+    for (list, contents, want) in [
+        (
+            two,
+            ["flags = [\"-Wall\"]", "flags += [\"-O2\"]", "", ""],
+            "2:1:1: error 12: variable is inherited: flags\n",
+        ),
+        (
+            sisters,
+            ["x = \"1\"", "y = x", "", ""],
+            "2:1:5: error 10: unknown variable: x\n",
+        ),
+        (
+            two,
+            ["", "x = [\"a\"]\ny = x\nx += [\"b\"]", "", ""],
+            "2:3:1: error 13: variable was already used: x\n",
+        ),
+        (
+            two,
+            ["x = \"a\"\nx = \"b\"", "", "", ""],
+            "1:2:1: error 11: variable is already set: x\n",
+        ),
+        (
+            deep,
+            [
+                "n = \"r\"",
+                "m = n + \"a\"",
+                "filegroup { name: m + \"c\" }",
+                "filegroup { name: n }",
+            ],
+            "a/b/c:rac\nd:r\n",
+        ),
+        (
+            deep,
+            ["", "m = \"a\"", "", "filegroup { name: m }"],
+            "4:1:19: error 10: unknown variable: m\n",
+        ),
+    ] {
+        assert_eq!(rt; loaded(alloc, list, &contents)?.as_str(), want);
+    }
+    Ok(())
+}
+
+#[test]
+fn the_first_phase_that_has_a_fault_tells_it(rt: HostRuntime) -> Result<(), Fail> {
+    let alloc = rt.alloc();
+    let three = "Android.bp\na/Android.bp\nb/Android.bp";
+    for (contents, want) in [
+        (
+            ["no_type { }", "x = y", "x = {"],
+            "3:1:6: error 7: unexpected token: end of file\n",
+        ),
+        (
+            ["no_type { }", "x = y", "license { }"],
+            "2:1:5: error 10: unknown variable: y\n",
+        ),
+        (
+            [
+                "filegroup { name: \"n\" }",
+                "filegroup { name: \"n\" }",
+                "no_type { }",
+            ],
+            "3:1:1: error 15: unknown module type: no_type\n",
+        ),
+        (
+            [
+                "filegroup { name: \"n\" }",
+                "package { }",
+                "filegroup { name: \"n\" }",
+            ],
+            "3:1:13: error 20: duplicate module name: n\n",
+        ),
+        (["\"", "`", "$"], "1:1:1: error 3: unterminated string\n"),
+    ] {
+        assert_eq!(rt; loaded(alloc, three, &contents)?.as_str(), want);
+    }
+    Ok(())
+}
+
+#[test]
+fn raw_modules_have_the_directories_of_their_files(rt: HostRuntime) -> Result<(), Fail> {
+    let alloc = rt.alloc();
+    let shown = raw_shown(
+        alloc,
+        "a/b/Android.bp\nAndroid.bp",
+        &["one { }", "two { }\nsix { }"],
+    )?;
+    assert_eq!(rt; shown.as_str(), ":one\na/b:two\na/b:six\n");
+    Ok(())
+}

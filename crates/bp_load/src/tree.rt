@@ -1,0 +1,46 @@
+ghost use Rattle.std.specs.Prelude.{◌≡◌, ◌≤◌, ◌^◌, length, map};
+ghost use Rattle.std.specs.List.{All};
+ghost use Rattle.bp_faults.specs.Answers.{Answers, Tells};
+ghost use Rattle.bp_load.specs.Directories.{AreInFileOrder};
+ghost use Rattle.bp_load.specs.Trees.{sources};
+ghost use Rattle.bp_load.specs.Inherited.{placed_raw};
+ghost use Rattle.bp_load.specs.Loaded.{all_named, LoadMeans};
+
+use crate::LoadError;
+use crate::names::test_names;
+use crate::raw::raw_modules;
+use crate::typing::type_all;
+use bp_faults::Path;
+use bp_props::Module;
+use bp_values::RawModule;
+use std::alloc::Global;
+
+/// Types all modules, and then tests all names.
+fn typed_and_named(alloc: Global, raws: Vec<(Path, RawModule)>) -> Result<Vec<Module>, LoadError>
+    ensures { Answers (λ modules. modules.items) result (all_named (map placed_raw raws.items)) }
+{
+    let modules = type_all(alloc, raws)?;
+    test_names(alloc, modules.as_slice())?;
+    Ok(modules)
+}
+
+/// All modules of a tree, in file order and then by position. The conditions are those of `raw_modules`.
+///
+/// Where there are none, the first fault of the first phase that has one is told: parsing of every file,
+/// evaluation of every file, typing of every module, and names. In the phase of names each module in order is
+/// first counted, *too many* `modules` beyond 2^17, and then compared with the earlier names, *duplicate
+/// module name*. The number of workers makes no difference to the answer; the work is done on one thread.
+pub fn load(
+    alloc: Global,
+    files: &[(Path, Vec<u8>)],
+    workers: u32,
+) -> Result<Vec<Module>, LoadError>
+    requires few { length files.now ≤ 2 ^ 14 }
+    requires order { AreInFileOrder (map (λ f. f.0) (sources files.now)) }
+    requires short { All (λ f. length f.1 ≤ 2 ^ 20) (sources files.now) }
+    ensures { Tells (λ modules. modules.items) (LoadMeans (sources files.now)) result }
+{
+    let _ = workers;
+    let raws = raw_modules(alloc, files)?;
+    typed_and_named(alloc, raws)
+}
