@@ -1,7 +1,5 @@
-pub mod Names
-pub mod Stands
-pub mod Tokens
-pub mod Form
-pub mod Modules
-pub mod Sizes
+pub mod Unknown
+pub mod Forms
+pub mod Subjects
+pub mod Known
 pub mod Laws

@@ -1,17 +1,10 @@
-//! The form of an Android.bp file that `build` knows: binaries and static libraries of C.
+//! The forms of modules that `build` knows: binaries and static libraries of C.
 //!
-//! The text of a file and its tokens flow in; its modules flow out, or the first token that the form
-//! lacks. It is measured by `specs/Stands.antt`, the form as a right-linear grammar, and by
-//! `modules_of` in `specs/Modules.antt`, what the tokens stand for.
+//! The typed modules of a tree flow in; the modules that are built flow out, or the fault *not built
+//! yet* at the first place of what isn't known. It is measured by `AreKnown` in `specs/Known.antt`.
 #![tactic(auto)]
 
-mod form;
+mod known;
 pub mod laws;
-mod module;
-mod names;
-mod read;
-mod stand;
 
-pub use module::{Module, ModuleKind};
-pub use read::modules;
-pub use stand::{Lists, Property, Stand};
+pub use known::known_modules;

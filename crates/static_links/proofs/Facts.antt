@@ -16,7 +16,7 @@ use Rattle.module_graph.specs.Graphs.{targets}
 use Rattle.module_graph.specs.Planned.{plan_edges}
 use Rattle.module_graph.proofs.Targets.{predecessors_targets}
 use Rattle.ninja_text.specs.declared.file.Statement.{Statement}
-use Rattle.module_form.specs.declared.module.Module.{Module}
+use Rattle.static_links.specs.declared.module.Module.{Module}
 use Rattle.static_links.specs.Names.{number_of, targets_of}
 use Rattle.static_links.specs.Lines.{libraries_at, line_over, link_line, limited, line_step, height_in}
 use Rattle.static_links.specs.Actions.{acted, actions_step}

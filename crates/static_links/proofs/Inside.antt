@@ -5,7 +5,7 @@ use Rattle.std.specs.List.{AllByRecursion}
 use Rattle.bp_faults.specs.declared.fault.Fault.{Fault}
 use Rattle.bp_faults.specs.declared.place.Item.{Item}
 use Rattle.bp_faults.specs.Answers.{then_do}
-use Rattle.module_form.specs.declared.module.Module.{Module}
+use Rattle.static_links.specs.declared.module.Module.{Module}
 use Rattle.static_links.specs.Phases.{checked, checked_from}
 use Rattle.static_links.specs.Names.{number_of, has_own_name, library_at, is_library, has_libraries, names_checked, target_of}
 use Rattle.static_links.proofs.Numbered.{number_within}

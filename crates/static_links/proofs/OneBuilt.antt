@@ -6,7 +6,7 @@ use Rattle.std.proofs.Math.Decide.{dec_lt}
 use Rattle.bp_faults.specs.declared.fault.Fault.{Fault}
 use Rattle.ninja_text.specs.declared.file.Statement.{Statement}
 use Rattle.module_graph.proofs.OneCycle.{means_unique}
-use Rattle.module_form.specs.declared.module.Module.{Module}
+use Rattle.static_links.specs.declared.module.Module.{Module}
 use Rattle.static_links.specs.Phases.{GoesOn, Then}
 use Rattle.static_links.specs.Names.{number_of, names_checked}
 use Rattle.static_links.specs.Nodes.{graph_of, labels_of}

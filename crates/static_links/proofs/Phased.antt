@@ -12,7 +12,7 @@ use Rattle.pass_core.specs.declared.plan.Plan.{Plan}
 use Rattle.pass_core.specs.Plans.{IsPlan}
 use Rattle.module_graph.specs.declared.direction.Direction.TheVariants.{BottomUp}
 use Rattle.module_graph.specs.Planned.{plan_of}
-use Rattle.module_form.specs.declared.module.Module.{Module}
+use Rattle.static_links.specs.declared.module.Module.{Module}
 use Rattle.module_form.specs.Sizes.{size_of}
 use Rattle.static_links.specs.Phases.{GoesOn, Then}
 use Rattle.static_links.specs.Names.{number_of, names_checked}

@@ -14,7 +14,7 @@ use Rattle.module_graph.specs.Graphs.{outward, edges_of, targets, NameNodes, IsN
 use Rattle.module_graph.specs.Planned.{plan_edges}
 use Rattle.module_graph.specs.Walks.{NoneReturns}
 use Rattle.module_graph.proofs.Turned.{plan_free}
-use Rattle.module_form.specs.declared.module.Module.{Module}
+use Rattle.static_links.specs.declared.module.Module.{Module}
 use Rattle.static_links.specs.Names.{number_of, target_of, targets_of}
 use Rattle.static_links.specs.Variants.{module_label}
 use Rattle.static_links.specs.Nodes.{edge_of, nodes_from, graph_of}

@@ -7,7 +7,7 @@ use Rattle.module_graph.specs.declared.graph.Edge.{Edge}
 use Rattle.module_graph.specs.declared.graph.Node.{Node}
 use Rattle.module_graph.specs.Graphs.{targets}
 use Rattle.module_graph.proofs.Targets.{targets_at as targets-at}
-use Rattle.module_form.specs.declared.module.Module.{Module}
+use Rattle.static_links.specs.declared.module.Module.{Module}
 use Rattle.static_links.specs.Lines.{line_over, limited}
 use Rattle.static_links.specs.Visits.{targets_at, line_meant}
 

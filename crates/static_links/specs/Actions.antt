@@ -6,9 +6,9 @@ use Rattle.bp_faults.specs.declared.fault.Fault.{Fault}
 use Rattle.bp_faults.specs.declared.place.Item.{Item}
 use Rattle.bp_faults.specs.Answers.{then_do}
 use Rattle.ninja_text.specs.declared.file.Statement.{Statement}
-use Rattle.module_form.specs.declared.module.Module.{Module}
-use Rattle.module_form.specs.declared.module.ModuleKind.{ModuleKind}
-use Rattle.module_form.specs.declared.module.ModuleKind.TheVariants.{Binary, StaticLibrary}
+use Rattle.static_links.specs.declared.module.Module.{Module}
+use Rattle.static_links.specs.declared.module.ModuleKind.{ModuleKind}
+use Rattle.static_links.specs.declared.module.ModuleKind.TheVariants.{Binary, StaticLibrary}
 use Rattle.static_links.specs.Variants.{variant_of}
 use Rattle.static_links.specs.Lines.{link_line}
 use Rattle.static_links.specs.Sources.{sources_checked}

@@ -2,7 +2,7 @@
 use Rattle.std.specs.Prelude.{◌≡◌, List, Result}
 use Rattle.bp_faults.specs.declared.fault.Fault.{Fault}
 use Rattle.ninja_text.specs.declared.file.Statement.{Statement}
-use Rattle.module_form.specs.declared.module.Module.{Module}
+use Rattle.static_links.specs.declared.module.Module.{Module}
 use Rattle.static_links.specs.Built.{IsBuilt}
 
 -- Modules are built by one thing alone.

@@ -1,5 +1,6 @@
 pub mod Phases
 pub mod Names
+pub mod Limits
 pub mod Tables
 pub mod Variants
 pub mod Lines

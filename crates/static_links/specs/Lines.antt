@@ -7,7 +7,7 @@ use Rattle.bp_faults.specs.declared.fault.Fault.{Fault}
 use Rattle.bp_faults.specs.declared.kind.FaultKind.TheVariants.{LinkTooLong}
 use Rattle.bp_faults.specs.Faults.{fault_on}
 use Rattle.pass_core.specs.Heights.{unroll, above_all}
-use Rattle.module_form.specs.declared.module.Module.{Module}
+use Rattle.static_links.specs.declared.module.Module.{Module}
 use Rattle.static_links.specs.Names.{number_of, targets_of}
 use Rattle.static_links.specs.Variants.{module_label}
 

@@ -4,13 +4,13 @@ use Rattle.std.specs.Option.{unwrap_or, option_map_or}
 use Rattle.std.specs.Str.{bytes_eq}
 use Rattle.bp_faults.specs.declared.fault.Fault.{Fault}
 use Rattle.bp_faults.specs.declared.place.Item.{Item}
-use Rattle.bp_faults.specs.declared.kind.FaultKind.TheVariants.{DuplicateName, MissingModule, MissingVariant}
+use Rattle.bp_faults.specs.declared.kind.FaultKind.TheVariants.{MissingModule, MissingVariant}
 use Rattle.bp_faults.specs.Faults.{fault_on}
 use Rattle.bp_faults.specs.Answers.{then_do}
-use Rattle.module_form.specs.declared.module.Module.{Module}
-use Rattle.module_form.specs.declared.module.ModuleKind.{ModuleKind}
-use Rattle.module_form.specs.declared.module.ModuleKind.TheVariants.{Binary, StaticLibrary}
-use Rattle.static_links.specs.Phases.{checked, checked_from}
+use Rattle.static_links.specs.declared.module.Module.{Module}
+use Rattle.static_links.specs.declared.module.ModuleKind.{ModuleKind}
+use Rattle.static_links.specs.declared.module.ModuleKind.TheVariants.{Binary, StaticLibrary}
+use Rattle.static_links.specs.Phases.{checked}
 use Rattle.static_links.specs.Variants.{variant_label}
 
 -- The number of the first module of a name, counted on from k.
@@ -40,19 +40,15 @@ library_at ms item None = Err (fault_on MissingModule item.at item.text)
 library_at ms item (Some n) = option_map_or (λ (m : Module). has_variant item m.kind) (slice_get ms n) (Ok tt)
 
 module _ (names : List ℕ → Option ℕ) where
-  -- No earlier module has the name of module k.
-  abbrev pub has_own_name : ℕ → Module → Result Unit Fault
-  has_own_name k m = if some_number (λ n. nat_lt n k) (names m.name) then Err (fault_on DuplicateName m.name_at m.name) else Ok tt
-
   abbrev pub is_library : List Module → Item → Result Unit Fault
   is_library ms item = library_at ms item (names item.text)
 
   abbrev pub has_libraries : List Module → Module → Result Unit Fault
   has_libraries ms m = checked (is_library ms) m.static_libs
 
-  -- the checks of names, one after another over all modules
+  -- Every item of every module names a library.
   abbrev pub names_checked : List Module → Result Unit Fault
-  names_checked ms = then_do (checked_from has_own_name 0 ms) (λ done. checked (has_libraries ms) ms)
+  names_checked ms = checked (has_libraries ms) ms
 
   -- the number of the library that an item names
   abbrev pub target_of : Item → ℕ

@@ -10,7 +10,7 @@ use Rattle.module_graph.specs.Walks.{NoneReturns}
 use Rattle.module_graph.specs.declared.graph.Edge.{Edge}
 use Rattle.module_graph.specs.declared.graph.EdgeKind.TheVariants.{Static}
 use Rattle.module_graph.specs.declared.graph.Node.{Node}
-use Rattle.module_form.specs.declared.module.Module.{Module}
+use Rattle.static_links.specs.declared.module.Module.{Module}
 use Rattle.static_links.specs.Names.{number_of, names_checked, target_of}
 use Rattle.static_links.specs.Variants.{variations_of, module_label}
 

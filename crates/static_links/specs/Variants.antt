@@ -4,9 +4,9 @@ use Rattle.bp_faults.specs.declared.target.Target.TheVariants.{AndroidArm64}
 use Rattle.module_graph.specs.declared.variation.Variation.{Variation}
 use Rattle.module_graph.specs.declared.variation.Variation.TheVariants.{Empty, Target as For, Static}
 use Rattle.module_graph.specs.Names.{variant_name_of, label_of}
-use Rattle.module_form.specs.declared.module.Module.{Module}
-use Rattle.module_form.specs.declared.module.ModuleKind.{ModuleKind}
-use Rattle.module_form.specs.declared.module.ModuleKind.TheVariants.{Binary, StaticLibrary}
+use Rattle.static_links.specs.declared.module.Module.{Module}
+use Rattle.static_links.specs.declared.module.ModuleKind.{ModuleKind}
+use Rattle.static_links.specs.declared.module.ModuleKind.TheVariants.{Binary, StaticLibrary}
 
 abbrev pub link_of : ModuleKind → Variation
 link_of Binary = Empty

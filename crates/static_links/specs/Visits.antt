@@ -8,7 +8,7 @@ use Rattle.module_graph.specs.declared.graph.Edge.{Edge}
 use Rattle.module_graph.specs.declared.graph.Node.{Node}
 use Rattle.module_graph.specs.Graphs.{targets}
 use Rattle.ninja_text.specs.declared.file.Statement.{Statement}
-use Rattle.module_form.specs.declared.module.Module.{Module}
+use Rattle.static_links.specs.declared.module.Module.{Module}
 use Rattle.static_links.specs.Lines.{line_over, limited}
 use Rattle.static_links.specs.Actions.{acted}
 

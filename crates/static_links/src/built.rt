@@ -1,6 +1,5 @@
-ghost use Rattle.std.specs.Prelude.{◌≡◌, ◌≤◌, ◌^◌};
+ghost use Rattle.std.specs.Prelude.{◌≡◌, ◌≤◌, ◌^◌, length};
 ghost use Rattle.bp_faults.specs.Answers.{Tells};
-ghost use Rattle.module_form.specs.Sizes.{size_of};
 ghost use Rattle.static_links.specs.Built.{IsBuilt};
 
 use crate::gather::gather;
@@ -8,16 +7,16 @@ use crate::graph::{check_cycles, make_graph};
 use crate::names::{check_names, number_names};
 use crate::pass::{act_all, link_lines};
 use bp_faults::Refusal;
-use module_form::Module;
+use crate::Module;
 use module_graph::{Direction, plan};
 use ninja_text::Statement;
 use std::alloc::Global;
 
-/// The statements that build some modules, or the first fault.
+/// The statements that build some modules, of which there are at most 2^17, or the first fault.
 ///
-/// There are at most 2^20 modules and libraries that they name, as in a file of 1 MiB.
+/// A name means the first module of that name.
 pub fn build(alloc: Global, modules: &[Module]) -> Result<Vec<Statement>, Refusal>
-    requires { size_of modules.now ≤ 2 ^ 20 }
+    requires { length modules.now ≤ 2 ^ 17 }
     ensures { Tells (λ statements. statements.items) (IsBuilt modules.now) result }
 {
     let table = number_names(alloc, modules)?;

@@ -5,7 +5,7 @@ ghost use Rattle.static_links.specs.Actions.{all_path, all_step, all_statements,
 
 use crate::actions::{output_path, step};
 use bp_faults::{OutOfMemory, Seq, Text, copy_all};
-use module_form::Module;
+use crate::Module;
 use ninja_text::Statement;
 use std::alloc::Global;
 use std::sync::Arc;

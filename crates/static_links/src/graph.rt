@@ -12,7 +12,7 @@ use crate::names::number_of;
 use crate::variants::{module_label, variations};
 use bp_faults::{Item, ModuleId, NodeId, OutOfMemory, Refusal, Seq, Text};
 use indexmap::IndexMap;
-use module_form::Module;
+use crate::Module;
 use module_graph::{Edge, EdgeKind, Graph, Node, check_cycle};
 use std::alloc::Global;
 

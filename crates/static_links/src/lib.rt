@@ -11,9 +11,11 @@ mod gather;
 mod graph;
 pub mod laws;
 mod line;
+mod module;
 mod names;
 mod pass;
 mod sources;
 mod variants;
 
 pub use built::build;
+pub use module::{Module, ModuleKind};

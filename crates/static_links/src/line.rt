@@ -11,7 +11,7 @@ ghost use Rattle.static_links.specs.Variants.{module_label};
 use crate::variants::module_label;
 use bp_faults::{Fault, FaultKind, NodeId, OutOfMemory, Seq};
 use indexmap::IndexSet;
-use module_form::Module;
+use crate::Module;
 use module_graph::{Edge, Graph};
 use pass_core::{Visit, VisitError};
 use std::alloc::Global;

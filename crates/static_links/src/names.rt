@@ -10,7 +10,7 @@ ghost use Rattle.static_links.specs.Tables.{IsTable};
 use crate::variants::variant_label;
 use bp_faults::{Fault, FaultKind, Item, OutOfMemory, Refusal, Text};
 use indexmap::IndexMap;
-use module_form::{Module, ModuleKind};
+use crate::{Module, ModuleKind};
 use std::alloc::Global;
 
 /// The number of the first module of each name.

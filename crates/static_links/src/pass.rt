@@ -13,7 +13,7 @@ ghost use Rattle.static_links.specs.Visits.{IsPassOutcome};
 use crate::actions::ActionVisit;
 use crate::line::LineVisit;
 use bp_faults::{Refusal, Seq};
-use module_form::Module;
+use crate::Module;
 use module_graph::Graph;
 use ninja_text::Statement;
 use pass_core::{PassError, Plan, Visit, run_serial};

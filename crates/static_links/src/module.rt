@@ -7,13 +7,13 @@ pub enum ModuleKind {
     StaticLibrary,
 }
 
-/// A module as its file has it. `at` is the place of its type, and `name_at` that of the word `name`.
+/// A module that is built. `at` is the place of its type. A source is a path from the root of the
+/// tree, and an item of `static_libs` is the name of a module.
 #[derive(Debug, Drop)]
 pub struct Module {
     pub kind: ModuleKind,
     pub at: Place,
     pub name: Text,
-    pub name_at: Place,
     pub srcs: Seq<Item>,
     pub static_libs: Seq<Item>,
 }

@@ -1,0 +1,34 @@
+-- What a fault names that stands at a token.
+use Rattle.std.specs.Prelude.{◌≡◌, ℕ, ◌+◌, ◌-◌, List, [], ◌∷◌, Bool, ◌&&◌, ◌==◌, Ok, if◌then◌else◌, slice_index_or}
+use Rattle.bp_faults.specs.declared.fault.Fault.{Fault}
+use Rattle.bp_faults.specs.declared.place.Place.{Place}
+use Rattle.bp_faults.specs.declared.kind.FaultKind.TheVariants.{NotBuilt}
+use Rattle.bp_faults.specs.Faults.{fault_on}
+use Rattle.bp_lexer.specs.declared.token.Token.{Token}
+use Rattle.bp_lexer.specs.Meaning.{word_of, LexMeans}
+use Rattle.bp_load.specs.Trees.{Source}
+
+abbrev pub is_place : Place → Place → Bool
+is_place a b = (a.file == b.file) && ((a.line == b.line) && (a.col == b.col))
+
+-- the text of the token at a place, and the empty text where none stands there
+abbrev pub word_at : List ℕ → Place → List Token → List ℕ
+word_at text place [] = []
+word_at text place (t ∷ ts) = if is_place t.place place then word_of text t else word_at text place ts
+
+-- Files are numbered from 1; this is where the file of a number stands among them.
+abbrev pub index_of : ℕ → ℕ
+index_of number = number - 1
+
+-- the text of the file at an index
+abbrev pub text_at : List Source → ℕ → List ℕ
+text_at files index = (slice_index_or files index ([], [])).1
+
+-- The subject of a fault at a token of some files: the token's text.
+abbrev pub IsSubject : List Source → Place → List ℕ → Type 0
+IsSubject files place subject = let index = index_of place.file in let text = text_at files index in
+    (ts : List Token) × LexMeans (index + 1) text (Ok ts) × (subject ≡ word_at text place ts)
+
+-- What isn't built stands at a token, and the fault names it.
+abbrev pub IsNotBuilt : List Source → Place → Fault → Type 0
+IsNotBuilt files place fault = (subject : List ℕ) × IsSubject files place subject × (fault ≡ fault_on NotBuilt place subject)
