@@ -1,4 +1,5 @@
-pub mod AsciiBytes
+pub mod Counted
+pub mod Reading
 pub mod Meeting
 pub mod Making
 pub mod OneJob

@@ -4,3 +4,4 @@ pub mod File
 pub mod Job
 pub mod Steps
 pub mod Run
+pub mod Laws

@@ -1,5 +1,5 @@
 -- What a call of the program does to files and streams, status by status.
-use Rattle.std.specs.Prelude.{◌≡◌, ◌⊎◌, ℕ, List, ◌++◌, Option, Some, Ok, Err, IfSome, IsNone, IsSomeAnd, Result, ⊤, codes}
+use Rattle.std.specs.Prelude.{◌≡◌, ◌⊎◌, ℕ, List, ◌∷◌, ◌++◌, Option, Some, Ok, Err, IfSome, IsNone, IsSomeAnd, Result, ⊤, codes}
 use Rattle.std.specs.FinMap.{insert}
 use Rattle.bp_faults.specs.declared.fault.Fault.{Fault}
 use Rattle.bp_faults.specs.Line.{line_of}
@@ -8,7 +8,7 @@ use Rattle.bp_ports.specs.Files.{Files, WhereTold, SameBut, AppendsPart}
 use Rattle.bpgen.specs.declared.words.Configuration.{Configuration}
 use Rattle.bpgen.specs.declared.end.End.{End}
 use Rattle.bpgen.specs.declared.stop.Stop.{Stop}
-use Rattle.bpgen.specs.Job.{IsJob, paths_of}
+use Rattle.bpgen.specs.Job.{IsJob, AreListed}
 use Rattle.bpgen.specs.Steps.{CannotRead}
 
 abbrev pub usage_line : List ℕ
@@ -59,9 +59,11 @@ Gives c old outcome = IfSome old.files (λ files. IsJob c files outcome)
 abbrev pub DoneBy : World → World → Configuration → Type 0
 DoneBy old new c = (text : List ℕ) × Gives c old (Ok text) × WhereTold (λ before after. after ≡ insert before c.out text) old.files new.files × (new.out ≡ old.out)
 
--- Status 1: the job is the fault of the line, and nothing changed.
+-- Status 1: the job is the fault of the line, whose path is that of the list or of a file that it names, and nothing changed.
 abbrev pub FaultBy : World → World → List ℕ → Configuration → Type 0
-FaultBy old new line c = (fault : Fault) × Gives c old (Err fault) × (line ≡ line_of fault (paths_of c)) × Unchanged old new
+FaultBy old new line c =
+    (fault : Fault) × Gives c old (Err fault)
+    × (paths : List (List ℕ)) × IfSome old.files (λ files. AreListed c files paths) × (line ≡ line_of fault (c.list ∷ paths)) × Unchanged old new
 
 -- Status 3: a read failed, of a path that the job reads, and nothing changed.
 abbrev pub ReadBy : World → World → List ℕ → Configuration → Type 0
@@ -84,12 +86,12 @@ Ended conf old new End.OutOfMemory = IsSomeAnd conf (λ c. Unchanged old new)
 abbrev pub Says : {D : Type 0} → (D → Option (List ℕ)) → (D → ℕ) → D → D → List ℕ → Type 0
 Says bytes faults old new text = WhereTold (λ before after. (after ≡ before ++ text) ⊎ (AppendsPart text before after × Rose (faults old) (faults new))) (bytes old) (bytes new)
 
--- how a job's stop is told
-abbrev pub Stopped : Configuration → Stop → End → Type 0
-Stopped c (Stop.Fault fault) (End.Fault line) = line ≡ line_of fault (paths_of c)
-Stopped c (Stop.Read path) (End.Read line) = line ≡ read_line path
-Stopped c stop End.OutOfMemory = ⊤
-Stopped c stop end = ⊥
+-- how a job's stop is told, by the paths of the files
+abbrev pub Stopped : List (List ℕ) → Stop → End → Type 0
+Stopped paths (Stop.Fault fault) (End.Fault line) = line ≡ line_of fault paths
+Stopped paths (Stop.Read path) (End.Read line) = line ≡ read_line path
+Stopped paths stop End.OutOfMemory = ⊤
+Stopped paths stop end = ⊥
 
 -- The answer is 0 where the job is a text and nothing failed, or memory ran out.
 abbrev pub Completes : Option Configuration → World → World → ℕ → Type 0

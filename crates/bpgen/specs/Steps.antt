@@ -1,5 +1,6 @@
 -- What a step of the job answers, for what its definition gives.
-use Rattle.std.specs.Prelude.{◌≡◌, ◌⊎◌, ℕ, ◌≤◌, List, Result, Ok, Err, ⊤}
+use Rattle.std.specs.Prelude.{◌≡◌, ◌⊎◌, ℕ, ◌≤◌, List, ◌∷◌, ◌++◌, Result, Ok, Err, ⊤}
+use Rattle.std.specs.Result.{IsOk}
 use Rattle.bp_ports.specs.Causes.{Rose}
 use Rattle.bp_ports.specs.Files.{Files}
 use Rattle.bp_faults.specs.declared.fault.Fault.{Fault}
@@ -7,7 +8,7 @@ use Rattle.bp_faults.specs.declared.refusal.Refusal.{Refusal}
 use Rattle.bp_faults.specs.declared.refusal.Refusal.TheVariants.{Bad, OutOfMemory as NoMemory}
 use Rattle.bpgen.specs.declared.words.Configuration.{Configuration}
 use Rattle.bpgen.specs.declared.stop.Stop.{Stop}
-use Rattle.bpgen.specs.Job.{path_of}
+use Rattle.bpgen.specs.Job.{IsList, sources_of}
 
 -- a layer's refusal, as the job hands it on
 abbrev pub stop_of : Refusal → Stop
@@ -40,6 +41,10 @@ pub record ReadCause {T : Type 0} (before now : ℕ) (result : Result T Stop) : 
   pub later : before ≤ now
   pub rose : OnRead result (Rose before now)
 
--- The path that can't be read is the list's, or the source's where the list has no fault.
+-- A path of the list that can't be read: those before it have no fault.
+abbrev pub CannotReadOf : Files → List (List ℕ) → List ℕ → Type 0
+CannotReadOf files paths path = (before after : List (List ℕ)) × (paths ≡ before ++ path ∷ after) × IsOk (sources_of files before)
+
+-- The path that can't be read is the list's, or one that the list names, where it has no fault.
 abbrev pub CannotRead : Configuration → Files → List ℕ → Type 0
-CannotRead c files path = (path ≡ c.list) ⊎ (path_of c files ≡ Ok path)
+CannotRead c files path = (path ≡ c.list) ⊎ ((paths : List (List ℕ)) × IsList c files (Ok paths) × CannotReadOf files paths path)

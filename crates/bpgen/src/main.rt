@@ -5,11 +5,12 @@
 //! configuration of the words, and `specs/Job.antt`, the job of a configuration over files.
 #![tactic(auto)]
 
-mod ascii;
 mod end;
 mod file;
 mod head;
 mod job;
+mod laws;
+mod read;
 mod stop;
 #[cfg(test)]
 mod tests;
@@ -21,6 +22,7 @@ use bp_faults::Text;
 use bp_ports::{FsStore, OpenGate, StdSink};
 pub use end::End;
 pub use job::do_job;
+pub use laws::one_job;
 use std::io::ErrorKind;
 use std::process::ExitCode;
 use std::rt::Env;

@@ -40,6 +40,9 @@ build out/all: phony out/m/hello/android_arm64/bin/hello
 default out/all
 ";
 
+/// What ends the text where nothing is built.
+const EMPTY: &str = "  description = SOLINK ${out}\nbuild out/all: phony\ndefault out/all\n";
+
 fn stored(
     alloc: Global,
     path: &str,
@@ -84,17 +87,43 @@ fn told(
     Ok((status, diag.bytes().to_vec(alloc)?))
 }
 
-// It ends with this status and this line, and OUT isn't written.
-fn refuses(
+// What is written ends with this text.
+fn written_ends(store: &MemStore, end: &str) -> bool {
+    match store.held("build.ninja") {
+        Some(text) => text.ends_with(end.as_bytes()),
+        None => false,
+    }
+}
+
+// It ends with status 1 and this line, and OUT isn't written.
+fn refuses_tree(
     alloc: Global,
-    list: &[u8],
-    file: &[u8],
-    status: u8,
+    tree: Vec<(Text, Vec<u8>)>,
     line: &str,
 ) -> Result<bool, OutOfMemory> {
-    let mut store = MemStore::new(alloc, files(alloc, list, file)?, 9000, Vec::new(alloc))?;
+    let mut store = MemStore::new(alloc, tree, 9000, Vec::new(alloc))?;
     let (got, said) = told(alloc, BUILD, &mut store, 300)?;
-    Ok(got == status && said.as_slice() == line.as_bytes() && store.held("build.ninja").is_none())
+    Ok(got == 1 && said.as_slice() == line.as_bytes() && store.held("build.ninja").is_none())
+}
+
+fn refuses(alloc: Global, list: &[u8], file: &[u8], line: &str) -> Result<bool, OutOfMemory> {
+    refuses_tree(alloc, files(alloc, list, file)?, line)
+}
+
+// The list, and two files.
+fn two_files(
+    alloc: Global,
+    first: (&str, &str),
+    second: (&str, &str),
+) -> Result<Vec<(Text, Vec<u8>)>, OutOfMemory> {
+    let mut tree = Vec::new(alloc);
+    let (path, file) = first;
+    let (other, more) = second;
+    let list = format!(in alloc; "{other}\n{path}\n")?;
+    stored(alloc, "list", list.as_bytes(), &mut tree)?;
+    stored(alloc, path, file.as_bytes(), &mut tree)?;
+    stored(alloc, other, more.as_bytes(), &mut tree)?;
+    Ok(tree)
 }
 
 #[test]
@@ -123,86 +152,222 @@ fn spaces(alloc: Global, count: usize) -> Result<Vec<u8>, OutOfMemory> {
     Ok(vec![in alloc; b' '; count]?)
 }
 
+// 64 files of 1 MiB each, and one of one byte.
+fn large_tree(alloc: Global, size: usize) -> Result<Vec<(Text, Vec<u8>)>, OutOfMemory> {
+    let mut tree = Vec::new(alloc);
+    let mut list = String::new(alloc);
+    for number in 10..74 {
+        let path = format!(in alloc; "d{number}/Android.bp")?;
+        list.push_str(&format!(in alloc; "{path}\n")?)?;
+        tree.push((Text::new(path), spaces(alloc, size)?))?;
+    }
+    list.push_str("e/Android.bp\n")?;
+    stored(alloc, "e/Android.bp", b" ", &mut tree)?;
+    stored(alloc, "list", list.as_bytes(), &mut tree)?;
+    Ok(tree)
+}
+
 #[test]
 fn files_of_more_bytes_than_their_limits(rt: HostRuntime) -> Result<(), Fail> {
     let alloc = rt.alloc();
     let list = spaces(alloc, (1 << 22) + 1)?;
     let line = "list:1:1: error 32: file is too large\n";
-    assert!(rt; refuses(alloc, &list, b"", 1, line)?);
+    assert!(rt; refuses(alloc, &list, b"", line)?);
     let file = spaces(alloc, (1 << 20) + 1)?;
     let line = "Android.bp:1:1: error 32: file is too large\n";
-    assert!(rt; refuses(alloc, b"Android.bp\n", &file, 1, line)?);
+    assert!(rt; refuses(alloc, b"Android.bp\n", &file, line)?);
+    let line = "e/Android.bp:1:1: error 30: too many: bytes\n";
+    assert!(rt; refuses_tree(alloc, large_tree(alloc, 1 << 20)?, line)?);
     Ok(())
 }
 
 #[test]
-fn faults_stand_at_their_places(rt: HostRuntime) -> Result<(), Fail> {
+fn list_as_finder_writes(rt: HostRuntime) -> Result<(), Fail> {
+    let alloc = rt.alloc();
+    let mut tree = Vec::new(alloc);
+    stored(
+        alloc,
+        "list",
+        b"./a/Android.bp\n\na/Android.bp\n",
+        &mut tree,
+    )?;
+    stored(alloc, "a/Android.bp", HELLO.as_bytes(), &mut tree)?;
+    let mut store = MemStore::new(alloc, tree, 9000, Vec::new(alloc))?;
+    let (status, said) = told(alloc, BUILD, &mut store, 300)?;
+    assert_eq!(rt; status, 0);
+    assert!(rt; said.is_empty());
+    assert_eq!(rt; store.calls(), 3);
+    let end = "build out/m/hello/android_arm64/obj/a/hello.c.o: cc a/hello.c
+  target = --target=aarch64-linux-android
+build out/m/hello/android_arm64/bin/hello: link out/m/hello/android_arm64/obj/a/hello.c.o
+  target = --target=aarch64-linux-android
+build out/all: phony out/m/hello/android_arm64/bin/hello
+default out/all
+";
+    assert!(rt; written_ends(&store, end));
+    for (list, line) in [
+        (
+            "../x/Android.bp\n",
+            "list:1:1: error 33: bad path in list: ../x/Android.bp\n",
+        ),
+        (
+            "Android.bp\n\u{e9}",
+            "list:2:1: error 33: bad path in list: \u{e9}\n",
+        ),
+    ] {
+        assert!(rt; refuses(alloc, list.as_bytes(), HELLO.as_bytes(), line)?);
+    }
+    assert!(rt; refuses(alloc, b"\xff", b"", "list:1:1: error 1: not UTF-8\n")?);
+    Ok(())
+}
+
+#[test]
+fn scopes(rt: HostRuntime) -> Result<(), Fail> {
+    let alloc = rt.alloc();
+    for (first, second, line) in [
+        (
+            ("Android.bp", "flags = [\"-Wall\"]\n"),
+            ("a/Android.bp", "flags += [\"-O2\"]\n"),
+            "a/Android.bp:1:1: error 12: variable is inherited: flags\n",
+        ),
+        (
+            ("a/Android.bp", "x = \"1\"\n"),
+            ("b/Android.bp", "y = x\n"),
+            "b/Android.bp:1:5: error 10: unknown variable: x\n",
+        ),
+        // A fault of parsing stands before every fault of evaluation, and names are tested over all files.
+        (
+            ("a/Android.bp", "x = [1]"),
+            ("b/Android.bp", "/* x"),
+            "b/Android.bp:1:1: error 4: unterminated comment\n",
+        ),
+        (
+            ("Android.bp", HELLO),
+            ("a/Android.bp", HELLO),
+            "a/Android.bp:2:5: error 20: duplicate module name: hello\n",
+        ),
+    ] {
+        assert!(rt; refuses_tree(alloc, two_files(alloc, first, second)?, line)?);
+    }
+    let list = b"Android.bp\n".as_slice();
+    for (file, line) in [
+        (
+            "x = [\"a\"]\ny = x\nx += [\"b\"]\n",
+            "Android.bp:3:1: error 13: variable was already used: x\n",
+        ),
+        (
+            "x = \"a\"\nx = \"b\"\n",
+            "Android.bp:2:1: error 11: variable is already set: x\n",
+        ),
+    ] {
+        assert!(rt; refuses(alloc, list, file.as_bytes(), line)?);
+    }
+    Ok(())
+}
+
+// An assignment of that many maps, each in the one before.
+fn nested(alloc: Global, depth: usize) -> Result<String, OutOfMemory> {
+    let mut file = String::from_str(alloc, "x = ")?;
+    for _ in 1..depth {
+        file.push_str("{a:")?;
+    }
+    file.push_str("{")?;
+    for _ in 0..depth {
+        file.push_str("}")?;
+    }
+    Ok(file)
+}
+
+#[test]
+fn bad_texts(rt: HostRuntime) -> Result<(), Fail> {
     let alloc = rt.alloc();
     let list = b"Android.bp\n".as_slice();
-    assert!(rt; refuses(alloc, b"", b"", 1, "list:1:1: error 37: not built yet\n")?);
     for (file, line) in [
-        ("x\u{e9}", "Android.bp:1:1: error 37: not built yet\n"),
-        ("/* x", "Android.bp:1:1: error 4: unterminated comment\n"),
+        (
+            "b = 9223372036854775807 + 1",
+            "Android.bp:1:25: error 14: cannot add: integer + integer\n",
+        ),
         (
             "b = 9223372036854775808",
             "Android.bp:1:5: error 6: number out of range: 9223372036854775808\n",
         ),
         (
-            "cc_binary;",
-            "Android.bp:1:10: error 2: unexpected character: ;\n",
+            "x = [1]",
+            "Android.bp:1:6: error 17: wrong type: list item\n",
         ),
-        ("x = \"a\\q\"", "Android.bp:1:7: error 5: bad escape: q\n"),
+        ("/* x", "Android.bp:1:1: error 4: unterminated comment\n"),
         (
-            "x = \"\\q\n\"",
-            "Android.bp:1:5: error 3: unterminated string\n",
-        ),
-        (
-            "cc_binary { // x\n",
-            "Android.bp:2:1: error 37: not built yet: end of file\n",
+            "cc_binary { name \"x\" }",
+            "Android.bp:1:18: error 7: unexpected token: \"x\"\n",
         ),
         (
-            "\n cc_library {",
-            "Android.bp:2:2: error 37: not built yet: cc_library\n",
+            "cc_binary {",
+            "Android.bp:1:12: error 7: unexpected token: end of file\n",
         ),
         (
-            "cc_binary { name: \"a\\t\"",
-            "Android.bp:1:19: error 37: not built yet: \"a\\t\"\n",
+            "cc_binary { name: \"..\" }",
+            "Android.bp:1:13: error 19: bad module name: ..\n",
         ),
         (
-            "cc_binary { name: \"..\"",
-            "Android.bp:1:19: error 37: not built yet: \"..\"\n",
+            "cc_binary { nam: \"x\" }",
+            "Android.bp:1:13: error 16: unknown property: nam\n",
         ),
         (
-            "cc_binary { name: \"a\", srcs: [\"a.cc\"], }",
-            "Android.bp:1:31: error 37: not built yet: \"a.cc\"\n",
-        ),
-        (
-            "cc_binary { name: \"a\", srcs: [\"a.c\"], } cc_binary",
-            "Android.bp:1:50: error 37: not built yet: end of file\n",
+            "cc_binary { srcs: \"x.c\" }",
+            "Android.bp:1:13: error 17: wrong type: srcs\n",
         ),
         (
             "cc_binary { }",
-            "Android.bp:1:13: error 37: not built yet: }\n",
+            "Android.bp:1:1: error 18: module without a name: cc_binary\n",
         ),
         (
-            "cc_binary { name: `a`",
-            "Android.bp:1:19: error 37: not built yet: `a`\n",
-        ),
-        (
-            "cc_binary { name: \"a\", srcs: [\"\"]",
-            "Android.bp:1:31: error 37: not built yet: \"\"\n",
-        ),
-        (
-            "cc_binary { name: \"a\", srcs: [\"a.h\"]",
-            "Android.bp:1:31: error 37: not built yet: \"a.h\"\n",
-        ),
-        (
-            "cc_binary { name: \"a\", srcs: [], srcs",
-            "Android.bp:1:34: error 37: not built yet: srcs\n",
+            "x = { a: 1, a: 2 }",
+            "Android.bp:1:13: error 9: duplicate property: a\n",
         ),
     ] {
-        assert!(rt; refuses(alloc, list, file.as_bytes(), 1, line)?);
+        assert!(rt; refuses(alloc, list, file.as_bytes(), line)?);
     }
+    assert!(rt; builds(alloc, "b = -9223372036854775808", EMPTY)?);
+    assert!(rt; builds(alloc, nested(alloc, 64)?.as_str(), EMPTY)?);
+    let line = "Android.bp:1:197: error 8: nested too deeply\n";
+    assert!(rt; refuses(alloc, list, nested(alloc, 65)?.as_bytes(), line)?);
+    Ok(())
+}
+
+/// What isn't built stands at its first place in the first module that has it, and is named by its token.
+#[test]
+fn not_built_yet(rt: HostRuntime) -> Result<(), Fail> {
+    let alloc = rt.alloc();
+    let list = b"Android.bp\n".as_slice();
+    for (file, line) in [
+        (
+            "cc_test { name: \"a\", cflags: [] }",
+            "Android.bp:1:1: error 37: not built yet: cc_test\n",
+        ),
+        (
+            "cc_binary { name: \"b\" }\ncc_binary { name: \"a\", vendor: true, cflags: [] }",
+            "Android.bp:2:24: error 37: not built yet: vendor\n",
+        ),
+        (
+            "cc_binary { name: \"a\", target: { android: { srcs: [\"b.c\"] } }, cflags: [] }",
+            "Android.bp:1:45: error 37: not built yet: srcs\n",
+        ),
+        (
+            "f = \"b.cpp\"\ncc_binary { name: \"a\", srcs: [\"a.c\", f], static_libs: [\"x\"] }",
+            "Android.bp:2:38: error 37: not built yet: f\n",
+        ),
+        (
+            "cc_binary { name: \"a\", srcs: [\":x\"] }",
+            "Android.bp:1:31: error 37: not built yet: \":x\"\n",
+        ),
+    ] {
+        assert!(rt; refuses(alloc, list, file.as_bytes(), line)?);
+    }
+    let file = "package { default_applicable_licenses: [\"demo_license\"] }
+license { name: \"demo_license\", license_kinds: [\"SPDX-license-identifier-Apache-2.0\"] }
+cc_binary { name: \"hello\", srcs: [\"hello.c\"], arch: {}, target: { android: {} }, stl: \"none\" }
+";
+    assert!(rt; builds(alloc, file, WRITTEN)?);
     Ok(())
 }
 
@@ -239,19 +404,14 @@ fn builds(alloc: Global, file: &str, end: &str) -> Result<bool, OutOfMemory> {
     let tree = files(alloc, b"Android.bp\n", file.as_bytes())?;
     let mut store = MemStore::new(alloc, tree, 1 << 20, Vec::new(alloc))?;
     let (status, said) = told(alloc, BUILD, &mut store, 300)?;
-    let written = match store.held("build.ninja") {
-        Some(text) => text.ends_with(end.as_bytes()),
-        None => false,
-    };
-    Ok(status == 0 && said.is_empty() && written)
+    Ok(status == 0 && said.is_empty() && written_ends(&store, end))
 }
 
 #[test]
 fn diamond(rt: HostRuntime) -> Result<(), Fail> {
     let alloc = rt.alloc();
     assert!(rt; builds(alloc, DIAMOND, DIAMOND_WRITTEN)?);
-    let empty = "  description = SOLINK ${out}\nbuild out/all: phony\ndefault out/all\n";
-    assert!(rt; builds(alloc, "// x", empty)?);
+    assert!(rt; builds(alloc, "// x", EMPTY)?);
     assert!(rt;
         builds(
             alloc,
@@ -295,7 +455,7 @@ fn two_faults(rt: HostRuntime) -> Result<(), Fail> {
             "Android.bp:2:13: error 20: duplicate module name: a\n",
         ),
     ] {
-        assert!(rt; refuses(alloc, list, file.as_bytes(), 1, line)?);
+        assert!(rt; refuses(alloc, list, file.as_bytes(), line)?);
     }
     Ok(())
 }
@@ -332,13 +492,13 @@ fn cycles(rt: HostRuntime) -> Result<(), Fail> {
             "Android.bp:2:46: error 23: dependency cycle: a{android_arm64_static} -> a{android_arm64_static}\n",
         ),
     ] {
-        assert!(rt; refuses(alloc, list, file.as_bytes(), 1, line)?);
+        assert!(rt; refuses(alloc, list, file.as_bytes(), line)?);
     }
     let mut file = many_libraries(alloc, 1025)?;
     file.push_str("cc_library_static { name: \"a\", static_libs: [\"a\"] }\n")?;
     let line =
         "Android.bp:1027:46: error 23: dependency cycle: a{android_arm64_static} -> a{android_arm64_static}\n";
-    assert!(rt; refuses(alloc, list, file.as_bytes(), 1, line)?);
+    assert!(rt; refuses(alloc, list, file.as_bytes(), line)?);
     Ok(())
 }
 
@@ -396,13 +556,13 @@ fn lists_of_more_items_than_their_limits(rt: HostRuntime) -> Result<(), Fail> {
     assert!(rt; builds(alloc, file.as_str(), "\ndefault out/all\n")?);
     let file = many_libraries(alloc, 1025)?;
     let line = "Android.bp:1:1: error 29: link line is too long: app{android_arm64}\n";
-    assert!(rt; refuses(alloc, list, file.as_bytes(), 1, line)?);
+    assert!(rt; refuses(alloc, list, file.as_bytes(), line)?);
     let file = many_sources(alloc, 1 << 16)?;
     let line = "Android.bp:1:31: error 25: bad source: a\n";
-    assert!(rt; refuses(alloc, list, file.as_bytes(), 1, line)?);
+    assert!(rt; refuses(alloc, list, file.as_bytes(), line)?);
     let file = many_sources(alloc, (1 << 16) + 1)?;
-    let line = "Android.bp:1:262175: error 37: not built yet: \"a\"\n";
-    assert!(rt; refuses(alloc, list, file.as_bytes(), 1, line)?);
+    let line = "Android.bp:1:30: error 30: too many: list\n";
+    assert!(rt; refuses(alloc, list, file.as_bytes(), line)?);
     Ok(())
 }
 
@@ -412,9 +572,10 @@ fn failing_store(rt: HostRuntime) -> Result<(), Fail> {
     for (call, status, line) in [
         (1, 3, "bpgen: cannot read list\n"),
         (2, 3, "bpgen: cannot read Android.bp\n"),
-        (3, 4, "bpgen: cannot write build.ninja\n"),
+        (3, 3, "bpgen: cannot read a/Android.bp\n"),
+        (4, 4, "bpgen: cannot write build.ninja\n"),
     ] {
-        let tree = files(alloc, b"Android.bp\n", HELLO.as_bytes())?;
+        let tree = two_files(alloc, ("Android.bp", HELLO), ("a/Android.bp", ""))?;
         let mut store = MemStore::new(alloc, tree, 9000, vec![in alloc; call]?)?;
         let (got, said) = told(alloc, BUILD, &mut store, 300)?;
         assert_eq!(rt; got, status);

@@ -2,7 +2,7 @@ ghost use Rattle.std.specs.Prelude.{◌≡◌, ◌≤◌, ◌↔◌, ℕ, List, 
 ghost use Rattle.bpgen.specs.Words.{configuration_of};
 ghost use Rattle.bpgen.specs.Run.{world, Untouched, Unchanged, DoneBy, FaultBy, ReadBy, WriteBy, Says, usage_line, memory_line, Completes, Reports};
 
-use crate::{End, do_work};
+use crate::{End, do_work, one_job};
 use bp_faults::Text;
 use bp_ports::{Gate, Sink, Store};
 use std::alloc::Global;
@@ -59,6 +59,7 @@ pub fn run<S: Store, O: Sink, D: Sink, G: Gate>(
     ensures reports { Reports (configuration_of words.now) (world S.files S.read_faults S.write_faults O.bytes O.faults store.old out.old)
         (world S.files S.read_faults S.write_faults O.bytes O.faults store.new out.new) result }
 {
+    one_job();
     match do_work(alloc, words, store, out) {
         End::Done => 0,
         End::Fault(line) => {

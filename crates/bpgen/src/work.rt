@@ -1,11 +1,11 @@
-ghost use Rattle.std.specs.Prelude.{◌≡◌, IfOk, Some, Ok};
+ghost use Rattle.std.specs.Prelude.{◌≡◌, ◌∷◌, IfOk, Some, Ok};
 ghost use Rattle.bp_faults.specs.Line.{line_of};
 ghost use Rattle.bpgen.specs.Words.{configuration_of};
-ghost use Rattle.bpgen.specs.Job.{paths_of};
 ghost use Rattle.bpgen.specs.Run.{Ended, Gives, Stopped, world, read_line, write_line};
 
+use crate::read::read_list;
 use crate::{Configuration, End, Stop, configure, do_job};
-use bp_faults::{Fault, OutOfMemory, Text, fault_line};
+use bp_faults::{Fault, OutOfMemory, Path, Text, fault_line};
 use bp_ports::{Sink, Store};
 use std::alloc::Global;
 
@@ -45,24 +45,36 @@ fn deliver<S: Store, O: Sink>(
     }
 }
 
+// The texts of the files by their numbers: the list, and the paths that it names.
+fn file_texts(alloc: Global, list: &Text, paths: &[Path]) -> Result<Vec<Text>, OutOfMemory>
+    ensures { IfOk result (λ texts. texts.items ≡ list.now ∷ paths.now) }
+{
+    let mut texts = Vec::new(alloc);
+    texts.push(list.copy(alloc)?)?;
+    for path in paths {
+        texts.push(path.as_text().copy(alloc)?)?;
+    }
+    Ok(texts)
+}
+
 fn fault_text(
     alloc: Global,
-    configuration: &Configuration,
+    list: &Text,
+    paths: &[Path],
     fault: &Fault,
 ) -> Result<Text, OutOfMemory>
-    ensures { IfOk result (λ line. line ≡ line_of fault.now (paths_of configuration.now)) }
+    ensures { IfOk result (λ line. line ≡ line_of fault.now (list.now ∷ paths.now)) }
 {
-    let list = configuration.list.copy(alloc)?;
-    let source = Text::from_str(alloc, "Android.bp")?;
-    Ok(Text::new(fault_line(alloc, fault, &[list, source])?))
+    let files = file_texts(alloc, list, paths)?;
+    Ok(Text::new(fault_line(alloc, fault, &files)?))
 }
 
 // The line that tells why there is no text.
-fn stopped(alloc: Global, configuration: &Configuration, stop: &Stop) -> End
-    ensures { Stopped configuration.now stop.now result }
+fn stopped(alloc: Global, list: &Text, paths: &[Path], stop: &Stop) -> End
+    ensures { Stopped (list.now ∷ paths.now) stop.now result }
 {
     let line = match stop {
-        Stop::Fault(fault) => fault_text(alloc, configuration, fault).map(End::Fault),
+        Stop::Fault(fault) => fault_text(alloc, list, paths, fault).map(End::Fault),
         Stop::Read(path) => cannot_read(alloc, path).map(End::Read),
         Stop::OutOfMemory => Err(OutOfMemory),
     };
@@ -80,9 +92,12 @@ fn carry_out<S: Store, O: Sink>(
         (world S.files S.read_faults S.write_faults O.bytes O.faults store.old out.old)
         (world S.files S.read_faults S.write_faults O.bytes O.faults store.new out.new) result }
 {
-    match do_job(alloc, configuration, store) {
-        Ok(text) => deliver(alloc, configuration, &text, store, out),
-        Err(stop) => stopped(alloc, configuration, &stop),
+    match read_list(alloc, configuration, store) {
+        Ok(paths) => match do_job(alloc, &paths, store) {
+            Ok(text) => deliver(alloc, configuration, &text, store, out),
+            Err(stop) => stopped(alloc, &configuration.list, &paths, &stop),
+        },
+        Err(stop) => stopped(alloc, &configuration.list, &[], &stop),
     }
 }
 
