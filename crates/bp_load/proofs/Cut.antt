@@ -1,5 +1,5 @@
 -- A path cut at its last slash.
-use Rattle.std.proofs.Common.{◌≡◌, ℕ, ◌+◌, ◌-◌, ◌<◌, Bool, true, false, cond, List, [], ◌∷◌, ◌++◌, length, get_or, take, drop, refl, ap, sym, ◌∙◌, arith, eqb, add-one, suc}
+use Rattle.std.proofs.Common.{◌≡◌, ℕ, ◌+◌, ◌-◌, ◌<◌, Bool, true, false, cond, List, [], ◌∷◌, ◌++◌, length, get_or, take, drop, refl, ap, sym, ◌∙◌, arith, eqb, suc}
 use Rattle.std.specs.List.{All, list_all, onto_first, join_with_byte}
 use Rattle.std.proofs.Math.Seq.{drop-cons, take-append_seam}
 use Rattle.std.proofs.lemmas.Bool.{and_parts, ne_eqb}
@@ -8,7 +8,7 @@ use Rattle.std.proofs.lemmas.List.Folds.{list_all-append}
 use Rattle.std.proofs.lemmas.List.Splits.{slice_split_none, length-slice_split, join_with_byte-slice_split}
 use Rattle.bp_faults.specs.Paths.{is_component, is_normal}
 use Rattle.property_tables.specs.Paths.{parts}
-use Rattle.bp_load.specs.Directories.{directories, directory_of}
+use Rattle.bp_load.specs.Directories.{directory_of}
 
 abbrev slash : ℕ → Bool
 slash b = eqb b 47

@@ -1,6 +1,6 @@
 -- Lists that mean each other, item by item.
-use Rattle.std.proofs.Common.{◌≡◌, ℕ, ◌+◌, ◌<◌, List, [], ◌∷◌, ◌++◌, length, get_or, map, take, subst, ap, sym, refl, ◌∙◌, arith, suc}
-use Rattle.std.specs.Prelude.{Result, Ok, Err}
+use Rattle.std.proofs.Common.{◌≡◌, ℕ, ◌+◌, List, [], ◌∷◌, ◌++◌, length, map, subst, ap, sym, refl, ◌∙◌, arith, suc}
+use Rattle.std.specs.Prelude.{Result, Ok}
 use Rattle.bp_faults.specs.declared.fault.Fault.{Fault}
 use Rattle.std.proofs.lemmas.Simd.{map-map}
 use Rattle.bp_load.specs.Directories.{directories}

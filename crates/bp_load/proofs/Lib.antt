@@ -8,3 +8,10 @@ pub mod Orders
 pub mod Members
 pub mod Listing
 pub mod Typed
+pub mod OneOrder
+pub mod OnePhase
+pub mod OneList
+pub mod OneLoad
+pub mod SomePhase
+pub mod SomeList
+pub mod SomeLoad

@@ -1,7 +1,7 @@
 -- A map from directories to paths, as it takes line after line.
-use Rattle.std.proofs.Common.{◌≡◌, ◌↔◌, ℕ, ◌+◌, ◌-◌, ◌<◌, ◌≤◌, ◌⊎◌, inl, inr, Bool, true, false, cond, true≢false, List, [], ◌∷◌, ◌++◌, length, get_or, take, map, refl, ap, sym, subst, ◌∙◌, arith}
-use Rattle.std.specs.Prelude.{◌==◌, nat_le, IsTrue, Option, Some, None, Result, Ok, Err, ◌^◌, ◌||◌, if◌then◌else◌, codes}
-use Rattle.std.specs.List.{All, Contains, filter_map, cons_option, join_with_byte, slice_split}
+use Rattle.std.proofs.Common.{◌≡◌, ◌↔◌, ℕ, ◌+◌, ◌-◌, ◌<◌, ◌≤◌, ◌⊎◌, inl, inr, Bool, true, false, List, [], ◌∷◌, ◌++◌, length, get_or, take, map, refl, ap, sym, subst, ◌∙◌, arith}
+use Rattle.std.specs.Prelude.{◌==◌, nat_le, IsTrue, Some, None, Result, Ok, Err, ◌^◌, ◌||◌, if◌then◌else◌, codes}
+use Rattle.std.specs.List.{Contains, filter_map, cons_option, join_with_byte, slice_split}
 use Rattle.std.specs.Str.Lines.{lines, lines_of_parts}
 use Rattle.std.proofs.lemmas.List.Sums.{count_by-le-length}
 use Rattle.std.proofs.lemmas.List.{get_or_default}
@@ -19,7 +19,7 @@ use Rattle.std.proofs.lemmas.List.Splits.{join_with_byte-slice_split, length-sli
 use Rattle.std.proofs.lemmas.Map.Entries.{length-values_of}
 use Rattle.bp_faults.specs.declared.fault.Fault.{Fault}
 use Rattle.property_tables.specs.Paths.{parts}
-use Rattle.bp_load.specs.Directories.{directories, directory_cmp, AreInFileOrder}
+use Rattle.bp_load.specs.Directories.{directories, directory_cmp}
 use Rattle.bp_load.specs.ListFile.{is_blank, undotted, is_listed, is_sound, named, file_name, AreListed, AreFiles, IsWrongAt, IsFirstFault, line_place}
 use Rattle.bp_faults.specs.Faults.{fault_on}
 use Rattle.bp_faults.specs.declared.kind.FaultKind.TheVariants.{BadList, TooMany}

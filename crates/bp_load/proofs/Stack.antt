@@ -1,6 +1,6 @@
 -- The open directories: those that stay open for a file are the ones above it, innermost first.
-use Rattle.std.proofs.Common.{◌≡◌, ℕ, ◌<◌, ◌≤◌, Bool, true, false, cond, true≢false, List, [], ◌∷◌, ◌++◌, length, map, refl, ap, sym, subst, ◌∙◌, arith}
-use Rattle.std.specs.Prelude.{reverse, filter, Option, Some, None, nat_le, if◌then◌else◌}
+use Rattle.std.proofs.Common.{◌≡◌, ℕ, ◌<◌, Bool, true, false, cond, true≢false, List, [], ◌∷◌, ◌++◌, length, refl, ap, sym, ◌∙◌, arith}
+use Rattle.std.specs.Prelude.{reverse, filter, Some, if◌then◌else◌}
 use Rattle.std.specs.List.{AllByRecursion, fold}
 use Rattle.std.specs.List.Sorted.{IsStrictlySortedBy}
 use Rattle.std.specs.declared.cmp.Ordering.TheVariants.{Less}
@@ -9,9 +9,9 @@ use Rattle.std.proofs.lemmas.List.{reverse-append, append-nil, length-reverse}
 use Rattle.std.proofs.lemmas.List.Elements.{filter-append}
 use Rattle.bp_values.specs.Scopes.{Pairs}
 use Rattle.bp_load.specs.Directories.{is_above, directory_cmp}
-use Rattle.bp_load.specs.Inherited.{Finished, nearer, nearest, scope_of, inherited}
+use Rattle.bp_load.specs.Inherited.{Finished, nearer}
 use Rattle.bp_load.specs.Opened.{closed, innermost}
-use Rattle.bp_load.proofs.Above.{above_itself, above_trans, above_between, above_shorter}
+use Rattle.bp_load.proofs.Above.{above_trans, above_between, above_shorter}
 
 abbrev above : List (List ℕ) → List Finished → List Finished
 above d files = filter (λ f. is_above f.0 d) files

@@ -1,12 +1,12 @@
 -- Files evaluated in turn: what is known after some of them.
 use Rattle.std.specs.declared.cmp.Ordering.{Ordering}
-use Rattle.std.proofs.Common.{◌≡◌, ℕ, ◌+◌, ◌<◌, ◌≤◌, Bool, true, false, cond, List, [], ◌∷◌, ◌++◌, length, get_or, map, take, drop, refl, ap, sym, subst, ◌∙◌, arith, suc, append_assoc}
-use Rattle.std.specs.Prelude.{reverse, filter, Option, Some, None, Result, Ok, Err}
+use Rattle.std.proofs.Common.{◌≡◌, ℕ, ◌+◌, ◌<◌, Bool, true, false, cond, List, [], ◌∷◌, ◌++◌, length, get_or, map, drop, refl, ap, sym, subst, ◌∙◌, arith, suc, append_assoc}
+use Rattle.std.specs.Prelude.{reverse, filter, None, Result, Ok, Err}
 use Rattle.std.specs.List.{AllByRecursion, fold}
 use Rattle.std.specs.List.Sorted.{IsStrictlySortedBy}
 use Rattle.std.specs.declared.cmp.Ordering.TheVariants.{Less}
 use Rattle.std.proofs.Math.Seq.{drop-cons}
-use Rattle.std.proofs.lemmas.List.{append-nil, map-append, drop_all, length-map}
+use Rattle.std.proofs.lemmas.List.{append-nil, map-append, drop_all}
 use Rattle.std.proofs.lemmas.List.Kept.{IsStrictlySortedBy-filter}
 use Rattle.bp_faults.specs.declared.fault.Fault.{Fault}
 use Rattle.bp_faults.specs.Answers.{then_do}
@@ -14,8 +14,8 @@ use Rattle.bp_values.specs.Scopes.{Pairs}
 use Rattle.bp_values.specs.Files.{Raw, evaluated}
 use Rattle.bp_load.specs.Directories.{is_above, directory_cmp}
 use Rattle.bp_load.specs.Trees.{Placed}
-use Rattle.bp_load.specs.Inherited.{Finished, nearer, nearest, scope_of, inherited, in_directory, all_evaluated}
-use Rattle.bp_load.specs.Opened.{Turn, closed, innermost, with_values, turned}
+use Rattle.bp_load.specs.Inherited.{Finished, nearer, scope_of, inherited, in_directory, all_evaluated}
+use Rattle.bp_load.specs.Opened.{Turn, closed, innermost, turned}
 use Rattle.bp_load.proofs.Stack.{Before, IsOpen, open_none, open_more, nearest_last}
 
 abbrev Modules : Type 0

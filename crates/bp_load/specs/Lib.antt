@@ -8,3 +8,4 @@ pub mod Inherited
 pub mod Opened
 pub mod Loaded
 pub mod Known
+pub mod Laws

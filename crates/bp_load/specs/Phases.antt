@@ -1,5 +1,5 @@
 -- Phases: what is found in one list after another, or the first fault.
-use Rattle.std.specs.Prelude.{◌≡◌, ℕ, ◌+◌, ◌<◌, ◌⊎◌, ⊤, List, [], ◌∷◌, length, take, Result, Ok, Err}
+use Rattle.std.specs.Prelude.{ℕ, ◌+◌, ◌<◌, ◌⊎◌, ⊤, List, [], ◌∷◌, length, take, Result, Ok, Err}
 use Rattle.std.specs.List.{HoldsAt}
 use Rattle.bp_faults.specs.declared.fault.Fault.{Fault}
 

@@ -2,6 +2,7 @@
 #![tactic(auto)]
 
 mod directory;
+pub mod laws;
 mod list_file;
 mod names;
 mod not_utf8;

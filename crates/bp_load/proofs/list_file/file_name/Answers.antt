@@ -1,4 +1,4 @@
-use Rattle.std.proofs.Common.{◌≡◌, ◌-◌, lit<, ap, ◌∙◌, [], length, get_or}
+use Rattle.std.proofs.Common.{◌-◌, lit<, ap, ◌∙◌, [], length, get_or}
 use Rattle.std.proofs.lemmas.Iterator.Consumers.{YieldsList-end}
 use Rattle.std.proofs.lemmas.Iterator.Splits.{YieldsList-from_str_split}
 use Rattle.property_tables.specs.Paths.{parts}

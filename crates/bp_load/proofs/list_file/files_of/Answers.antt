@@ -1,5 +1,4 @@
-use Rattle.std.proofs.Common.{◌≡◌, ℕ, List, length, map, get_or, take, length-append, ◌+◌, sym, ap, subst, ◌∙◌, arith, [], ◌∷◌, ◌++◌}
-use Rattle.std.specs.Prelude.{Ok, Err}
+use Rattle.std.proofs.Common.{◌≡◌, ℕ, List, length, map, get_or, take, length-append, ◌+◌, sym, ap, subst, ◌∙◌, arith, [], ◌∷◌}
 use Rattle.std.specs.Str.Lines.{lines}
 use Rattle.std.proofs.lemmas.Iterator.Consumers.{YieldsList-end, YieldsList-so_far, YieldsList-turn}
 use Rattle.std.proofs.lemmas.Iterator.Splits.{YieldsList-from_lines}

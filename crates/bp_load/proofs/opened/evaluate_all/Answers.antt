@@ -1,16 +1,16 @@
-use Rattle.std.proofs.Common.{◌≡◌, ◌+◌, ◌<◌, ◌∷◌, [], ◌++◌, ℕ, List, Vec, Global, length, map, get_or, ap, sym, subst, ◌∙◌, arith}
+use Rattle.std.proofs.Common.{◌≡◌, ◌<◌, ◌∷◌, [], ℕ, List, Vec, Global, length, map, get_or, ap, sym, subst, ◌∙◌, arith}
 use Rattle.std.specs.Prelude.{reverse}
 use Rattle.std.proofs.lemmas.List.{length-append, length-map, get_or-map}
 use Rattle.std.proofs.lemmas.Iterator.Adapters.{YieldsList-from_vec}
-use Rattle.std.proofs.lemmas.Iterator.Consumers.{YieldsList-turn, YieldsList-end}
+use Rattle.std.proofs.lemmas.Iterator.Consumers.{YieldsList-turn}
 use Rattle.std.proofs.lemmas.Result.{err_from_is_err_and}
 use Rattle.bp_values.specs.declared.file.RawModule.{RawModule}
 use Rattle.bp_load.specs.declared.parsed.Parsed.{Parsed}
 use Rattle.bp_load.specs.Trees.{Placed, placed_of}
 use Rattle.bp_load.specs.Inherited.{placed_raw, all_evaluated}
-use Rattle.bp_load.specs.Opened.{Turn, open_of, turn_of, turned}
+use Rattle.bp_load.specs.Opened.{open_of, turn_of, turned}
 use Rattle.bp_load.proofs.Told.{answered}
-use Rattle.bp_load.proofs.Turns.{Reads, reads_none, reads_more, reads_fault, reads_all}
+use Rattle.bp_load.proofs.Turns.{Reads, reads_none, reads_more, reads_fault}
 use Rattle.bp_load.proofs.opened.evaluate_all.Goals as goal
 
 -- the file that the loop takes

@@ -1,4 +1,4 @@
-use Rattle.std.proofs.Common.{◌≡◌, List, ℕ, [], take, ◌-◌, arith, ap, sym, ◌∙◌, lit<}
+use Rattle.std.proofs.Common.{◌≡◌, ℕ, take, ◌-◌, arith, ap, sym, ◌∙◌, lit<}
 use Rattle.std.specs.Prelude.{Option, Some, None, IsSome, IfSome, unwrap_or, true}
 use Rattle.std.proofs.lemmas.Str.Pattern.{rfind_char}
 use Rattle.bp_faults.specs.Paths.{is_normal}

@@ -1,8 +1,7 @@
-use Rattle.std.proofs.Common.{rules, ◌≡◌, ◌-◌, lit<, ap, ◌∙◌, [], length, take, ℕ, List, Vec, Global}
+use Rattle.std.proofs.Common.{rules, ◌≡◌, ◌-◌, lit<, ap, ◌∙◌, length, take, ℕ, List, Vec, Global}
 use Rattle.std.proofs.lemmas.Iterator.Consumers.{YieldsList-end}
 use Rattle.std.proofs.lemmas.Iterator.Splits.{YieldsList-from_str_split}
 use Rattle.std.specs.Vec.{vec_len}
-use Rattle.property_tables.specs.Paths.{parts}
 use Rattle.bp_load.proofs.directory.Directory.of.Goals as goal
 
 sized : (v : Vec (List ℕ) Global) → vec_len v ≡ length v.items

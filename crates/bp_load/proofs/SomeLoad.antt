@@ -1,0 +1,44 @@
+-- Files mean something where texts have a token list or a fault, and words a tree or a fault.
+use Rattle.std.proofs.Common.{◌≡◌, ◌⊎◌, inl, inr, ℕ, List, [], refl}
+use Rattle.std.specs.Prelude.{Ok, Err}
+use Rattle.bp_faults.specs.declared.fault.Fault.{Fault}
+use Rattle.bp_lexer.specs.declared.token.Token.{Token}
+use Rattle.bp_lexer.specs.Meaning as lexer
+use Rattle.bp_parser.specs.Meaning as parser
+use Rattle.bp_parser.specs.Trees.{File}
+use Rattle.bp_parser.specs.Words.{Word, words_of}
+use Rattle.bp_load.specs.Texts.{AsText}
+use Rattle.bp_load.specs.Trees.{Source, placed, TextMeans, FileMeans, TreesMean}
+use Rattle.bp_load.specs.Inherited.{RawMean, all_evaluated}
+use Rattle.bp_load.specs.Loaded.{all_named}
+use Rattle.bp_load.specs.Laws.{SomeRaw, SomeLoad}
+use Rattle.bp_load.proofs.SomePhase.{HasOutcome, some_text, some_then, some_phase}
+
+module _
+    (list_or_fault : (file : ℕ) (text : List ℕ) → ((ts : List Token) × lexer.IsTokenList file text ts) ⊎ ((fault : Fault) × lexer.IsFirstFault file text fault))
+    (tree_or_fault : (text : List ℕ) (ws : List Word) → ((tree : File) × parser.IsTree ws tree) ⊎ ((fault : Fault) × parser.IsFirstFault text ws fault))
+  where
+    lexed : (file : ℕ) (text : List ℕ) → HasOutcome (lexer.LexMeans file text)
+    lexed file text = elim (list_or_fault file text) [ inl list ↦ (Ok list.0, list.1) | inr wrong ↦ (Err wrong.0, wrong.1) ]
+
+    parsed : (text : List ℕ) (ts : List Token) → HasOutcome (parser.ParseMeans text ts)
+    parsed text ts = elim (tree_or_fault text (words_of text ts)) [ inl tree ↦ (Ok tree.0, tree.1) | inr wrong ↦ (Err wrong.0, wrong.1) ]
+
+    some_file : (file : ℕ) (source : Source) → HasOutcome (FileMeans file source)
+    some_file file source =
+        some_then
+        (AsText file source.1 (TextMeans file source.1))
+        (λ tree o. o ≡ Ok (placed source.0 tree))
+        (some_text file source.1 (TextMeans file source.1) (some_then (lexer.LexMeans file source.1) (parser.ParseMeans source.1) (lexed file source.1) (parsed source.1)))
+        (λ tree. (Ok (placed source.0 tree), refl))
+
+    pub some_raw : SomeRaw
+    some_raw files =
+        some_then
+        (TreesMean files)
+        (λ trees o. o ≡ all_evaluated [] trees)
+        (some_phase FileMeans some_file 1 files)
+        (λ trees. (all_evaluated [] trees, refl))
+
+pub some_load : SomeRaw → SomeLoad
+some_load raw files = some_then (RawMean files) (λ raws o. o ≡ all_named raws) (raw files) (λ raws. (all_named raws, refl))

@@ -1,0 +1,28 @@
+//! What makes the definitions of loading believable: each law is the contract of a function that does nothing.
+
+ghost use Rattle.bp_load.specs.Laws.{SomeList, OneList, SomeRaw, OneRaw, SomeLoad, OneLoad};
+
+/// A list file means its paths or a first fault, and that alone.
+pub fn one_list()
+    ensures some { SomeList }
+    ensures one { OneList }
+{}
+
+/// Files mean their raw modules or a first fault, and that alone. It stands on the laws of tokens and trees.
+pub fn one_raw()
+    ensures some { SomeRaw }
+    ensures one { OneRaw }
+{
+    bp_lexer::list_or_fault();
+    bp_lexer::one_meaning();
+    bp_parser::tree_or_fault();
+    bp_parser::one_meaning();
+}
+
+/// Files load as their modules or a first fault, and that alone.
+pub fn one_load()
+    ensures some { SomeLoad }
+    ensures one { OneLoad }
+{
+    one_raw();
+}
