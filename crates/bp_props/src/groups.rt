@@ -5,6 +5,7 @@ use crate::{Field, GroupId, GroupProps, ModuleKind};
 use bp_faults::{OutOfMemory, Payload};
 use std::alloc::Global;
 use std::collections::BTreeMap;
+use std::collections::btree_map::Iter;
 use std::marker::Model;
 
 /// The groups that a record has. Contracts see them as pairs, ascending by the group.
@@ -46,6 +47,13 @@ impl Groups {
         ensures { option_copied result ≡ group_of self.now id }
     {
         self.map.get(&id)
+    }
+
+    /// The groups with their ids, ascending.
+    pub fn iter(&self) -> Iter<'_, GroupId, GroupProps>
+        ensures { result ≡ self.now }
+    {
+        self.map.iter()
     }
 
     /// Puts a group under its id, in place of the one that stands there.

@@ -1,5 +1,6 @@
 pub mod Unknown
 pub mod Forms
 pub mod Subjects
+pub mod Lexed
 pub mod Known
 pub mod Laws

@@ -24,10 +24,13 @@ index_of number = number - 1
 abbrev pub text_at : List Source → ℕ → List ℕ
 text_at files index = (slice_index_or files index ([], [])).1
 
+-- This is the text of the token at a place of a text, which is that of the file of that number.
+abbrev pub IsWordAt : ℕ → List ℕ → Place → List ℕ → Type 0
+IsWordAt number text place word = (ts : List Token) × LexMeans number text (Ok ts) × (word ≡ word_at text place ts)
+
 -- The subject of a fault at a token of some files: the token's text.
 abbrev pub IsSubject : List Source → Place → List ℕ → Type 0
-IsSubject files place subject = let index = index_of place.file in let text = text_at files index in
-    (ts : List Token) × LexMeans (index + 1) text (Ok ts) × (subject ≡ word_at text place ts)
+IsSubject files place subject = IsWordAt (index_of place.file + 1) (text_at files (index_of place.file)) place subject
 
 -- What isn't built stands at a token, and the fault names it.
 abbrev pub IsNotBuilt : List Source → Place → Fault → Type 0

@@ -5,6 +5,8 @@ ghost use Rattle.bp_load.specs.Trees.{sources};
 ghost use Rattle.bp_load.specs.Loaded.{LoadMeans};
 ghost use Rattle.module_form.specs.Known.{AreKnown};
 
+use crate::form::{form_of, module_as};
+use crate::subject::not_built;
 use bp_faults::{Path, Refusal};
 use bp_props::Module as Typed;
 use static_links::Module;
@@ -26,5 +28,12 @@ pub fn known_modules(
     requires loaded { LoadMeans (sources files.now) (Ok typed.items) }
     ensures { Tells (λ modules. modules.items) (AreKnown (sources files.now) typed.items) result }
 {
-    todo!()
+    let mut modules = Vec::new(alloc);
+    for module in typed {
+        match form_of(&module) {
+            Ok(kind) => modules.push(module_as(alloc, kind, module)?)?,
+            Err(place) => return Err(Refusal::Bad(not_built(alloc, files, place)?)),
+        }
+    }
+    Ok(modules)
 }

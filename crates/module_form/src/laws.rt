@@ -1,8 +1,17 @@
 //! What holds of all files and modules: each law is the contract of a function that does nothing.
 
-ghost use Rattle.module_form.specs.Laws.{OneKnown};
+ghost use Rattle.module_form.specs.Laws.{OneKnown, KnownAsMany};
+
+use bp_lexer::one_meaning;
 
 /// Typed modules give one list of modules, or have one fault.
 pub fn one_known()
     ensures { OneKnown }
+{
+    one_meaning();
+}
+
+/// The modules are as many as the typed modules.
+pub fn known_as_many()
+    ensures { KnownAsMany }
 {}

@@ -4,7 +4,13 @@
 //! yet* at the first place of what isn't known. It is measured by `AreKnown` in `specs/Known.antt`.
 #![tactic(auto)]
 
+mod form;
 mod known;
 pub mod laws;
+mod subject;
+mod unknown;
 
 pub use known::known_modules;
+
+#[cfg(test)]
+mod tests;
