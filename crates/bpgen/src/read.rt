@@ -9,7 +9,7 @@ ghost use Rattle.bpgen.specs.Job.{read_of, counted, bytes_of, sources_of, IsList
 ghost use Rattle.bpgen.specs.Steps.{Meets, Is, Never, ReadCause, CannotReadOf};
 
 use crate::{Configuration, Stop};
-use bp_faults::{Fault, FaultKind, Path, Place, Text};
+use bp_faults::{Fault, FaultKind, OutOfMemory, Path, Place, Text};
 use bp_load::file_list;
 use bp_ports::{ReadError, Store};
 use std::alloc::Global;
@@ -126,6 +126,18 @@ fn read_source<S: Store>(
     count_bytes(alloc, bytes, number, size)
 }
 
+// Puts a file behind those that are read.
+fn keep(
+    files: &mut Vec<(Path, Vec<u8>)>,
+    path: Path,
+    bytes: Vec<u8>,
+) -> Result<(), OutOfMemory>
+    ensures { OnOk result (files.new.items ≡ files.old.items ++ (path, bytes) ∷ []) }
+{
+    files.push((path, bytes))?;
+    Ok(())
+}
+
 /// The Android.bp files of some paths, in turn. They are numbered from 1.
 pub fn read_files<S: Store>(
     alloc: Global,
@@ -146,7 +158,7 @@ pub fn read_files<S: Store>(
     'paths: for path in paths {
         let bytes = read_source(alloc, store, path, number, size)?;
         size += bytes.len();
-        read.push((path.copy(alloc)?, bytes))?;
+        keep(&mut read, path.copy(alloc)?, bytes)?;
         number += 1;
     }
     Ok(read)

@@ -2,4 +2,4 @@ use Rattle.bpgen.proofs.OneJob.{one_job}
 use Rattle.bpgen.proofs.laws.one_job.Goals as goal
 
 pub returns : goal.returns
-returns c = one_job c.one_list.ensures c.one_load.ensures c.one_known.ensures c.one_outcome.ensures
+returns c = one_job c.one_list.ensures.one c.one_load.ensures.one c.one_known.ensures c.one_outcome.ensures
