@@ -2,8 +2,7 @@ ghost use Rattle.std.specs.Prelude.{◌≡◌, ◌<◌, ◌^◌, IfOk, length};
 ghost use Rattle.std.specs.Str.{bytes_eq};
 ghost use Rattle.bp_faults.specs.Answers.{Answers};
 ghost use Rattle.indexmap.specs.IndexMap.{get};
-ghost use Rattle.static_links.specs.Names.{number_of, missing_variant, has_variant, library_at, is_library, has_libraries, names_checked};
-ghost use Rattle.static_links.specs.Variants.{variant_label};
+ghost use Rattle.static_links.specs.Names.{number_of, missing_variant, is_library, names_checked};
 ghost use Rattle.static_links.specs.Phases.{checked};
 ghost use Rattle.static_links.specs.Tables.{IsTable};
 
