@@ -18,13 +18,16 @@ done_then : (a b : Result Unit Fault) → then_do a (λ fine. b) ≡ Ok tt → b
 done_then (Ok tt) b h = h
 done_then (Err fault) b h = cc
 
+abbrev fine : Result Unit Fault
+fine = Ok tt
+
 -- a module that is fine stands behind fewer than the limit
 few_before : (count : ℕ) (seen : Bool) (m : Module) → tested count seen m ≡ Ok tt → count < 2 ^ 17
 few_before count seen m h = by (nat_le (2 ^ 17) count) refl h
   where
     by : (over : Bool) → nat_le (2 ^ 17) count ≡ over
-        → (if over then Err (fault_on TooMany m.at (codes "modules")) else if seen then Err (fault_on DuplicateName (name_place m.at m.props.name) m.name) else Ok tt) ≡ Ok tt → count < 2 ^ 17
-    by true is = cc
+        → (if over then Err (fault_on TooMany m.at (codes "modules")) else if seen then Err (fault_on DuplicateName (name_place m.at m.props.name) m.name) else fine) ≡ fine → count < 2 ^ 17
+    by true is h = absurd (cc)
     by false is h = leb-false (2 ^ 17) count is
 
 few_in_all : (before ms : List Module) → length before ≤ 2 ^ 17 → names_tested before ms ≡ Ok tt → length before + length ms ≤ 2 ^ 17

@@ -47,7 +47,7 @@ whole paths i path within is = sym (take-append-drop i paths) ∙ ap (λ rest. t
 
 module _ (files : Files) where
   -- a path, by what it holds, and those behind it
-  step : ℕ → ℕ → List ℕ → List (List ℕ) → Result (List ℕ) Fault → Result (List Source) Fault
+  abbrev step : ℕ → ℕ → List ℕ → List (List ℕ) → Result (List ℕ) Fault → Result (List Source) Fault
   step number size path paths held = then_do held (λ bytes. then_do (sources_from files (number + 1) (size + length bytes) paths) (λ more. Ok ((path, bytes) ∷ more)))
 
   read_append : (number size : ℕ) (xs ys : List (List ℕ)) (done : List Source) → sources_from files number size xs ≡ Ok done
@@ -56,7 +56,7 @@ module _ (files : Files) where
       let same : [] ≡ done = cc in
       subst (λ done. sources_from files number size ys ≡ behind done (sources_from files (number + 0) (size + size_of done) ys)) same
       (sym (behind_none (sources_from files number size ys)) ∙ ap (λ n. behind [] (sources_from files n size ys)) (none_more number) ∙ ap (λ s. behind [] (sources_from files (number + 0) s ys)) (none_more size))
-  read_append number size (x ∷ xs) ys done h = held (bytes_of files number size x) refl h
+  read_append number size (x ∷ xs) ys done h = held (λ bytes more. read_append (number + 1) (size + length bytes) xs ys more) (bytes_of files number size x) refl h
     where
       Goal : Type 0
       Goal = sources_from files number size (x ∷ (xs ++ ys)) ≡ behind done (sources_from files (number + suc (length xs)) (size + size_of done) ys)
@@ -68,19 +68,23 @@ module _ (files : Files) where
           let sizes : size + length bytes + size_of more ≡ size + (length bytes + size_of more) = omega arith in
           ap (λ n. sources_from files n (size + length bytes + size_of more) ys) numbers ∙ ap (λ s. sources_from files (number + suc (length xs)) s ys) sizes
 
-      others : (bytes : List ℕ) (rest : Result (List Source) Fault) → sources_from files (number + 1) (size + length bytes) xs ≡ rest → bytes_of files number size x ≡ Ok bytes → then_do rest (λ more. Ok ((x, bytes) ∷ more)) ≡ Ok done → Goal
-      others bytes (Err fault) rest_is held_is h = absurd (cc)
-      others bytes (Ok more) rest_is held_is h =
+      Onward : Type 0
+      Onward = (bytes : List ℕ) (more : List Source) → sources_from files (number + 1) (size + length bytes) xs ≡ Ok more
+          → sources_from files (number + 1) (size + length bytes) (xs ++ ys) ≡ behind more (sources_from files (number + 1 + length xs) (size + length bytes + size_of more) ys)
+
+      others : Onward → (bytes : List ℕ) (rest : Result (List Source) Fault) → sources_from files (number + 1) (size + length bytes) xs ≡ rest → bytes_of files number size x ≡ Ok bytes → then_do rest (λ more. Ok ((x, bytes) ∷ more)) ≡ Ok done → Goal
+      others onward bytes (Err fault) rest_is held_is h = absurd (cc)
+      others onward bytes (Ok more) rest_is held_is h =
           let same : (x, bytes) ∷ more ≡ done = cc in
           ap (step number size x (xs ++ ys)) held_is
-          ∙ ap (λ r. then_do r (λ more. Ok ((x, bytes) ∷ more))) (read_append (number + 1) (size + length bytes) xs ys more rest_is)
+          ∙ ap (λ r. then_do r (λ more. Ok ((x, bytes) ∷ more))) (onward bytes more rest_is)
           ∙ behind_one (x, bytes) more (sources_from files (number + 1 + length xs) (size + length bytes + size_of more) ys)
           ∙ ap (behind ((x, bytes) ∷ more)) (shift bytes more)
           ∙ ap (λ done. behind done (sources_from files (number + suc (length xs)) (size + size_of done) ys)) same
 
-      held : (r : Result (List ℕ) Fault) → bytes_of files number size x ≡ r → step number size x xs r ≡ Ok done → Goal
-      held (Err fault) is h = absurd (cc)
-      held (Ok bytes) is h = others bytes (sources_from files (number + 1) (size + length bytes) xs) refl is h
+      held : Onward → (r : Result (List ℕ) Fault) → bytes_of files number size x ≡ r → step number size x xs r ≡ Ok done → Goal
+      held onward (Err fault) is h = absurd (cc)
+      held onward (Ok bytes) is h = others onward bytes (sources_from files (number + 1) (size + length bytes) xs) refl is h
 
   module _ (paths : List (List ℕ)) (i : ℕ) (done : List Source) (path : List ℕ) (within : i < length paths) (is : path ≡ get_or paths i path) (read : sources_of files (take i paths) ≡ Ok done) where
     -- the paths from here on, behind those that are read
@@ -99,4 +103,4 @@ module _ (files : Files) where
         ap (sources_of files) (whole paths i path within is) ∙ onward (path ∷ drop (i + 1) paths) ∙ ap (λ held. behind done (step (1 + i) (size_of done) path (drop (i + 1) paths) held)) here
 
     pub read_stop : CannotReadOf files paths path
-    read_stop = (take i paths, drop (i + 1) paths, whole paths i path within is, subst IsOk (sym read) tt)
+    read_stop = (take i paths, drop (i + 1) paths, whole paths i path within is, subst IsOk (sym read) refl)

@@ -13,6 +13,7 @@ use bp_faults::{FaultKind, Path};
 use bp_load::load;
 use bp_ports::Store;
 use module_form::known_modules;
+use module_form::laws::known_as_many;
 use ninja_text::{NinjaFile, Statement, WriteError, write};
 use static_links::build;
 use std::alloc::Global;
@@ -43,6 +44,7 @@ fn make(alloc: Global, files: &[(Path, Vec<u8>)]) -> Result<Vec<u8>, Stop>
     requires short { All (λ f. length f.1 ≤ 2 ^ 20) (sources files.now) }
     ensures { Meets (λ made. made.items) (IsTree (sources files.now)) Never result }
 {
+    known_as_many();
     let typed = load(alloc, files, 1)?;
     let modules = known_modules(alloc, files, typed)?;
     let statements = build(alloc, &modules)?;

@@ -1,4 +1,4 @@
-ghost use Rattle.std.specs.Prelude.{◌≡◌, ◌≤◌, ◌^◌, ◌∷◌, [], ◌++◌, IfOk, OnOk, IfSome, length, map};
+ghost use Rattle.std.specs.Prelude.{◌≡◌, ◌≤◌, ◌+◌, ◌^◌, ◌∷◌, [], ◌++◌, IfOk, OnOk, IfSome, length, map};
 ghost use Rattle.std.specs.List.{All};
 ghost use Rattle.std.specs.FinMap.{get};
 ghost use Rattle.bp_faults.specs.Faults.{fault_at, file_start};
@@ -127,11 +127,7 @@ fn read_source<S: Store>(
 }
 
 // Puts a file behind those that are read.
-fn keep(
-    files: &mut Vec<(Path, Vec<u8>)>,
-    path: Path,
-    bytes: Vec<u8>,
-) -> Result<(), OutOfMemory>
+fn keep(files: &mut Vec<(Path, Vec<u8>)>, path: Path, bytes: Vec<u8>) -> Result<(), OutOfMemory>
     ensures { OnOk result (files.new.items ≡ files.old.items ++ (path, bytes) ∷ []) }
 {
     files.push((path, bytes))?;

@@ -1,0 +1,2 @@
+use Rattle.bpgen.proofs.Reads.{Reads}
+use Rattle.bpgen.proofs.read.read_files.Goals as goal
