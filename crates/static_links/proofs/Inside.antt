@@ -6,8 +6,8 @@ use Rattle.bp_faults.specs.declared.fault.Fault.{Fault}
 use Rattle.bp_faults.specs.declared.place.Item.{Item}
 use Rattle.bp_faults.specs.Answers.{then_do}
 use Rattle.static_links.specs.declared.module.Module.{Module}
-use Rattle.static_links.specs.Phases.{checked, checked_from}
-use Rattle.static_links.specs.Names.{number_of, has_own_name, library_at, is_library, has_libraries, names_checked, target_of}
+use Rattle.static_links.specs.Phases.{checked}
+use Rattle.static_links.specs.Names.{number_of, library_at, is_library, has_libraries, names_checked, target_of}
 use Rattle.static_links.proofs.Numbered.{number_within}
 
 -- where both are done, each is
@@ -49,4 +49,4 @@ module _ (all : List Module) where
   )
 
   pub all_inside : names_checked names all ≡ Ok tt → AllInside all
-  all_inside h = modules_inside all (done_then (checked_from (has_own_name names) 0 all) (checked (has_libraries names all) all) tt h)
+  all_inside h = modules_inside all h

@@ -1,6 +1,7 @@
 pub mod Noted
 pub mod Numbered
 pub mod Inside
+pub mod Counted
 pub mod Planned
 pub mod Visited
 pub mod Telling

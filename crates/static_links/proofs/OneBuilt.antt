@@ -8,12 +8,11 @@ use Rattle.ninja_text.specs.declared.file.Statement.{Statement}
 use Rattle.module_graph.proofs.OneCycle.{means_unique}
 use Rattle.static_links.specs.declared.module.Module.{Module}
 use Rattle.static_links.specs.Phases.{GoesOn, Then}
-use Rattle.static_links.specs.Names.{number_of, names_checked}
 use Rattle.static_links.specs.Nodes.{graph_of, labels_of}
 use Rattle.static_links.specs.Lines.{line_step, height_in}
 use Rattle.static_links.specs.Actions.{actions_step, all_statements}
 use Rattle.static_links.specs.Order.{IsFirstFault, Gathers}
-use Rattle.static_links.specs.Built.{IsActed, IsLinked, CycleSays, IsBuilt}
+use Rattle.static_links.specs.Built.{IsActed, IsLinked, CycleSays, checks, IsBuilt}
 
 pub goes_on_once : {A B : Type 0} (first : Result A Fault) (Next : A → Result B Fault → Type 0) → ((v : A) (a b : Result B Fault) → Next v a → Next v b → a ≡ b)
     → (a b : Result B Fault) → GoesOn first Next a → GoesOn first Next b → a ≡ b
@@ -81,5 +80,5 @@ linked_once ms a b x y =
 
 pub built_once : (ms : List Module) (a b : Result (List Statement) Fault) → IsBuilt ms a → IsBuilt ms b → a ≡ b
 built_once ms a b x y =
-    goes_on_once (names_checked (number_of ms) ms) (λ done. Then (CycleSays ms) (λ none. IsLinked ms))
+    goes_on_once (checks ms) (λ done. Then (CycleSays ms) (λ none. IsLinked ms))
     (λ done. then_once (CycleSays ms) (λ none. IsLinked ms) (means_unique (graph_of ms) (labels_of ms)) (λ none. linked_once ms)) a b x y

@@ -16,9 +16,9 @@ use Rattle.module_graph.specs.Walks.{NoneReturns}
 use Rattle.module_graph.proofs.Turned.{plan_free}
 use Rattle.static_links.specs.declared.module.Module.{Module}
 use Rattle.static_links.specs.Names.{number_of, target_of, targets_of}
+use Rattle.static_links.specs.Limits.{all_items}
 use Rattle.static_links.specs.Variants.{module_label}
 use Rattle.static_links.specs.Nodes.{edge_of, nodes_from, graph_of}
-use Rattle.module_form.specs.Sizes.{size_of}
 use Rattle.static_links.proofs.Inside.{AreInside, AllInside}
 
 module _ (names : List ℕ → Option ℕ) where
@@ -36,20 +36,15 @@ module _ (names : List ℕ → Option ℕ) where
   targets-nodes k (m ∷ ms) zero = to_targets m.static_libs
   targets-nodes k (m ∷ ms) (suc n) = targets-nodes (k + 1) ms n
 
-  count_edges : (k j : ℕ) (ms : List Module) → length (by_number (λ n (x : Node Unit). map (outward n) x.edges) j (nodes_from names k ms)) ≤ size_of ms
-  count_edges k j [] = omega arith
-  count_edges k j (m ∷ ms) =
+  -- an edge for each item
+  length-edges : (k j : ℕ) (ms : List Module) → length (by_number (λ n (x : Node Unit). map (outward n) x.edges) j (nodes_from names k ms)) ≡ length (all_items ms)
+  length-edges k j [] = refl
+  length-edges k j (m ∷ ms) =
       let here : length (map (outward j) (map (edge_of names) m.static_libs)) ≡ length m.static_libs = length-map (map (edge_of names) m.static_libs) (outward j) ∙ length-map m.static_libs (edge_of names) in
-      let rest = count_edges (k + 1) (j + 1) ms in
+      let rest = length-edges (k + 1) (j + 1) ms in
       let sum = length-append (map (outward j) (map (edge_of names) m.static_libs)) (by_number (λ n (x : Node Unit). map (outward n) x.edges) (j + 1) (nodes_from names (k + 1) ms)) in
-      omega (arith, here, rest, sum)
-
-count_modules : (ms : List Module) → length ms ≤ size_of ms
-count_modules [] = omega arith
-count_modules (m ∷ ms) = let rest = count_modules ms in omega arith
-
-pub few_modules : (ms : List Module) → size_of ms ≤ 2 ^ 20 → length ms < 2 ^ 32
-few_modules ms few = let h = count_modules ms in omega arith
+      let items = length-append m.static_libs (all_items ms) in
+      omega (arith, here, rest, sum, items)
 
 -- the label of one module more
 pub one_more_label : (ms : List Module) (i : ℕ) (m : Module) → i < length ms → map module_label (take i ms) ++ module_label (get_or ms i m) ∷ [] ≡ map module_label (take (i + 1) ms)
@@ -71,10 +66,10 @@ module _ (all : List Module) where
   pub name_nodes : AllInside all all → NameNodes (graph_of all)
   name_nodes inside = nodes_name 0 (length (graph_of all)) all (length-nodes names 0 all) inside
 
-  pub numbered : size_of all ≤ 2 ^ 20 → AllInside all all → IsNumbered (graph_of all)
-  numbered few inside = record {
-    few_nodes = let a = length-nodes names 0 all in let b = few_modules all few in omega arith;
-    few_edges = let a = count_edges names 0 0 all in omega arith;
+  pub numbered : length all ≤ 2 ^ 17 → length (all_items all) ≤ 2 ^ 22 → AllInside all all → IsNumbered (graph_of all)
+  numbered few_modules few_items inside = record {
+    few_nodes = let a = length-nodes names 0 all in omega arith;
+    few_edges = let a = length-edges names 0 0 all in omega arith;
     ends = name_nodes inside;
   }
 

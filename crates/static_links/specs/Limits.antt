@@ -1,5 +1,5 @@
 -- How many libraries modules may name.
-use Rattle.std.specs.Prelude.{ℕ, ◌^◌, List, Result, Ok, Err, codes, slice_get}
+use Rattle.std.specs.Prelude.{◌^◌, List, Result, Ok, Err, codes, slice_get}
 use Rattle.std.specs.Option.{option_map_or}
 use Rattle.std.specs.List.{flat_map}
 use Rattle.bp_faults.specs.declared.fault.Fault.{Fault}

@@ -1,12 +1,11 @@
 -- The modules that are meant by names. Modules are numbered from 0, in their order.
-use Rattle.std.specs.Prelude.{ℕ, ◌+◌, List, [], ◌∷◌, map, Bool, false, nat_lt, Option, Some, None, Result, Ok, Err, if◌then◌else◌, slice_get}
+use Rattle.std.specs.Prelude.{ℕ, ◌+◌, List, [], ◌∷◌, map, Option, Some, None, Result, Ok, Err, if◌then◌else◌, slice_get}
 use Rattle.std.specs.Option.{unwrap_or, option_map_or}
 use Rattle.std.specs.Str.{bytes_eq}
 use Rattle.bp_faults.specs.declared.fault.Fault.{Fault}
 use Rattle.bp_faults.specs.declared.place.Item.{Item}
 use Rattle.bp_faults.specs.declared.kind.FaultKind.TheVariants.{MissingModule, MissingVariant}
 use Rattle.bp_faults.specs.Faults.{fault_on}
-use Rattle.bp_faults.specs.Answers.{then_do}
 use Rattle.static_links.specs.declared.module.Module.{Module}
 use Rattle.static_links.specs.declared.module.ModuleKind.{ModuleKind}
 use Rattle.static_links.specs.declared.module.ModuleKind.TheVariants.{Binary, StaticLibrary}
@@ -20,10 +19,6 @@ number_from k (m ∷ ms) name = if bytes_eq m.name name then Some k else number_
 
 abbrev pub number_of : List Module → List ℕ → Option ℕ
 number_of ms name = number_from 0 ms name
-
--- what is a number, and passes the test
-abbrev pub some_number : (ℕ → Bool) → Option ℕ → Bool
-some_number test number = option_map_or test number false
 
 -- the static variant is wanted
 abbrev pub missing_variant : Item → Fault

@@ -1,5 +1,5 @@
 -- One phase after another: the first fault stands.
-use Rattle.std.specs.Prelude.{◌≡◌, ℕ, ◌+◌, List, [], ◌∷◌, Result, Ok, Err}
+use Rattle.std.specs.Prelude.{◌≡◌, List, [], ◌∷◌, Result, Ok, Err}
 use Rattle.bp_faults.specs.declared.fault.Fault.{Fault}
 use Rattle.bp_faults.specs.Answers.{then_do}
 
@@ -7,11 +7,6 @@ use Rattle.bp_faults.specs.Answers.{then_do}
 abbrev pub checked : {X : Type 0} → (X → Result Unit Fault) → List X → Result Unit Fault
 checked check [] = Ok tt
 checked check (x ∷ xs) = then_do (check x) (λ done. checked check xs)
-
--- each is checked in turn, by its number, which counts on from k
-abbrev pub checked_from : {X : Type 0} → (ℕ → X → Result Unit Fault) → ℕ → List X → Result Unit Fault
-checked_from check k [] = Ok tt
-checked_from check k (x ∷ xs) = then_do (check k x) (λ done. checked_from check (k + 1) xs)
 
 -- a phase that is a value or a fault, and then a relation
 abbrev pub GoesOn : {A B : Type 0} → Result A Fault → (A → Result B Fault → Type 0) → Result B Fault → Type 0

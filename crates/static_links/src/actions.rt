@@ -8,8 +8,8 @@ ghost use Rattle.static_links.specs.Visits.{actions_meant};
 
 use crate::sources::check_sources;
 use crate::variants::variations;
-use bp_faults::{NodeId, OutOfMemory, Seq, Text};
 use crate::{Module, ModuleKind};
+use bp_faults::{NodeId, OutOfMemory, Seq, Text};
 use module_graph::variant_name;
 use ninja_text::Statement;
 use pass_core::{Visit, VisitError};

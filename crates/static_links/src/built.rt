@@ -2,12 +2,13 @@ ghost use Rattle.std.specs.Prelude.{◌≡◌, ◌≤◌, ◌^◌, length};
 ghost use Rattle.bp_faults.specs.Answers.{Tells};
 ghost use Rattle.static_links.specs.Built.{IsBuilt};
 
+use crate::Module;
 use crate::gather::gather;
 use crate::graph::{check_cycles, make_graph};
+use crate::limits::count_edges;
 use crate::names::{check_names, number_names};
 use crate::pass::{act_all, link_lines};
 use bp_faults::Refusal;
-use crate::Module;
 use module_graph::{Direction, plan};
 use ninja_text::Statement;
 use std::alloc::Global;
@@ -21,6 +22,7 @@ pub fn build(alloc: Global, modules: &[Module]) -> Result<Vec<Statement>, Refusa
 {
     let table = number_names(alloc, modules)?;
     check_names(alloc, &table, modules)?;
+    count_edges(alloc, modules)?;
     let graph = make_graph(alloc, &table, modules)?;
     check_cycles(alloc, modules, &graph)?;
     let plan = plan(alloc, &graph, Direction::BottomUp)?;

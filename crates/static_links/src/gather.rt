@@ -3,9 +3,9 @@ ghost use Rattle.std.specs.Arc.{arc_value};
 ghost use Rattle.std.specs.List.{flat_map};
 ghost use Rattle.static_links.specs.Actions.{all_path, all_step, all_statements, output_path};
 
+use crate::Module;
 use crate::actions::{output_path, step};
 use bp_faults::{OutOfMemory, Seq, Text, copy_all};
-use crate::Module;
 use ninja_text::Statement;
 use std::alloc::Global;
 use std::sync::Arc;

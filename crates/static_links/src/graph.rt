@@ -8,11 +8,11 @@ ghost use Rattle.static_links.specs.Names.{target_of};
 ghost use Rattle.static_links.specs.Variants.{module_label};
 ghost use Rattle.static_links.specs.Nodes.{edge_of, node_of, nodes_from, labels_of};
 
+use crate::Module;
 use crate::names::number_of;
 use crate::variants::{module_label, variations};
 use bp_faults::{Item, ModuleId, NodeId, OutOfMemory, Refusal, Seq, Text};
 use indexmap::IndexMap;
-use crate::Module;
 use module_graph::{Edge, EdgeKind, Graph, Node, check_cycle};
 use std::alloc::Global;
 

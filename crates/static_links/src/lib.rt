@@ -1,8 +1,8 @@
 //! Binaries and static libraries: their link lines and their build statements.
 //!
-//! The modules of a file flow in; the statements that build them flow out, or the first fault. It is
-//! measured by `IsBuilt` in `specs/Built.antt`: the checks of names, the link lines, and the
-//! statements, each over all modules.
+//! The modules of a tree flow in; the statements that build them flow out, or the first fault. It is
+//! measured by `IsBuilt` in `specs/Built.antt`: the checks of items, the cycle rule, the link lines,
+//! and the statements, each over all modules.
 #![tactic(auto)]
 
 mod actions;
@@ -10,6 +10,7 @@ mod built;
 mod gather;
 mod graph;
 pub mod laws;
+mod limits;
 mod line;
 mod module;
 mod names;

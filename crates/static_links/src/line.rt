@@ -8,10 +8,10 @@ ghost use Rattle.module_graph.specs.Graphs.{targets};
 ghost use Rattle.static_links.specs.Visits.{targets_at, line_meant};
 ghost use Rattle.static_links.specs.Variants.{module_label};
 
+use crate::Module;
 use crate::variants::module_label;
 use bp_faults::{Fault, FaultKind, NodeId, OutOfMemory, Seq};
 use indexmap::IndexSet;
-use crate::Module;
 use module_graph::{Edge, Graph};
 use pass_core::{Visit, VisitError};
 use std::alloc::Global;

@@ -2,15 +2,15 @@ ghost use Rattle.std.specs.Prelude.{◌≡◌, ◌<◌, ◌^◌, IfOk, length};
 ghost use Rattle.std.specs.Str.{bytes_eq};
 ghost use Rattle.bp_faults.specs.Answers.{Answers};
 ghost use Rattle.indexmap.specs.IndexMap.{get};
-ghost use Rattle.static_links.specs.Names.{number_of, has_own_name, missing_variant, has_variant, library_at, is_library, has_libraries, names_checked, target_of};
+ghost use Rattle.static_links.specs.Names.{number_of, missing_variant, has_variant, library_at, is_library, has_libraries, names_checked};
 ghost use Rattle.static_links.specs.Variants.{variant_label};
-ghost use Rattle.static_links.specs.Phases.{checked, checked_from};
+ghost use Rattle.static_links.specs.Phases.{checked};
 ghost use Rattle.static_links.specs.Tables.{IsTable};
 
 use crate::variants::variant_label;
+use crate::{Module, ModuleKind};
 use bp_faults::{Fault, FaultKind, Item, OutOfMemory, Refusal, Text};
 use indexmap::IndexMap;
-use crate::{Module, ModuleKind};
 use std::alloc::Global;
 
 /// The number of the first module of each name.
@@ -32,42 +32,6 @@ pub fn number_of(table: &IndexMap<Text, u32>, name: &Text) -> Option<u32>
     ensures { result ≡ get bytes_eq table.now name.now }
 {
     table.get(name).copied()
-}
-
-// No earlier module has the name of a module.
-fn check_own_name(
-    alloc: Global,
-    table: &IndexMap<Text, u32>,
-    number: u32,
-    item: &Module,
-) -> Result<(), Refusal>
-    ensures { Answers (λ done. done) result (has_own_name (get bytes_eq table.now) number item.now) }
-{
-    match number_of(table, &item.name) {
-        Some(named) => {
-            if named < number {
-                let subject = item.name.copy(alloc)?;
-                let fault = Fault::on(alloc, FaultKind::DuplicateName, item.name_at, subject);
-                return Err(Refusal::Bad(fault));
-            }
-            Ok(())
-        }
-        None => Ok(()),
-    }
-}
-
-fn check_own_names(
-    alloc: Global,
-    table: &IndexMap<Text, u32>,
-    modules: &[Module],
-) -> Result<(), Refusal>
-    requires { length modules.now < 2 ^ 32 }
-    ensures { Answers (λ done. done) result (checked_from (has_own_name (get bytes_eq table.now)) 0 modules.now) }
-{
-    for (number, item) in modules.iter().enumerate() {
-        check_own_name(alloc, table, number as u32, item)?;
-    }
-    Ok(())
 }
 
 fn missing_variant(alloc: Global, item: &Item) -> Result<Fault, OutOfMemory>
@@ -100,7 +64,7 @@ fn check_library(
     }
 }
 
-fn check_libraries_of(
+fn check_libraries(
     alloc: Global,
     table: &IndexMap<Text, u32>,
     modules: &[Module],
@@ -114,28 +78,16 @@ fn check_libraries_of(
     Ok(())
 }
 
-fn check_libraries(
-    alloc: Global,
-    table: &IndexMap<Text, u32>,
-    modules: &[Module],
-) -> Result<(), Refusal>
-    ensures { Answers (λ done. done) result (checked (has_libraries (get bytes_eq table.now) modules.now) modules.now) }
-{
-    for item in modules {
-        check_libraries_of(alloc, table, modules, item.static_libs.as_slice())?;
-    }
-    Ok(())
-}
-
-/// The names are right: no two are alike, and each item names a library.
+/// Each item of each module names a library.
 pub fn check_names(
     alloc: Global,
     table: &IndexMap<Text, u32>,
     modules: &[Module],
 ) -> Result<(), Refusal>
-    requires { length modules.now < 2 ^ 32 }
     ensures { Answers (λ done. done) result (names_checked (get bytes_eq table.now) modules.now) }
 {
-    check_own_names(alloc, table, modules)?;
-    check_libraries(alloc, table, modules)
+    for item in modules {
+        check_libraries(alloc, table, modules, item.static_libs.as_slice())?;
+    }
+    Ok(())
 }

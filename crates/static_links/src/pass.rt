@@ -10,10 +10,10 @@ ghost use Rattle.static_links.specs.Order.{Gathers};
 ghost use Rattle.static_links.specs.Nodes.{IsPlanned};
 ghost use Rattle.static_links.specs.Visits.{IsPassOutcome};
 
+use crate::Module;
 use crate::actions::ActionVisit;
 use crate::line::LineVisit;
 use bp_faults::{Refusal, Seq};
-use crate::Module;
 use module_graph::Graph;
 use ninja_text::Statement;
 use pass_core::{PassError, Plan, Visit, run_serial};

@@ -1,8 +1,8 @@
 ghost use Rattle.std.specs.Prelude.{◌≡◌, IfOk};
 ghost use Rattle.static_links.specs.Variants.{link_of, variations_of, variant_label, module_label};
 
-use bp_faults::{OutOfMemory, Target, Text};
 use crate::{Module, ModuleKind};
+use bp_faults::{OutOfMemory, Target, Text};
 use module_graph::{Axis, Variation, Variations, label};
 use std::alloc::Global;
 

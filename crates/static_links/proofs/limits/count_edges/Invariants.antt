@@ -1,0 +1,8 @@
+use Rattle.std.proofs.Common.{◌≡◌, ◌^◌, drop}
+use Rattle.std.specs.Prelude.{slice_get}
+use Rattle.static_links.specs.Limits.{all_items}
+use Rattle.static_links.proofs.limits.count_edges.Given as goal
+
+-- the item beyond the limit, among those that are left
+abbrev pub invariant-loop-item : goal.invariant-loop-item
+invariant-loop-item l = slice_get (all_items (drop l.item-index l.modules)) l.left ≡ slice_get (all_items l.modules) (2 ^ 22)
