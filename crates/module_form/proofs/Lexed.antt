@@ -1,10 +1,8 @@
 -- Files that load are lexed: each is UTF-8 and has tokens.
-use Rattle.std.proofs.Common.{◌≡◌, ℕ, ◌+◌, ◌<◌, ◌≤◌, List, [], ◌∷◌, length, get_or, subst, refl, arith, suc, zero, inl, inr}
-use Rattle.std.specs.Prelude.{◌⊎◌, Result, Ok, Err, IsUtf8}
+use Rattle.std.proofs.Common.{ℕ, ◌+◌, List, [], ◌∷◌, subst, arith, suc, zero, inl, inr}
+use Rattle.std.specs.Prelude.{Result, Ok, IsUtf8}
 use Rattle.std.proofs.lemmas.Str.{IsUtf8-nil}
 use Rattle.bp_faults.specs.declared.fault.Fault.{Fault}
-use Rattle.bp_lexer.specs.declared.token.Token.{Token}
-use Rattle.bp_lexer.specs.Meaning.{LexMeans}
 use Rattle.bp_props.specs.declared.module.Module.{Module as Typed}
 use Rattle.bp_load.specs.Phases.{Each}
 use Rattle.bp_load.specs.Texts.{AsText}

@@ -3,4 +3,3 @@ pub mod Words
 pub mod Taken
 pub mod OneKnown
 pub mod AsMany
-pub mod Wanting

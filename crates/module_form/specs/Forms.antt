@@ -4,7 +4,6 @@ use Rattle.std.specs.Prelude.{List, [], ◌∷◌, map, Option, Some, None, Resu
 use Rattle.std.specs.Option.{option_map_or}
 use Rattle.std.specs.List.{fold}
 use Rattle.std.specs.Ordering.{is_lt}
-use Rattle.bp_faults.specs.declared.place.Item.{Item}
 use Rattle.bp_faults.specs.declared.place.Place.{Place}
 use Rattle.bp_faults.specs.contracts.place.PlaceOrd.TheImpl as order
 use Rattle.bp_faults.specs.Answers.{then_do}

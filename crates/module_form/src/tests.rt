@@ -9,18 +9,25 @@ use bp_load::load;
 use std::alloc::Global;
 use std::test::Fail;
 
-// A tree of one small file.
+// The bytes of a small file.
+fn bytes_of(alloc: Global, text: &str) -> Result<Vec<u8>, OutOfMemory>
+    ensures { IfOk result (λ bytes. length bytes.items ≤ 2 ^ 20) }
+{
+    let mut bytes = Vec::new(alloc);
+    if text.len() <= 1_048_576 {
+        bytes.extend_from_slice(text.as_bytes())?;
+    }
+    Ok(bytes)
+}
+
+// A tree of one file.
 fn one_file(alloc: Global, text: &str) -> Result<Vec<(Path, Vec<u8>)>, OutOfMemory>
     ensures few { IfOk result (λ files. length files.items ≤ 2 ^ 14) }
     ensures order { IfOk result (λ files. AreInFileOrder (map (λ f. f.0) (sources files.items))) }
     ensures short { IfOk result (λ files. All (λ f. length f.1 ≤ 2 ^ 20) (sources files.items)) }
 {
     let mut files = Vec::new(alloc);
-    if text.len() <= 1_048_576 {
-        let mut bytes = Vec::new(alloc);
-        bytes.extend_from_slice(text.as_bytes())?;
-        files.push((Path::root(alloc), bytes))?;
-    }
+    files.push((Path::root(alloc), bytes_of(alloc, text)?))?;
     Ok(files)
 }
 
