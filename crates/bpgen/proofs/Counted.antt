@@ -11,11 +11,11 @@ use Rattle.std.proofs.lemmas.Bool.{leb-false}
 use Rattle.std.proofs.lemmas.List.{length-append}
 
 done_first : (a b : Result Unit Fault) → then_do a (λ fine. b) ≡ Ok tt → a ≡ Ok tt
-done_first (Ok tt) b h = refl
+done_first (Ok done) b h = refl
 done_first (Err fault) b h = cc
 
 done_then : (a b : Result Unit Fault) → then_do a (λ fine. b) ≡ Ok tt → b ≡ Ok tt
-done_then (Ok tt) b h = h
+done_then (Ok done) b h = h
 done_then (Err fault) b h = cc
 
 abbrev fine : Result Unit Fault
@@ -44,7 +44,7 @@ few_named (Ok made) ms h = by (names_tested [] made) refl h
   where
     by : (fine : Result Unit Fault) → names_tested [] made ≡ fine → then_do fine (λ fine. Ok made) ≡ Ok ms → length ms ≤ 2 ^ 17
     by (Err fault) is h = absurd (cc)
-    by (Ok tt) is h = let same : made ≡ ms = cc in subst (λ ms. length ms ≤ 2 ^ 17) same (few_in_all [] made (omega arith) is)
+    by (Ok done) is h = let same : made ≡ ms = cc in let few = few_in_all [] made (omega arith) is in subst (λ ms. length ms ≤ 2 ^ 17) same (omega (arith, few))
 
 pub few_modules : (files : List (List ℕ × List ℕ)) (ms : List Module) → LoadMeans files (Ok ms) → length ms ≤ 2 ^ 17
 few_modules files ms (raws, means, is) = few_named (all_typed raws) ms (sym is)

@@ -1,6 +1,6 @@
 pub mod Counted
 pub mod Reading
-pub mod Reads
+pub mod Progress
 pub mod Meeting
 pub mod Making
 pub mod OneJob

@@ -91,7 +91,9 @@ module _ (files : Files) where
     onward : (rest : List (List ℕ)) → sources_of files (take i paths ++ rest) ≡ behind done (sources_from files (1 + i) (size_of done) rest)
     onward rest =
         let count : 1 + length (take i paths) ≡ 1 + i = omega (arith, length-take i paths) in
+        let size : 0 + size_of done ≡ size_of done = omega arith in
         read_append 1 0 (take i paths) rest done read ∙ ap (λ n. behind done (sources_from files n (0 + size_of done) rest)) count
+        ∙ ap (λ s. behind done (sources_from files (1 + i) s rest)) size
 
     pub read_more : (bytes : List ℕ) → bytes_of files (1 + i) (size_of done) path ≡ Ok bytes → sources_of files (take (i + 1) paths) ≡ Ok (done ++ (path, bytes) ∷ [])
     read_more bytes here =

@@ -1,4 +1,4 @@
-use Rattle.bpgen.proofs.Reads.{Reads}
+use Rattle.bpgen.proofs.Progress.{Reads}
 use Rattle.bpgen.proofs.read.read_files.Given as goal
 
 abbrev pub invariant-paths : goal.invariant-paths

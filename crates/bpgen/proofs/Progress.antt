@@ -1,17 +1,16 @@
 -- How far files are read: what holds of those that are read, and of the store.
-use Rattle.std.proofs.Common.{◌≡◌, ◌≤◌, ◌<◌, ◌+◌, ◌-◌, ◌^◌, ◌∙◌, ℕ, List, Vec, [], ◌∷◌, ◌++◌, length, map, take, get_or, Option, Some, None, Result, Ok, Err, refl, sym, ap, subst, arith}
-use Rattle.std.specs.Prelude.{IfSome, ⊤, min}
+use Rattle.std.proofs.Common.{◌≡◌, ◌≤◌, ◌<◌, ◌+◌, ◌^◌, ◌∙◌, ℕ, zero, suc, List, Vec, [], ◌∷◌, ◌++◌, length, map, take, get_or, Option, Some, None, Result, Ok, Err, sym, ap, subst, arith}
+use Rattle.std.specs.Prelude.{IfSome}
 use Rattle.std.specs.List.{All}
 use Rattle.std.specs.declared.alloc.Global.{Global}
-use Rattle.std.proofs.lemmas.List.{map-append, take_more, length-map}
+use Rattle.std.proofs.lemmas.List.{map-append, take_more}
 use Rattle.std.proofs.lemmas.List.Elements.{All-append}
 use Rattle.bp_faults.specs.declared.fault.Fault.{Fault}
-use Rattle.bp_ports.specs.Causes.{Rose}
 use Rattle.bp_ports.specs.Files.{Files}
 use Rattle.bp_load.specs.Trees.{Source, sources}
 use Rattle.bpgen.specs.declared.stop.Stop.{Stop}
 use Rattle.bpgen.specs.Job.{bytes_of, sources_of}
-use Rattle.bpgen.specs.Steps.{Meets, Is, OnRead, ReadCause, CannotReadOf}
+use Rattle.bpgen.specs.Steps.{Meets, Is, CannotReadOf}
 use Rattle.bpgen.proofs.Reading.{size_of, size_more, read_more, read_fault, read_stop}
 
 -- a file as it is held in memory
@@ -36,31 +35,9 @@ pub record Reads (old now : Told) (paths : List (List ℕ)) (i number size : ℕ
   pub later : old.reads ≤ now.reads
   pub writes : now.writes ≡ old.writes
 
-pub none_read : (old : Told) (paths : List (List ℕ)) → Reads old old paths 0 1 0 []
-none_read old paths = record {
-  number_is = refl;
-  size_is = refl;
-  bound = omega arith;
-  names = refl;
-  short = λ n d within. absurd (omega arith);
-  gives = nothing old.files;
-  files = refl;
-  later = omega arith;
-  writes = refl;
-}
-  where
-    nothing : (old : Option Files) → IfSome old (λ files. sources_of files [] ≡ Ok [])
-    nothing None = tt
-    nothing (Some files) = refl
-
--- a count that rose later rose before
-pub rose_since : (a b c : ℕ) → a ≤ b → Rose b c → Rose a c
-rose_since a b c before rose = omega (arith, before, rose)
-
-pub cause_since : {T U : Type 0} (a b c : ℕ) (e : Stop) → a ≤ b → ReadCause {T = T} b c (Err e) → ReadCause {T = U} a c (Err e)
-cause_since a b c (Stop.Fault fault) before cause = record { later = omega (arith, before, cause.later); rose = tt }
-cause_since a b c (Stop.Read path) before cause = record { later = omega (arith, before, cause.later); rose = rose_since a b c before cause.rose }
-cause_since a b c Stop.OutOfMemory before cause = record { later = omega (arith, before, cause.later); rose = tt }
+one_short : (s : Source) → length s.1 ≤ 2 ^ 20 → All (λ f. length f.1 ≤ 2 ^ 20) (s ∷ [])
+one_short s short zero d below = short
+one_short s short (suc n) d below = absurd (omega arith)
 
 module _ (old now : Told) (paths : List (List ℕ)) (i number size : ℕ) (read : List Held) (path : List ℕ) (reads : Reads old now paths i number size read) (within : i < length paths) (is : path ≡ get_or paths i path) where
   abbrev Gives : Result (Vec ℕ Global) Stop → Files → Type 0
@@ -87,19 +64,19 @@ module _ (old now : Told) (paths : List (List ℕ)) (i number size : ℕ) (read 
       by (Some files) done h = stopped_here files done e h
 
   -- a path whose file is read
-  pub one_read : (bytes : Vec ℕ Global) (next : Told) (more : List Held) → more ≡ read ++ (path, bytes) ∷ [] → length bytes.items ≤ 2 ^ 20 → size + length bytes.items ≤ 2 ^ 26
+  pub one_read : (bytes : Vec ℕ Global) (count : ℕ) → count ≡ length bytes.items → (next : Told) (more : List Held) → more ≡ read ++ (path, bytes) ∷ [] → length bytes.items ≤ 2 ^ 20 → size + length bytes.items ≤ 2 ^ 26
       → IfSome now.files (Gives (Ok bytes)) → next.files ≡ now.files → now.reads ≤ next.reads → next.writes ≡ now.writes
-      → Reads old next paths (i + 1) (number + 1) (size + length bytes.items) more
-  one_read bytes next more more_is short bound h files later writes =
+      → Reads old next paths (i + 1) (number + 1) (size + count) more
+  one_read bytes count count_is next more more_is short bound h files later writes =
       let front : sources more ≡ sources read ++ (path, bytes.items) ∷ [] = ap sources more_is ∙ map-append (λ f. (f.0, f.1.items)) read ((path, bytes) ∷ []) in
       record {
         number_is = omega (arith, reads.number_is);
-        size_is = omega (arith, reads.size_is, size_more (sources read) (path, bytes.items)) ∙ ap size_of (sym front);
-        bound = bound;
+        size_is = omega (arith, count_is, reads.size_is, size_more (sources read) (path, bytes.items)) ∙ ap size_of (sym front);
+        bound = omega (arith, count_is, bound);
         names =
             ap (map (λ f. f.0)) front ∙ map-append (λ f. f.0) (sources read) ((path, bytes.items) ∷ []) ∙ ap (λ names. names ++ path ∷ []) reads.names
             ∙ ap (λ p. take i paths ++ p ∷ []) is ∙ sym (take_more paths i path within);
-        short = subst (All (λ f. length f.1 ≤ 2 ^ 20)) (sym front) (All-append (λ f. length f.1 ≤ 2 ^ 20) (sources read) ((path, bytes.items) ∷ []) reads.short (λ n d below. cc));
+        short = subst (All (λ f. length f.1 ≤ 2 ^ 20)) (sym front) (All-append (λ f. length f.1 ≤ 2 ^ 20) (sources read) ((path, bytes.items) ∷ []) reads.short (one_short (path, bytes.items) short));
         gives = by old.files reads.gives (subst (λ m. IfSome m (Gives (Ok bytes))) reads.files h);
         files = files ∙ reads.files;
         later = omega (arith, reads.later, later);

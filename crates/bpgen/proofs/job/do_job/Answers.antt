@@ -1,0 +1,12 @@
+use Rattle.std.proofs.Common.{ℕ, List, Vec, subst}
+use Rattle.std.specs.declared.alloc.Global.{Global}
+use Rattle.bp_load.specs.Trees.{sources}
+use Rattle.bpgen.specs.Job.{IsTree}
+use Rattle.bpgen.specs.Steps.{Meets, Never}
+use Rattle.bpgen.proofs.Making.{job_made}
+use Rattle.bpgen.proofs.job.do_job.Goals as goal
+
+pub returns-clause-gives : goal.returns-clause-gives
+returns-clause-gives g c =
+    job_made _ c.args.paths.now (sources c.in_ok-files.files.items) c.make.result c.in_ok-files.ensures.gives
+    (subst (λ files. Meets {T = Vec ℕ Global} {V = List ℕ} (λ made. made.items) (IsTree (sources files)) Never c.make.result) c.deref.ensures.value c.make.ensures)
