@@ -1,5 +1,5 @@
 -- What files give, step by step.
-use Rattle.std.proofs.Common.{◌≡◌, ℕ, ◌∙◌, List, Vec, sym, refl, subst, Option, Some, None, Result, Ok, Err}
+use Rattle.std.proofs.Common.{◌≡◌, ℕ, List, Vec, sym, refl, subst, Option, Some, None, Result, Ok, Err}
 use Rattle.std.specs.Prelude.{IfSome}
 use Rattle.std.specs.Result.{IsErrAnd}
 use Rattle.std.specs.declared.alloc.Global.{Global}

@@ -1,7 +1,6 @@
-use Rattle.std.proofs.Common.{◌≡◌, ◌≤◌, ◌^◌, ◌∙◌, List, Vec, Ok, length, ap, sym, subst}
+use Rattle.std.proofs.Common.{◌≡◌, ◌≤◌, ◌^◌, Ok, length, sym, subst}
 use Rattle.bp_load.specs.Trees.{sources}
 use Rattle.module_form.specs.Known.{AreKnown}
-use Rattle.static_links.specs.declared.module.Module.{Module}
 use Rattle.bpgen.proofs.Making.{unloaded, unknown, unbuilt, made_whole}
 use Rattle.bpgen.proofs.Counted.{few_modules}
 use Rattle.bpgen.proofs.job.make.Goals as goal
