@@ -134,7 +134,10 @@ class File:
         inside = "".join(rng.choice(ODD_TEXT[:24]) for _ in range(rng.randint(0, 3)))
         if rng.random() < 0.5:
             return "//" + inside.replace("\n", " ") + self.ends
-        return "/*" + rng.choice(["", "*", "**", "/", " * "]) + inside.replace("*/", "* /") + rng.choice([" ", self.ends]) + rng.choice(["", "*", "**"]) + "*/"
+        inside = rng.choice(["", "*", "**", "/", " * "]) + inside + rng.choice([" ", self.ends]) + rng.choice(["", "*", "**"])
+        while "*/" in inside:
+            inside = inside.replace("*/", "* /")
+        return "/*" + inside + "*/"
 
     def gap(self, needed=False):
         rng = self.rng
@@ -501,7 +504,9 @@ def list_item(f):
     f.put("[")
     f.string("a")
     f.put(",")
-    return f.word(f.rng.choice(["1", "true", "-7"])), 17, "list item"
+    at = f.word(f.rng.choice(["1", "true", "-7"]))
+    f.put("]")
+    return at, 17, "list item"
 
 
 def unknown_type(f):

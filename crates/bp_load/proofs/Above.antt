@@ -1,5 +1,5 @@
 -- Directories above others: how that goes with file order.
-use Rattle.std.proofs.Common.{◌≡◌, ℕ, ◌≤◌, true, List, [], ◌∷◌, length, refl, ap, sym, ◌∙◌, arith}
+use Rattle.std.proofs.Common.{◌≡◌, ◌⊎◌, inl, inr, ℕ, ◌≤◌, true, List, [], ◌∷◌, length, refl, ap, sym, ◌∙◌, arith}
 use Rattle.std.specs.Str.{bytes_eq}
 use Rattle.std.specs.declared.cmp.Ordering.{Ordering}
 use Rattle.std.specs.declared.cmp.Ordering.TheVariants.{Less, Equal, Greater}
@@ -9,6 +9,7 @@ use Rattle.std.proofs.lemmas.Bool.{and_parts, and_from}
 use Rattle.std.proofs.lemmas.Cmp.{nat_list_cmp_total, nat_list_eq_equiv, tied_itself}
 use Rattle.std.proofs.lemmas.Map.Lookups.{exact_bytes}
 use Rattle.bp_load.specs.Directories.{is_above, directory_cmp}
+use Rattle.bp_load.specs.Laws.{AncestorsStandFirst}
 
 same_bytes : (a b : List ℕ) → bytes_eq a b ≡ true → a ≡ b
 same_bytes a b is = same_text a b (sym is)
@@ -61,3 +62,23 @@ above_shorter (x ∷ a) (y ∷ b) (z ∷ d) before first second =
     let tied : slice_cmp nat_cmp x y ≡ Equal = ap (slice_cmp nat_cmp x) (same_bytes y z two.0 ∙ sym (same_bytes x z one.0)) ∙ tied_itself nat_list_cmp_total x in
     let more = above_shorter a b d (sym (ap (λ o. ordering_then o (directory_cmp a b)) tied) ∙ before) one.1 two.1 in
     omega arith
+
+-- a directory above another is the same, or stands before it
+pub ancestors_first : AncestorsStandFirst
+ancestors_first [] [] above = inl refl
+ancestors_first [] (y ∷ b) above = inr refl
+ancestors_first (x ∷ a) [] above = absurd (cc)
+ancestors_first (x ∷ a) (y ∷ b) above = by (ancestors_first a b both.1)
+  where
+    both : (bytes_eq x y ≡ true) × (is_above a b ≡ true)
+    both = and_parts (bytes_eq x y) (is_above a b) above
+
+    same : x ≡ y
+    same = same_bytes x y both.0
+
+    tied : slice_cmp nat_cmp x y ≡ Equal
+    tied = ap (slice_cmp nat_cmp x) (sym same) ∙ tied_itself nat_list_cmp_total x
+
+    by : (a ≡ b) ⊎ (directory_cmp a b ≡ Less) → ((x ∷ a) ≡ (y ∷ b)) ⊎ (directory_cmp (x ∷ a) (y ∷ b) ≡ Less)
+    by (inl rest) = inl (let head : x ≡ y = same in cc)
+    by (inr before) = inr (ap (λ o. ordering_then o (directory_cmp a b)) tied ∙ before)

@@ -15,3 +15,4 @@ pub mod OneLoad
 pub mod SomePhase
 pub mod SomeList
 pub mod SomeLoad
+pub mod Sound

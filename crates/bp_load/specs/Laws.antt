@@ -1,9 +1,12 @@
 -- What holds of all lists and of all files.
-use Rattle.std.specs.Prelude.{◌≡◌, ℕ, List, Result}
+use Rattle.std.specs.Prelude.{◌≡◌, ◌⊎◌, ℕ, true, List, Result, Ok, IsTrue}
+use Rattle.std.specs.List.{All}
+use Rattle.std.specs.declared.cmp.Ordering.TheVariants.{Less}
 use Rattle.bp_faults.specs.declared.fault.Fault.{Fault}
 use Rattle.bp_props.specs.declared.module.Module.{Module}
 use Rattle.bp_values.specs.Files.{Raw}
-use Rattle.bp_load.specs.ListFile.{ListMeans}
+use Rattle.bp_load.specs.Directories.{is_above, directory_cmp}
+use Rattle.bp_load.specs.ListFile.{is_listed, ListMeans}
 use Rattle.bp_load.specs.Trees.{Source}
 use Rattle.bp_load.specs.Inherited.{RawMean}
 use Rattle.bp_load.specs.Loaded.{LoadMeans}
@@ -15,6 +18,15 @@ SomeList = (bytes : List ℕ) → (outcome : Result (List (List ℕ)) Fault) × 
 -- A list file means one thing alone.
 abbrev pub OneList : Type 0
 OneList = (bytes : List ℕ) (a b : Result (List (List ℕ)) Fault) → ListMeans bytes a → ListMeans bytes b → a ≡ b
+
+-- Each path that a list means may be listed.
+abbrev pub ListsWhatMayBe : Type 0
+ListsWhatMayBe = (bytes : List ℕ) (paths : List (List ℕ)) → ListMeans bytes (Ok paths) → All (λ path. IsTrue (is_listed path)) paths
+
+-- A directory above another is the same, or stands before it in file order. So the files before a file are all
+-- that it could inherit from.
+abbrev pub AncestorsStandFirst : Type 0
+AncestorsStandFirst = (above below : List (List ℕ)) → is_above above below ≡ true → (above ≡ below) ⊎ (directory_cmp above below ≡ Less)
 
 -- Files mean some raw modules, or have some fault.
 abbrev pub SomeRaw : Type 0

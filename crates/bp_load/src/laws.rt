@@ -1,11 +1,21 @@
 //! What makes the definitions of loading believable: each law is the contract of a function that does nothing.
 
-ghost use Rattle.bp_load.specs.Laws.{SomeList, OneList, SomeRaw, OneRaw, SomeLoad, OneLoad};
+ghost use Rattle.bp_load.specs.Laws.{SomeList, OneList, ListsWhatMayBe, AncestorsStandFirst, SomeRaw, OneRaw, SomeLoad, OneLoad};
 
 /// A list file means its paths or a first fault, and that alone.
 pub fn one_list()
     ensures some { SomeList }
     ensures one { OneList }
+{}
+
+/// A list gives no path but one that may be listed.
+pub fn lists_what_may_be()
+    ensures { ListsWhatMayBe }
+{}
+
+/// In file order a directory stands before those below it.
+pub fn ancestors_stand_first()
+    ensures { AncestorsStandFirst }
 {}
 
 /// Files mean their raw modules or a first fault, and that alone. It stands on the laws of tokens and trees.
