@@ -52,9 +52,15 @@ __attribute__((destructor)) static void tell(void) {
 END
 cc -shared -fPIC -O1 -o "$work/refuse.so" "$work/refuse.c" -ldl
 
+# The tree's list and the files that it names.
 mkdir "$work/tree"
 cd "$work/tree"
-cp "$tree/list" "$tree/Android.bp" .
+cp "$tree/list" .
+while read -r path; do
+    mkdir -p "$(dirname "$path")"
+    cp "$tree/$path" "$path"
+done < list
+files=$(find . -type f | sort)
 COUNTED=$work/count LD_PRELOAD=$work/refuse.so "$program" build -l list -o build.ninja -t android_arm64
 total=$(cat "$work/count")
 mv build.ninja "$work/whole"
@@ -64,15 +70,15 @@ while [ "$n" -le "$total" ]; do
     status=0
     said=$(REFUSED=$n LD_PRELOAD=$work/refuse.so "$program" build -l list -o build.ninja -t android_arm64 2>&1) || status=$?
     case $status in
-        0) cmp -s build.ninja "$work/whole" && [ -z "$said" ] || { echo "allocation $n: wrong text"; exit 1; } ;;
+        0) cmp -s build.ninja "$work/whole" && [ -z "$said" ] || { echo "allocation $n: wrong text"; exit 1; }
+           [ -z "${SHOWN:-}" ] || echo "allocation $n: it isn't needed" ;;
         5) [ ! -e build.ninja ] || { echo "allocation $n: status 5, and a file"; exit 1; }
            [ -z "$said" ] || [ "$said" = "bpgen: out of memory" ] || { echo "allocation $n: it says $said"; exit 1; }
            out_of_memory=$((out_of_memory + 1)) ;;
         *) echo "allocation $n: status $status: $said"; exit 1 ;;
     esac
     rm -f build.ninja
-    [ "$(ls)" = "Android.bp
-list" ] || { echo "allocation $n: other files: $(ls)"; exit 1; }
+    [ "$(find . -type f | sort)" = "$files" ] || { echo "allocation $n: other files: $(find . -type f)"; exit 1; }
     n=$((n + 1))
 done
 echo "refuse_allocations: of $total allocations each was refused in turn: status 5 after $out_of_memory of them, and otherwise the whole text"
