@@ -44,6 +44,7 @@ fn make(alloc: Global, files: &[(Path, Vec<u8>)]) -> Result<Vec<u8>, Stop>
     requires short { All (λ f. length f.1 ≤ 2 ^ 20) (sources files.now) }
     ensures { Meets (λ made. made.items) (IsTree (sources files.now)) Never result }
 {
+    // A law: so there aren't more modules than were typed.
     known_as_many();
     let typed = load(alloc, files, 1)?;
     let modules = known_modules(alloc, files, typed)?;

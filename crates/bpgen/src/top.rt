@@ -59,6 +59,7 @@ pub fn run<S: Store, O: Sink, D: Sink, G: Gate>(
     ensures reports { Reports (configuration_of words.now) (world S.files S.read_faults S.write_faults O.bytes O.faults store.old out.old)
         (world S.files S.read_faults S.write_faults O.bytes O.faults store.new out.new) result }
 {
+    // A law: so a job that was done is no fault, and the other way round.
     one_job();
     match do_work(alloc, words, store, out) {
         End::Done => 0,
