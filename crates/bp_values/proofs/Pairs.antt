@@ -1,25 +1,23 @@
 -- A look-up in the list of pairs, and in the map's entries.
-use Rattle.std.proofs.Common.{◌≡◌, ℕ, Bool, true, false, cond, List, [], ◌∷◌, ◌++◌, map, Option, None, Some, option_map, refl, ap, ◌∙◌, Bor, option_copied, Result, Ok, Err, OnOk}
-use Rattle.std.specs.declared.sync.Arc.{Arc}
-use Rattle.std.specs.Arc.{arc_value}
+use Rattle.std.proofs.Common.{◌≡◌, ℕ, Bool, true, false, cond, List, [], ◌∷◌, ◌++◌, map, Option, None, Some, option_map, refl, ap, sym, ◌∙◌, Bor, option_copied, Result, Ok, Err, OnOk}
 use Rattle.std.specs.Str.{bytes_eq}
 use Rattle.std.specs.Map.{lookup}
-use Rattle.std.specs.List.{IsDistinct, AllByRecursion}
+use Rattle.std.specs.Option.{option_or}
 use Rattle.std.specs.Cmp.Lexicographic.{nat_list_eq_equiv}
 use Rattle.indexmap.specs.IndexMap.{insert_entry}
 use Rattle.bp_values.specs.declared.value.Value.{Value}
 use Rattle.bp_values.specs.Values.{Meaning, meaning}
-use Rattle.bp_values.specs.Scopes.{Pairs, pair_of}
+use Rattle.bp_values.specs.Scopes.{Pairs, pair_of, value_in}
 
-pub lookup_pairs : {Z : Type 0} (test : List ℕ → Bool) (es : List (List ℕ × Arc Value Z)) → option_map (λ a. meaning (arc_value a)) (lookup test es) ≡ lookup test (map pair_of es)
+pub lookup_pairs : (test : List ℕ → Bool) (es : List (List ℕ × Value)) → option_map meaning (lookup test es) ≡ lookup test (map pair_of es)
 lookup_pairs test [] = refl
 lookup_pairs test (e ∷ es) = by (test e.0) (lookup_pairs test es)
   where
-    by : (b : Bool) → option_map (λ a. meaning (arc_value a)) (lookup test es) ≡ lookup test (map pair_of es) → option_map (λ a. meaning (arc_value a)) (cond b (Some e.1) (lookup test es)) ≡ cond b (Some (meaning (arc_value e.1))) (lookup test (map pair_of es))
+    by : (b : Bool) → option_map meaning (lookup test es) ≡ lookup test (map pair_of es) → option_map meaning (cond b (Some e.1) (lookup test es)) ≡ cond b (Some (meaning e.1)) (lookup test (map pair_of es))
     by true h = refl
     by false h = h
 
-pub borrowed : {Z : Type 0} (r : Option (Bor (Arc Value Z))) → option_map (λ v. meaning (arc_value v.now)) r ≡ option_map (λ a. meaning (arc_value a)) (option_copied r)
+pub borrowed : (r : Option (Bor Value)) → option_map (λ v. meaning v.now) r ≡ option_map meaning (option_copied r)
 borrowed None = refl
 borrowed (Some v) = refl
 
@@ -33,30 +31,50 @@ insert_again k v w (e ∷ es) = by (bytes_eq k e.0) refl (insert_again k v w es)
     by true at h = rw at refl
     by false at h = rw at (ap (λ l. e ∷ l) h)
 
-pub insert_pairs : {Z : Type 0} (k : List ℕ) (v : Arc Value Z) (es : List (List ℕ × Arc Value Z)) → map pair_of (insert_entry bytes_eq es k v) ≡ insert_entry bytes_eq (map pair_of es) k (meaning (arc_value v))
+pub insert_pairs : (k : List ℕ) (v : Value) (es : List (List ℕ × Value)) → map pair_of (insert_entry bytes_eq es k v) ≡ insert_entry bytes_eq (map pair_of es) k (meaning v)
 insert_pairs k v [] = refl
 insert_pairs k v (e ∷ es) = by (bytes_eq k e.0) (insert_pairs k v es)
   where
-    by : (b : Bool) → map pair_of (insert_entry bytes_eq es k v) ≡ insert_entry bytes_eq (map pair_of es) k (meaning (arc_value v))
-        → map pair_of (cond b ((e.0, v) ∷ es) (e ∷ insert_entry bytes_eq es k v)) ≡ cond b ((e.0, meaning (arc_value v)) ∷ map pair_of es) (pair_of e ∷ insert_entry bytes_eq (map pair_of es) k (meaning (arc_value v)))
+    by : (b : Bool) → map pair_of (insert_entry bytes_eq es k v) ≡ insert_entry bytes_eq (map pair_of es) k (meaning v)
+        → map pair_of (cond b ((e.0, v) ∷ es) (e ∷ insert_entry bytes_eq es k v)) ≡ cond b ((e.0, meaning v) ∷ map pair_of es) (pair_of e ∷ insert_entry bytes_eq (map pair_of es) k (meaning v))
     by true h = refl
     by false h = ap (λ l. pair_of e ∷ l) h
 
-last_apart : (test : List ℕ → Bool) (done : Pairs) (k : List ℕ) (v : Meaning) (rest : Pairs) → AllByRecursion (λ y. test y ≡ false) (map (λ e. e.0) (done ++ (k, v) ∷ rest)) → test k ≡ false
-last_apart test [] k v rest h = h.0
-last_apart test (d ∷ ds) k v rest h = last_apart test ds k v rest h.1
+-- the first pair of a name in two lists
+pub lookup_append : (test : List ℕ → Bool) (xs ys : Pairs) → lookup test (xs ++ ys) ≡ option_or (lookup test xs) (lookup test ys)
+lookup_append test [] ys = refl
+lookup_append test (x ∷ xs) ys = by (test x.0) (lookup_append test xs ys)
+  where
+    by : (b : Bool) → lookup test (xs ++ ys) ≡ option_or (lookup test xs) (lookup test ys) → cond b (Some x.1) (lookup test (xs ++ ys)) ≡ option_or (cond b (Some x.1) (lookup test xs)) (lookup test ys)
+    by true h = refl
+    by false h = h
 
--- a pair whose name stands nowhere among distinct names goes last
-pub fresh : (done : Pairs) (k : List ℕ) (v : Meaning) (rest : Pairs) → IsDistinct bytes_eq (map (λ e. e.0) (done ++ (k, v) ∷ rest)) → insert_entry bytes_eq done k v ≡ done ++ (k, v) ∷ []
-unfolding IsDistinct
-fresh [] k v rest h = refl
-fresh (d ∷ ds) k v rest h =
-    let apart : bytes_eq k d.0 ≡ false = nat_list_eq_equiv.symm k d.0 ∙ last_apart (λ y. bytes_eq d.0 y) ds k v rest h.0 in
-    rw apart (ap (λ l. d ∷ l) (fresh ds k v rest h.1))
+-- a name that the first list lacks gets its value in the second
+pub insert_behind : (k : List ℕ) (v : Meaning) (xs ys : Pairs) → value_in xs k ≡ None → insert_entry bytes_eq (xs ++ ys) k v ≡ xs ++ insert_entry bytes_eq ys k v
+insert_behind k v [] ys none = refl
+insert_behind k v (x ∷ xs) ys none = by (bytes_eq k x.0) none (insert_behind k v xs ys)
+  where
+    by : (b : Bool) → cond b (Some x.1) (value_in xs k) ≡ None → (value_in xs k ≡ None → insert_entry bytes_eq (xs ++ ys) k v ≡ xs ++ insert_entry bytes_eq ys k v)
+        → cond b ((x.0, v) ∷ (xs ++ ys)) (x ∷ insert_entry bytes_eq (xs ++ ys) k v) ≡ x ∷ (xs ++ insert_entry bytes_eq ys k v)
+    by true none rest = cc
+    by false none rest = ap (λ l. x ∷ l) (rest none)
 
-pub keys_of_pairs : {Z : Type 0} (es : List (List ℕ × Arc Value Z)) → map (λ e. e.0) (map pair_of es) ≡ map (λ e. e.0) es
-keys_of_pairs [] = refl
-keys_of_pairs (e ∷ es) = ap (λ l. e.0 ∷ l) (keys_of_pairs es)
+-- a name that two lists lack is lacking in the first
+pub absent_first : (k : List ℕ) (xs ys : Pairs) → value_in (xs ++ ys) k ≡ None → value_in xs k ≡ None
+absent_first k [] ys none = refl
+absent_first k (x ∷ xs) ys none = by (bytes_eq k x.0) none (absent_first k xs ys)
+  where
+    by : (b : Bool) → cond b (Some x.1) (value_in (xs ++ ys) k) ≡ None → (value_in (xs ++ ys) k ≡ None → value_in xs k ≡ None) → cond b (Some x.1) (value_in xs k) ≡ None
+    by true none rest = cc
+    by false none rest = rest none
+
+-- the value of a name that the first list has
+pub value_before : (k : List ℕ) (xs ys : Pairs) (v : Meaning) → Some v ≡ value_in xs k → value_in (xs ++ ys) k ≡ Some v
+value_before k xs ys v has = lookup_append (bytes_eq k) xs ys ∙ ap (λ r. option_or r (value_in ys k)) (sym has)
+
+-- the value of a name that the first list lacks
+pub value_behind : (k : List ℕ) (xs ys : Pairs) → value_in xs k ≡ None → value_in (xs ++ ys) k ≡ value_in ys k
+value_behind k xs ys none = lookup_append (bytes_eq k) xs ys ∙ ap (λ r. option_or r (value_in ys k)) none
 
 pub always : {T E P : Type 0} (r : Result T E) → P → OnOk r P
 always (Ok x) p = p

@@ -14,7 +14,7 @@ use Rattle.bp_values.specs.Values.{Meaning, Field, field_of}
 use Rattle.bp_faults.specs.Answers.{then_do}
 use Rattle.bp_faults.specs.Faults.{fault_on}
 use Rattle.bp_values.specs.Sums.{sum}
-use Rattle.bp_values.specs.Scopes.{Pairs, pairs_of, value_in}
+use Rattle.bp_values.specs.Scopes.{Pairs, layer_pairs, value_in}
 use Rattle.bp_values.specs.Expressions.{val, val_map}
 use Rattle.bp_values.specs.Marks.{marks, marks_entries}
 
@@ -33,8 +33,9 @@ pub record Known : Type 0 where
   pub used : List (List ℕ)
   pub modules : List Raw
 
-abbrev pub known_of : State → Known
-known_of s = record { scope = pairs_of s.scope; used = s.used.keys; modules = map raw_of s.modules.items }
+-- the same of a file that inherits those pairs
+abbrev pub known_of : Pairs → State → Known
+known_of inherited s = record { scope = inherited ++ layer_pairs s.own; used = s.used.keys; modules = map raw_of s.modules.items }
 
 -- a name gets a value, in its old place where it has one
 abbrev pub put : Known → List ℕ → Meaning → Known

@@ -1,4 +1,4 @@
-ghost use Rattle.std.specs.Prelude.{◌≡◌, map, IfOk, OnOk, [], Ok};
+ghost use Rattle.std.specs.Prelude.{◌≡◌, map, IfOk, OnOk, [], None, Ok};
 ghost use Rattle.bp_parser.specs.Trees.{tree_of, map_of, definition_of, Assigns, Extends, Declares};
 ghost use Rattle.bp_values.specs.Values.{meaning};
 ghost use Rattle.bp_faults.specs.Answers.{Answers, Refuses, Leaves};
@@ -7,6 +7,7 @@ ghost use Rattle.bp_values.specs.Files.{raw_of, known_of, assigned, extended, de
 
 use crate::expression::{entries_of, value_of};
 use crate::marks::{mark, mark_entries};
+use crate::scope::{Layer, Names};
 use crate::sums::add;
 use crate::{Entry, EvalError, Scope};
 use bp_faults::{Fault, FaultKind, Place, Text};
@@ -22,10 +23,11 @@ pub struct RawModule {
     pub entries: Vec<Entry>,
 }
 
-/// What is known after some definitions: the scope, the names referenced in this file, and the modules.
+/// What a file has after some definitions, beside what it inherits: the names that it set, those that
+/// it referenced, and its modules.
 #[derive(Drop)]
 pub struct State {
-    scope: Scope,
+    own: Layer,
     used: IndexSet<Text>,
     modules: Vec<RawModule>,
 }
@@ -33,33 +35,44 @@ pub struct State {
 /// `name = value`
 fn assign(
     alloc: Global,
+    inherited: &Scope,
     state: &mut State,
     name: &Text,
     at: Place,
     value: &Expr,
 ) -> Result<(), EvalError>
-    ensures { Leaves known_of state.new result (assigned (known_of state.old) name.now at (tree_of value.now)) }
+    ensures { Leaves (known_of (pairs_of inherited.now)) state.new result (assigned (known_of (pairs_of inherited.now) state.old) name.now at (tree_of value.now)) }
 {
-    if state.scope.get(name).is_some() {
+    let names = Names {
+        inherited,
+        own: &state.own,
+    };
+    if names.get(name).is_some() {
         return Err(EvalError::Bad(Fault::on(alloc, FaultKind::VariableSet, at, name.copy(alloc)?)));
     }
-    let new = value_of(alloc, &state.scope, value)?;
+    let new = value_of(alloc, &names, value)?;
     mark(alloc, &mut state.used, value)?;
-    state.scope.put(alloc, name.copy(alloc)?, new)?;
+    state.own.put(name.copy(alloc)?, new)?;
     Ok(())
 }
 
 /// `name += value`, where the name isn't inherited.
 fn extend(
     alloc: Global,
+    inherited: &Scope,
     state: &mut State,
     name: &Text,
     at: Place,
     value: &Expr,
 ) -> Result<(), EvalError>
-    ensures { Leaves known_of state.new result (extended (known_of state.old) name.now at (tree_of value.now) (value_in (known_of state.old).scope name.now)) }
+    requires { value_in (pairs_of inherited.now) name.now ≡ None }
+    ensures { Leaves (known_of (pairs_of inherited.now)) state.new result (extended (known_of (pairs_of inherited.now) state.old) name.now at (tree_of value.now) (value_in (known_of (pairs_of inherited.now) state.old).scope name.now)) }
 {
-    match state.scope.get(name) {
+    let names = Names {
+        inherited,
+        own: &state.own,
+    };
+    match names.get(name) {
         Some(_) => {
             if state.used.contains(name) {
                 return Err(EvalError::Bad(Fault::on(
@@ -69,11 +82,11 @@ fn extend(
                     name.copy(alloc)?,
                 )));
             }
-            let other = value_of(alloc, &state.scope, value)?;
+            let other = value_of(alloc, &names, value)?;
             mark(alloc, &mut state.used, value)?;
-            let old = state.scope.take(alloc, name.copy(alloc)?)?;
+            let old = state.own.take(name.copy(alloc)?)?;
             let new = add(alloc, old, other, at)?;
-            state.scope.put(alloc, name.copy(alloc)?, new)?;
+            state.own.put(name.copy(alloc)?, new)?;
             Ok(())
         }
         None => Err(EvalError::Bad(Fault::on(
@@ -88,14 +101,19 @@ fn extend(
 /// `kind { .. }`
 fn declare(
     alloc: Global,
+    inherited: &Scope,
     state: &mut State,
     kind: &Text,
     at: Place,
     body: &MapExpr,
 ) -> Result<(), EvalError>
-    ensures { Leaves known_of state.new result (declared_by (known_of state.old) kind.now at (map_of body.now)) }
+    ensures { Leaves (known_of (pairs_of inherited.now)) state.new result (declared_by (known_of (pairs_of inherited.now) state.old) kind.now at (map_of body.now)) }
 {
-    let entries = entries_of(alloc, &state.scope, body)?;
+    let names = Names {
+        inherited,
+        own: &state.own,
+    };
+    let entries = entries_of(alloc, &names, body)?;
     mark_entries(alloc, &mut state.used, body.entries.as_slice())?;
     state.modules.push(RawModule {
         kind: kind.copy(alloc)?,
@@ -107,10 +125,10 @@ fn declare(
 
 /// One definition.
 fn define(alloc: Global, inherited: &Scope, state: &mut State, def: &Def) -> Result<(), EvalError>
-    ensures { Leaves known_of state.new result (defined (pairs_of inherited.now) (known_of state.old) (definition_of def.now)) }
+    ensures { Leaves (known_of (pairs_of inherited.now)) state.new result (defined (pairs_of inherited.now) (known_of (pairs_of inherited.now) state.old) (definition_of def.now)) }
 {
     match def {
-        Def::Assign { name, at, value } => assign(alloc, state, name, *at, value),
+        Def::Assign { name, at, value } => assign(alloc, inherited, state, name, *at, value),
         Def::Extend { name, at, value } => {
             if inherited.get(name).is_some() {
                 return Err(EvalError::Bad(Fault::on(
@@ -120,9 +138,9 @@ fn define(alloc: Global, inherited: &Scope, state: &mut State, def: &Def) -> Res
                     name.copy(alloc)?,
                 )));
             }
-            extend(alloc, state, name, *at, value)
+            extend(alloc, inherited, state, name, *at, value)
         }
-        Def::Module { kind, at, body } => declare(alloc, state, kind, *at, body),
+        Def::Module { kind, at, body } => declare(alloc, inherited, state, kind, *at, body),
     }
 }
 
@@ -133,7 +151,7 @@ fn define_all(
     state: &mut State,
     defs: &[Def],
 ) -> Result<(), EvalError>
-    ensures { Leaves known_of state.new result (all_defined (pairs_of inherited.now) (known_of state.old) (map definition_of defs.now)) }
+    ensures { Leaves (known_of (pairs_of inherited.now)) state.new result (all_defined (pairs_of inherited.now) (known_of (pairs_of inherited.now) state.old) (map definition_of defs.now)) }
 {
     'defs: for def in defs {
         define(alloc, inherited, state, def)?;
@@ -154,11 +172,11 @@ pub fn evaluate(
     ensures { Answers (λ r. (map raw_of r.0.items, pairs_of r.1)) result (evaluated (pairs_of inherited.now) (map definition_of tree.now.defs.items)) }
 {
     let mut state = State {
-        scope: inherited.copy(alloc)?,
+        own: Layer::new(alloc),
         used: IndexSet::new(alloc),
         modules: Vec::new(alloc),
     };
     define_all(alloc, inherited, &mut state, tree.defs.as_slice())?;
-    let State { scope, modules, .. } = state;
-    Ok((modules, scope))
+    let State { own, modules, .. } = state;
+    Ok((modules, inherited.with(alloc, own)?))
 }

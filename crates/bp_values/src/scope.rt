@@ -1,22 +1,34 @@
-ghost use Rattle.std.specs.Prelude.{◌≡◌, [], map, option_map, IfOk, OnOk, unwrap_or, false};
-ghost use Rattle.std.specs.Arc.{arc_value};
+ghost use Rattle.std.specs.Prelude.{◌≡◌, ◌++◌, [], option_map, IfOk, OnOk, IsTrue, ◌↔◌, unwrap_or, false};
 ghost use Rattle.std.specs.Str.{bytes_eq};
 ghost use Rattle.indexmap.specs.IndexMap.{insert_entry};
 ghost use Rattle.bp_values.specs.Values.{Meaning, meaning, Truth};
-ghost use Rattle.bp_values.specs.Scopes.{value_in, pairs_of};
+ghost use Rattle.bp_values.specs.Scopes.{value_in, pairs_of, pairs_in, layer_pairs, visible};
 
 use crate::Value;
-use crate::value::copy_value;
 use bp_faults::{OutOfMemory, Text};
 use indexmap::IndexMap;
 use std::alloc::Global;
 use std::sync::Arc;
 
 /// Names and their values, in the order in which the names were first set. Contracts see the list of
-/// its pairs. Copies of a scope share their values.
+/// its pairs: those that a file inherits, and its own behind. What is inherited is shared.
 #[derive(Drop)]
 pub struct Scope {
-    values: IndexMap<Text, Arc<Value>>,
+    // Those of the files that set names, the outermost first.
+    layers: Arc<Vec<Arc<Layer>>>,
+}
+
+/// The names that one file sets, with their values.
+#[derive(Drop)]
+pub struct Layer {
+    values: IndexMap<Text, Value>,
+}
+
+/// The names that a file sees while it is evaluated: those that it inherits, and its own so far.
+#[derive(Drop)]
+pub struct Names<'a> {
+    pub inherited: &'a Scope,
+    pub own: &'a Layer,
 }
 
 impl Scope {
@@ -24,7 +36,7 @@ impl Scope {
         ensures { IfOk result (λ scope. pairs_of scope ≡ []) }
     {
         Ok(Scope {
-            values: IndexMap::new(alloc),
+            layers: Arc::new(alloc, Vec::new(alloc))?,
         })
     }
 
@@ -32,62 +44,91 @@ impl Scope {
     pub fn get(&self, name: &Text) -> Option<&Value>
         ensures { option_map (λ v. meaning v.now) result ≡ value_in (pairs_of self.now) name.now }
     {
-        match self.values.get(name) {
-            Some(value) => Some(&**value),
-            None => None,
+        'layers: for layer in self.layers.iter() {
+            if let Some(value) = layer.get(name) {
+                return Some(value);
+            }
+        }
+        None
+    }
+
+    /// The scope of a file that inherits this one and sets those names.
+    pub(crate) fn with(&self, alloc: Global, own: Layer) -> Result<Scope, OutOfMemory>
+        ensures { IfOk result (λ scope. pairs_of scope ≡ pairs_of self.now ++ layer_pairs own) }
+    {
+        if own.is_empty() {
+            return Ok(Scope {
+                layers: self.layers.clone()?,
+            });
+        }
+        let mut layers = self.shared(alloc)?;
+        layers.push(Arc::new(alloc, own)?)?;
+        Ok(Scope {
+            layers: Arc::new(alloc, layers)?,
+        })
+    }
+
+    /// The layers, with room for one more.
+    fn shared(&self, alloc: Global) -> Result<Vec<Arc<Layer>>, OutOfMemory>
+        ensures { IfOk result (λ layers. pairs_in layers.items ≡ pairs_of self.now) }
+    {
+        let mut shared = Vec::with_capacity(alloc, self.layers.len() + 1)?;
+        'layers: for layer in self.layers.iter() {
+            shared.push(layer.clone()?)?;
+        }
+        Ok(shared)
+    }
+}
+
+impl Layer {
+    pub fn new(alloc: Global) -> Layer
+        ensures { layer_pairs result ≡ [] }
+    {
+        Layer {
+            values: IndexMap::new(alloc),
         }
     }
 
-    /// Sets a name, in its old place where it has one. The old value is handed back.
-    pub(crate) fn put(
-        &mut self,
-        alloc: Global,
-        name: Text,
-        value: Value,
-    ) -> Result<Option<Arc<Value>>, OutOfMemory>
-        ensures pairs { OnOk result (pairs_of self.new ≡ insert_entry bytes_eq (pairs_of self.old) name (meaning value)) }
-        ensures old { IfOk result (λ old. option_map (λ v. meaning (arc_value v)) old ≡ value_in (pairs_of self.old) name) }
+    fn is_empty(&self) -> bool
+        ensures { IsTrue result ↔ (layer_pairs self.now ≡ []) }
     {
-        Ok(self.values.insert(name, Arc::new(alloc, value)?)?)
+        self.values.is_empty()
+    }
+
+    /// The value of a name.
+    pub fn get(&self, name: &Text) -> Option<&Value>
+        ensures { option_map (λ v. meaning v.now) result ≡ value_in (layer_pairs self.now) name.now }
+    {
+        self.values.get(name)
+    }
+
+    /// Sets a name, in its old place where it has one. The old value is handed back.
+    pub fn put(&mut self, name: Text, value: Value) -> Result<Option<Value>, OutOfMemory>
+        ensures pairs { OnOk result (layer_pairs self.new ≡ insert_entry bytes_eq (layer_pairs self.old) name (meaning value)) }
+        ensures old { IfOk result (λ old. option_map meaning old ≡ value_in (layer_pairs self.old) name) }
+    {
+        Ok(self.values.insert(name, value)?)
     }
 
     /// Takes the value of a name, to put another there: `false` stands in its place until then, and is
     /// the answer where the name has none.
-    pub(crate) fn take(&mut self, alloc: Global, name: Text) -> Result<Value, OutOfMemory>
-        ensures taken { IfOk result (λ value. meaning value ≡ unwrap_or (value_in (pairs_of self.old) name) (Truth false)) }
-        ensures place { OnOk result ((v : Meaning) → insert_entry bytes_eq (pairs_of self.new) name v ≡ insert_entry bytes_eq (pairs_of self.old) name v) }
+    pub fn take(&mut self, name: Text) -> Result<Value, OutOfMemory>
+        ensures taken { IfOk result (λ value. meaning value ≡ unwrap_or (value_in (layer_pairs self.old) name) (Truth false)) }
+        ensures place { OnOk result ((v : Meaning) → insert_entry bytes_eq (layer_pairs self.new) name v ≡ insert_entry bytes_eq (layer_pairs self.old) name v) }
     {
-        match self.put(alloc, name, Value::Bool(false))? {
-            Some(value) => own(alloc, value),
-            None => Ok(Value::Bool(false)),
-        }
-    }
-
-    /// An equal scope.
-    pub(crate) fn copy(&self, alloc: Global) -> Result<Scope, OutOfMemory>
-        ensures { IfOk result (λ copy. pairs_of copy ≡ pairs_of self.now) }
-    {
-        let mut copy = Scope::empty(alloc)?;
-        'values: for (name, value) in self.values.iter() {
-            copy.share(name.copy(alloc)?, value.clone()?)?;
-        }
-        Ok(copy)
-    }
-
-    fn share(&mut self, name: Text, value: Arc<Value>) -> Result<(), OutOfMemory>
-        ensures { OnOk result (pairs_of self.new ≡ insert_entry bytes_eq (pairs_of self.old) name (meaning (arc_value value))) }
-    {
-        self.values.insert(name, value)?;
-        Ok(())
+        let old = self.put(name, Value::Bool(false))?;
+        Ok(old.unwrap_or(Value::Bool(false)))
     }
 }
 
-/// The value alone, or a copy where others share it.
-fn own(alloc: Global, value: Arc<Value>) -> Result<Value, OutOfMemory>
-    ensures { IfOk result (λ own. meaning own ≡ meaning (arc_value value)) }
-{
-    match Arc::try_unwrap(value) {
-        Ok(value) => Ok(value),
-        Err(shared) => copy_value(alloc, &shared),
+impl<'a> Names<'a> {
+    /// The value of a name.
+    pub fn get(&self, name: &Text) -> Option<&'a Value>
+        ensures { option_map (λ v. meaning v.now) result ≡ value_in (visible self.now) name.now }
+    {
+        match self.inherited.get(name) {
+            Some(value) => Some(value),
+            None => self.own.get(name),
+        }
     }
 }

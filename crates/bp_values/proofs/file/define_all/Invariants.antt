@@ -6,5 +6,5 @@ use Rattle.bp_values.proofs.file.define_all.Given as goal
 
 abbrev pub invariant-defs : goal.invariant-defs
 invariant-defs l =
-    all_defined (pairs_of l.inherited) (known_of l.fn.state) (map definition_of l.defs)
-    ≡ all_defined (pairs_of l.inherited) (known_of l.state) (map definition_of (drop l.def-index l.defs))
+    all_defined (pairs_of l.inherited) (known_of (pairs_of l.inherited) l.fn.state) (map definition_of l.defs)
+    ≡ all_defined (pairs_of l.inherited) (known_of (pairs_of l.inherited) l.state) (map definition_of (drop l.def-index l.defs))

@@ -1,0 +1,6 @@
+use Rattle.std.proofs.Common.{◌≡◌, ◌++◌, drop}
+use Rattle.bp_values.specs.Scopes.{pairs_of, pairs_in}
+use Rattle.bp_values.proofs.scope.Scope.shared.Given as goal
+
+abbrev pub invariant-layers : goal.invariant-layers
+invariant-layers l = pairs_of l.self ≡ pairs_in l.shared.items ++ pairs_in (drop l.layer-index l.layer-items)
