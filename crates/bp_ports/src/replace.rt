@@ -15,7 +15,7 @@ const LONGEST: usize = 4096;
 const NEW_FILES: usize = 3;
 
 /// After so many seconds without a write, a new file is left over by a run that was stopped.
-const LEFT_OVER_AFTER: u64 = 60;
+const LEFT_OVER_AFTER: u64 = 600;
 
 fn suffix(number: usize) -> &'static str
     requires { number < 3 }
