@@ -23,6 +23,7 @@ pub mod Readied
 pub mod AlongLegal
 pub mod HeldOuts
 pub mod PlacedValues
+pub mod Reaching
 pub mod CoreSteps
 pub mod HeldPlaced
 pub mod CoreTables

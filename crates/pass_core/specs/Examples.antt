@@ -11,4 +11,5 @@ trail_of n ins = Ok (concat ins ++ n ∷ [])
 
 -- How many predecessors' results there are, but two nodes are refused.
 abbrev pub counted_but : ℕ → ℕ → ℕ → List ℕ → Result ℕ Fault
-counted_but one other n ins = if (n == one) || (n == other) then Err (fault_at BadSource (file_start n)) else Ok (length ins)
+counted_but one other n ins =
+    if (n == one) || (n == other) then Err (fault_at BadSource (file_start n)) else Ok (length ins)

@@ -4,7 +4,7 @@ use Rattle.std.proofs.lemmas.List.FromFn.{map-range_with_len_more}
 use Rattle.pass_core.specs.declared.plan.PlanEdge.{PlanEdge}
 use Rattle.pass_core.specs.Plans.{in_edges, predecessors}
 use Rattle.pass_core.proofs.Predecessors.{in_edges_few}
-use Rattle.pass_core.proofs.unfetched.in_degrees.Goals as goal
+use Rattle.pass_core.proofs.in_edges.in_degrees.Goals as goal
 
 pub overflow_cast-edges_into : goal.overflow_cast-edges_into
 overflow_cast-edges_into c = let few = in_edges_few c.args.plan.now.edges c.loop-n.n in let all = c.requires.plan.few in let same = ap length c.edges_into.ensures in omega arith
