@@ -1,8 +1,8 @@
-pub mod Lists
 pub mod Predecessors
 pub mod Unrolled
 pub mod Induction
 pub mod Unique
+pub mod Gathering
 pub mod Legal
 pub mod Sorted
 pub mod Outcome

@@ -11,7 +11,8 @@ use Rattle.pass_core.specs.InEdges.{AreStarts}
 use Rattle.pass_core.specs.Outcomes.{TakesPlan}
 use Rattle.pass_core.specs.Results.{NodeResult, outs_of, node_result}
 use Rattle.pass_core.specs.Shown.{shown}
-use Rattle.pass_core.specs.CoreStates.{CoreState, from_of, result_in, IsMarked, IsFilled, VisitWasMade, IsReachedIn, entries}
+use Rattle.pass_core.specs.CoreStates.{CoreState, from_of, result_in, IsMarked, IsFilled, VisitWasMade}
+use Rattle.pass_core.specs.CoreStates.{IsReachedIn, entries}
 
 -- 1 where it is so, else 0.
 abbrev pub one_if : Bool → ℕ

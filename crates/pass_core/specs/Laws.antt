@@ -1,8 +1,9 @@
 -- What holds of every plan without a cycle, whatever a visitor means.
 use Rattle.std.specs.Prelude.{◌≡◌, ◌<◌, ◌≤◌, ◌+◌, ◌-◌, ◌↔◌, ℕ, List, map, length, take, drop, slice_index}
-use Rattle.std.specs.Prelude.{slice_index_or, Result}
+use Rattle.std.specs.Prelude.{slice_index_or, Result, Ok}
 use Rattle.std.specs.List.{AllByRecursion, Contains}
 use Rattle.bp_faults.specs.declared.fault.Fault.{Fault}
+use Rattle.bp_faults.specs.Order.{Gathers}
 use Rattle.pass_core.specs.declared.plan.Plan.{Plan}
 use Rattle.pass_core.specs.declared.plan.PlanEdge.{PlanEdge}
 use Rattle.pass_core.specs.Plans.{in_edges, predecessors, StandByTarget, HaveEndsBelow, IsPlan, HasNoCycle}
@@ -10,7 +11,7 @@ use Rattle.pass_core.specs.InEdges.{edges_below}
 use Rattle.pass_core.specs.Heights.{height, above_all, unroll, IsBefore}
 use Rattle.pass_core.specs.Results.{NodeResult, Bad, outs_of, judged, node_result}
 use Rattle.pass_core.specs.Orders.{IsSerial, IsLegal}
-use Rattle.pass_core.specs.Outcomes.{IsFirstUndone, IsOutcome}
+use Rattle.pass_core.specs.Outcomes.{IsFirstUndone, IsOutcome, PassMeans}
 
 -- Where edges stand by target, the edges into a node are those between two places.
 abbrev pub InEdgesAreTogether : Type 0
@@ -118,3 +119,13 @@ module _ (O : Type 0) where
   AtMostOneOutcome =
       (mean : ℕ → List O → Result O Fault) (plan : Plan) (outcome other : Result (List O) (ℕ × Fault))
       → IsOutcome mean plan outcome → IsOutcome mean plan other → outcome ≡ other
+
+  -- Where each node's meaning, over what a step makes of its predecessors, is what the step makes of the node, a pass
+  -- gathers what the step makes of all nodes.
+  abbrev pub PassGathers : Type 0
+  PassGathers =
+      (mean : ℕ → List O → Result O Fault) (step : ℕ → Result O Fault) (plan : Plan) (outcome : Result (List O) Fault)
+      → IsPlan plan → HasNoCycle plan.edges
+      → ((n : ℕ) (outs : List O) → n < plan.count → map Ok outs ≡ map step (predecessors plan.edges n)
+          → mean n outs ≡ step n)
+      → PassMeans mean plan outcome → Gathers (height plan) plan.count step outcome

@@ -3,7 +3,8 @@ ghost use Rattle.std.specs.List.{AllByRecursion, range_with_len};
 ghost use Rattle.pass_core.specs.Heights.{height};
 ghost use Rattle.pass_core.specs.InEdges.{AreStarts};
 ghost use Rattle.pass_core.specs.Plans.{IsPlan, HasNoCycle, predecessors};
-ghost use Rattle.pass_core.specs.Settling.{settled_at, AreSettled, AreAllSettled, IsPath, IsAdvanced, gone_up, start_at};
+ghost use Rattle.pass_core.specs.Settling.{settled_at, AreSettled, AreAllSettled};
+ghost use Rattle.pass_core.specs.Settling.{IsPath, IsAdvanced, gone_up, start_at};
 
 use crate::in_edges::{edges_into, starts_of};
 use crate::places::{empty_places, unwrapped};

@@ -5,7 +5,7 @@ ghost use Rattle.pass_core.specs.Laws.{PredecessorsAreNodes, PredecessorsAreLess
 ghost use Rattle.pass_core.specs.Laws.{HeightsMeetTheirEquation, HeightsAreBelowTheCount, RecursionMeetsItsEquation};
 ghost use Rattle.pass_core.specs.Laws.{OneSerialOrder, SerialIsLegal, EarlierNodesStandEarlier};
 ghost use Rattle.pass_core.specs.Laws.{ResultsMeetTheirEquation, OneSolution, FirstUndoneIsBad};
-ghost use Rattle.pass_core.specs.Laws.{OneOutcome, AtMostOneOutcome};
+ghost use Rattle.pass_core.specs.Laws.{OneOutcome, AtMostOneOutcome, PassGathers};
 ghost use Rattle.pass_core.specs.OrderLaws.{LegalOrdersAgree, OneOrderOutcome};
 ghost use Rattle.pass_core.specs.CoreLaws.{FilledHoldResults, NoStepTwice, ClaimedAfterInEdges, StepsAreEntries};
 ghost use Rattle.pass_core.specs.CoreLaws.{FinishedByCount, NeverStuck, FinishedHasResults};
@@ -93,6 +93,11 @@ pub fn first_undone_is_bad<O>()
 /// A pass has exactly one outcome.
 pub fn one_outcome<O>()
     ensures { OneOutcome O }
+{}
+
+/// A pass whose meaning is a step's gathers what the step makes of all nodes.
+pub fn pass_gathers<O>()
+    ensures { PassGathers O }
 {}
 
 /// In the core machine each filled edge holds the result of its source.

@@ -1,12 +1,11 @@
-ghost use Rattle.std.specs.Prelude.{◌≡◌, ◌<◌, ◌↔◌, length, map, IfOk, IfSome, IsTrue, Ok};
-ghost use Rattle.std.specs.List.{AllByRecursion};
+ghost use Rattle.std.specs.Prelude.{◌≡◌, ◌↔◌, length, map, IfOk, IfSome, IsTrue, Ok};
 ghost use Rattle.std.specs.Arc.{arc_value};
-ghost use Rattle.pass_core.specs.CoreStates.{IsMarked, IsUnmarked};
 ghost use Rattle.pass_core.specs.InEdges.{AreStarts};
+ghost use Rattle.pass_core.specs.Inside.{IsReadyByMarks};
 ghost use Rattle.pass_core.specs.OrderOutcomes.{AnswersLegality, AnswersOrder};
 ghost use Rattle.pass_core.specs.Orders.{IsLegal, numbers};
 ghost use Rattle.pass_core.specs.Outcomes.{IsOutcome, TakesPlan};
-ghost use Rattle.pass_core.specs.Plans.{IsPlan, HasNoCycle, predecessors};
+ghost use Rattle.pass_core.specs.Plans.{IsPlan, HasNoCycle};
 
 use crate::error::PassError;
 use crate::in_edges::{edges_into, starts_of};
@@ -24,7 +23,7 @@ fn is_ready(plan: &Plan, starts: &[u32], n: NodeId, visited: &[bool]) -> bool
     requires plan { IsPlan plan.now }
     requires starts { AreStarts plan.now starts.now }
     requires many { length visited.now ≡ plan.now.count }
-    ensures { IsTrue result ↔ ((n.0 < plan.now.count) × IsUnmarked visited.now n.0 × AllByRecursion (IsMarked visited.now) (predecessors plan.now.edges n.0)) }
+    ensures { IsTrue result ↔ IsReadyByMarks plan.now visited.now n.0 }
 {
     if n.0 >= plan.count || visited[n.0 as usize] {
         return false;

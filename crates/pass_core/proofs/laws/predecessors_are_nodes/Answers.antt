@@ -1,6 +1,6 @@
 use Rattle.std.proofs.Common.{◌<◌}
 use Rattle.pass_core.specs.declared.plan.PlanEdge.{PlanEdge}
-use Rattle.pass_core.proofs.Lists.{all_map}
+use Rattle.bp_faults.proofs.Lists.{all_map}
 use Rattle.pass_core.proofs.Predecessors.{all_predecessors}
 use Rattle.pass_core.proofs.laws.predecessors_are_nodes.Goals as goal
 
