@@ -51,9 +51,14 @@ module _ {P : Type 0} where
 -- The fault of a cycle stands at its first edge's place. Its chain lists the labels, the start's first and last.
 abbrev pub cycle_fault : List (List ℕ) → ℕ → Edge → List Edge → Fault
 cycle_fault names s first rest =
-    record { kind =
-        Cycle; at = first.at; subject = []; chain = name_at names s
-        ∷ map (λ (e : Edge). name_at names e.to.0) (first ∷ rest) }
+    record {
+      kind =
+          Cycle;
+      at = first.at;
+      subject = [];
+      chain = name_at names s
+          ∷ map (λ (e : Edge). name_at names e.to.0) (first ∷ rest);
+    }
 
 module _ {P : Type 0} where
   -- The fault that is reported of a graph.

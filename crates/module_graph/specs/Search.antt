@@ -61,7 +61,7 @@ abbrev pub IsNearestFound : List (Option ℕ) → List Edge → Option Near → 
 IsNearestFound found es None = AllByRecursion (λ (e : Edge). found_at found e.to.0 ≡ None) es
 IsNearestFound found es (Some best) =
     (before : List Edge) × (after : List Edge) × (es ≡ before ++ best.edge ∷ after)
-        × (found_at found best.edge.to.0 ≡ Some best.distance)
+    × (found_at found best.edge.to.0 ≡ Some best.distance)
     × AllByRecursion (λ (x : Edge). (c : ℕ) → found_at found x.to.0 ≡ Some c → best.distance < c) before
     × AllByRecursion (λ (x : Edge). (c : ℕ) → found_at found x.to.0 ≡ Some c → best.distance ≤ c) after
 
@@ -77,4 +77,4 @@ IsFoundStart nodes None = NoneReturns (edges_of nodes)
 IsFoundStart nodes (Some start) =
     (start.node < length nodes) × IsStart (edges_of nodes) start.node × (length start.found.items ≡ length nodes)
     × AreDistances (edges_of nodes) start.node start.found.items
-        × IsNearestFound start.found.items (edges_at nodes start.node) (Some start.first)
+    × IsNearestFound start.found.items (edges_at nodes start.node) (Some start.first)

@@ -129,7 +129,12 @@ fn which_cycle_is_reported(rt: HostRuntime) -> Result<(), Fail> {
 }
 
 /// A chain of nodes: each leads to the next or to the one before, and the end to the start where it is closed.
-fn chain(alloc: Global, count: u32, forward: bool, closed: bool) -> Result<Graph<bool>, OutOfMemory> {
+fn chain(
+    alloc: Global,
+    count: u32,
+    forward: bool,
+    closed: bool,
+) -> Result<Graph<bool>, OutOfMemory> {
     let last = count.saturating_sub(1);
     let mut nodes = Vec::new(alloc);
     for n in 0..count {
@@ -236,8 +241,9 @@ fn cycles(rt: HostRuntime) -> Result<(), Fail> {
     )?;
     let names = labels(alloc, &g, &["a", "b", "c"])?;
     let [a, b] = ["a{android_arm64_static}", "b{android_arm64_static}"];
-    let line =
-        format!(in alloc; "Android.bp:1:46: error 23: dependency cycle: {a} -> {b} -> {a}\n")?;
+    let line = format!(in alloc;
+        "Android.bp:1:46: error 23: dependency cycle: {a} -> {b} -> {a}\n"
+    )?;
     assert_eq!(rt; said(alloc, &g, &names)?.as_str(), line.as_str());
     Ok(())
 }

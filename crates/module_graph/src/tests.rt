@@ -103,7 +103,9 @@ fn ends(alloc: Global, g: &Graph<bool>, dir: Direction) -> Result<Vec<(u32, u32)
 }
 
 const DIAMOND: [&[u32]; 4] = [&[1, 2], &[3], &[3, 3], &[]];
+
 const UP: [(u32, u32); 5] = [(1, 0), (2, 0), (3, 1), (3, 2), (3, 2)];
+
 const DOWN: [(u32, u32); 5] = [(0, 1), (0, 2), (1, 3), (2, 3), (2, 3)];
 
 #[test]
@@ -196,7 +198,10 @@ fn names_of_variants(rt: HostRuntime) -> Result<(), Fail> {
         assert!(rt; copy.get(axis).is_same(variation));
         assert_eq!(rt; label(alloc, &module, &copy)?.as_str(), want);
     }
-    assert_eq!(rt; variant_name(alloc, &variations)?.as_str(), "recovery_shared_t12_asan");
+    assert_eq!(rt;
+        variant_name(alloc, &variations)?.as_str(),
+        "recovery_shared_t12_asan"
+    );
     assert_eq!(rt; variation_name(alloc, Variation::Asan)?.as_str(), "asan");
     Ok(())
 }

@@ -3,6 +3,7 @@ pub mod Unrolled
 pub mod Induction
 pub mod Unique
 pub mod Gathering
+pub mod OutEquations
 pub mod Legal
 pub mod Sorted
 pub mod Outcome

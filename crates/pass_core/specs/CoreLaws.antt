@@ -49,4 +49,4 @@ module _ (O : Type 0) where
   FinishedHasResults = AfterAnySteps (λ mean plan steps s.
       IsFinished plan s
       → map (made mean plan s) (range_with_len 0 plan.count)
-          ≡ map (node_result mean plan) (range_with_len 0 plan.count))
+      ≡ map (node_result mean plan) (range_with_len 0 plan.count))

@@ -120,6 +120,19 @@ module _ (O : Type 0) where
       (mean : ℕ → List O → Result O Fault) (plan : Plan) (outcome other : Result (List O) (ℕ × Fault))
       → IsOutcome mean plan outcome → IsOutcome mean plan other → outcome ≡ other
 
+  -- A pass that makes all results makes as many as there are nodes.
+  abbrev pub OutsAreMany : Type 0
+  OutsAreMany =
+      (mean : ℕ → List O → Result O Fault) (plan : Plan) (outs : List O)
+      → IsOutcome mean plan (Ok outs) → length outs ≡ plan.count
+
+  -- Each of these is what the meaning gives for the results of the node's predecessors.
+  abbrev pub OutsMeetTheirEquation : Type 0
+  OutsMeetTheirEquation =
+      (mean : ℕ → List O → Result O Fault) (plan : Plan) (outs : List O) (n : ℕ) (d : O)
+      → IsPlan plan → HasNoCycle plan.edges → IsOutcome mean plan (Ok outs) → n < plan.count
+      → mean n (map (λ m. slice_index_or outs m d) (predecessors plan.edges n)) ≡ Ok (slice_index_or outs n d)
+
   -- Where each node's meaning, over what a step makes of its predecessors, is what the step makes of the node, a pass
   -- gathers what the step makes of all nodes.
   abbrev pub PassGathers : Type 0
@@ -127,5 +140,5 @@ module _ (O : Type 0) where
       (mean : ℕ → List O → Result O Fault) (step : ℕ → Result O Fault) (plan : Plan) (outcome : Result (List O) Fault)
       → IsPlan plan → HasNoCycle plan.edges
       → ((n : ℕ) (outs : List O) → n < plan.count → map Ok outs ≡ map step (predecessors plan.edges n)
-          → mean n outs ≡ step n)
+      → mean n outs ≡ step n)
       → PassMeans mean plan outcome → Gathers (height plan) plan.count step outcome

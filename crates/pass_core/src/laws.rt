@@ -6,6 +6,7 @@ ghost use Rattle.pass_core.specs.Laws.{HeightsMeetTheirEquation, HeightsAreBelow
 ghost use Rattle.pass_core.specs.Laws.{OneSerialOrder, SerialIsLegal, EarlierNodesStandEarlier};
 ghost use Rattle.pass_core.specs.Laws.{ResultsMeetTheirEquation, OneSolution, FirstUndoneIsBad};
 ghost use Rattle.pass_core.specs.Laws.{OneOutcome, AtMostOneOutcome, PassGathers};
+ghost use Rattle.pass_core.specs.Laws.{OutsAreMany, OutsMeetTheirEquation};
 ghost use Rattle.pass_core.specs.OrderLaws.{LegalOrdersAgree, OneOrderOutcome};
 ghost use Rattle.pass_core.specs.CoreLaws.{FilledHoldResults, NoStepTwice, ClaimedAfterInEdges, StepsAreEntries};
 ghost use Rattle.pass_core.specs.CoreLaws.{FinishedByCount, NeverStuck, FinishedHasResults};
@@ -93,6 +94,16 @@ pub fn first_undone_is_bad<O>()
 /// A pass has exactly one outcome.
 pub fn one_outcome<O>()
     ensures { OneOutcome O }
+{}
+
+/// A pass makes as many results as it has nodes.
+pub fn outs_are_many<O>()
+    ensures { OutsAreMany O }
+{}
+
+/// The results of a whole pass meet their equation, node by node.
+pub fn outs_meet_their_equation<O>()
+    ensures { OutsMeetTheirEquation O }
 {}
 
 /// A pass whose meaning is a step's gathers what the step makes of all nodes.

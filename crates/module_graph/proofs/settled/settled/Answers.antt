@@ -57,8 +57,8 @@ returns-then-least-number-clause-exact g c = λ parts some.
     let is : c.from-number.result ≡ slice_index numbers n = c.from-number.ensures in
     let here : AreParts (edges_of nodes) numbers = subst (λ (ns : List (Node _)). AreParts (edges_of ns) numbers) (sym c.as_slice-nodes.ensures) parts in
     let no : ⊥ = ⊎_elim
-        (λ target. never_down numbers nodes n x lt c.index-nodes-n.is here least target (let less = c.if-least-number.true in omega arith))
-        (λ max. let fits = c.from-number.type_inv in let less = c.if-least-number.true in omega arith) is_least.1 in
+    (λ target. never_down numbers nodes n x lt c.index-nodes-n.is here least target (let less = c.if-least-number.true in omega arith))
+    (λ max. let fits = c.from-number.type_inv in let less = c.if-least-number.true in omega arith) is_least.1 in
     absurd no
 
 pub returns-clause-none : goal.returns-clause-none
