@@ -10,7 +10,7 @@ use Rattle.pass_core.specs.Heights.{height, IsBefore}
 use Rattle.pass_core.specs.Results.{NodeResult, Done, Bad, Poisoned, IsDone, cons_if, outs_of, visited, judged, node_result}
 use Rattle.pass_core.proofs.Unrolled.{result_equation}
 use Rattle.pass_core.proofs.Induction.{plan_induction}
-use Rattle.static_links.specs.Order.{Precedes, Gathers}
+use Rattle.bp_faults.specs.Order.{Precedes, Gathers}
 use Rattle.static_links.specs.Visits.{IsPassOutcome}
 
 pub all_range : (P : ℕ → Type 0) (a n : ℕ) → ((k : ℕ) → a ≤ k → k < a + n → P k) → AllByRecursion P (range_with_len a n)

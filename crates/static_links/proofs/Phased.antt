@@ -14,13 +14,13 @@ use Rattle.pass_core.specs.Plans.{IsPlan}
 use Rattle.module_graph.specs.declared.direction.Direction.TheVariants.{BottomUp}
 use Rattle.module_graph.specs.Planned.{plan_of}
 use Rattle.static_links.specs.declared.module.Module.{Module}
-use Rattle.static_links.specs.Phases.{GoesOn, Then}
+use Rattle.bp_faults.specs.Phases.{GoesOn, Then}
 use Rattle.static_links.specs.Names.{number_of, names_checked}
 use Rattle.static_links.specs.Limits.{edges_counted}
 use Rattle.static_links.specs.Tables.{IsTable}
 use Rattle.static_links.specs.Lines.{line_step, height_in}
 use Rattle.static_links.specs.Actions.{actions_step, all_statements}
-use Rattle.static_links.specs.Order.{Gathers}
+use Rattle.bp_faults.specs.Order.{Gathers}
 use Rattle.static_links.specs.Nodes.{nodes_from, labels_of, IsPlanned}
 use Rattle.static_links.specs.Built.{IsLinked, CycleSays, checks, IsBuilt}
 use Rattle.static_links.proofs.Inside.{all_inside}

@@ -5,13 +5,13 @@ use Rattle.bp_faults.specs.Answers.{then_do}
 use Rattle.ninja_text.specs.declared.file.Statement.{Statement}
 use Rattle.module_graph.specs.Cycles.{CycleMeans}
 use Rattle.static_links.specs.declared.module.Module.{Module}
-use Rattle.static_links.specs.Phases.{GoesOn, Then}
+use Rattle.bp_faults.specs.Phases.{GoesOn, Then}
 use Rattle.static_links.specs.Names.{number_of, names_checked}
 use Rattle.static_links.specs.Limits.{edges_counted}
 use Rattle.static_links.specs.Nodes.{graph_of, labels_of}
 use Rattle.static_links.specs.Lines.{line_step, height_in}
 use Rattle.static_links.specs.Actions.{actions_step, all_statements}
-use Rattle.static_links.specs.Order.{Gathers}
+use Rattle.bp_faults.specs.Order.{Gathers}
 
 -- the statements of modules whose link lines are right
 abbrev pub IsActed : List Module → Result (List Statement) Fault → Type 0

@@ -1,4 +1,3 @@
-pub mod Phases
 pub mod Names
 pub mod Limits
 pub mod Tables
@@ -6,7 +5,6 @@ pub mod Variants
 pub mod Lines
 pub mod Sources
 pub mod Actions
-pub mod Order
 pub mod Nodes
 pub mod Visits
 pub mod Built

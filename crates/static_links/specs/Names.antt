@@ -9,7 +9,7 @@ use Rattle.bp_faults.specs.Faults.{fault_on}
 use Rattle.static_links.specs.declared.module.Module.{Module}
 use Rattle.static_links.specs.declared.module.ModuleKind.{ModuleKind}
 use Rattle.static_links.specs.declared.module.ModuleKind.TheVariants.{Binary, StaticLibrary}
-use Rattle.static_links.specs.Phases.{checked}
+use Rattle.bp_faults.specs.Phases.{check_each}
 use Rattle.static_links.specs.Variants.{variant_label}
 
 -- The number of the first module of a name, counted on from k.
@@ -39,11 +39,11 @@ module _ (names : List ℕ → Option ℕ) where
   is_library ms item = library_at ms item (names item.text)
 
   abbrev pub has_libraries : List Module → Module → Result Unit Fault
-  has_libraries ms m = checked (is_library ms) m.static_libs
+  has_libraries ms m = check_each (is_library ms) m.static_libs
 
   -- Every item of every module names a library.
   abbrev pub names_checked : List Module → Result Unit Fault
-  names_checked ms = checked (has_libraries ms) ms
+  names_checked ms = check_each (has_libraries ms) ms
 
   -- the number of the library that an item names
   abbrev pub target_of : Item → ℕ

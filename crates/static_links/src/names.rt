@@ -3,7 +3,7 @@ ghost use Rattle.std.specs.Str.{bytes_eq};
 ghost use Rattle.bp_faults.specs.Answers.{Answers};
 ghost use Rattle.indexmap.specs.IndexMap.{get};
 ghost use Rattle.static_links.specs.Names.{number_of, missing_variant, is_library, names_checked};
-ghost use Rattle.static_links.specs.Phases.{checked};
+ghost use Rattle.bp_faults.specs.Phases.{check_each};
 ghost use Rattle.static_links.specs.Tables.{IsTable};
 
 use crate::variants::variant_label;
@@ -69,7 +69,7 @@ fn check_libraries(
     modules: &[Module],
     items: &[Item],
 ) -> Result<(), Refusal>
-    ensures { Answers (λ done. done) result (checked (is_library (get bytes_eq table.now) modules.now) items.now) }
+    ensures { Answers (λ done. done) result (check_each (is_library (get bytes_eq table.now) modules.now) items.now) }
 {
     for item in items {
         check_library(alloc, table, modules, item)?;

@@ -6,7 +6,7 @@ ghost use Rattle.pass_core.specs.Plans.{IsPlan, HasNoCycle};
 ghost use Rattle.pass_core.specs.Outcomes.{TakesPlan};
 ghost use Rattle.static_links.specs.Lines.{line_step, height_in};
 ghost use Rattle.static_links.specs.Actions.{actions_step};
-ghost use Rattle.static_links.specs.Order.{Gathers};
+ghost use Rattle.bp_faults.specs.Order.{Gathers};
 ghost use Rattle.static_links.specs.Nodes.{IsPlanned};
 ghost use Rattle.static_links.specs.Visits.{IsPassOutcome};
 

@@ -4,7 +4,7 @@ use Rattle.std.specs.declared.sync.Arc.{Arc}
 use Rattle.ninja_text.specs.declared.file.Statement.{Statement}
 use Rattle.static_links.specs.Lines.{line_step, height_in}
 use Rattle.static_links.specs.Actions.{actions_step}
-use Rattle.static_links.specs.Order.{Gathers}
+use Rattle.bp_faults.specs.Order.{Gathers}
 use Rattle.std.specs.Arc.{arc_value}
 use Rattle.std.specs.Str.{bytes_eq}
 use Rattle.indexmap.specs.IndexMap.{get}
@@ -13,7 +13,7 @@ use Rattle.static_links.specs.Names.{names_checked}
 use Rattle.static_links.specs.Limits.{edges_counted}
 use Rattle.static_links.specs.Nodes.{labels_of}
 use Rattle.static_links.specs.Built.{IsBuilt}
-use Rattle.static_links.proofs.Telling.{refused, unanswered}
+use Rattle.bp_faults.proofs.Refusals.{refused, unanswered}
 use Rattle.static_links.proofs.Phased.{named_by, checked_by, numbered_by, cycle_by, planned_by, unnamed, uncounted, cycled, unlinked, unacted, built}
 use Rattle.static_links.proofs.built.build.Goals as goal
 

@@ -5,7 +5,7 @@ use Rattle.static_links.specs.Lines.{height_in}
 use Rattle.static_links.specs.Actions.{actions_step}
 use Rattle.static_links.specs.Visits.{actions_meant}
 use Rattle.static_links.proofs.Facts.{count_is, many_lines_made, plan_free, height_is, actions_right}
-use Rattle.static_links.proofs.Telling.{tells}
+use Rattle.bp_faults.proofs.Refusals.{tells}
 use Rattle.static_links.proofs.Passes.{pass_gathers}
 use Rattle.static_links.proofs.pass.act_all.Goals as goal
 

@@ -2,7 +2,7 @@ use Rattle.std.proofs.Common.{ap, length, arith}
 use Rattle.static_links.specs.Lines.{line_step, height_in}
 use Rattle.static_links.specs.Visits.{line_meant}
 use Rattle.static_links.proofs.Facts.{count_is, many_nodes, plan_free, before_targets, height_is, line_right}
-use Rattle.static_links.proofs.Telling.{tells}
+use Rattle.bp_faults.proofs.Refusals.{tells}
 use Rattle.static_links.proofs.Passes.{pass_gathers}
 use Rattle.static_links.proofs.pass.link_lines.Goals as goal
 
