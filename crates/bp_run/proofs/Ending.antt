@@ -1,14 +1,11 @@
 -- What an end that was reported says of the call, status by status.
-use Rattle.std.proofs.Common.{◌≡◌, ◌≤◌, ◌↔◌, ◌⊎◌, ℕ, List, Option, Some, None, Result, Ok, Err, refl, subst, inl, inr}
+use Rattle.std.proofs.Common.{◌≡◌, ◌↔◌, ℕ, Option, Some, None, refl, subst, inl, inr}
 use Rattle.std.proofs.Common.{arith, lit≤}
 use Rattle.std.specs.Prelude.{IsNone, IsSomeAnd}
-use Rattle.bp_faults.specs.declared.fault.Fault.{Fault}
-use Rattle.bp_ports.specs.Files.{Files}
 use Rattle.bp_run.specs.declared.words.Configuration.{Configuration}
 use Rattle.bp_run.specs.declared.end.End.{End}
-use Rattle.bp_run.specs.Job.{JobMeans}
-use Rattle.bp_run.specs.Run.{World, Stream, Untouched, Unchanged, Quiet, DoneBy, FaultBy, ReadBy, WriteBy, Completes}
-use Rattle.bp_run.specs.Run.{Reports, RunMeans}
+use Rattle.bp_run.specs.Run.{World, Stream, Unchanged, DoneBy, FaultBy, ReadBy, WriteBy}
+use Rattle.bp_run.specs.Run.{RunMeans}
 use Rattle.bp_run.specs.End.{status_of, report_of, IsReported, Ended}
 use Rattle.bp_run.specs.Laws.{OneJob}
 use Rattle.bp_run.proofs.OneJob.{done_no_fault, fault_no_text}
@@ -26,9 +23,9 @@ no_conf o none x is = let h : IsNone (Some x) = subst IsNone is none in cc
 
 module _ (once : OneJob) (conf : Option Configuration) (old new : World) (before after : Stream) where
   -- an end that isn't usage, of a configuration that there is
-  not_usage : {P : Configuration → Type 0} (status : ℕ) → (status ≡ 2 → ⊥) → IsSomeAnd conf P
+  not_usage : (P : Configuration → Type 0) (status : ℕ) → (status ≡ 2 → ⊥) → IsSomeAnd conf P
       → (status ≡ 2) ↔ IsNone conf
-  not_usage {P} status other some = (λ two. absurd (other two), λ none. absurd (some_not_none conf P some none))
+  not_usage P status other some = (λ two. absurd (other two), λ none. absurd (some_not_none conf P some none))
 
   pub ended : (end : End) → Ended conf old new end → IsReported (report_of end) before after
       → RunMeans conf old new before after (status_of end)
@@ -36,7 +33,7 @@ module _ (once : OneJob) (conf : Option Configuration) (old new : World) (before
     known = lit≤ tt;
     done = λ e. (h, said);
     fault = λ e. absurd (omega (arith, e));
-    usage_exactly = not_usage 0 (λ e. omega (arith, e)) h;
+    usage_exactly = not_usage (DoneBy old new) 0 (λ e. omega (arith, e)) h;
     usage = λ e. absurd (omega (arith, e));
     read = λ e. absurd (omega (arith, e));
     write = λ e. absurd (omega (arith, e));
@@ -48,7 +45,7 @@ module _ (once : OneJob) (conf : Option Configuration) (old new : World) (before
     known = lit≤ tt;
     done = λ e. absurd (omega (arith, e));
     fault = λ e. (line, h, said);
-    usage_exactly = not_usage 1 (λ e. omega (arith, e)) h;
+    usage_exactly = not_usage (FaultBy old new line) 1 (λ e. omega (arith, e)) h;
     usage = λ e. absurd (omega (arith, e));
     read = λ e. absurd (omega (arith, e));
     write = λ e. absurd (omega (arith, e));
@@ -73,7 +70,7 @@ module _ (once : OneJob) (conf : Option Configuration) (old new : World) (before
     known = lit≤ tt;
     done = λ e. absurd (omega (arith, e));
     fault = λ e. absurd (omega (arith, e));
-    usage_exactly = not_usage 3 (λ e. omega (arith, e)) h;
+    usage_exactly = not_usage (ReadBy old new line) 3 (λ e. omega (arith, e)) h;
     usage = λ e. absurd (omega (arith, e));
     read = λ e. (line, h, said);
     write = λ e. absurd (omega (arith, e));
@@ -85,7 +82,7 @@ module _ (once : OneJob) (conf : Option Configuration) (old new : World) (before
     known = lit≤ tt;
     done = λ e. absurd (omega (arith, e));
     fault = λ e. absurd (omega (arith, e));
-    usage_exactly = not_usage 4 (λ e. omega (arith, e)) h;
+    usage_exactly = not_usage (WriteBy old new line) 4 (λ e. omega (arith, e)) h;
     usage = λ e. absurd (omega (arith, e));
     read = λ e. absurd (omega (arith, e));
     write = λ e. (line, h, said);
@@ -97,7 +94,7 @@ module _ (once : OneJob) (conf : Option Configuration) (old new : World) (before
     known = lit≤ tt;
     done = λ e. absurd (omega (arith, e));
     fault = λ e. absurd (omega (arith, e));
-    usage_exactly = not_usage 5 (λ e. omega (arith, e)) h;
+    usage_exactly = not_usage (λ c. Unchanged old new) 5 (λ e. omega (arith, e)) h;
     usage = λ e. absurd (omega (arith, e));
     read = λ e. absurd (omega (arith, e));
     write = λ e. absurd (omega (arith, e));

@@ -1,5 +1,5 @@
 -- The text that every written file begins with.
-use Rattle.std.proofs.Common.{◌≡◌, ◌∙◌, List, [], ◌∷◌, ◌++◌, append_assoc, refl, sym, ap}
+use Rattle.std.proofs.Common.{◌≡◌, ◌∙◌, ℕ, List, [], ◌∷◌, ◌++◌, append_assoc, refl, sym, ap}
 use Rattle.std.specs.List.{flat_map}
 use Rattle.ninja_text.specs.Text.{joined, ended, head_line, rule_lines, statement_lines, default_lines}
 use Rattle.static_links.specs.Actions.{all_path}

@@ -1,5 +1,5 @@
 -- A job has one outcome, where each phase has.
-use Rattle.std.proofs.Common.{◌≡◌, ℕ, List, subst, Option, Some, Result, Ok, Err}
+use Rattle.std.proofs.Common.{◌≡◌, ℕ, List, subst, Option, Some, Ok, Err}
 use Rattle.std.specs.Prelude.{IfSome, IsSomeAnd}
 use Rattle.std.specs.FinMap.{get}
 use Rattle.bp_faults.specs.declared.fault.Fault.{Fault}

@@ -1,6 +1,6 @@
 -- What holds of all configurations and files.
-use Rattle.std.specs.Prelude.{◌≡◌, ℕ, List, ◌++◌, Result}
-use Rattle.bp_faults.specs.declared.fault.Fault.{Fault}
+use Rattle.std.specs.Prelude.{◌≡◌, ℕ, List, ◌++◌}
+use Rattle.bp_faults.specs.Phases.{IsOnce, HasOutcome}
 use Rattle.bp_ports.specs.Files.{Files}
 use Rattle.ninja_text.specs.declared.file.Statement.{Statement}
 use Rattle.ninja_text.specs.Text.{text_of, joined}
@@ -11,8 +11,11 @@ use Rattle.bp_run.specs.Job.{JobMeans}
 
 -- A job has one outcome.
 abbrev pub OneJob : Type 0
-OneJob =
-    (c : Configuration) (files : Files) (a b : Result (List ℕ) Fault) → JobMeans c files a → JobMeans c files b → a ≡ b
+OneJob = (c : Configuration) (files : Files) → IsOnce (JobMeans c files)
+
+-- A job has an outcome: every configuration gives a text or a fault, over all files.
+abbrev pub SomeJob : Type 0
+SomeJob = (c : Configuration) (files : Files) → HasOutcome (JobMeans c files)
 
 -- Every written text begins with the literal lines of the head.
 abbrev pub HeadIsText : Type 0
