@@ -11,7 +11,7 @@ mod comment;
 mod escape;
 mod flaw;
 mod form;
-mod law;
+pub mod laws;
 mod lex;
 mod place;
 mod punct;
@@ -22,7 +22,6 @@ mod token;
 mod value;
 
 pub use bp_faults::Refusal as LexError;
-pub use law::{columns_count_characters, list_or_fault, one_fault, one_meaning, one_token_list};
 pub use lex::tokens;
 pub use span::{place_in, place_of_end};
 pub use token::{Punct, Token, TokenKind};

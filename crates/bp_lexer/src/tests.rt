@@ -49,7 +49,7 @@ fn texts_are_cut_as_the_language_says(rt: HostRuntime) -> Result<(), Fail> {
         ),
         (
             "+= + =[(",
-            "Punct(PlusEquals) 0..2 1:1; Punct(Plus) 3..4 1:4; Punct(Equals) 5..6 1:6; Punct(OpenBracket) 6..7 1:7; Punct(OpenParen) 7..8 1:8; ",
+            "Punct(PlusEqual) 0..2 1:1; Punct(Plus) 3..4 1:4; Punct(Equal) 5..6 1:6; Punct(OpenBracket) 6..7 1:7; Punct(OpenParen) 7..8 1:8; ",
         ),
         ("a1 //", "Ident 0..2 1:1; LineComment 3..5 1:4; "),
         (

@@ -8,6 +8,7 @@ use Rattle.bp_lexer.specs.declared.token.TokenKind.TheVariants.{Ident, Punct as 
 use Rattle.bp_parser.specs.declared.flaw.Flaw.{Flaw}
 use Rattle.bp_parser.specs.declared.flaw.Flaw.TheVariants.{Unexpected, TooNested, Duplicate}
 use Rattle.bp_parser.specs.Trees.{Entries, no_entry, entry_and, Definition}
+use Rattle.bp_parser.specs.Names.{names_of}
 use Rattle.bp_parser.specs.Words.{Word}
 use Rattle.bp_parser.specs.Grammar.{IsWord, IsMark, Spells, SpellsFile}
 
@@ -46,10 +47,6 @@ pub record IsTooNested (ws : List Word) (k : ℕ) : Type 0 where
 abbrev pub SpellsFirst : Entries → List Word → List Word → Type 0
 SpellsFirst no_entry ts rest = ts ≡ rest
 SpellsFirst (entry_and name at x es) ts rest = (colon next comma mid : List Word) × IsWord Ident at name ts colon × IsMark Colon colon next × Spells x next comma × IsMark Comma comma mid × SpellsFirst es mid rest
-
-abbrev pub names_of : Entries → List (List ℕ)
-names_of no_entry = []
-names_of (entry_and name at x es) = name ∷ names_of es
 
 -- A name that its map already has: behind the map's brace stand entries, each with a comma behind it, one of
 -- them with the name, and then the name.

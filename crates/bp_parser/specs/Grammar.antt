@@ -3,7 +3,7 @@
 use Rattle.std.specs.Prelude.{◌≡◌, ℕ, ◌⊎◌, ⊤, false, List, [], ◌∷◌, Some}
 use Rattle.bp_faults.specs.declared.place.Place.{Place}
 use Rattle.bp_lexer.specs.declared.token.Punct.{Punct}
-use Rattle.bp_lexer.specs.declared.token.Punct.TheVariants.{OpenBrace, CloseBrace, OpenBracket, CloseBracket, Colon, Comma, Equals, PlusEquals, Plus}
+use Rattle.bp_lexer.specs.declared.token.Punct.TheVariants.{OpenBrace, CloseBrace, OpenBracket, CloseBracket, Colon, Comma, Equal, PlusEqual, Plus}
 use Rattle.bp_lexer.specs.declared.token.TokenKind.{TokenKind}
 use Rattle.bp_lexer.specs.declared.token.TokenKind.TheVariants.{Ident, Punct as Mark}
 use Rattle.bp_parser.specs.Trees.{Tree, Leaf, Items, Body, Sum, Trees, no_tree, tree_and, Terms, no_term, term_and, Entries, no_entry, entry_and, Definition, Assigns, Extends, Declares}
@@ -72,8 +72,8 @@ IsDefName name at ts rest = IsWord Ident at name ts rest × (is_truth name ≡ f
 
 -- Def = Ident "=" Expr | Ident "+=" Expr | Ident Map
 abbrev pub SpellsDef : Definition → List Word → List Word → Type 0
-SpellsDef (Assigns name at x) ts rest = (mark next : List Word) × IsDefName name at ts mark × IsMark Equals mark next × Spells x next rest
-SpellsDef (Extends name at x) ts rest = (mark next : List Word) × IsDefName name at ts mark × IsMark PlusEquals mark next × Spells x next rest
+SpellsDef (Assigns name at x) ts rest = (mark next : List Word) × IsDefName name at ts mark × IsMark Equal mark next × Spells x next rest
+SpellsDef (Extends name at x) ts rest = (mark next : List Word) × IsDefName name at ts mark × IsMark PlusEqual mark next × Spells x next rest
 SpellsDef (Declares kind at m) ts rest = (next : List Word) × IsDefName kind at ts next × Spells (Body m.at m.entries) next rest
 
 -- File = { Def }, and nothing follows

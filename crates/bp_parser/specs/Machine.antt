@@ -3,7 +3,7 @@
 use Rattle.std.specs.Prelude.{◌≡◌, ℕ, suc, ◌+◌, ◌==◌, Bool, true, false, List, [], ◌∷◌, ◌++◌, Option, Some, None, ⊤, drop, if◌then◌else◌}
 use Rattle.std.specs.List.{list_any}
 use Rattle.std.specs.Str.{bytes_eq}
-use Rattle.bp_lexer.specs.declared.token.Punct.TheVariants.{OpenBrace, CloseBrace, OpenBracket, CloseBracket, Colon, Comma, Equals, PlusEquals, Plus}
+use Rattle.bp_lexer.specs.declared.token.Punct.TheVariants.{OpenBrace, CloseBrace, OpenBracket, CloseBracket, Colon, Comma, Equal, PlusEqual, Plus}
 use Rattle.bp_lexer.specs.declared.token.TokenKind.{TokenKind}
 use Rattle.bp_lexer.specs.declared.token.TokenKind.TheVariants.{Ident, Int, Quoted, Raw, Punct as Mark}
 use Rattle.bp_parser.specs.declared.flaw.Flaw.{Flaw}
@@ -53,8 +53,8 @@ behind (entries names) _ n = None
 behind (more_entries names) (Mark CloseBrace) n = Some []
 behind (more_entries names) (Mark Comma) n = Some (entries names ∷ [])
 behind (more_entries names) _ n = None
-behind a_value (Mark Equals) n = Some (an_expr ∷ [])
-behind a_value (Mark PlusEquals) n = Some (an_expr ∷ [])
+behind a_value (Mark Equal) n = Some (an_expr ∷ [])
+behind a_value (Mark PlusEqual) n = Some (an_expr ∷ [])
 behind a_value (Mark OpenBrace) n = Some (entries [] ∷ [])
 behind a_value _ n = None
 

@@ -10,7 +10,7 @@ mod def;
 mod expr;
 mod file;
 mod flaw;
-mod law;
+pub mod laws;
 mod names;
 mod stop;
 #[cfg(test)]
@@ -20,5 +20,4 @@ mod words;
 
 pub use bp_faults::Refusal as ParseError;
 pub use file::parse;
-pub use law::{one_fault, one_meaning, one_tree, tree_or_fault};
 pub use tree::{Def, EntryExpr, Expr, FileTree, MapExpr};
