@@ -8,7 +8,8 @@ use Rattle.std.proofs.lemmas.Slice.Eq.{bytes_eq-Decides}
 use Rattle.bp_values.proofs.Steps.{map_take_more}
 use Rattle.bp_values.specs.Values.{Field, field_of}
 use Rattle.bp_values.specs.declared.value.Entry.{Entry}
-use Rattle.bp_values.specs.Sums.{value_at, place_of, has_name}
+use Rattle.bp_values.specs.Sums.{value_at, has_name}
+use Rattle.bp_values.specs.Inside.{place_of}
 
 pub has_place : (name : List ℕ) (fs : List Field) → has_name fs name ≡ is_some (place_of name fs)
 has_place name [] = refl

@@ -7,7 +7,8 @@ use Rattle.std.proofs.lemmas.Slice.Eq.{bytes_eq-Decides}
 use Rattle.indexmap.specs.IndexMap.{IndexMap}
 use Rattle.indexmap.specs.IndexSet.{insert_key}
 use Rattle.bp_values.specs.Values.{Field}
-use Rattle.bp_values.specs.Sums.{has_name, others, not_among, IsIndex, HasMet}
+use Rattle.bp_values.specs.Sums.{has_name, others}
+use Rattle.bp_values.specs.Inside.{not_among, IsIndex, HasMet}
 use Rattle.bp_values.proofs.Index.{has_place}
 
 or_last : (b c : Bool) → (b || (c || false)) ≡ (c || b)

@@ -1,9 +1,8 @@
 -- The sum of two values, by their types.
 -- Source: Soong reference, "Android.bp file format", operators.
-use Rattle.std.specs.Prelude.{◌≡◌, ℕ, ℤ, ◌+ℤ◌, ◌^◌, ◌-◌, Bool, not, List, [], ◌∷◌, ◌++◌, length, filter, suc, option_map, codes, Option, None, Some, Result, Ok, Err, if◌then◌else◌, nat_le, int_le, ◌&&◌, pos, negsuc, is_some}
+use Rattle.std.specs.Prelude.{◌≡◌, ℕ, ℤ, ◌+ℤ◌, ◌^◌, ◌-◌, Bool, not, List, [], ◌∷◌, ◌++◌, length, filter, codes, Option, None, Some, Result, Ok, Err, if◌then◌else◌, nat_le, int_le, ◌&&◌, pos, negsuc}
 use Rattle.std.specs.Str.{bytes_eq}
 use Rattle.std.specs.List.{list_any}
-use Rattle.indexmap.specs.IndexMap.{IndexMap, get}
 use Rattle.bp_faults.specs.declared.place.Place.{Place}
 use Rattle.bp_faults.specs.declared.place.Item.{Item}
 use Rattle.bp_faults.specs.declared.fault.Fault.{Fault}
@@ -47,25 +46,9 @@ abbrev pub value_at : List ℕ → List Field → Option Meaning
 value_at name [] = None
 value_at name (f ∷ fs) = if bytes_eq name f.name then Some f.value else value_at name fs
 
--- where the first entry of that name stands
-abbrev pub place_of : List ℕ → List Field → Option ℕ
-place_of name [] = None
-place_of name (f ∷ fs) = if bytes_eq name f.name then Some 0 else option_map suc (place_of name fs)
-
--- the map gives each name's first place in the list
-pub record IsIndex {S : Type 0} (m : IndexMap (List ℕ) ℕ S) (fs : List Field) : Type 0 where
-  pub places : (name : List ℕ) → get bytes_eq m name ≡ place_of name fs
-
+-- One of the entries has the name.
 abbrev pub has_name : List Field → List ℕ → Bool
 has_name fs name = list_any (λ f. bytes_eq name f.name) fs
-
--- the keys are those names of the list that have a place
-pub record HasMet {S : Type 0} (keys : List (List ℕ)) (m : IndexMap (List ℕ) ℕ S) (fs : List Field) : Type 0 where
-  pub met : (name : List ℕ) → list_any (bytes_eq name) keys ≡ (has_name fs name && is_some (get bytes_eq m name))
-
--- the entries whose names are not among these
-abbrev pub not_among : List (List ℕ) → List Field → List Field
-not_among names fs = filter (λ f. not (list_any (bytes_eq f.name) names)) fs
 
 -- the entries whose names the others lack
 abbrev pub others : List Field → List Field → List Field

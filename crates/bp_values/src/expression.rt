@@ -3,7 +3,8 @@ ghost use Rattle.bp_parser.specs.Trees.{tree_of, map_of, entry_of, term_of, tree
 ghost use Rattle.bp_values.specs.Values.{meaning, field_of, Items};
 ghost use Rattle.bp_faults.specs.Answers.{Answers, then_do};
 ghost use Rattle.bp_values.specs.Sums.{limited, sum as sum_of};
-ghost use Rattle.bp_values.specs.Scopes.{value_in, visible};
+ghost use Rattle.bp_values.specs.Scopes.{value_in};
+ghost use Rattle.bp_values.specs.Inside.{visible};
 ghost use Rattle.bp_values.specs.Expressions.{val, val_items, val_terms, val_entries, val_map, item_of, first_place as place_of, known as known_as};
 
 use crate::depth::within_depth;

@@ -3,7 +3,8 @@ ghost use Rattle.bp_parser.specs.Trees.{tree_of, map_of, definition_of, Assigns,
 ghost use Rattle.bp_values.specs.Values.{meaning};
 ghost use Rattle.bp_faults.specs.Answers.{Answers, Refuses, Leaves};
 ghost use Rattle.bp_values.specs.Scopes.{pairs_of, value_in};
-ghost use Rattle.bp_values.specs.Files.{raw_of, known_of, assigned, extended, declared as declared_by, defined, all_defined, evaluated};
+ghost use Rattle.bp_values.specs.Inside.{known_of};
+ghost use Rattle.bp_values.specs.Meaning.{raw_of, after_assignment, after_extension, after_module, after_definition, after_definitions, evaluated};
 
 use crate::expression::{entries_of, value_of};
 use crate::marks::{mark, mark_entries};
@@ -41,7 +42,7 @@ fn assign(
     at: Place,
     value: &Expr,
 ) -> Result<(), EvalError>
-    ensures { Leaves (known_of (pairs_of inherited.now)) state.new result (assigned (known_of (pairs_of inherited.now) state.old) name.now at (tree_of value.now)) }
+    ensures { Leaves (known_of (pairs_of inherited.now)) state.new result (after_assignment (known_of (pairs_of inherited.now) state.old) name.now at (tree_of value.now) (value_in (known_of (pairs_of inherited.now) state.old).scope name.now)) }
 {
     let names = Names {
         inherited,
@@ -66,7 +67,7 @@ fn extend(
     value: &Expr,
 ) -> Result<(), EvalError>
     requires { value_in (pairs_of inherited.now) name.now ≡ None }
-    ensures { Leaves (known_of (pairs_of inherited.now)) state.new result (extended (known_of (pairs_of inherited.now) state.old) name.now at (tree_of value.now) (value_in (known_of (pairs_of inherited.now) state.old).scope name.now)) }
+    ensures { Leaves (known_of (pairs_of inherited.now)) state.new result (after_extension (known_of (pairs_of inherited.now) state.old) name.now at (tree_of value.now) (value_in (known_of (pairs_of inherited.now) state.old).scope name.now)) }
 {
     let names = Names {
         inherited,
@@ -107,7 +108,7 @@ fn declare(
     at: Place,
     body: &MapExpr,
 ) -> Result<(), EvalError>
-    ensures { Leaves (known_of (pairs_of inherited.now)) state.new result (declared_by (known_of (pairs_of inherited.now) state.old) kind.now at (map_of body.now)) }
+    ensures { Leaves (known_of (pairs_of inherited.now)) state.new result (after_module (known_of (pairs_of inherited.now) state.old) kind.now at (map_of body.now)) }
 {
     let names = Names {
         inherited,
@@ -125,7 +126,7 @@ fn declare(
 
 /// One definition.
 fn define(alloc: Global, inherited: &Scope, state: &mut State, def: &Def) -> Result<(), EvalError>
-    ensures { Leaves (known_of (pairs_of inherited.now)) state.new result (defined (pairs_of inherited.now) (known_of (pairs_of inherited.now) state.old) (definition_of def.now)) }
+    ensures { Leaves (known_of (pairs_of inherited.now)) state.new result (after_definition (pairs_of inherited.now) (known_of (pairs_of inherited.now) state.old) (definition_of def.now)) }
 {
     match def {
         Def::Assign { name, at, value } => assign(alloc, inherited, state, name, *at, value),
@@ -151,7 +152,7 @@ fn define_all(
     state: &mut State,
     defs: &[Def],
 ) -> Result<(), EvalError>
-    ensures { Leaves (known_of (pairs_of inherited.now)) state.new result (all_defined (pairs_of inherited.now) (known_of (pairs_of inherited.now) state.old) (map definition_of defs.now)) }
+    ensures { Leaves (known_of (pairs_of inherited.now)) state.new result (after_definitions (pairs_of inherited.now) (known_of (pairs_of inherited.now) state.old) (map definition_of defs.now)) }
 {
     'defs: for def in defs {
         define(alloc, inherited, state, def)?;
@@ -161,7 +162,7 @@ fn define_all(
 
 /// The modules of a file and its final scope.
 ///
-/// Where there are none, the first fault in the order of evaluation is told: *nested too deeply*,
+/// Where there are none, the first fault in the order of evaluation is reported: *nested too deeply*,
 /// *unknown variable*, *variable is already set*, *variable is inherited*, *variable was already used*,
 /// *cannot add*, *wrong type* or *too many*.
 pub fn evaluate(

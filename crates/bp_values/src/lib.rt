@@ -9,7 +9,7 @@
 mod depth;
 mod expression;
 mod file;
-mod law;
+pub mod laws;
 mod marks;
 mod scope;
 mod sums;
@@ -19,7 +19,6 @@ mod value;
 
 pub use bp_faults::Refusal as EvalError;
 pub use file::{RawModule, evaluate};
-pub use law::{inherited_stay, pairs_decide, values_or_fault};
 pub use scope::Scope;
 pub use sums::sum;
 pub use value::{Entry, Value};

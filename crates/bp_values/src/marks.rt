@@ -1,8 +1,8 @@
-ghost use Rattle.std.specs.Prelude.{◌≡◌, map, OnOk};
+ghost use Rattle.std.specs.Prelude.{◌≡◌, ◌||◌, ℕ, List, map, OnOk};
 ghost use Rattle.std.specs.Str.{bytes_eq};
-ghost use Rattle.indexmap.specs.IndexSet.{insert_key};
+ghost use Rattle.bp_values.specs.Inside.{is_noted};
 ghost use Rattle.bp_parser.specs.Trees.{tree_of, entry_of, trees_then, terms_then, entries_then, no_tree, no_term, no_entry, term_of};
-ghost use Rattle.bp_values.specs.Marks.{marks, marks_items, marks_terms, marks_entries};
+ghost use Rattle.bp_values.specs.References.{is_in, is_in_items, is_in_terms, is_in_entries};
 
 use bp_faults::{OutOfMemory, Place, Text};
 use bp_parser::{EntryExpr, Expr};
@@ -10,7 +10,7 @@ use indexmap::IndexSet;
 use std::alloc::Global;
 
 fn mark_name(used: &mut IndexSet<Text>, name: Text) -> Result<(), OutOfMemory>
-    ensures { OnOk result (used.new.keys ≡ insert_key bytes_eq used.old.keys name) }
+    ensures { OnOk result ((q : List ℕ) → is_noted used.new q ≡ (is_noted used.old q || bytes_eq q name)) }
 {
     used.insert_full(name)?;
     Ok(())
@@ -19,7 +19,7 @@ fn mark_name(used: &mut IndexSet<Text>, name: Text) -> Result<(), OutOfMemory>
 /// Marks the names that stand in an expression as referenced.
 #[cycle(marks)]
 pub fn mark(alloc: Global, used: &mut IndexSet<Text>, expr: &Expr) -> Result<(), OutOfMemory>
-    ensures { OnOk result (used.new.keys ≡ marks used.old.keys (tree_of expr.now)) }
+    ensures { OnOk result ((q : List ℕ) → is_noted used.new q ≡ (is_noted used.old q || is_in q (tree_of expr.now))) }
 {
     match expr {
         Expr::Name(_, name) => mark_name(used, name.copy(alloc)?),
@@ -35,7 +35,7 @@ pub fn mark(alloc: Global, used: &mut IndexSet<Text>, expr: &Expr) -> Result<(),
 
 #[cycle(marks)]
 fn mark_items(alloc: Global, used: &mut IndexSet<Text>, items: &[Expr]) -> Result<(), OutOfMemory>
-    ensures { OnOk result (used.new.keys ≡ marks_items used.old.keys (trees_then (map tree_of items.now) no_tree)) }
+    ensures { OnOk result ((q : List ℕ) → is_noted used.new q ≡ (is_noted used.old q || is_in_items q (trees_then (map tree_of items.now) no_tree))) }
 {
     'items: for item in items {
         mark(alloc, used, item)?;
@@ -49,7 +49,7 @@ fn mark_terms(
     used: &mut IndexSet<Text>,
     terms: &[(Place, Expr)],
 ) -> Result<(), OutOfMemory>
-    ensures { OnOk result (used.new.keys ≡ marks_terms used.old.keys (terms_then (map term_of terms.now) no_term)) }
+    ensures { OnOk result ((q : List ℕ) → is_noted used.new q ≡ (is_noted used.old q || is_in_terms q (terms_then (map term_of terms.now) no_term))) }
 {
     'terms: for (_, term) in terms {
         mark(alloc, used, term)?;
@@ -63,7 +63,7 @@ pub fn mark_entries(
     used: &mut IndexSet<Text>,
     entries: &[EntryExpr],
 ) -> Result<(), OutOfMemory>
-    ensures { OnOk result (used.new.keys ≡ marks_entries used.old.keys (entries_then (map entry_of entries.now) no_entry)) }
+    ensures { OnOk result ((q : List ℕ) → is_noted used.new q ≡ (is_noted used.old q || is_in_entries q (entries_then (map entry_of entries.now) no_entry))) }
 {
     'entries: for entry in entries {
         mark(alloc, used, &entry.value)?;

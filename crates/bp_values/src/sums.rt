@@ -5,7 +5,8 @@ ghost use Rattle.indexmap.specs.IndexMap.{get, Updates};
 ghost use Rattle.bp_values.specs.Values.{meaning, field_of, fields_then, no_field, Field, fields_of, Truth, Number, Str, Items, Body, body};
 ghost use Rattle.bp_faults.specs.Answers.{Answers};
 ghost use Rattle.bp_faults.specs.Faults.{fault_on};
-ghost use Rattle.bp_values.specs.Sums.{sum as sum_of, sum_fields, sum_number, sum_text, sum_item, sum_texts, sum_items, sum_numbers, cannot_add as cannot_be_added, word as word_of, fits, met, value_at, place_of, IsIndex, HasMet, not_among};
+ghost use Rattle.bp_values.specs.Sums.{sum as sum_of, sum_fields, sum_number, sum_text, sum_item, sum_texts, sum_items, sum_numbers, cannot_add as cannot_be_added, word as word_of, fits, met, value_at};
+ghost use Rattle.bp_values.specs.Inside.{IsIndex, HasMet, not_among};
 
 use crate::value::{copy_entry, copy_value, make_entry, map_value};
 use crate::{Entry, EvalError, Value};

@@ -2,7 +2,8 @@ use Rattle.std.proofs.Common.{rules, ◌≡◌, ◌++◌, ◌∷◌, [], map, sy
 use Rattle.std.proofs.lemmas.List.{map-append}
 use Rattle.bp_values.specs.Values.{field_of, body, fields_then, no_field, meaning}
 use Rattle.bp_values.specs.declared.value.Entry.{out-Entry}
-use Rattle.bp_values.specs.Sums.{sum, sum_fields, met, others, IsIndex, HasMet}
+use Rattle.bp_values.specs.Sums.{sum, sum_fields, met, others}
+use Rattle.bp_values.specs.Inside.{IsIndex, HasMet}
 use Rattle.bp_values.proofs.Unite.{sum_bodies, passes, each_step}
 use Rattle.bp_values.proofs.Shared.{others_of}
 use Rattle.bp_values.proofs.sums.+sums.Goals as goal

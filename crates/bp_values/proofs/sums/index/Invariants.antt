@@ -1,6 +1,6 @@
 use Rattle.std.proofs.Common.{◌≡◌, map, take}
 use Rattle.bp_values.specs.Values.{field_of}
-use Rattle.bp_values.specs.Sums.{IsIndex}
+use Rattle.bp_values.specs.Inside.{IsIndex}
 use Rattle.bp_values.proofs.sums.index.Given as goal
 
 abbrev pub invariant-loop-entry : goal.invariant-loop-entry

@@ -1,6 +1,6 @@
 use Rattle.std.proofs.Common.{◌≡◌, map, ◌++◌}
 use Rattle.bp_values.specs.Values.{field_of}
-use Rattle.bp_values.specs.Sums.{not_among}
+use Rattle.bp_values.specs.Inside.{not_among}
 use Rattle.bp_values.proofs.sums.move_others.Given as goal
 
 abbrev pub invariant-loop-entry : goal.invariant-loop-entry

@@ -1,6 +1,7 @@
 use Rattle.std.proofs.Common.{rules, ◌≡◌, ◌++◌, map, sym, ap, ◌∙◌, Ok, Err}
 use Rattle.bp_values.specs.Values.{field_of, body, fields_then, no_field, meaning}
-use Rattle.bp_values.specs.Sums.{sum_fields, others, IsIndex, HasMet}
+use Rattle.bp_values.specs.Sums.{sum_fields, others}
+use Rattle.bp_values.specs.Inside.{IsIndex, HasMet}
 use Rattle.bp_values.proofs.Unite.{sum_bodies, passes}
 use Rattle.bp_values.proofs.Shared.{others_of}
 use Rattle.bp_values.proofs.sums.unite.Goals as goal
