@@ -8,7 +8,7 @@ use Rattle.bp_lexer.specs.declared.token.TokenKind.TheVariants.{Ident, Int, Quot
 use Rattle.bp_lexer.specs.Classes.{is_letter, is_word, is_digit, in_line, in_raw}
 use Rattle.bp_lexer.specs.Strings.{is_escape, is_body}
 
--- how each punctuation mark is written
+-- How each punctuation mark is written.
 abbrev pub punct_text : Punct → List ℕ
 punct_text OpenBrace = codes "{"
 punct_text CloseBrace = codes "}"

@@ -1,6 +1,6 @@
 //! The lexer: cuts the text of a file into its tokens.
 //!
-//! In flow the text and the file's number, out flow the tokens with their places, or the first fault.
+//! It takes the text of a file and its number; it gives the tokens with their places, or the first fault.
 //! It is measured by `specs/Meaning.antt`: a token list covers the whole text but for white space,
 //! and each token is the longest form that begins at its place.
 #![tactic(auto)]

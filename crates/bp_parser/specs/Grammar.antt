@@ -11,24 +11,26 @@ use Rattle.bp_parser.specs.Words.{Word, is_truth, atom_of}
 
 -- Each of these says what ts begins with, and that rest stands behind it.
 
--- a word of a kind, at a place
+-- A word of a kind, at a place.
 abbrev pub IsWord : TokenKind → Place → List ℕ → List Word → List Word → Type 0
 IsWord kind at text ts rest = ts ≡ record { kind = kind; at = at; text = text } ∷ rest
 
--- a punctuation mark at a place, and one anywhere
+-- A punctuation mark at a place, and one anywhere.
 abbrev pub IsMarkAt : Punct → Place → List Word → List Word → Type 0
 IsMarkAt mark at ts rest = (text : List ℕ) × IsWord (Mark mark) at text ts rest
 
+-- A punctuation mark, at any place.
 abbrev pub IsMark : Punct → List Word → List Word → Type 0
 IsMark mark ts rest = (at : Place) × IsMarkAt mark at ts rest
 
--- the expression is no sum
+-- The expression is no sum.
 abbrev pub IsPrim : Tree → Type 0
 IsPrim (Leaf at atom) = ⊤
 IsPrim (Items at xs) = ⊤
 IsPrim (Body at es) = ⊤
 IsPrim (Sum x terms) = ⊥
 
+-- There is a term.
 abbrev pub HasTerm : Terms → Type 0
 HasTerm no_term = ⊥
 HasTerm (term_and at x terms) = ⊤
@@ -66,7 +68,7 @@ abbrev mutual
   SpellsMoreEntries no_entry ts rest = IsMark CloseBrace ts rest ⊎ ((next : List Word) × IsMark Comma ts next × IsMark CloseBrace next rest)
   SpellsMoreEntries (entry_and name at x es) ts rest = (first colon next mid : List Word) × IsMark Comma ts first × IsWord Ident at name first colon × IsMark Colon colon next × Spells x next mid × SpellsMoreEntries es mid rest
 
--- the identifier that begins a definition is no boolean
+-- The identifier that begins a definition is no boolean.
 abbrev pub IsDefName : List ℕ → Place → List Word → List Word → Type 0
 IsDefName name at ts rest = IsWord Ident at name ts rest × (is_truth name ≡ false)
 

@@ -1,8 +1,8 @@
 //! The parser: reads the tokens of a file as its tree.
 //!
-//! In flow the text and its tokens, comments among them; out flows the tree, or the first fault.
+//! It takes a text and its tokens, comments among them; it gives the tree, or the first fault.
 //! It is measured by `specs/Meaning.antt`: the tokens that are no comments spell the tree by the
-//! grammar, and where they spell none, the earliest of three kinds of fault is told.
+//! grammar, and where they spell none, the earliest of three kinds of fault is reported.
 #![tactic(auto)]
 
 mod atom;
@@ -11,7 +11,6 @@ mod expr;
 mod file;
 mod flaw;
 pub mod laws;
-mod names;
 mod stop;
 #[cfg(test)]
 mod tests;

@@ -10,13 +10,13 @@ use Rattle.bp_faults.specs.declared.fault.Fault.{Fault}
 use Rattle.bp_faults.specs.declared.place.Place.{Place}
 use Rattle.bp_faults.specs.declared.refusal.Refusal.{Refusal}
 use Rattle.bp_faults.specs.declared.refusal.Refusal.TheVariants.{Bad, OutOfMemory}
-use Rattle.bp_parser.specs.Trees.{Tree}
-use Rattle.bp_values.specs.Values.{Meaning, Truth}
+use Rattle.bp_parser.specs.Trees.{Tree, Map}
+use Rattle.bp_values.specs.Values.{Meaning, Truth, Field}
 use Rattle.bp_values.specs.Sums.{sum}
 use Rattle.bp_values.specs.Scopes.{Pairs, value_in}
-use Rattle.bp_values.specs.Expressions.{val}
-use Rattle.bp_values.specs.References.{is_in}
-use Rattle.bp_values.specs.Meaning.{Raw, Known, with_new, with_other, uses_with, known_with, after_assignment, after_extension}
+use Rattle.bp_values.specs.Expressions.{val, val_map}
+use Rattle.bp_values.specs.References.{is_in, is_in_entries}
+use Rattle.bp_values.specs.Meaning.{Raw, Known, with_new, with_other, uses_with, known_with, with_module, after_assignment, after_extension, after_module}
 use Rattle.bp_values.proofs.Pairs.{insert_behind, absent_first, value_behind}
 
 -- what is not there has no value
@@ -86,6 +86,15 @@ is_extended inherited own used later modules name at e old first w none has unus
       modules = modules;
     })
     by (Err fault) = refl
+
+-- a module is kept behind the others
+pub is_declared : (inherited own : Pairs) (used later : List ℕ → Bool) (modules now : List Raw) (kind : List ℕ) (at : Place) (m : Map) (fs : List Field)
+    → val_map (inherited ++ own) m.at m.entries ≡ Ok fs → ((q : List ℕ) → later q ≡ (used q || is_in_entries q m.entries))
+    → now ≡ modules ++ (record { kind = kind; at = at; entries = fs }) ∷ []
+    → after_module (known inherited own used modules) kind at m ≡ Ok (known inherited own later now)
+is_declared inherited own used later modules now kind at m fs value noted kept =
+    ap (λ r. then_do r (λ gs. Ok (with_module (known inherited own used modules) kind at m gs))) value
+    ∙ (λ i. Ok (record { scope = inherited ++ own; is_used = λ q. sym (noted q) i; modules = sym kept i }))
 
 -- a refusal of the first is the answer
 pub leaves : {Y T V : Type 0} (view : T → V) (new : T) (r : Result Unit Refusal) (e : Refusal) (meant : Result V Fault) (first : Result Y Fault) (next : Y → Result V Fault)

@@ -73,7 +73,7 @@ with_module k kind at m fs = record {
   modules = k.modules ++ (record { kind = kind; at = at; entries = fs }) ∷ [];
 }
 
--- `kind { .. }`
+-- `kind { .. }`, where the body has values.
 abbrev pub after_module : Known → List ℕ → Place → Map → Result Known Fault
 after_module k kind at m = then_do (val_map k.scope m.at m.entries) (λ fs. Ok (with_module k kind at m fs))
 

@@ -12,8 +12,8 @@ use crate::scope::{Layer, Names};
 use crate::sums::add;
 use crate::{Entry, EvalError, Scope};
 use bp_faults::{Fault, FaultKind, Place, Text};
+use bp_names::NameSet;
 use bp_parser::{Def, Expr, FileTree, MapExpr};
-use indexmap::IndexSet;
 use std::alloc::Global;
 
 /// A module as it is written, with its values.
@@ -24,23 +24,23 @@ pub struct RawModule {
     pub entries: Vec<Entry>,
 }
 
-/// What a file has after some definitions, beside what it inherits: the names that it set, those that
-/// it referenced, and its modules.
+/// What a file has after some definitions, beside what it inherits: the names that it set, those to
+/// which it referred, and its modules.
 #[derive(Drop)]
-pub struct State {
+pub struct State<'a> {
     own: Layer,
-    used: IndexSet<Text>,
+    used: NameSet<'a>,
     modules: Vec<RawModule>,
 }
 
 /// `name = value`
-fn assign(
+fn assign<'a>(
     alloc: Global,
     inherited: &Scope,
-    state: &mut State,
+    state: &mut State<'a>,
     name: &Text,
     at: Place,
-    value: &Expr,
+    value: &'a Expr,
 ) -> Result<(), EvalError>
     ensures { Leaves (known_of (pairs_of inherited.now)) state.new result (after_assignment (known_of (pairs_of inherited.now) state.old) name.now at (tree_of value.now) (value_in (known_of (pairs_of inherited.now) state.old).scope name.now)) }
 {
@@ -52,19 +52,19 @@ fn assign(
         return Err(EvalError::Bad(Fault::on(alloc, FaultKind::VariableSet, at, name.copy(alloc)?)));
     }
     let new = value_of(alloc, &names, value)?;
-    mark(alloc, &mut state.used, value)?;
+    mark(&mut state.used, value)?;
     state.own.put(name.copy(alloc)?, new)?;
     Ok(())
 }
 
 /// `name += value`, where the name isn't inherited.
-fn extend(
+fn extend<'a>(
     alloc: Global,
     inherited: &Scope,
-    state: &mut State,
+    state: &mut State<'a>,
     name: &Text,
     at: Place,
-    value: &Expr,
+    value: &'a Expr,
 ) -> Result<(), EvalError>
     requires { value_in (pairs_of inherited.now) name.now ≡ None }
     ensures { Leaves (known_of (pairs_of inherited.now)) state.new result (after_extension (known_of (pairs_of inherited.now) state.old) name.now at (tree_of value.now) (value_in (known_of (pairs_of inherited.now) state.old).scope name.now)) }
@@ -75,7 +75,7 @@ fn extend(
     };
     match names.get(name) {
         Some(_) => {
-            if state.used.contains(name) {
+            if state.used.knows(name.as_str()) {
                 return Err(EvalError::Bad(Fault::on(
                     alloc,
                     FaultKind::AfterUse,
@@ -84,7 +84,7 @@ fn extend(
                 )));
             }
             let other = value_of(alloc, &names, value)?;
-            mark(alloc, &mut state.used, value)?;
+            mark(&mut state.used, value)?;
             let old = state.own.take(name.copy(alloc)?)?;
             let new = add(alloc, old, other, at)?;
             state.own.put(name.copy(alloc)?, new)?;
@@ -100,13 +100,13 @@ fn extend(
 }
 
 /// `kind { .. }`
-fn declare(
+fn declare<'a>(
     alloc: Global,
     inherited: &Scope,
-    state: &mut State,
+    state: &mut State<'a>,
     kind: &Text,
     at: Place,
-    body: &MapExpr,
+    body: &'a MapExpr,
 ) -> Result<(), EvalError>
     ensures { Leaves (known_of (pairs_of inherited.now)) state.new result (after_module (known_of (pairs_of inherited.now) state.old) kind.now at (map_of body.now)) }
 {
@@ -115,7 +115,7 @@ fn declare(
         own: &state.own,
     };
     let entries = entries_of(alloc, &names, body)?;
-    mark_entries(alloc, &mut state.used, body.entries.as_slice())?;
+    mark_entries(&mut state.used, body.entries.as_slice())?;
     state.modules.push(RawModule {
         kind: kind.copy(alloc)?,
         at,
@@ -125,7 +125,12 @@ fn declare(
 }
 
 /// One definition.
-fn define(alloc: Global, inherited: &Scope, state: &mut State, def: &Def) -> Result<(), EvalError>
+fn define<'a>(
+    alloc: Global,
+    inherited: &Scope,
+    state: &mut State<'a>,
+    def: &'a Def,
+) -> Result<(), EvalError>
     ensures { Leaves (known_of (pairs_of inherited.now)) state.new result (after_definition (pairs_of inherited.now) (known_of (pairs_of inherited.now) state.old) (definition_of def.now)) }
 {
     match def {
@@ -146,11 +151,11 @@ fn define(alloc: Global, inherited: &Scope, state: &mut State, def: &Def) -> Res
 }
 
 /// The definitions in turn.
-fn define_all(
+fn define_all<'a>(
     alloc: Global,
     inherited: &Scope,
-    state: &mut State,
-    defs: &[Def],
+    state: &mut State<'a>,
+    defs: &'a [Def],
 ) -> Result<(), EvalError>
     ensures { Leaves (known_of (pairs_of inherited.now)) state.new result (after_definitions (pairs_of inherited.now) (known_of (pairs_of inherited.now) state.old) (map definition_of defs.now)) }
 {
@@ -174,7 +179,7 @@ pub fn evaluate(
 {
     let mut state = State {
         own: Layer::new(alloc),
-        used: IndexSet::new(alloc),
+        used: NameSet::new(alloc),
         modules: Vec::new(alloc),
     };
     define_all(alloc, inherited, &mut state, tree.defs.as_slice())?;

@@ -1,8 +1,8 @@
 //! The values: what the expressions of a file are worth, and what its definitions give.
 //!
-//! In flow the tree of a file and the scope that it inherits; out flow its modules with their values
+//! It takes the tree of a file and the scope that it inherits; it gives its modules with their values
 //! and the scope that the directories below inherit, or the first fault in the order of evaluation.
-//! It is measured by `specs/Files.antt`: what a file means is a function of its definitions and of
+//! It is measured by `specs/Meaning.antt`: what a file means is a function of its definitions and of
 //! the pairs of the inherited scope.
 #![tactic(auto)]
 

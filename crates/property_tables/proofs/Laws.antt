@@ -5,7 +5,7 @@ use Rattle.std.specs.Str.{bytes_eq}
 use Rattle.bp_faults.specs.declared.fault.Fault.{Fault}
 use Rattle.bp_faults.specs.Answers.{then_do}
 use Rattle.bp_props.specs.declared.kind.ModuleKind.{ModuleKind}
-use Rattle.bp_values.specs.Files.{Raw}
+use Rattle.bp_values.specs.Meaning.{Raw}
 use Rattle.property_tables.specs.Typing.{typed_by, is_dropped, name_in, types}
 use Rattle.std.proofs.lemmas.Slice.Eq.{bytes_eq-Decides}
 use Rattle.std.specs.Prelude.{codes}

@@ -10,7 +10,7 @@ use Rattle.bp_props.specs.declared.kind.ModuleKind.{ModuleKind}
 use Rattle.bp_props.specs.Kinds.{has_field}
 use Rattle.bp_props.specs.Records.{props_empty}
 use Rattle.bp_values.specs.Values.{fields_then, no_field}
-use Rattle.bp_values.specs.Files.{Raw}
+use Rattle.bp_values.specs.Meaning.{Raw}
 use Rattle.property_tables.specs.Tables.{properties}
 use Rattle.property_tables.specs.Paths.{components, placed}
 use Rattle.property_tables.specs.Typing.{each_entry, module_entry, is_dropped, types, typed}

@@ -23,7 +23,7 @@ use Rattle.bp_props.specs.Group.{group_empty}
 use Rattle.bp_props.specs.Groups.{groups_with}
 use Rattle.bp_props.specs.Records.{props_empty}
 use Rattle.bp_values.specs.Values.{Fields, no_field, field_and, fields_then, Field as Entry}
-use Rattle.bp_values.specs.Files.{Raw}
+use Rattle.bp_values.specs.Meaning.{Raw}
 use Rattle.property_tables.specs.declared.row.PropKind.{PropKind}
 use Rattle.property_tables.specs.declared.row.PropKind.TheVariants as K
 use Rattle.property_tables.specs.declared.fit.Fit.{Fit}

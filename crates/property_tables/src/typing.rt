@@ -1,7 +1,7 @@
 ghost use Rattle.std.specs.Prelude.{◌≡◌, IfOk};
 ghost use Rattle.bp_faults.specs.Faults.{fault_on as fault_on_as};
 ghost use Rattle.bp_faults.specs.Answers.{Answers};
-ghost use Rattle.bp_values.specs.Files.{raw_of};
+ghost use Rattle.bp_values.specs.Meaning.{raw_of};
 ghost use Rattle.property_tables.specs.Typing.{name_in, module_typed, typed as typed_as};
 
 use crate::LoadError;
