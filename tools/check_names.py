@@ -16,6 +16,7 @@ the repository, by default the one in which this script is. The rules:
     means       a relation Is.., Are.. or Has.. to an outcome whose name doesn't end in Means
     laws        laws stand in src/law.rt, or in a module that isn't public
     readme      a crate has no README.md
+    cites       a file cites the proofs/ of another crate, other than Lists.antt of bp_faults
     number      a paper, a demand or an issue is cited by its number
     path        a document names a file of crates/, docs/, tools/ or examples/ that isn't there, or in a table of its own
                 columns a word that the file beside it doesn't define
@@ -29,7 +30,7 @@ import sys
 
 HERE = os.path.dirname(os.path.dirname(os.path.abspath(__file__)))
 WIDEST = 120
-RULES = ["width", "comment", "meanings", "bool", "participle", "means", "laws", "readme", "number", "path"]
+RULES = ["width", "comment", "meanings", "bool", "participle", "means", "laws", "readme", "cites", "number", "path"]
 PRIVATE = "No public contract speaks of it"
 WORD = "(?:abbrev|unfoldable|pub|data|record)"
 HEAD = re.compile(rf"( *)({WORD}(?: {WORD})*) ([^\s:]+)(.*)")
@@ -174,6 +175,17 @@ def check_code(paths, tell):
                 tell(path, number, "laws", "the module of laws isn't public")
 
 
+def check_citations(paths, tell):
+    """No crate cites the lemmas of another, but for those on lists that all share."""
+    for path in paths:
+        if path.endswith((".rt", ".antt")):
+            for number, line in enumerate(lines_of(path), 1):
+                for crate, file in re.findall(r"\bRattle\.(\w+)\.proofs\.(\w+)", line):
+                    shared = (crate, file) == ("bp_faults", "Lists")
+                    if crate != crate_of(path) and not shared and os.path.isdir(f"crates/{crate}"):
+                        tell(path, number, "cites", f"{crate}.proofs.{file}")
+
+
 def check_crates(paths, tell):
     """Each crate that crates.txt lists has a README.md."""
     for number, line in enumerate(lines_of("crates.txt"), 1):
@@ -238,6 +250,7 @@ def main():
     check_texts(paths, options.proofs, tell)
     check_links(paths, tell)
     check_code(paths, tell)
+    check_citations(paths, tell)
     check_crates(set(paths), tell)
     check_definitions(found, tell)
     check_meanings(found, private, tell)
