@@ -16,7 +16,7 @@ the repository, by default the one in which this script is. The rules:
     means       a relation Is.., Are.. or Has.. to an outcome whose name doesn't end in Means
     laws        laws stand in src/law.rt, or in a module that isn't public
     readme      a crate has no README.md
-    cites       a file cites the proofs/ of another crate, other than Lists.antt of bp_faults
+    cites       a file cites the proofs/ of another crate, other than the shared files of bp_faults
     number      a paper, a demand or an issue is cited by its number
     path        a document names a file of crates/, docs/, tools/ or examples/ that isn't there, or in a table of its own
                 columns a word that the file beside it doesn't define
@@ -37,6 +37,8 @@ HEAD = re.compile(rf"( *)({WORD}(?: {WORD})*) ([^\s:]+)(.*)")
 # Participles that don't end in -ed.
 IRREGULAR = set("bound built cut drawn found given held kept known left made met put read seen sent set shown sought "
                 "spelt taken told within written".split())
+# The files of lemmas in bp_faults that every crate may cite.
+SHARED = {"Lists", "Phases", "Gathered", "Refusals"}
 # Words that end in -ed and are nouns.
 NOUNS = set("bed feed head need seed speed thread".split())
 NUMBERED = re.compile(r"\b(?:[Dd]ocument|[Pp]aper|[Ii]ssue|[Rr]equest|[Rr]ow) #?\d+\b|\bissues show\b|"
@@ -176,12 +178,12 @@ def check_code(paths, tell):
 
 
 def check_citations(paths, tell):
-    """No crate cites the lemmas of another, but for those on lists that all share."""
+    """No crate cites the lemmas of another, but for those that all share."""
     for path in paths:
         if path.endswith((".rt", ".antt")):
             for number, line in enumerate(lines_of(path), 1):
                 for crate, file in re.findall(r"\bRattle\.(\w+)\.proofs\.(\w+)", line):
-                    shared = (crate, file) == ("bp_faults", "Lists")
+                    shared = crate == "bp_faults" and file in SHARED
                     if crate != crate_of(path) and not shared and os.path.isdir(f"crates/{crate}"):
                         tell(path, number, "cites", f"{crate}.proofs.{file}")
 
