@@ -10,7 +10,7 @@ the repository, by default the one in which this script is. The rules:
     width       a line of more than 120 columns in a .rt, .antt or .md file; imports, and tables and quoted blocks of
                 .md, may be wider, and files of proofs/ are looked at with --proofs alone
     comment     a definition in specs/ has no comment of its own, or one that isn't a sentence with a full stop
-    meanings    one name is defined in specs/ of two crates, in files of which public contracts speak
+    meanings    one name is defined in specs/ of two crates, in files of which public contracts speak; laws aside
     bool        a name that begins with is_ or has_ is no Bool in specs/, or no bool in the code
     participle  a function's name in specs/ is a bare participle
     means       a relation Is.., Are.. or Has.. to an outcome whose name doesn't end in Means
@@ -209,7 +209,7 @@ def check_definitions(found, tell):
         if re.match(r"[a-z]", one.name) and is_participle(one.name):
             tell(one.path, one.line, "participle", one.name)
         outcome = one.arguments[-2] if len(one.arguments) > 1 else ""
-        of_an_outcome = re.match(r"\(?(?:Result|Outcome)\b|\(\w+ : Result\b", outcome)
+        of_an_outcome = "→" not in outcome and re.match(r"\(?(?:Result|Outcome)\b|\(\w+ : Result\b", outcome)
         if re.match(r"(?:Is|Are|Has)[A-Z]", one.name) and of_an_outcome:
             tell(one.path, one.line, "means", one.name)
 
@@ -247,7 +247,7 @@ def main():
         if re.fullmatch(r"crates/\w+/specs/.*\.antt", path):
             lines = lines_of(path)
             found += definitions_of(crate_of(path), path, lines)
-            if "/specs/Inside" in path or (lines and PRIVATE in lines[0]):
+            if re.search(r"/specs/(Inside|Laws)", path) or (lines and PRIVATE in lines[0]):
                 private.add(path)
     check_texts(paths, options.proofs, tell)
     check_links(paths, tell)
