@@ -6,21 +6,14 @@ use Rattle.std.proofs.lemmas.List.Folds.{list_any_more, Any-from_list_any}
 use Rattle.std.proofs.lemmas.Map.Keys.{IsDistinct-push, IsDistinct-from_apart}
 use Rattle.std.proofs.lemmas.Map.Made.{AllPairs-from_IsDistinct}
 use Rattle.std.proofs.lemmas.Slice.Eq.{bytes_eq-Decides}
-use Rattle.std.specs.HashSet.{HashSet, contains}
 use Rattle.std.specs.List.{list_any, IsDistinct}
 use Rattle.std.specs.Str.{bytes_eq}
-use Rattle.ninja_file.specs.Inside.{IsSetOf}
+use Rattle.bp_names.specs.Meaning.{knows, Learns, IsSetOf}
 use Rattle.ninja_file.specs.Meaning.{AllDiffer}
 
--- where a text stands in memory doesn't matter
+-- where a text is in memory doesn't matter
 abbrev pub none : Bor (List ℕ)
 none = record { ref_ptr = (0, 0); now = [] }
-
-abbrev at_bytes : List ℕ → Bor (List ℕ)
-at_bytes q = record { ref_ptr = (0, 0); now = q }
-
-abbrev pub same : Bor (List ℕ) → Bor (List ℕ) → Bool
-same x y = bytes_eq x.now y.now
 
 either : (old new : Bool) → cond new true old ≡ (old || new)
 either true true = refl
@@ -29,19 +22,19 @@ either false true = refl
 either false false = refl
 
 -- one more text
-pub IsSetOf-more : {S : Type 0} (xs : List (Bor (List ℕ))) (i : ℕ) (s n : HashSet (Bor (List ℕ)) S) → i < length xs → ((q : Bor (List ℕ)) → contains same n q ≡ cond (same (get_or xs i none) q) true (contains same s q)) → IsSetOf (take i (map (λ t. t.now) xs)) s → IsSetOf (take (i + 1) (map (λ t. t.now) xs)) n
+pub IsSetOf-more : (xs : List (Bor (List ℕ))) (i : ℕ) (s n : List (List ℕ)) → i < length xs → Learns s (get_or xs i none).now n → IsSetOf (take i (map (λ t. t.now) xs)) s → IsSetOf (take (i + 1) (map (λ t. t.now) xs)) n
 IsSetOf-more xs i s n h updates set = λ q.
     let ys = map (λ t. t.now) xs in
     let here : get_or ys i [] ≡ (get_or xs i none).now = get_or-map (λ t. t.now) xs i none [] h in
     let more : list_any (bytes_eq q) (take (i + 1) ys) ≡ (list_any (bytes_eq q) (take i ys) || bytes_eq q (get_or ys i [])) = list_any_more (bytes_eq q) ys i [] (simp length-map h) in
-    updates (at_bytes q) ∙ ap (λ b. cond b true (contains same s (at_bytes q))) (nat_list_eq_equiv.symm (get_or xs i none).now q ∙ ap (bytes_eq q) (sym here)) ∙ ap (cond (bytes_eq q (get_or ys i [])) true) (set q) ∙ either (list_any (bytes_eq q) (take i ys)) (bytes_eq q (get_or ys i [])) ∙ sym more
+    updates q ∙ ap (λ b. cond b true (knows s q)) (nat_list_eq_equiv.symm (get_or xs i none).now q ∙ ap (bytes_eq q) (sym here)) ∙ ap (cond (bytes_eq q (get_or ys i [])) true) (set q) ∙ either (list_any (bytes_eq q) (take i ys)) (bytes_eq q (get_or ys i [])) ∙ sym more
 
-pub turned : (a b : Bool) → b ≡ not a → a ≡ not b
+turned : (a b : Bool) → b ≡ not a → a ≡ not b
 turned true b e = sym (ap not e)
 turned false b e = sym (ap not e)
 
--- what `insert` answers of the next text says whether it stands before
-pub list_any-added : {S : Type 0} (xs : List (Bor (List ℕ))) (i : ℕ) (s : HashSet (Bor (List ℕ)) S) (added : Bool) → i < length xs → added ≡ not (contains same s (get_or xs i none)) → IsSetOf (take i (map (λ t. t.now) xs)) s → list_any (bytes_eq (get_or (map (λ t. t.now) xs) i [])) (take i (map (λ t. t.now) xs)) ≡ not added
+-- what a set answers of the next text says whether it stands before
+pub list_any-added : (xs : List (Bor (List ℕ))) (i : ℕ) (s : List (List ℕ)) (added : Bool) → i < length xs → added ≡ not (knows s (get_or xs i none).now) → IsSetOf (take i (map (λ t. t.now) xs)) s → list_any (bytes_eq (get_or (map (λ t. t.now) xs) i [])) (take i (map (λ t. t.now) xs)) ≡ not added
 list_any-added xs i s added h e set =
     let here : get_or (map (λ t. t.now) xs) i [] ≡ (get_or xs i none).now = get_or-map (λ t. t.now) xs i none [] h in
     rw here (sym (set (get_or xs i none).now) ∙ turned _ added e)

@@ -7,23 +7,22 @@ use Rattle.std.proofs.lemmas.List.Sums.{AllPass-from_list_all, list_all-from_All
 use Rattle.std.proofs.lemmas.Map.Views.{Contains-from_any, list_any-from_Contains}
 use Rattle.std.proofs.lemmas.Slice.Eq.{bytes_eq-Decides}
 use Rattle.std.specs.Bool.{IsTrue}
-use Rattle.std.specs.HashSet.{HashSet, contains_by}
 use Rattle.std.specs.List.{All, list_all, Contains}
 use Rattle.std.specs.Map.{keys_of}
 use Rattle.std.specs.Str.{bytes_eq}
 use Rattle.ninja_file.specs.declared.file.NinjaRule.{NinjaRule}
 use Rattle.ninja_file.specs.declared.file.Statement.{Statement}
-use Rattle.ninja_file.specs.Inside.{IsSetOf}
+use Rattle.bp_names.specs.Meaning.{knows, IsSetOf}
 use Rattle.ninja_file.specs.Inside.{HasRuleParts, HasStatementParts}
 use Rattle.std.proofs.lemmas.Bool.{and_parts, and_from}
 use Rattle.ninja_file.specs.Names.{is_nil, is_name, is_path, is_value, is_rule_key}
 use Rattle.ninja_file.specs.Meaning.{is_rule_value, AllDiffer, IsRule, IsStatement}
 
 -- what a set says of a text
-pub contained : {S : Type 0} (texts : List (List ℕ)) (set : HashSet (Bor (List ℕ)) S) (q : List ℕ) → IsSetOf texts set → IsTrue (contains_by (λ k. bytes_eq q k.now) set) ↔ Contains texts q
+pub contained : (texts set : List (List ℕ)) (q : List ℕ) → IsSetOf texts set → IsTrue (knows set q) ↔ Contains texts q
 contained texts set q is = (λ h. Contains-from_any (λ x y. (bytes_eq-Decides x y).0) q texts (sym (is q) ∙ h), λ h. is q ∙ list_any-from_Contains nat_list_eq_equiv q texts h)
 
-pub rule_by_parts : {S : Type 0} (rule : NinjaRule) (keys : List (Bor (List ℕ))) (set : HashSet (Bor (List ℕ)) S) → map (λ k. k.now) keys ≡ keys_of rule.bindings → AllDiffer (map (λ k. k.now) keys) → IsSetOf (map (λ k. k.now) keys) set → HasRuleParts rule keys set ↔ IsRule rule
+pub rule_by_parts : (rule : NinjaRule) (keys : List (Bor (List ℕ))) (set : List (List ℕ)) → map (λ k. k.now) keys ≡ keys_of rule.bindings → AllDiffer (map (λ k. k.now) keys) → IsSetOf (map (λ k. k.now) keys) set → HasRuleParts rule keys set ↔ IsRule rule
 rule_by_parts rule keys set e differ is =
     let command = contained (map (λ k. k.now) keys) set (codes "command") is in (
       λ p. record {
@@ -56,7 +55,7 @@ all_first xs ys h = (and_parts (list_all is_path xs) (list_all is_path ys) (sym 
 all_second : (xs ys : List (List ℕ)) → IsTrue (list_all is_path (xs ++ ys)) → IsTrue (list_all is_path ys)
 all_second xs ys h = (and_parts (list_all is_path xs) (list_all is_path ys) (sym (list_all-append is_path xs ys) ∙ h)).1
 
-pub statement_by_parts : {S : Type 0} (s : Statement) (texts : List (List ℕ)) (names : HashSet (Bor (List ℕ)) S) (keys : List (Bor (List ℕ))) → IsSetOf texts names → map (λ k. k.now) keys ≡ keys_of s.vars → AllDiffer (map (λ k. k.now) keys) → HasStatementParts s names keys ↔ IsStatement texts s
+pub statement_by_parts : (s : Statement) (texts names : List (List ℕ)) (keys : List (Bor (List ℕ))) → IsSetOf texts names → map (λ k. k.now) keys ≡ keys_of s.vars → AllDiffer (map (λ k. k.now) keys) → HasStatementParts s names keys ↔ IsStatement texts s
 statement_by_parts s texts names keys is e differ = (
   λ p. record {
     makes = (some s.outs).0 p.makes;
@@ -78,8 +77,8 @@ statement_by_parts s texts names keys is e differ = (
   },
 )
 
-pub defaults_listed : {S : Type 0} (outs : List (List ℕ)) (set : HashSet (Bor (List ℕ)) S) (defaults : List (List ℕ)) → IsSetOf outs set → IsTrue (list_all (λ text. contains_by (λ k. bytes_eq text k.now) set) defaults) ↔ All (Contains outs) defaults
+pub defaults_listed : (outs set defaults : List (List ℕ)) → IsSetOf outs set → IsTrue (list_all (λ text. knows set text) defaults) ↔ All (Contains outs) defaults
 defaults_listed outs set defaults is = (
-  λ h k d inside. (contained outs set (get_or defaults k d) is).0 (AllPass-from_list_all (λ text. contains_by (λ k. bytes_eq text k.now) set) defaults h k d inside),
-  λ all. list_all-from_AllPass (λ text. contains_by (λ k. bytes_eq text k.now) set) defaults (λ k d inside. (contained outs set (get_or defaults k d) is).1 (all k d inside)),
+  λ h k d inside. (contained outs set (get_or defaults k d) is).0 (AllPass-from_list_all (λ text. knows set text) defaults h k d inside),
+  λ all. list_all-from_AllPass (λ text. knows set text) defaults (λ k d inside. (contained outs set (get_or defaults k d) is).1 (all k d inside)),
 )

@@ -1,11 +1,11 @@
 ghost use Rattle.std.specs.Prelude.{◌≡◌, ◌↔◌, ◌++◌, map, IfOk, OnOk, IsSome, IfSome};
 ghost use Rattle.std.specs.Map.{keys_of};
-ghost use Rattle.ninja_file.specs.Inside.{IsSetOf};
+ghost use Rattle.bp_names.specs.Meaning.{IsSetOf};
 ghost use Rattle.ninja_file.specs.Meaning.{AllDiffer};
 
 use bp_faults::{OutOfMemory, Text};
+use bp_names::NameSet;
 use std::alloc::Global;
-use std::collections::HashSet;
 
 /// Adds texts to a list.
 pub fn add_texts<'a>(list: &mut Vec<&'a str>, texts: &'a [Text]) -> Result<(), OutOfMemory>
@@ -29,13 +29,13 @@ pub fn keys<'a, V>(alloc: Global, pairs: &'a [(Text, V)]) -> Result<Vec<&'a str>
 }
 
 /// The texts of a list as a set, where any two of them differ.
-pub fn set_of<'a>(alloc: Global, texts: &[&'a str]) -> Result<Option<HashSet<&'a str>>, OutOfMemory>
+pub fn set_of<'a>(alloc: Global, texts: &[&'a str]) -> Result<Option<NameSet<'a>>, OutOfMemory>
     ensures differ { IfOk result (λ set. IsSome set ↔ AllDiffer (map (λ t. t.now) texts.now)) }
     ensures texts { IfOk result (λ set. IfSome set (IsSetOf (map (λ t. t.now) texts.now))) }
 {
-    let mut set = HashSet::new(alloc);
+    let mut set = NameSet::new(alloc);
     for text in texts {
-        if !set.insert(*text)? {
+        if !set.learn(text)? {
             return Ok(None);
         }
     }

@@ -1,9 +1,8 @@
 ghost use Rattle.std.specs.Prelude.{◌≡◌, ◌∷◌, ℕ, List, map, codes, IfOk, IsTrue, ◌↔◌, Contains};
-ghost use Rattle.std.specs.HashSet.{contains_by};
 ghost use Rattle.std.specs.List.{All, list_all, flat_map};
 ghost use Rattle.std.specs.Map.{keys_of, values_of};
 ghost use Rattle.std.specs.Str.{bytes_eq};
-ghost use Rattle.ninja_file.specs.Inside.{IsSetOf};
+ghost use Rattle.bp_names.specs.Meaning.{knows, IsSetOf};
 ghost use Rattle.ninja_file.specs.Inside.{HasRuleParts, HasStatementParts};
 ghost use Rattle.ninja_file.specs.Names.{is_name, is_value, is_path, is_rule_key};
 ghost use Rattle.ninja_file.specs.Meaning.{is_literal, is_piece, are_apart, is_rule_value, IsRule, IsStatement, IsWellFormed, outs_of};
@@ -12,8 +11,8 @@ use crate::names::{is_name, is_path, is_rule_key, is_value};
 use crate::listing::{add_texts, keys, set_of};
 use crate::{NinjaFile, NinjaRule, Piece, Statement};
 use bp_faults::{OutOfMemory, Seq, Text};
+use bp_names::NameSet;
 use std::alloc::Global;
-use std::collections::HashSet;
 
 fn is_literal(piece: &Piece) -> bool
     ensures { result ≡ is_literal piece.now }
@@ -91,13 +90,13 @@ fn are_names(keys: &[&str]) -> bool
 }
 
 // Whether a rule has the parts of one, where its keys differ.
-fn has_rule_parts(rule: &NinjaRule, keys: &[&str], key_set: &HashSet<&str>) -> bool
+fn has_rule_parts(rule: &NinjaRule, keys: &[&str], key_set: &NameSet<'_>) -> bool
     ensures { IsTrue result ↔ HasRuleParts rule.now keys.now key_set.now }
 {
     is_name(rule.name.as_str())
         && rule.name.as_str() != "phony"
         && are_rule_keys(keys)
-        && key_set.contains("command")
+        && key_set.knows("command")
         && are_rule_values(rule.bindings.as_slice())
 }
 
@@ -113,7 +112,7 @@ fn is_rule(alloc: Global, rule: &NinjaRule) -> Result<bool, OutOfMemory>
 }
 
 // Whether a statement has the parts of one, where its keys differ.
-fn has_statement_parts(statement: &Statement, names: &HashSet<&str>, keys: &[&str]) -> bool
+fn has_statement_parts(statement: &Statement, names: &NameSet<'_>, keys: &[&str]) -> bool
     ensures { IsTrue result ↔ HasStatementParts statement.now names.now keys.now }
 {
     let rule = statement.rule.as_str();
@@ -122,14 +121,14 @@ fn has_statement_parts(statement: &Statement, names: &HashSet<&str>, keys: &[&st
         && are_paths(statement.ins.as_slice())
         && are_paths(statement.implicit.as_slice())
         && are_paths(statement.order_only.as_slice())
-        && (rule == "phony" || names.contains(rule))
+        && (rule == "phony" || names.knows(rule))
         && are_names(keys)
         && are_values(statement.vars.as_slice())
 }
 
 fn is_statement(
     alloc: Global,
-    names: &HashSet<&str>,
+    names: &NameSet<'_>,
     statement: &Statement,
 ) -> Result<bool, OutOfMemory>
     ensures { (texts : List (List ℕ)) → IsSetOf texts names.now → IfOk result (λ good. IsTrue good ↔ IsStatement texts statement.now) }
@@ -155,7 +154,7 @@ fn are_rules(alloc: Global, rules: &[NinjaRule]) -> Result<bool, OutOfMemory>
 
 fn are_statements(
     alloc: Global,
-    names: &HashSet<&str>,
+    names: &NameSet<'_>,
     statements: &[Statement],
 ) -> Result<bool, OutOfMemory>
     ensures { (texts : List (List ℕ)) → IsSetOf texts names.now → IfOk result (λ good. IsTrue good ↔ All (IsStatement texts) statements.now) }
@@ -168,10 +167,10 @@ fn are_statements(
     Ok(true)
 }
 
-fn are_listed(set: &HashSet<&str>, texts: &[Text]) -> bool
-    ensures { result ≡ list_all (λ text. contains_by (λ listed. bytes_eq text listed.now) set.now) texts.now }
+fn are_listed(set: &NameSet<'_>, texts: &[Text]) -> bool
+    ensures { result ≡ list_all (λ text. knows set.now text) texts.now }
 {
-    texts.iter().all(|text| set.contains(text.as_str()))
+    texts.iter().all(|text| set.knows(text.as_str()))
 }
 
 fn rule_names<'a>(alloc: Global, rules: &'a [NinjaRule]) -> Result<Vec<&'a str>, OutOfMemory>

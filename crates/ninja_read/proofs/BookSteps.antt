@@ -4,11 +4,10 @@ use Rattle.std.proofs.lemmas.List.{map-append}
 use Rattle.std.proofs.lemmas.List.Folds.{list_any-append}
 use Rattle.std.proofs.lemmas.Option.{same_Some}
 use Rattle.std.proofs.lemmas.Cmp.{nat_list_eq_equiv}
-use Rattle.std.specs.HashSet.{HashSet, contains}
 use Rattle.std.specs.List.{list_any}
 use Rattle.std.specs.Map.{keys_of}
 use Rattle.std.specs.Str.{bytes_eq}
-use Rattle.ninja_read.specs.Inside.{IsSetOf}
+use Rattle.bp_names.specs.Meaning.{knows, Learns, IsSetOf}
 use Rattle.ninja_read.specs.Inside.{shown_book, open_keys, IsLearnt, Takes, Binds}
 use Rattle.ninja_read.specs.Book.{Book, has, bind, names_of, open_rule, rules_of, opened, with_rule, with_statement, with_binding}
 use Rattle.ninja_read.specs.Heads.{binding_of}
@@ -20,7 +19,6 @@ use Rattle.ninja_read.specs.declared.book.Open.TheVariants.{Nothing, Rule, Build
 use Rattle.ninja_file.specs.declared.file.Piece.{Piece}
 use Rattle.ninja_file.specs.declared.file.NinjaRule.{NinjaRule}
 use Rattle.ninja_file.specs.declared.file.Statement.{Statement}
-use Rattle.ninja_read.proofs.TextSets.{same}
 
 one_or : (a b : Bool) → cond b true a ≡ (a || (b || false))
 one_or true true = refl
@@ -29,13 +27,13 @@ one_or false true = refl
 one_or false false = refl
 
 -- one more text in a set
-pub set_more : {S : Type 0} (texts : List (List ℕ)) (s n : HashSet (Bor (List ℕ)) S) (x : Bor (List ℕ)) → IsSetOf texts s → ((q : Bor (List ℕ)) → contains same n q ≡ cond (same x q) true (contains same s q)) → IsSetOf (texts ++ x.now ∷ []) n
+pub set_more : (texts s n : List (List ℕ)) (x : List ℕ) → IsSetOf texts s → Learns s x n → IsSetOf (texts ++ x ∷ []) n
 set_more texts s n x set updates = λ q.
-    updates (record { ref_ptr = (0, 0); now = q })
-    ∙ ap (λ b. cond b true (contains same s (record { ref_ptr = (0, 0); now = q }))) (nat_list_eq_equiv.symm x.now q)
-    ∙ ap (cond (bytes_eq q x.now) true) (set q)
-    ∙ one_or (list_any (bytes_eq q) texts) (bytes_eq q x.now)
-    ∙ sym (list_any-append (bytes_eq q) texts (x.now ∷ []))
+    updates q
+    ∙ ap (λ b. cond b true (knows s q)) (nat_list_eq_equiv.symm x q)
+    ∙ ap (cond (bytes_eq q x) true) (set q)
+    ∙ one_or (list_any (bytes_eq q) texts) (bytes_eq q x)
+    ∙ sym (list_any-append (bytes_eq q) texts (x ∷ []))
 
 pub rule_bound : (key written : List ℕ) (rule new : NinjaRule) (pieces : List Piece) → is_rule_key key ≡ true → has (keys_of rule.bindings) key ≡ false → Some pieces ≡ pieces_of written → new ≡ record { name = rule.name; bindings = rule.bindings ++ (key, pieces) ∷ [] } → bind (key, written) (Rule rule) ≡ Some (Rule new)
 rule_bound key written rule new pieces known fresh value is =
@@ -51,9 +49,9 @@ statement_bound key written number s new value fresh meant is =
     ∙ ap (option_map F) (sym meant) ∙ ap (λ r. Some (Build number r)) (sym is)
 
 -- the keys with one more
-pub keys_more : {X S : Type 0} (pairs new : List (List ℕ × X)) (x : X) (key : Bor (List ℕ)) (s n : HashSet (Bor (List ℕ)) S) → new ≡ pairs ++ (key.now, x) ∷ [] → IsSetOf (keys_of pairs) s → ((q : Bor (List ℕ)) → contains same n q ≡ cond (same key q) true (contains same s q)) → IsSetOf (keys_of new) n
+pub keys_more : {X : Type 0} (pairs new : List (List ℕ × X)) (x : X) (key : List ℕ) (s n : List (List ℕ)) → new ≡ pairs ++ (key, x) ∷ [] → IsSetOf (keys_of pairs) s → Learns s key n → IsSetOf (keys_of new) n
 keys_more pairs new x key s n is set updates =
-    subst (λ ks. IsSetOf ks n) (sym (ap keys_of is ∙ map-append (λ e. e.0) pairs ((key.now, x) ∷ []))) (set_more (keys_of pairs) s n key set updates)
+    subst (λ ks. IsSetOf ks n) (sym (ap keys_of is ∙ map-append (λ e. e.0) pairs ((key, x) ∷ []))) (set_more (keys_of pairs) s n key set updates)
 
 -- a new rule or statement is learnt
 pub learnt_new : (new : code.Book) (old : Book) (last : Open) → shown_book new ≡ opened last old → open_keys last ≡ [] → IsSetOf (names_of (opened last old)) new.names → IsSetOf [] new.keys → IsLearnt new

@@ -1,5 +1,4 @@
 pub mod Firsts
-pub mod TextSets
 pub mod ValueRead
 pub mod SignRead
 pub mod FormRead

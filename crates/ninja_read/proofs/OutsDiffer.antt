@@ -1,17 +1,18 @@
 -- A text that is read names no out twice.
-use Rattle.std.proofs.Common.{◌≡◌, ℕ, Bool, true, false, cond, ◌||◌, List, [], ◌∷◌, ◌++◌, Option, Some, None, Result, Ok, append_assoc, append-nil, sym, subst, ◌∙◌, refl}
+use Rattle.std.proofs.Common.{◌≡◌, ℕ, Bool, true, false, cond, ◌||◌, List, [], ◌∷◌, ◌++◌, Option, Some, None, Result, Ok, append_assoc, append-nil, sym, subst, ◌∙◌, refl, arith}
 use Rattle.std.specs.List.{flat_map, IsDistinct}
 use Rattle.std.specs.Str.{bytes_eq}
 use Rattle.std.proofs.lemmas.Cmp.{nat_list_eq_equiv}
 use Rattle.std.proofs.lemmas.List.Folds.{flat_map-map}
-use Rattle.std.proofs.lemmas.Map.Keys.{IsDistinct-push}
+use Rattle.std.proofs.lemmas.Map.Keys.{IsDistinct-push, IsDistinct-from_apart}
 use Rattle.ninja_file.specs.declared.file.NinjaFile.{NinjaFile}
 use Rattle.ninja_file.specs.declared.file.Statement.{Statement}
 use Rattle.ninja_read.specs.Book.{Book, has, file_of, statements_of, outs_of_book, no_book}
 use Rattle.ninja_read.specs.Meaning.{repeats, repeated, refused, or_line, unless_refused, stray, read_lines, reading}
 use Rattle.ninja_file.specs.Meaning.{AllDiffer, outs_of}
 use Rattle.ninja_lines.specs.Meaning.{joined_lines}
-use Rattle.ninja_read.proofs.TextSets.{IsDistinct-none, AllDiffer-from_IsDistinct}
+use Rattle.std.proofs.lemmas.Map.Made.{AllPairs-from_IsDistinct}
+use Rattle.std.proofs.lemmas.Slice.Eq.{bytes_eq-Decides}
 
 first_false : (a b : Bool) → (a || b) ≡ false → a ≡ false
 first_false true b h = absurd (cc)
@@ -50,7 +51,7 @@ differ_in : (read : Book × Option ℕ) (f : NinjaFile) → unless_refused (refu
 differ_in read f h =
     let parts = none_refused (refused read.0 read.1) (file_of read.0) f h in
     let none : repeated [] (statements_of read.0) ≡ None = first_none (repeated [] (statements_of read.0)) (or_line read.1 (stray (outs_of_book read.0) read.0.defaults)) parts.0 in
-    let all : AllDiffer (flat_map (λ t. t.1.outs) (statements_of read.0)) = AllDiffer-from_IsDistinct _ (distinct_all [] (statements_of read.0) none IsDistinct-none) in
+    let all : AllDiffer (flat_map (λ t. t.1.outs) (statements_of read.0)) = AllPairs-from_IsDistinct bytes_eq-Decides _ (distinct_all [] (statements_of read.0) none (IsDistinct-from_apart bytes_eq [] (λ i j d before inside. absurd (omega arith)))) in
     subst (λ g. AllDiffer (outs_of g)) parts.1 (subst AllDiffer (sym (flat_map-map (λ s. s.outs) (λ t. t.1) (statements_of read.0))) all)
 
 pub outs_differ : (text : List ℕ) (f : NinjaFile) → reading text ≡ Ok f → AllDiffer (outs_of f)

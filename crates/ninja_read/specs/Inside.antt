@@ -2,10 +2,8 @@
 -- lines so far.
 use Rattle.std.specs.Prelude.{◌≡◌, ℕ, suc, Bool, true, false, List, [], ◌∷◌, ◌++◌, ◌==◌, Option, Some, None, option_map, if◌then◌else◌}
 use Rattle.std.specs.Borrow.{Bor}
-use Rattle.std.specs.HashSet.{HashSet, contains_by}
-use Rattle.std.specs.List.{list_any}
 use Rattle.std.specs.Map.{keys_of}
-use Rattle.std.specs.Str.{bytes_eq}
+use Rattle.bp_names.specs.Meaning.{IsSetOf}
 use Rattle.ninja_file.specs.Escapes.{dollar}
 use Rattle.ninja_file.specs.declared.file.Piece.{Piece}
 use Rattle.ninja_file.specs.declared.file.Piece.TheVariants.{Var}
@@ -54,10 +52,6 @@ shown_form (RuleForm rest) = a_rule rest.now
 shown_form (BuildForm rest) = a_build rest.now
 shown_form (Default rest) = a_default rest.now
 
--- The set has the texts of the list, and no others.
-abbrev pub IsSetOf : {S : Type 0} → List (List ℕ) → HashSet (Bor (List ℕ)) S → Type 0
-IsSetOf texts set = (q : List ℕ) → contains_by (λ k. bytes_eq q k.now) set ≡ list_any (bytes_eq q) texts
-
 -- The lines so far as data.
 abbrev pub shown_book : code.Book → Book
 shown_book book = record {
@@ -84,6 +78,6 @@ Takes true new meant old = (meant ≡ Some (shown_book new)) × IsLearnt new
 Takes false new meant old = (meant ≡ None) × (shown_book new ≡ old)
 
 -- A binding is taken, or refused.
-abbrev pub Binds : {S : Type 0} → Bool → Open → HashSet (Bor (List ℕ)) S → Option Open → Open → Type 0
+abbrev pub Binds : Bool → Open → List (List ℕ) → Option Open → Open → Type 0
 Binds true new keys meant old = (meant ≡ Some new) × IsSetOf (open_keys new) keys
 Binds false new keys meant old = (meant ≡ None) × (new ≡ old)

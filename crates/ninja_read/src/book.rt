@@ -2,7 +2,7 @@ ghost use Rattle.std.specs.Prelude.{◌≡◌, ◌∷◌, ◌++◌, [], ℕ, Lis
 ghost use Rattle.std.specs.Map.{keys_of};
 ghost use Rattle.std.specs.Str.{bytes_eq};
 ghost use Rattle.ninja_lines.specs.Shown.{shown_line, shown_text};
-ghost use Rattle.ninja_read.specs.Inside.{IsSetOf};
+ghost use Rattle.bp_names.specs.Meaning.{IsSetOf};
 ghost use Rattle.ninja_read.specs.Inside.{shown_book, IsLearnt, Takes, Binds, open_keys};
 ghost use Rattle.ninja_read.specs.Heads.{form_of, binding_of, rule_name_of, build_of, defaults_of};
 ghost use Rattle.ninja_read.specs.Book.{no_book, bind, opened, with_rule, with_statement, with_defaults, with_binding, statements_of, rules_of, names_of, has};
@@ -15,9 +15,9 @@ use crate::head::{binding_of, build_of, defaults_of, rule_name_of};
 use ninja_file::is_rule_key;
 use crate::value::{literal_value, rule_value};
 use bp_faults::{OutOfMemory, Seq, Text};
+use bp_names::NameSet;
 use ninja_lines::Line;
 use std::alloc::Global;
-use std::collections::HashSet;
 use std::mem;
 
 /// To what bindings belong: nothing yet, a rule, or a statement with the number of its line.
@@ -36,8 +36,8 @@ pub struct Book<'a> {
     pub statements: Vec<(u32, Statement)>,
     pub defaults: Vec<(u32, Text)>,
     last: Open,
-    names: HashSet<&'a str>,
-    keys: HashSet<&'a str>,
+    names: NameSet<'a>,
+    keys: NameSet<'a>,
 }
 
 // The second part of each pair.
@@ -54,20 +54,20 @@ fn seconds<T: Drop>(alloc: Global, pairs: Vec<(u32, T)>) -> Result<Seq<T>, OutOf
 fn bind_to_rule<'a>(
     alloc: Global,
     rule: &mut NinjaRule,
-    keys: &mut HashSet<&'a str>,
+    keys: &mut NameSet<'a>,
     key: &'a str,
     written: &str,
 ) -> Result<bool, OutOfMemory>
     requires { IsSetOf (open_keys (Open.Rule rule.old)) keys.old }
     ensures { IfOk result (λ taken. Binds taken (Open.Rule rule.new) keys.new (bind (key.now, written.now) (Open.Rule rule.old)) (Open.Rule rule.old)) }
 {
-    if !is_rule_key(key) || keys.contains(key) {
+    if !is_rule_key(key) || keys.knows(key) {
         return Ok(false);
     }
     let Some(pieces) = rule_value(alloc, written)? else {
         return Ok(false);
     };
-    keys.insert(key)?;
+    keys.learn(key)?;
     let key = Text::from_str(alloc, key)?;
     rule.bindings.push((key, Seq::new(pieces)))?;
     Ok(true)
@@ -76,20 +76,20 @@ fn bind_to_rule<'a>(
 fn bind_to_statement<'a>(
     alloc: Global,
     statement: &mut Statement,
-    keys: &mut HashSet<&'a str>,
+    keys: &mut NameSet<'a>,
     key: &'a str,
     written: &str,
 ) -> Result<bool, OutOfMemory>
     requires { IsSetOf (keys_of statement.old.vars) keys.old }
     ensures { (number : ℕ) → IfOk result (λ taken. Binds taken (Open.Build number statement.new) keys.new (bind (key.now, written.now) (Open.Build number statement.old)) (Open.Build number statement.old)) }
 {
-    if keys.contains(key) {
+    if keys.knows(key) {
         return Ok(false);
     }
     let Some(value) = literal_value(alloc, written)? else {
         return Ok(false);
     };
-    keys.insert(key)?;
+    keys.learn(key)?;
     let key = Text::from_str(alloc, key)?;
     statement.vars.push((key, value))?;
     Ok(true)
@@ -98,7 +98,7 @@ fn bind_to_statement<'a>(
 fn bind<'a>(
     alloc: Global,
     last: &mut Open,
-    keys: &mut HashSet<&'a str>,
+    keys: &mut NameSet<'a>,
     key: &'a str,
     written: &str,
 ) -> Result<bool, OutOfMemory>
@@ -128,8 +128,8 @@ impl<'a> Book<'a> {
             statements: Vec::new(alloc),
             defaults: Vec::new(alloc),
             last: Open::Nothing,
-            names: HashSet::new(alloc),
-            keys: HashSet::new(alloc),
+            names: NameSet::new(alloc),
+            keys: NameSet::new(alloc),
         }
     }
 
@@ -144,7 +144,7 @@ impl<'a> Book<'a> {
             Open::Rule(rule) => self.rules.push(rule)?,
             Open::Build(number, statement) => self.statements.push((number, statement))?,
         }
-        self.keys = HashSet::new(alloc);
+        self.keys = NameSet::new(alloc);
         Ok(())
     }
 
@@ -177,10 +177,10 @@ impl<'a> Book<'a> {
         requires { IsLearnt self.old }
         ensures { IfOk result (λ taken. Takes taken self.new (with_rule has_command (shown_book self.old) name.now) (shown_book self.old)) }
     {
-        if !has_command || self.names.contains(name) {
+        if !has_command || self.names.knows(name) {
             return Ok(false);
         }
-        self.names.insert(name)?;
+        self.names.learn(name)?;
         let rule = NinjaRule {
             name: Text::from_str(alloc, name)?,
             bindings: Seq::new(Vec::new(alloc)),
@@ -194,7 +194,7 @@ impl<'a> Book<'a> {
         requires { IsLearnt self.now }
         ensures { result ≡ (bytes_eq rule.now (codes "phony") || has (names_of (shown_book self.now)) rule.now) }
     {
-        rule == "phony" || self.names.contains(rule)
+        rule == "phony" || self.names.knows(rule)
     }
 
     fn take_statement(

@@ -1,7 +1,7 @@
 ghost use Rattle.std.specs.Prelude.{◌≡◌, ◌<◌, ◌^◌, ◌++◌, [], ℕ, List, None, Some, IfOk, IsTrue, MatchResult, map, not, length};
 ghost use Rattle.std.specs.List.{flat_map};
 ghost use Rattle.ninja_lines.specs.Shown.{shown_line};
-ghost use Rattle.ninja_read.specs.Inside.{IsSetOf};
+ghost use Rattle.bp_names.specs.Meaning.{IsSetOf};
 ghost use Rattle.ninja_read.specs.Inside.{shown_book};
 ghost use Rattle.ninja_read.specs.Book.{no_book};
 ghost use Rattle.ninja_read.specs.Meaning.{read_lines, reading, or_line, repeated, repeats, stray};
@@ -10,9 +10,9 @@ ghost use Rattle.ninja_read.specs.Meaning.{Reads};
 use crate::book::Book;
 use ninja_file::{NinjaFile, Statement};
 use bp_faults::{OutOfMemory, Text};
+use bp_names::NameSet;
 use ninja_lines::{Line, joined};
 use std::alloc::Global;
-use std::collections::HashSet;
 use thiserror::Error;
 
 #[derive(Clone, Copy, Debug, Error, PartialEq, Eq)]
@@ -52,12 +52,12 @@ fn read_lines<'a>(
 }
 
 // Adds the outs of a statement, where none was named before.
-fn add_outs<'a>(seen: &mut HashSet<&'a str>, outs: &'a [Text]) -> Result<bool, OutOfMemory>
+fn add_outs<'a>(seen: &mut NameSet<'a>, outs: &'a [Text]) -> Result<bool, OutOfMemory>
     ensures new { (texts : List (List ℕ)) → IsSetOf texts seen.old → IfOk result (λ new. new ≡ not (repeats texts outs.now)) }
     ensures seen { (texts : List (List ℕ)) → IsSetOf texts seen.old → IfOk result (λ new. IsTrue new → IsSetOf (texts ++ outs.now) seen.new) }
 {
     for out in outs {
-        if !seen.insert(out.as_str())? {
+        if !seen.learn(out.as_str())? {
             return Ok(false);
         }
     }
@@ -68,10 +68,10 @@ fn add_outs<'a>(seen: &mut HashSet<&'a str>, outs: &'a [Text]) -> Result<bool, O
 fn outs_of<'a>(
     alloc: Global,
     statements: &'a [(u32, Statement)],
-) -> Result<Result<HashSet<&'a str>, u32>, OutOfMemory>
+) -> Result<Result<NameSet<'a>, u32>, OutOfMemory>
     ensures { IfOk result (λ found. MatchResult found (λ outs. (repeated [] statements.now ≡ None) × IsSetOf (flat_map (λ s. s.1.outs) statements.now) outs) (λ line. repeated [] statements.now ≡ Some line)) }
 {
-    let mut seen = HashSet::new(alloc);
+    let mut seen = NameSet::new(alloc);
     for (number, statement) in statements {
         if !add_outs(&mut seen, statement.outs.as_slice())? {
             return Ok(Err(*number));
@@ -81,11 +81,11 @@ fn outs_of<'a>(
 }
 
 // The line of the first default that is no out.
-fn stray(outs: &HashSet<&str>, defaults: &[(u32, Text)]) -> Option<u32>
+fn stray(outs: &NameSet<'_>, defaults: &[(u32, Text)]) -> Option<u32>
     ensures { (texts : List (List ℕ)) → IsSetOf texts outs.now → result ≡ stray texts defaults.now }
 {
     for (number, path) in defaults {
-        if !outs.contains(path.as_str()) {
+        if !outs.knows(path.as_str()) {
             return Some(*number);
         }
     }

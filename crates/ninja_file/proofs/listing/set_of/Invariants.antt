@@ -1,7 +1,7 @@
 use Rattle.std.proofs.Common.{map, take}
 use Rattle.std.specs.List.{IsDistinct}
 use Rattle.std.specs.Str.{bytes_eq}
-use Rattle.ninja_file.specs.Inside.{IsSetOf}
+use Rattle.bp_names.specs.Meaning.{IsSetOf}
 use Rattle.ninja_file.proofs.listing.set_of.Given as goal
 
 -- the set has the first texts, which differ

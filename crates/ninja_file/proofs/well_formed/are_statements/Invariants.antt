@@ -1,6 +1,6 @@
 use Rattle.std.proofs.Common.{ℕ, ◌<◌, List, get_or}
 use Rattle.ninja_file.specs.declared.file.Statement.{Statement}
-use Rattle.ninja_file.specs.Inside.{IsSetOf}
+use Rattle.bp_names.specs.Meaning.{IsSetOf}
 use Rattle.ninja_file.specs.Meaning.{IsStatement}
 use Rattle.ninja_file.proofs.well_formed.are_statements.Given as goal
 

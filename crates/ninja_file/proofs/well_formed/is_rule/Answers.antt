@@ -1,6 +1,6 @@
 use Rattle.std.proofs.Common.{◌≡◌, map, rules}
 use Rattle.std.specs.Map.{keys_of}
-use Rattle.ninja_file.specs.Inside.{IsSetOf}
+use Rattle.bp_names.specs.Meaning.{IsSetOf}
 use Rattle.ninja_file.specs.Meaning.{AllDiffer}
 use Rattle.ninja_file.proofs.Wholes.{rule_by_parts}
 use Rattle.ninja_file.proofs.well_formed.is_rule.Goals as goal

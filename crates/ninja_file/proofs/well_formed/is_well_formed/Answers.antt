@@ -1,7 +1,7 @@
 use Rattle.std.proofs.Common.{◌≡◌, ◌↔◌, map, rules, sym, ◌∙◌}
 use Rattle.std.specs.Bool.{IsTrue}
 use Rattle.std.specs.List.{All, Contains}
-use Rattle.ninja_file.specs.Inside.{IsSetOf}
+use Rattle.bp_names.specs.Meaning.{IsSetOf}
 use Rattle.ninja_file.specs.Meaning.{IsRule, IsStatement, rule_names, outs_of}
 use Rattle.ninja_file.proofs.Wholes.{defaults_listed}
 use Rattle.ninja_file.proofs.well_formed.is_well_formed.Goals as goal

@@ -1,5 +1,5 @@
 use Rattle.std.proofs.Common.{ℕ, List}
-use Rattle.ninja_read.specs.Inside.{IsSetOf}
+use Rattle.bp_names.specs.Meaning.{IsSetOf}
 use Rattle.ninja_read.proofs.Outs.{Adds}
 use Rattle.ninja_read.proofs.reader.add_outs.Given as goal
 

@@ -1,6 +1,6 @@
 use Rattle.std.proofs.Common.{◌≡◌, [], take, drop}
 use Rattle.std.specs.List.{flat_map}
-use Rattle.ninja_read.specs.Inside.{IsSetOf}
+use Rattle.bp_names.specs.Meaning.{IsSetOf}
 use Rattle.ninja_read.specs.Meaning.{repeated}
 use Rattle.ninja_read.proofs.reader.outs_of.Given as goal
 

@@ -1,5 +1,5 @@
 use Rattle.std.proofs.Common.{◌≡◌, Some, ap, sym, subst, ◌∙◌, [], refl}
-use Rattle.ninja_read.specs.Inside.{IsSetOf}
+use Rattle.bp_names.specs.Meaning.{IsSetOf}
 use Rattle.ninja_read.specs.Inside.{shown_book}
 use Rattle.ninja_read.specs.Book.{Book, opened, names_of}
 use Rattle.ninja_read.specs.declared.book.Open.TheVariants.{Rule}
@@ -13,7 +13,7 @@ returns c =
     let rule : NinjaRule = record { name = c.args.name.now; bindings = [] } in
     let same : record { name = c.in_ok-from_str.field-0; bindings = c.new-2.result } ≡ rule = cc (c.in_ok-from_str.ensures, c.new-2.ensures, c.new.ensures.items) in
     let shown : shown_book c.begin.new.self ≡ opened (Rule rule) old = c.in_ok-begin.ensures.shown ∙ ap (λ r. opened (Rule r) old) same in
-    let names : IsSetOf (names_of (opened (Rule rule) old)) c.insert.new.self = subst (λ ts. IsSetOf ts c.insert.new.self) (names_with_rule old rule) (set_more (names_of old) c.args.self.now.names c.insert.new.self c.args.name c.requires.names c.in_ok-insert.ensures.updates.0) in (
-      rule_taken c.args.has_command c.args.name.now old c.if-not-has_command.false (sym (c.requires.names c.args.name.now) ∙ sym c.if-contains.ensures) ∙ ap Some (sym shown),
+    let names : IsSetOf (names_of (opened (Rule rule) old)) c.learn.new.self = subst (λ ts. IsSetOf ts c.learn.new.self) (names_with_rule old rule) (set_more (names_of old) c.args.self.now.names c.learn.new.self c.args.name.now c.requires.names c.in_ok-learn.ensures.known) in (
+      rule_taken c.args.has_command c.args.name.now old c.if-not-has_command.false (sym (c.requires.names c.args.name.now) ∙ sym c.if-knows.ensures) ∙ ap Some (sym shown),
       learnt_new c.begin.new.self old (Rule rule) shown refl (subst (λ n. IsSetOf (names_of (opened (Rule rule) old)) n) (sym c.in_ok-begin.ensures.names) names) c.in_ok-begin.ensures.keys,
     )

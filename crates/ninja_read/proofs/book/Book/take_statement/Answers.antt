@@ -1,7 +1,7 @@
 use Rattle.std.proofs.Common.{◌||◌, codes, Some, ap, sym, subst, ◌∙◌}
 use Rattle.std.specs.Str.{bytes_eq}
 use Rattle.std.specs.Map.{keys_of}
-use Rattle.ninja_read.specs.Inside.{IsSetOf}
+use Rattle.bp_names.specs.Meaning.{IsSetOf}
 use Rattle.ninja_read.specs.Inside.{shown_book}
 use Rattle.ninja_read.specs.Book.{Book, has, names_of}
 use Rattle.ninja_read.specs.declared.book.Open.TheVariants.{Build}
