@@ -1,5 +1,5 @@
--- Which bytes have a dollar before them in text for Ninja. Ninja manual, "Ninja file reference", "Lexical syntax": `$$` is
--- a dollar, `$ ` a space and `$:` a colon.
+-- Which bytes have a dollar before them in text for Ninja. Ninja manual, "Ninja file reference", "Lexical syntax": `$$`
+-- is a dollar, `$ ` a space and `$:` a colon.
 use Rattle.std.specs.Prelude.{ℕ, Bool, ◌||◌, ◌==◌}
 use Rattle.ninja_file.specs.declared.escape.Escape.{Escape}
 use Rattle.ninja_file.specs.declared.escape.Escape.TheVariants.{Path, Value}
@@ -16,7 +16,8 @@ space = 32
 abbrev pub colon : ℕ
 colon = 58
 
--- The bytes that have a dollar before them: in a path those that would end it or begin an escape, in a value the dollar.
+-- The bytes that have a dollar before them: in a path those that would end it or begin an escape, in a value the
+-- dollar.
 abbrev pub is_escaped : Escape → ℕ → Bool
 is_escaped Path b = b == dollar || b == space || b == colon
 is_escaped Value b = b == dollar

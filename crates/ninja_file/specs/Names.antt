@@ -1,5 +1,5 @@
--- The names, values and paths of a file for Ninja, byte by byte. Ninja manual, "Ninja file reference"; the profile is in
--- docs/NINJA.md.
+-- The names, values and paths of a file for Ninja, byte by byte. Ninja manual, "Ninja file reference"; the profile is
+-- in docs/NINJA.md.
 use Rattle.std.specs.Prelude.{ℕ, Bool, List, ◌&&◌, ◌||◌, ◌==◌, not, nat_lt, length, codes}
 use Rattle.std.specs.Char.{is_ascii_alphanumeric}
 use Rattle.std.specs.List.{list_all}

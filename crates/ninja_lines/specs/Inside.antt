@@ -1,5 +1,6 @@
 -- No public contract speaks of it: how far a line and a part go, and one step of joining.
-use Rattle.std.specs.Prelude.{◌≡◌, ℕ, suc, ◌+◌, ◌<◌, ◌≤◌, Bool, true, false, List, [], ◌∷◌, ◌==◌, length, drop, if◌then◌else◌}
+use Rattle.std.specs.Prelude.{◌≡◌, ℕ, suc, ◌+◌, ◌<◌, ◌≤◌, Bool, true, false, List, [], ◌∷◌, ◌==◌, length}
+use Rattle.std.specs.Prelude.{drop, if◌then◌else◌}
 use Rattle.std.specs.Borrow.{Bor}
 use Rattle.ninja_lines.specs.Meaning.{dollar, line_feed, joined}
 use Rattle.ninja_lines.specs.Shown.{shown_line, texts}

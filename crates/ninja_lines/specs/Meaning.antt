@@ -1,6 +1,7 @@
--- The measure of this crate: the joined lines of a text for Ninja. Ninja manual, "Ninja file reference", "Lexical syntax":
--- a `$` before a line feed is a line continuation, and the spaces that begin the next line are dropped.
-use Rattle.std.specs.Prelude.{ℕ, ◌+◌, Bool, false, List, [], ◌∷◌, ◌++◌, ◌&&◌, ◌==◌, not, length, take, ◌-◌, Option, Some, None, if◌then◌else◌}
+-- The measure of this crate: the joined lines of a text for Ninja. Ninja manual, "Ninja file reference", "Lexical
+-- syntax": a `$` before a line feed is a line continuation, and the spaces that begin the next line are dropped.
+use Rattle.std.specs.Prelude.{ℕ, ◌+◌, Bool, false, List, [], ◌∷◌, ◌++◌, ◌&&◌, ◌==◌, not, length, take, ◌-◌}
+use Rattle.std.specs.Prelude.{Option, Some, None, if◌then◌else◌}
 use Rattle.std.specs.List.{onto_first}
 use Rattle.std.specs.Str.{is_utf8}
 
@@ -21,8 +22,8 @@ abbrev pub lines : List ℕ → List (List ℕ)
 lines [] = []
 lines (b ∷ bytes) = if b == line_feed then [] ∷ lines bytes else onto_first b (lines bytes)
 
--- Whether a dollar at the end has nothing behind it. A dollar takes the byte behind it, so `$$` is a pair. The flag says
--- that a dollar stands before.
+-- Whether a dollar at the end has nothing behind it. A dollar takes the byte behind it, so `$$` is a pair. The flag
+-- says that a dollar stands before.
 abbrev pub dangles : Bool → List ℕ → Bool
 dangles behind [] = behind
 dangles behind (b ∷ bytes) = dangles (not behind && b == dollar) bytes
@@ -36,8 +37,8 @@ drop_spaces (b ∷ bytes) = if b == space then drop_spaces bytes else b ∷ byte
 abbrev pub without_last : List ℕ → List ℕ
 without_last line = take (length line - 1) line
 
--- A line with those that it joins, by the number of the first. Where a line isn't UTF-8 there is no text, and the number
--- is that line's.
+-- A line with those that it joins, by the number of the first. Where a line isn't UTF-8 there is no text, and the
+-- number is that line's.
 pub record JoinedLine : Type 0 where
   pub number : ℕ
   pub text : Option (List ℕ)

@@ -1,4 +1,5 @@
-ghost use Rattle.std.specs.Prelude.{◌≡◌, ◌<◌, ◌+◌, ◌-◌, true, false, IfOk, MatchOption, map, length, drop, get_or, [], ◌^◌, Some, None};
+ghost use Rattle.std.specs.Prelude.{◌≡◌, ◌<◌, ◌+◌, ◌-◌, true, false, IfOk, MatchOption, map, length, drop};
+ghost use Rattle.std.specs.Prelude.{get_or, [], ◌^◌, Some, None};
 ghost use Rattle.std.specs.Str.{is_utf8};
 ghost use Rattle.ninja_lines.specs.Meaning.{lines, joined_lines, dangles, without_last};
 ghost use Rattle.ninja_lines.specs.Inside.{line_length};
@@ -58,7 +59,10 @@ pub fn dangles(text: &[u8]) -> bool
 }
 
 fn utf8(bytes: &[u8]) -> Option<&str>
-    ensures { MatchOption result (is_utf8 bytes.now ≡ false) (λ text. (is_utf8 bytes.now ≡ true) × (text.now ≡ bytes.now)) }
+    ensures {
+        MatchOption result (is_utf8 bytes.now ≡ false)
+            (λ text. (is_utf8 bytes.now ≡ true) × (text.now ≡ bytes.now))
+    }
 {
     match str::from_utf8(bytes) {
         Ok(text) => Some(text),

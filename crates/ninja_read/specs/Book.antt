@@ -1,5 +1,6 @@
 -- What the lines so far give: rules, statements and defaults, and what one more line makes of them.
-use Rattle.std.specs.Prelude.{ℕ, Bool, not, ◌&&◌, ◌||◌, List, [], ◌∷◌, ◌++◌, map, Option, Some, None, option_map, codes, if◌then◌else◌}
+use Rattle.std.specs.Prelude.{ℕ, Bool, not, ◌&&◌, ◌||◌, List, [], ◌∷◌, ◌++◌, map, Option, Some, None}
+use Rattle.std.specs.Prelude.{option_map, codes, if◌then◌else◌}
 use Rattle.std.specs.List.{list_any, flat_map}
 use Rattle.std.specs.Map.{keys_of}
 use Rattle.std.specs.Str.{bytes_eq}
@@ -12,7 +13,8 @@ use Rattle.ninja_file.specs.declared.file.NinjaFile.{NinjaFile}
 use Rattle.ninja_file.specs.Names.{is_rule_key}
 use Rattle.ninja_read.specs.Values.{pieces_of, value_of}
 
--- The rules, statements and defaults, with the numbers of their lines, and the rule or statement to which bindings belong.
+-- The rules, statements and defaults, with the numbers of their lines, and the rule or statement to which bindings
+-- belong.
 pub record Book : Type 0 where
   pub rules : List NinjaRule
   pub statements : List (ℕ × Statement)

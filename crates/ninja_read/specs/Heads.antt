@@ -1,5 +1,6 @@
 -- The lines of text for Ninja, by their words. Ninja manual, "Ninja file reference"; the profile is in docs/NINJA.md.
-use Rattle.std.specs.Prelude.{ℕ, Bool, true, false, List, [], ◌∷◌, ◌==◌, Option, Some, None, option_map, option_and_then, take, drop, codes, if◌then◌else◌}
+use Rattle.std.specs.Prelude.{ℕ, Bool, true, false, List, [], ◌∷◌, ◌==◌, Option, Some, None, option_map}
+use Rattle.std.specs.Prelude.{option_and_then, take, drop, codes, if◌then◌else◌}
 use Rattle.std.specs.Str.{bytes_eq}
 use Rattle.ninja_lines.specs.Meaning.{dangles, drop_spaces}
 use Rattle.ninja_lines.specs.Cuts.{cut, words}

@@ -1,6 +1,7 @@
--- No public contract speaks of it: pieces that are put together, the forms of lines as data, and what a step makes of the
--- lines so far.
-use Rattle.std.specs.Prelude.{◌≡◌, ℕ, suc, Bool, true, false, List, [], ◌∷◌, ◌++◌, ◌==◌, Option, Some, None, option_map, if◌then◌else◌}
+-- No public contract speaks of it: pieces that are put together, the forms of lines as data, and what a step makes of
+-- the lines so far.
+use Rattle.std.specs.Prelude.{◌≡◌, ℕ, suc, Bool, true, false, List, [], ◌∷◌, ◌++◌, ◌==◌, Option, Some, None}
+use Rattle.std.specs.Prelude.{option_map, if◌then◌else◌}
 use Rattle.std.specs.Borrow.{Bor}
 use Rattle.std.specs.Map.{keys_of}
 use Rattle.bp_names.specs.Meaning.{IsSetOf}
@@ -14,7 +15,8 @@ use Rattle.ninja_read.specs.declared.value.Sign.{Sign}
 use Rattle.ninja_read.specs.declared.value.Sign.TheVariants.{Escaped, Variable}
 use Rattle.ninja_read.specs.declared.value.Pieces.{Pieces}
 use Rattle.ninja_read.specs.declared.form.LineForm.{LineForm}
-use Rattle.ninja_read.specs.declared.form.LineForm.TheVariants.{NoForm, Skipped, Binding, Rule as RuleForm, Build as BuildForm, Default}
+use Rattle.ninja_read.specs.declared.form.LineForm.TheVariants.{NoForm, Skipped, Binding, Rule as RuleForm}
+use Rattle.ninja_read.specs.declared.form.LineForm.TheVariants.{Build as BuildForm, Default}
 use Rattle.ninja_read.specs.declared.book.Book as code
 use Rattle.ninja_read.specs.declared.book.Open.{Open}
 use Rattle.ninja_read.specs.declared.book.Open.TheVariants.{Nothing, Rule, Build}

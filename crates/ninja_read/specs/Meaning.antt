@@ -1,14 +1,17 @@
--- The measure of this crate: the file that a text for Ninja stands for, or the first line that is refused. Ninja manual,
--- "Ninja file reference"; the profile is in docs/NINJA.md.
-use Rattle.std.specs.Prelude.{◌≡◌, ℕ, ⊤, Bool, false, ◌||◌, List, [], ◌∷◌, ◌++◌, Option, Some, None, option_map, option_and_then, Result, Ok, Err, codes, if◌then◌else◌}
+-- The measure of this crate: the file that a text for Ninja stands for, or the first line that is refused. Ninja
+-- manual, "Ninja file reference"; the profile is in docs/NINJA.md.
+use Rattle.std.specs.Prelude.{◌≡◌, ℕ, ⊤, Bool, false, ◌||◌, List, [], ◌∷◌, ◌++◌, Option, Some, None}
+use Rattle.std.specs.Prelude.{option_map, option_and_then, Result, Ok, Err, codes, if◌then◌else◌}
 use Rattle.std.specs.Str.{bytes_eq}
 use Rattle.ninja_lines.specs.Meaning.{JoinedLine, joined_lines}
 use Rattle.ninja_file.specs.declared.file.NinjaFile.{NinjaFile}
 use Rattle.ninja_file.specs.declared.file.Statement.{Statement}
 use Rattle.ninja_read.specs.declared.reader.NinjaError.{NinjaError}
 use Rattle.ninja_read.specs.declared.reader.NinjaError.TheVariants.{BadLine, OutOfMemory}
-use Rattle.ninja_read.specs.Heads.{Form, no_form, skipped, a_binding, a_rule, a_build, a_default, form_of, build_of, defaults_of, rule_name_of, binding_of}
-use Rattle.ninja_read.specs.Book.{Book, no_book, has, with_rule, with_statement, with_defaults, with_binding, statements_of, outs_of_book, file_of}
+use Rattle.ninja_read.specs.Heads.{Form, no_form, skipped, a_binding, a_rule, a_build, a_default, form_of}
+use Rattle.ninja_read.specs.Heads.{build_of, defaults_of, rule_name_of, binding_of}
+use Rattle.ninja_read.specs.Book.{Book, no_book, has, with_rule, with_statement, with_defaults, with_binding}
+use Rattle.ninja_read.specs.Book.{statements_of, outs_of_book, file_of}
 
 -- What a line of a form makes of the lines so far; nothing where it is refused.
 abbrev pub with_form : ℕ → Bool → Book → List ℕ → Form → Option Book

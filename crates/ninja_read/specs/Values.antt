@@ -1,6 +1,7 @@
 -- What a value's written form stands for. Ninja manual, "Ninja file reference", "Lexical syntax": `$$`, `$ ` and `$:`
 -- are the byte behind the dollar, `$name` and `${name}` a variable.
-use Rattle.std.specs.Prelude.{ℕ, suc, List, [], ◌∷◌, ◌++◌, ◌==◌, Option, Some, None, option_map, option_and_then, if◌then◌else◌}
+use Rattle.std.specs.Prelude.{ℕ, suc, List, [], ◌∷◌, ◌++◌, ◌==◌, Option, Some, None, option_map}
+use Rattle.std.specs.Prelude.{option_and_then, if◌then◌else◌}
 use Rattle.ninja_file.specs.Escapes.{dollar, is_escaped}
 use Rattle.ninja_file.specs.Names.{is_name_byte, is_nil}
 use Rattle.ninja_file.specs.declared.escape.Escape.TheVariants.{Path}

@@ -1,11 +1,13 @@
-ghost use Rattle.std.specs.Prelude.{◌≡◌, ◌∷◌, ◌++◌, [], ℕ, List, Some, IfOk, OnOk, ◌||◌, codes, map, option_and_then, option_map};
+ghost use Rattle.std.specs.Prelude.{◌≡◌, ◌∷◌, ◌++◌, [], ℕ, List, Some, IfOk, OnOk, ◌||◌, codes, map};
+ghost use Rattle.std.specs.Prelude.{option_and_then, option_map};
 ghost use Rattle.std.specs.Map.{keys_of};
 ghost use Rattle.std.specs.Str.{bytes_eq};
 ghost use Rattle.ninja_lines.specs.Shown.{shown_line, shown_text};
 ghost use Rattle.bp_names.specs.Meaning.{IsSetOf};
 ghost use Rattle.ninja_read.specs.Inside.{shown_book, IsLearnt, Takes, Binds, open_keys};
 ghost use Rattle.ninja_read.specs.Heads.{form_of, binding_of, rule_name_of, build_of, defaults_of};
-ghost use Rattle.ninja_read.specs.Book.{no_book, bind, opened, with_rule, with_statement, with_defaults, with_binding, statements_of, rules_of, names_of, has};
+ghost use Rattle.ninja_read.specs.Book.{no_book, bind, opened, with_rule, with_statement, with_defaults};
+ghost use Rattle.ninja_read.specs.Book.{with_binding, statements_of, rules_of, names_of, has};
 ghost use Rattle.ninja_read.specs.Meaning.{with_form, with_line, binds_command};
 
 use crate::command::binds_command;
@@ -59,7 +61,10 @@ fn bind_to_rule<'a>(
     written: &str,
 ) -> Result<bool, OutOfMemory>
     requires { IsSetOf (open_keys (Open.Rule rule.old)) keys.old }
-    ensures { IfOk result (λ taken. Binds taken (Open.Rule rule.new) keys.new (bind (key.now, written.now) (Open.Rule rule.old)) (Open.Rule rule.old)) }
+    ensures {
+        IfOk result (λ taken. Binds taken (Open.Rule rule.new) keys.new
+            (bind (key.now, written.now) (Open.Rule rule.old)) (Open.Rule rule.old))
+    }
 {
     if !is_rule_key(key) || keys.knows(key) {
         return Ok(false);
@@ -81,7 +86,10 @@ fn bind_to_statement<'a>(
     written: &str,
 ) -> Result<bool, OutOfMemory>
     requires { IsSetOf (keys_of statement.old.vars) keys.old }
-    ensures { (number : ℕ) → IfOk result (λ taken. Binds taken (Open.Build number statement.new) keys.new (bind (key.now, written.now) (Open.Build number statement.old)) (Open.Build number statement.old)) }
+    ensures {
+        (number : ℕ) → IfOk result (λ taken. Binds taken (Open.Build number statement.new) keys.new
+            (bind (key.now, written.now) (Open.Build number statement.old)) (Open.Build number statement.old))
+    }
 {
     if keys.knows(key) {
         return Ok(false);
@@ -159,7 +167,13 @@ impl<'a> Book<'a> {
 
     /// The file, where the last rule or statement is ended.
     pub fn into_file(self, alloc: Global) -> Result<NinjaFile, OutOfMemory>
-        ensures { IfOk result (λ f. f ≡ record { rules = self.entry.rules.items; statements = map (λ s. s.1) self.entry.statements.items; defaults = map (λ d. d.1) self.entry.defaults.items }) }
+        ensures {
+            IfOk result (λ f. f ≡ record {
+                rules = self.entry.rules.items;
+                statements = map (λ s. s.1) self.entry.statements.items;
+                defaults = map (λ d. d.1) self.entry.defaults.items;
+            })
+        }
     {
         Ok(NinjaFile {
             rules: Seq::new(self.rules),
@@ -175,7 +189,11 @@ impl<'a> Book<'a> {
         has_command: bool,
     ) -> Result<bool, OutOfMemory>
         requires { IsLearnt self.old }
-        ensures { IfOk result (λ taken. Takes taken self.new (with_rule has_command (shown_book self.old) name.now) (shown_book self.old)) }
+        ensures {
+            IfOk result (λ taken. Takes taken self.new
+                (with_rule has_command (shown_book self.old) name.now)
+                (shown_book self.old))
+        }
     {
         if !has_command || self.names.knows(name) {
             return Ok(false);
@@ -205,7 +223,11 @@ impl<'a> Book<'a> {
     ) -> Result<bool, OutOfMemory>
         requires learnt { IsLearnt self.old }
         requires no_vars { statement.vars ≡ [] }
-        ensures { IfOk result (λ taken. Takes taken self.new (with_statement number (shown_book self.old) statement) (shown_book self.old)) }
+        ensures {
+            IfOk result (λ taken. Takes taken self.new
+                (with_statement number (shown_book self.old) statement)
+                (shown_book self.old))
+        }
     {
         if !self.knows(statement.rule.as_str()) {
             return Ok(false);
@@ -227,7 +249,11 @@ impl<'a> Book<'a> {
 
     fn take_binding(&mut self, alloc: Global, text: &'a str) -> Result<bool, OutOfMemory>
         requires { IsLearnt self.old }
-        ensures { IfOk result (λ taken. Takes taken self.new (option_and_then (with_binding (shown_book self.old)) (binding_of text.now)) (shown_book self.old)) }
+        ensures {
+            IfOk result (λ taken. Takes taken self.new
+                (option_and_then (with_binding (shown_book self.old)) (binding_of text.now))
+                (shown_book self.old))
+        }
     {
         let Some((key, written)) = binding_of(text) else {
             return Ok(false);
@@ -238,7 +264,11 @@ impl<'a> Book<'a> {
 
     fn take_build(&mut self, alloc: Global, number: u32, rest: &str) -> Result<bool, OutOfMemory>
         requires { IsLearnt self.old }
-        ensures { IfOk result (λ taken. Takes taken self.new (option_and_then (with_statement number (shown_book self.old)) (build_of rest.now)) (shown_book self.old)) }
+        ensures {
+            IfOk result (λ taken. Takes taken self.new
+                (option_and_then (with_statement number (shown_book self.old)) (build_of rest.now))
+                (shown_book self.old))
+        }
     {
         let Some(statement) = build_of(alloc, rest)? else {
             return Ok(false);
@@ -249,7 +279,11 @@ impl<'a> Book<'a> {
 
     fn take_default(&mut self, alloc: Global, number: u32, rest: &str) -> Result<bool, OutOfMemory>
         requires { IsLearnt self.old }
-        ensures { IfOk result (λ taken. Takes taken self.new (option_map (with_defaults number (shown_book self.old)) (defaults_of rest.now)) (shown_book self.old)) }
+        ensures {
+            IfOk result (λ taken. Takes taken self.new
+                (option_map (with_defaults number (shown_book self.old)) (defaults_of rest.now))
+                (shown_book self.old))
+        }
     {
         let Some(paths) = defaults_of(alloc, rest)? else {
             return Ok(false);
@@ -265,7 +299,12 @@ impl<'a> Book<'a> {
         more: &[Line<'_>],
     ) -> Result<bool, OutOfMemory>
         requires { IsLearnt self.old }
-        ensures { IfOk result (λ taken. Takes taken self.new (option_and_then (with_rule (binds_command (map shown_line more.now)) (shown_book self.old)) (rule_name_of rest.now)) (shown_book self.old)) }
+        ensures {
+            IfOk result (λ taken. Takes taken self.new
+                (option_and_then (with_rule (binds_command (map shown_line more.now)) (shown_book self.old))
+                    (rule_name_of rest.now))
+                (shown_book self.old))
+        }
     {
         let Some(name) = rule_name_of(alloc, rest)? else {
             return Ok(false);
@@ -282,7 +321,12 @@ impl<'a> Book<'a> {
         more: &[Line<'_>],
     ) -> Result<bool, OutOfMemory>
         requires { IsLearnt self.old }
-        ensures { IfOk result (λ taken. Takes taken self.new (with_form number (binds_command (map shown_line more.now)) (shown_book self.old) text.now (form_of text.now)) (shown_book self.old)) }
+        ensures {
+            IfOk result (λ taken. Takes taken self.new
+                (with_form number (binds_command (map shown_line more.now)) (shown_book self.old)
+                    text.now (form_of text.now))
+                (shown_book self.old))
+        }
     {
         match form_of(text) {
             LineForm::NoForm => Ok(false),
@@ -302,7 +346,12 @@ impl<'a> Book<'a> {
         more: &[Line<'_>],
     ) -> Result<bool, OutOfMemory>
         requires { IsLearnt self.old }
-        ensures { IfOk result (λ taken. Takes taken self.new (with_line line.now.number (shown_text line.now.content) (binds_command (map shown_line more.now)) (shown_book self.old)) (shown_book self.old)) }
+        ensures {
+            IfOk result (λ taken. Takes taken self.new
+                (with_line line.now.number (shown_text line.now.content)
+                    (binds_command (map shown_line more.now)) (shown_book self.old))
+                (shown_book self.old))
+        }
     {
         match line.text() {
             None => Ok(false),

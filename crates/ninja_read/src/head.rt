@@ -1,5 +1,7 @@
 ghost use Rattle.std.specs.Prelude.{◌≡◌, [], IfOk, IfSome, length, option_map};
-ghost use Rattle.ninja_read.specs.Heads.{path_of, paths_of, some_paths, before_mark, behind_mark, marked_paths, statement_of, statement_of_words, build_of, defaults_of, rule_name_of, binding_of};
+ghost use Rattle.ninja_read.specs.Heads.{path_of, paths_of, some_paths, before_mark, behind_mark};
+ghost use Rattle.ninja_read.specs.Heads.{marked_paths, statement_of, statement_of_words, build_of};
+ghost use Rattle.ninja_read.specs.Heads.{defaults_of, rule_name_of, binding_of};
 ghost use Rattle.ninja_lines.specs.Shown.{texts};
 
 use ninja_file::Statement;

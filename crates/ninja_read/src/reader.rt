@@ -1,4 +1,5 @@
-ghost use Rattle.std.specs.Prelude.{◌≡◌, ◌<◌, ◌^◌, ◌++◌, [], ℕ, List, None, Some, IfOk, IsTrue, MatchResult, map, not, length};
+ghost use Rattle.std.specs.Prelude.{◌≡◌, ◌<◌, ◌^◌, ◌++◌, [], ℕ, List, None, Some, IfOk, IsTrue, MatchResult};
+ghost use Rattle.std.specs.Prelude.{map, not, length};
 ghost use Rattle.std.specs.List.{flat_map};
 ghost use Rattle.ninja_lines.specs.Shown.{shown_line};
 ghost use Rattle.bp_names.specs.Meaning.{IsSetOf};
@@ -53,8 +54,14 @@ fn read_lines<'a>(
 
 // Adds the outs of a statement, where none was named before.
 fn add_outs<'a>(seen: &mut NameSet<'a>, outs: &'a [Text]) -> Result<bool, OutOfMemory>
-    ensures new { (texts : List (List ℕ)) → IsSetOf texts seen.old → IfOk result (λ new. new ≡ not (repeats texts outs.now)) }
-    ensures seen { (texts : List (List ℕ)) → IsSetOf texts seen.old → IfOk result (λ new. IsTrue new → IsSetOf (texts ++ outs.now) seen.new) }
+    ensures new {
+        (texts : List (List ℕ)) → IsSetOf texts seen.old
+            → IfOk result (λ new. new ≡ not (repeats texts outs.now))
+    }
+    ensures seen {
+        (texts : List (List ℕ)) → IsSetOf texts seen.old
+            → IfOk result (λ new. IsTrue new → IsSetOf (texts ++ outs.now) seen.new)
+    }
 {
     for out in outs {
         if !seen.learn(out.as_str())? {
@@ -69,7 +76,11 @@ fn outs_of<'a>(
     alloc: Global,
     statements: &'a [(u32, Statement)],
 ) -> Result<Result<NameSet<'a>, u32>, OutOfMemory>
-    ensures { IfOk result (λ found. MatchResult found (λ outs. (repeated [] statements.now ≡ None) × IsSetOf (flat_map (λ s. s.1.outs) statements.now) outs) (λ line. repeated [] statements.now ≡ Some line)) }
+    ensures {
+        IfOk result (λ found. MatchResult found
+            (λ outs. (repeated [] statements.now ≡ None) × IsSetOf (flat_map (λ s. s.1.outs) statements.now) outs)
+            (λ line. repeated [] statements.now ≡ Some line))
+    }
 {
     let mut seen = NameSet::new(alloc);
     for (number, statement) in statements {
@@ -99,7 +110,10 @@ fn refused(
     defaults: &[(u32, Text)],
     stop: Option<u32>,
 ) -> Result<Option<u32>, OutOfMemory>
-    ensures { IfOk result (λ line. line ≡ or_line (repeated [] statements.now) (or_line stop (stray (flat_map (λ s. s.1.outs) statements.now) defaults.now))) }
+    ensures {
+        IfOk result (λ line. line ≡ or_line (repeated [] statements.now)
+            (or_line stop (stray (flat_map (λ s. s.1.outs) statements.now) defaults.now)))
+    }
 {
     match outs_of(alloc, statements)? {
         Err(line) => Ok(Some(line)),

@@ -1,4 +1,5 @@
-ghost use Rattle.std.specs.Prelude.{◌≡◌, ◌∷◌, [], ℕ, List, MatchOption, IfOk, IfSome, OnOk, None, ◌≤◌, map, option_map, take, drop, length};
+ghost use Rattle.std.specs.Prelude.{◌≡◌, ◌∷◌, [], ℕ, List, MatchOption, IfOk, IfSome, OnOk, None, ◌≤◌, map};
+ghost use Rattle.std.specs.Prelude.{option_map, take, drop, length};
 ghost use Rattle.ninja_file.specs.declared.file.Piece.{Piece};
 ghost use Rattle.ninja_read.specs.Inside.{built, with_text, with_sign, IsSign, dollar_at};
 ghost use Rattle.ninja_read.specs.Values.{behind_dollar, in_braces, name_length, pieces_of, value_of};
@@ -102,7 +103,10 @@ fn name_length(bytes: &[u8]) -> usize
 
 /// The name that a text begins with, maybe an empty one, and what stands behind it.
 pub fn split_name(text: &str) -> (&str, &str)
-    ensures { (result.0.now ≡ take (name_length text.now) text.now) × (result.1.now ≡ drop (name_length text.now) text.now) }
+    ensures {
+        (result.0.now ≡ take (name_length text.now) text.now) ×
+        (result.1.now ≡ drop (name_length text.now) text.now)
+    }
 {
     text.split_at(name_length(text.as_bytes()))
 }

@@ -1,5 +1,5 @@
 -- Written lines, one after another, make the book of their file.
-use Rattle.std.proofs.Common.{◌≡◌, ◌≢◌, ℕ, ◌+◌, Bool, true, false, cond, ◌||◌, List, [], ◌∷◌, ◌++◌, map, Option, Some, None, option_map, option_and_then, codes, append_assoc, append-nil, ap, sym, subst, ◌∙◌, refl}
+use Rattle.std.proofs.Common.{◌≡◌, ◌≢◌, ℕ, ◌+◌, Bool, true, false, cond, not, ◌&&◌, ◌||◌, List, [], ◌∷◌, ◌++◌, map, Option, Some, None, option_map, option_and_then, codes, append_assoc, append-nil, ap, sym, subst, ◌∙◌, refl}
 use Rattle.std.specs.List.{list_all, list_any}
 use Rattle.std.specs.Map.{keys_of, values_of}
 use Rattle.std.specs.Str.{bytes_eq}
@@ -35,10 +35,16 @@ pub record Reads (from : Book) (n : ℕ) (lines : List (List ℕ)) (to : Book) (
 
 -- a new key is bound
 rule_binds : (key written : List ℕ) (rule : NinjaRule) (pieces : List Piece) → is_rule_key key ≡ true → has (keys_of rule.bindings) key ≡ false → pieces_of written ≡ Some pieces → bind (key, written) (Rule rule) ≡ Some (bound_rule rule key pieces)
-rule_binds key written rule pieces known fresh value = rw (known, fresh, value) refl
+rule_binds key written rule pieces known fresh value =
+    let F : List Piece → Open = λ ps. bound_rule rule key ps in
+    ap (λ b. cond (b && not (has (keys_of rule.bindings) key)) (option_map F (pieces_of written)) None) known
+    ∙ ap (λ b. cond (not b) (option_map F (pieces_of written)) None) fresh
+    ∙ ap (option_map F) value
 
 statement_binds : (key written : List ℕ) (number : ℕ) (s : Statement) (value : List ℕ) → has (keys_of s.vars) key ≡ false → value_of written ≡ Some value → bind (key, written) (Build number s) ≡ Some (bound_statement number s key value)
-statement_binds key written number s value fresh meant = rw (fresh, meant) refl
+statement_binds key written number s value fresh meant =
+    let F : List ℕ → Open = λ v. bound_statement number s key v in
+    ap (λ b. cond (not b) (option_map F (value_of written)) None) fresh ∙ ap (option_map F) meant
 
 binding_step : (n : ℕ) (c : Bool) (book : Book) (key value read : List ℕ) (old new : Open) → is_name key ≡ true → binding_of (bound key value) ≡ Some (key, read) → bind (key, read) old ≡ Some new → with_form n c (with_last book old) (bound key value) (form_of (bound key value)) ≡ Some (with_last book new)
 binding_step n c book key value read old new name found h =
@@ -110,7 +116,9 @@ pub same_texts : (y x : List ℕ) → y ≡ x → bytes_eq y x ≡ true
 same_texts y x h = (bytes_eq-Decides y x).1 h
 
 rule_begins : (has_command : Bool) (book : Book) (name : List ℕ) → has_command ≡ true → has (names_of book) name ≡ false → with_rule has_command book name ≡ Some (opened (bare_rule name) book)
-rule_begins has_command book name command fresh = rw (command, fresh) refl
+rule_begins has_command book name command fresh =
+    let new : Option Book = Some (opened (bare_rule name) book) in
+    ap (λ b. cond (b && not (has (names_of book) name)) new None) command ∙ ap (λ b. cond (not b) new None) fresh
 
 pub rule_read : (n : ℕ) (book : Book) (rule : NinjaRule) (rest : List (List ℕ)) → IsRule rule → has (names_of book) rule.name ≡ false → Reads book n (rule_lines rule ++ rest) (opened (Rule rule) book) rest
 rule_read n book rule rest good is_new =

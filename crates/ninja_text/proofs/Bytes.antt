@@ -1,5 +1,5 @@
 -- Written bytes: no dollar is left open, no delimiter is bare.
-use Rattle.std.proofs.Common.{◌≡◌, ℕ, Bool, true, false, not, ◌&&◌, ◌||◌, List, [], ◌∷◌, ◌++◌, eqb, append_assoc, ap, sym, ◌∙◌, refl, arith}
+use Rattle.std.proofs.Common.{◌≡◌, ℕ, Bool, true, false, cond, not, ◌&&◌, ◌||◌, List, [], ◌∷◌, ◌++◌, eqb, append_assoc, ap, sym, subst, ◌∙◌, refl, arith}
 use Rattle.std.specs.List.{flat_map, list_all, onto_first}
 use Rattle.ninja_lines.specs.Meaning.{dangles}
 use Rattle.ninja_lines.specs.Cuts.{cut}
@@ -83,8 +83,8 @@ pub plain_byte : (at b : ℕ) → eqb b 36 ≡ false → eqb b at ≡ false → 
 plain_byte at b d e = λ rest. rw (d, e) refl
 
 byte_passes : (at b : ℕ) (e : Bool) → is_escaped Path at ≡ true → is_escaped Path b ≡ e → Passes at (escaped_byte Path b)
-byte_passes at b true h k = rw k (λ rest. refl)
-byte_passes at b false h k = rw k (plain_byte at b (no_dollar Path b k) (other_byte at b h k))
+byte_passes at b true h k = subst (λ t. Passes at t) (sym (ap (λ e. cond e (36 ∷ b ∷ []) (b ∷ [])) k)) (λ rest. refl)
+byte_passes at b false h k = subst (λ t. Passes at t) (sym (ap (λ e. cond e (36 ∷ b ∷ []) (b ∷ [])) k)) (plain_byte at b (no_dollar Path b k) (other_byte at b h k))
 
 -- a written path has no bare delimiter
 pub path_passes : (at : ℕ) → is_escaped Path at ≡ true → (path : List ℕ) → Passes at (path_text path)

@@ -8,7 +8,7 @@ use Rattle.ninja_file.specs.declared.file.Piece.TheVariants.{Lit, Var}
 use Rattle.ninja_file.specs.Escapes.{is_escaped}
 use Rattle.ninja_write.specs.Escaped.{escaped_byte, escaped, path_text, lead, value_text}
 use Rattle.ninja_write.specs.Meaning.{piece_text, pieces_text}
-use Rattle.ninja_read.specs.Values.{in_text, in_braces, name_length, with_byte, with_variable, pieces_from, pieces_of, literal, value_of}
+use Rattle.ninja_read.specs.Values.{in_text, in_braces, name_length, with_byte, with_variable, closed_name, pieces_from, pieces_of, literal, value_of}
 use Rattle.ninja_read.specs.Heads.{path_of, paths_of, if_path}
 use Rattle.ninja_file.specs.Names.{is_nil, is_name, is_name_byte, is_value, is_path}
 use Rattle.ninja_file.specs.Meaning.{is_piece, begins_literally, are_apart, is_rule_value}
@@ -70,7 +70,10 @@ name_closed done (b ∷ name) rest h some =
     let k : is_name_byte b ≡ true = (and_parts (is_name_byte b) (list_all is_name_byte name) h).0 in
     let e : eqb b 125 ≡ false = apart_by is_name_byte b 125 k refl in
     let same : (done ++ b ∷ []) ++ name ≡ done ++ b ∷ name = append_assoc done (b ∷ []) name in
-    rw (e, k) (name_closed (done ++ b ∷ []) name rest ((and_parts (is_name_byte b) (list_all is_name_byte name) h).1) (ap is_nil same ∙ some) ∙ ap (λ n. with_variable n (pieces_from in_text rest)) same)
+    ap (λ x. cond x (closed_name done (pieces_from in_text (name ++ 125 ∷ rest))) (cond (is_name_byte b) (pieces_from (in_braces (done ++ b ∷ [])) (name ++ 125 ∷ rest)) None)) e
+    ∙ ap (λ x. cond x (pieces_from (in_braces (done ++ b ∷ [])) (name ++ 125 ∷ rest)) None) k
+    ∙ name_closed (done ++ b ∷ []) name rest ((and_parts (is_name_byte b) (list_all is_name_byte name) h).1) (ap is_nil same ∙ some)
+    ∙ ap (λ n. with_variable n (pieces_from in_text rest)) same
 
 reads_variable : (name rest : List ℕ) → is_name name ≡ true → pieces_from in_text ((codes "${" ++ (name ++ codes "}")) ++ rest) ≡ option_map (λ more. Var name ∷ more) (pieces_from in_text rest)
 reads_variable name rest h =

@@ -1,5 +1,6 @@
 //! What makes the definition of the text believable: each law is the contract of a function without a body.
-ghost use Rattle.ninja_write.specs.Laws.{LinesAreLines, PathsAreGuarded, PathsStayApart, RuleValuesStayApart, ValuesStayApart};
+ghost use Rattle.ninja_write.specs.Laws.{LinesAreLines, PathsAreGuarded, PathsStayApart, RuleValuesStayApart};
+ghost use Rattle.ninja_write.specs.Laws.{ValuesStayApart};
 
 /// No two paths have the same written form.
 pub fn different_paths_are_written_differently()

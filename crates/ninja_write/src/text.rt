@@ -1,8 +1,12 @@
-ghost use Rattle.std.specs.Prelude.{◌≡◌, ℕ, ◌^◌, ◌<◌, ◌≤◌, List, [], ◌∷◌, ◌++◌, IfOk, IsErrOf, IsUtf8, map, length, codes};
+ghost use Rattle.std.specs.Prelude.{◌≡◌, ℕ, ◌^◌, ◌<◌, ◌≤◌, List, [], ◌∷◌, ◌++◌, IfOk, IsErrOf, IsUtf8, map};
+ghost use Rattle.std.specs.Prelude.{length, codes};
 ghost use Rattle.std.specs.List.{flat_map};
 ghost use Rattle.ninja_write.specs.Inside.{Puts};
 ghost use Rattle.ninja_write.specs.Escaped.{lead, value_text};
-ghost use Rattle.ninja_write.specs.Meaning.{piece_text, lead_of, pieces_text, binding_line, variable_line, spaced_path, marked, ins_text, build_line, rule_line, rule_lines, statement_lines, default_lines, head_line, ended, joined, text_of};
+ghost use Rattle.ninja_write.specs.Meaning.{piece_text, lead_of, pieces_text, binding_line, variable_line};
+ghost use Rattle.ninja_write.specs.Meaning.{spaced_path, marked, ins_text, build_line, rule_line, rule_lines};
+ghost use Rattle.ninja_write.specs.Meaning.{statement_lines, default_lines, head_line, ended, joined};
+ghost use Rattle.ninja_write.specs.Meaning.{text_of};
 
 use crate::escaped::put_escaped;
 use crate::output::{Output, WriteError, Written, put_all};
