@@ -152,7 +152,7 @@ impl<'a> Book<'a> {
             Open::Rule(rule) => self.rules.push(rule)?,
             Open::Build(number, statement) => self.statements.push((number, statement))?,
         }
-        self.keys = NameSet::new(alloc);
+        let _ended = mem::replace(&mut self.keys, NameSet::new(alloc));
         Ok(())
     }
 

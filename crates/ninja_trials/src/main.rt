@@ -9,24 +9,24 @@ mod again;
 mod sample;
 
 use again::write_all_again;
-use sample::sample;
+use sample::sample_text;
 use std::alloc::Global;
 use std::io::{Read, Write};
 use std::{env, io};
 
 fn write_sample(alloc: Global, out: &mut impl Write) -> io::Result<()> {
-    let Ok(text) = sample(alloc) else {
+    let Ok(text) = sample_text(alloc) else {
         return Err(io::ErrorKind::OutOfMemory.into());
     };
     out.write_all(text.as_slice())
 }
 
 fn main(rt: HostRuntime) -> io::Result<()> {
-    let mut bytes = Vec::new(rt.alloc());
     for word in env::args(&rt)?.skip(1) {
         match word.as_str() {
             "sample" => write_sample(rt.alloc(), &mut io::writer(&rt))?,
             "again" => {
+                let mut bytes = Vec::new(rt.alloc());
                 rt.reader().read_to_end(&mut bytes)?;
                 write_all_again(rt.alloc(), bytes.as_slice(), &mut io::writer(&rt))?;
             }

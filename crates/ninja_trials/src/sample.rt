@@ -86,20 +86,19 @@ fn file(alloc: Global) -> Result<NinjaFile, OutOfMemory> {
     let mut rules = Vec::new(alloc);
     rules.push(rule(alloc)?)?;
     let all = texts(alloc, &["out/a b", "out/long"])?;
-    let statements = [
-        hard(alloc)?,
-        plain(alloc, "out/long", "say_1", long_list(alloc)?)?,
-        plain(alloc, "out/all of it", "phony", all)?,
-    ];
+    let mut statements = Vec::new(alloc);
+    statements.push(hard(alloc)?)?;
+    statements.push(plain(alloc, "out/long", "say_1", long_list(alloc)?)?)?;
+    statements.push(plain(alloc, "out/all of it", "phony", all)?)?;
     Ok(NinjaFile {
         rules: Seq::new(rules),
-        statements: Seq::new(copy_all(alloc, &statements)?),
+        statements: Seq::new(copy_all(alloc, statements.as_slice())?),
         defaults: texts(alloc, &["out/all of it"])?,
     })
 }
 
 /// The text of a file with hard paths and values.
-pub fn sample(alloc: Global) -> Result<Vec<u8>, WriteError> {
+pub fn sample_text(alloc: Global) -> Result<Vec<u8>, WriteError> {
     match file(alloc) {
         Ok(file) => write(alloc, &file),
         Err(OutOfMemory) => Err(WriteError::OutOfMemory),
