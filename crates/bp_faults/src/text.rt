@@ -1,4 +1,4 @@
-ghost use Rattle.std.specs.Prelude.{◌≡◌, List, ℕ, IfOk, OnOk, OnErr, ◌++◌, IsTrue, ◌↔◌, string_bytes};
+ghost use Rattle.std.specs.Prelude.{◌≡◌, List, ℕ, IfOk, OnOk, OnErr, ◌++◌, string_bytes};
 
 use crate::OutOfMemory;
 use std::alloc::Global;
@@ -19,23 +19,18 @@ impl Model for Text {
 }
 
 impl Text {
+    /// The text of a string. It takes no memory.
     pub fn new(text: String) -> Text
         ensures { result ≡ string_bytes text }
     {
         Text { text }
     }
 
+    /// The text as a slice.
     pub fn as_str(&self) -> &str
         ensures { result.now ≡ self.now }
     {
         self.text.as_str()
-    }
-
-    /// Whether both have the same bytes.
-    pub fn is(&self, other: &Text) -> bool
-        ensures { IsTrue result ↔ (self.now ≡ other.now) }
-    {
-        self.text.as_str() == other.text.as_str()
     }
 
     /// The text of a slice.
@@ -55,6 +50,7 @@ impl Text {
         Ok(())
     }
 
+    /// The same text in memory of its own.
     pub fn copy(&self, alloc: Global) -> Result<Text, OutOfMemory>
         ensures { IfOk result (λ copy. copy ≡ self.now) }
     {
