@@ -36,7 +36,7 @@ module _ {K X : Type 0} (cmp : K → K → Ordering) (total : IsTotalOrder cmp) 
   lookup-tied j k es tie = ap (λ test. lookup (is_at test) es) (λ i z. total.congr j k z tie i)
 
   -- a key below all others is not among them
-  lookup-below : (k : K) (es : List (K × X)) → AllByRecursion (λ y. cmp k y ≡ Less) (keys_of es) → lookup (is_at (cmp k)) es ≡ None
+  pub lookup-below : (k : K) (es : List (K × X)) → AllByRecursion (λ y. cmp k y ≡ Less) (keys_of es) → lookup (is_at (cmp k)) es ≡ None
   lookup-below k [] below = refl
   lookup-below k (e ∷ es) below = rw (below.0) (lookup-below k es below.1)
 

@@ -4,3 +4,4 @@ pub mod Group
 pub mod Groups
 pub mod Records
 pub mod Undo
+pub mod Inside

@@ -1,12 +1,13 @@
 ghost use Rattle.std.specs.Prelude.{◌≡◌, OnOk, OnErr};
 ghost use Rattle.bp_props.specs.Group.{lists_merged, group_merged, group_empty, group_restricted};
-ghost use Rattle.bp_props.specs.Undo.{GroupBegins};
+ghost use Rattle.bp_props.specs.Undo.{GroupBegins, group_mark, group_cut};
 
 use crate::given::keep_scalar;
+use crate::mark::GroupMark;
 use crate::merge::Winner;
 use crate::table::{
-    copy_scalars, extend_lists, group_lists, group_scalars, keep_lists, keep_scalars,
-    merge_scalars, or_cut,
+    copy_scalars, cut_lists, extend_lists, group_lists, group_scalars, keep_lists, keep_scalars,
+    merge_scalars,
 };
 use crate::{Field, Given, Listed, ModuleKind, Source};
 use bp_faults::{Item, OutOfMemory, Path, Payload, Text};
@@ -67,6 +68,21 @@ macro_rules! empty_group {
     };
 }
 
+macro_rules! mark_lists {
+    ([$group:expr, $($set:ident),*] $(($name:ident $field:ident))*) => {
+        GroupMark {
+            $($set: $group.$set,)*
+            $($name: $group.$name.mark(),)*
+        }
+    };
+}
+
+macro_rules! mark_group {
+    ([$group:expr] $(($name:ident $field:ident))*) => {
+        group_lists!(mark_lists $group, $($name),*)
+    };
+}
+
 impl GroupProps {
     /// A group that sets nothing. It takes no memory.
     pub fn empty(alloc: Global) -> GroupProps
@@ -74,6 +90,22 @@ impl GroupProps {
     {
         let empty = group_lists!(empty_group alloc);
         empty
+    }
+
+    /// What the group is now, to come back to.
+    pub(crate) fn mark(&self) -> GroupMark
+        ensures { result ≡ group_mark self.now }
+    {
+        let mark = group_scalars!(mark_group self);
+        mark
+    }
+
+    /// Takes back what was merged into the group since the mark. It takes no memory.
+    pub(crate) fn cut(&mut self, mark: GroupMark)
+        ensures { self.new ≡ group_cut mark self.old }
+    {
+        group_lists!(cut_lists self, mark);
+        group_scalars!(copy_scalars self, mark);
     }
 
     /// Puts the lists of a group behind. After want of memory a part of them may stand there.
@@ -93,7 +125,7 @@ impl GroupProps {
         winner: Winner,
     ) -> Result<(), OutOfMemory>
         ensures ok { OnOk result (self.new ≡ group_merged winner self.old other.now) }
-        ensures begins { OnErr result (GroupBegins self.old self.new) }
+        ensures begins { GroupBegins self.old self.new }
     {
         self.extend(alloc, other)?;
         group_scalars!(merge_scalars self, other, winner);
@@ -108,9 +140,15 @@ impl GroupProps {
         winner: Winner,
     ) -> Result<(), OutOfMemory>
         ensures ok { OnOk result (self.new ≡ group_merged winner self.old other.now) }
+        ensures begins { OnOk result (GroupBegins self.old self.new) }
         ensures err { OnErr result (self.new ≡ self.old) }
     {
-        group_lists!(or_cut self, self.extend_all(alloc, other, winner))
+        let mark = self.mark();
+        let merged = self.extend_all(alloc, other, winner);
+        if merged.is_err() {
+            self.cut(mark);
+        }
+        merged
     }
 
     /// Drops the fields that the kind's table lacks. It takes no memory.

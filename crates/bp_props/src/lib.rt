@@ -17,6 +17,7 @@ mod mark;
 mod merge;
 mod module;
 mod multi;
+mod pairs;
 mod props;
 mod source;
 mod table;

@@ -6,8 +6,8 @@ ghost use Rattle.bp_props.specs.Undo.{PropsBegins, BaseBegins};
 use crate::given::{copy_name, keep_scalar};
 use crate::merge::Winner;
 use crate::table::{
-    copy_lists, copy_scalars, extend_lists, group_lists, group_scalars, keep_lists, keep_scalars,
-    lists, merge_scalars, or_cut, scalars,
+    copy_lists, copy_scalars, extend_lists, group_scalars, keep_lists, keep_scalars, lists,
+    merge_scalars, or_cut, scalars,
 };
 use crate::{Field, Given, GroupId, GroupProps, Groups, Listed, ModuleKind, Multi};
 use bp_faults::{Item, NodeId, OutOfMemory, Path, Payload, Seq, Text};
@@ -171,7 +171,12 @@ impl Props {
         ensures groups { OnOk result (EachMerged winner self.old.groups other.now.groups self.new.groups) }
         ensures err { OnErr result (self.new ≡ self.old) }
     {
-        group_lists!(or_cut self.base, self.extend_base(alloc, other, winner))
+        let mark = self.base.mark();
+        let merged = self.extend_base(alloc, other, winner);
+        if merged.is_err() {
+            self.base.cut(mark);
+        }
+        merged
     }
 
     /// Appends a group: its lists go behind, and each scalar that it sets replaces.

@@ -94,6 +94,13 @@ macro_rules! or_cut {
     }};
 }
 
+/// Takes back what was put behind the lists since their marks.
+macro_rules! cut_lists {
+    ([$record:expr, $mark:expr] $(($name:ident $field:ident))*) => {{
+        $($record.$name.cut($mark.$name);)*
+    }};
+}
+
 macro_rules! merge_scalars {
     ([$record:expr, $other:expr, $winner:expr] $(($name:ident $field:ident))*) => {{
         $($record.$name = $winner.of(&$record.$name, &$other.$name);)*
@@ -114,6 +121,7 @@ macro_rules! keep_scalars {
 
 pub(crate) use copy_lists;
 pub(crate) use copy_scalars;
+pub(crate) use cut_lists;
 pub(crate) use extend_lists;
 pub(crate) use group_lists;
 pub(crate) use group_scalars;
