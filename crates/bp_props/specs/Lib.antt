@@ -5,3 +5,4 @@ pub mod Groups
 pub mod Records
 pub mod Undo
 pub mod Inside
+pub mod Laws

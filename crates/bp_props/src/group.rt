@@ -6,10 +6,12 @@ use crate::given::keep_scalar;
 use crate::mark::GroupMark;
 use crate::merge::Winner;
 use crate::table::{
-    copy_scalars, cut_lists, extend_lists, group_lists, group_scalars, keep_lists, keep_scalars,
-    merge_scalars,
+    copy_scalars, cut_lists, extend_lists, group_lists, keep_lists, keep_scalars, merge_scalars,
 };
-use crate::{Field, Given, Listed, ModuleKind, Source};
+use crate::{
+    Field, Given, Listed, ModuleKind, Source, group_dirs, group_flags, group_names, group_sources,
+    group_truths,
+};
 use bp_faults::{Item, OutOfMemory, Path, Payload, Text};
 use std::alloc::Global;
 
@@ -59,27 +61,52 @@ impl Drop for GroupProps {
     }
 }
 
-macro_rules! empty_group {
-    ([$alloc:expr] $(($name:ident $field:ident))*) => {
-        GroupProps {
-            enabled: None,
-            $($name: Listed::empty($alloc),)*
-        }
+macro_rules! with_truths {
+    ([$make:ident $record:expr, $($lists:tt)*] $($truths:tt)*) => {
+        $make!($record, [$($truths)*] [$($lists)*])
     };
 }
 
-macro_rules! mark_lists {
-    ([$group:expr, $($set:ident),*] $(($name:ident $field:ident))*) => {
-        GroupMark {
-            $($set: $group.$set,)*
-            $($name: $group.$name.mark(),)*
+macro_rules! with_names {
+    ([$make:ident $record:expr, $($before:tt)*] $($names:tt)*) => {
+        group_truths!(with_truths $make $record, $($before)* $($names)*)
+    };
+}
+
+macro_rules! with_dirs {
+    ([$make:ident $record:expr, $($before:tt)*] $($dirs:tt)*) => {
+        group_names!(with_names $make $record, $($before)* $($dirs)*)
+    };
+}
+
+macro_rules! with_flags {
+    ([$make:ident $record:expr, $($before:tt)*] $($flags:tt)*) => {
+        group_dirs!(with_dirs $make $record, $($before)* $($flags)*)
+    };
+}
+
+/// A struct with all fields of a group, written by a macro from its scalars and its lists.
+macro_rules! all_fields {
+    ([$make:ident $record:expr] $($sources:tt)*) => {
+        group_flags!(with_flags $make $record, $($sources)*)
+    };
+}
+
+macro_rules! empty_group {
+    ($alloc:expr, [$(($set:ident $a:ident))*] [$(($list:ident $b:ident))*]) => {
+        GroupProps {
+            $($set: None,)*
+            $($list: Listed::empty($alloc),)*
         }
     };
 }
 
 macro_rules! mark_group {
-    ([$group:expr] $(($name:ident $field:ident))*) => {
-        group_lists!(mark_lists $group, $($name),*)
+    ($group:expr, [$(($set:ident $a:ident))*] [$(($list:ident $b:ident))*]) => {
+        GroupMark {
+            $($set: $group.$set,)*
+            $($list: $group.$list.mark(),)*
+        }
     };
 }
 
@@ -88,7 +115,7 @@ impl GroupProps {
     pub fn empty(alloc: Global) -> GroupProps
         ensures { result ≡ group_empty }
     {
-        let empty = group_lists!(empty_group alloc);
+        let empty = group_sources!(all_fields empty_group alloc);
         empty
     }
 
@@ -96,7 +123,7 @@ impl GroupProps {
     pub(crate) fn mark(&self) -> GroupMark
         ensures { result ≡ group_mark self.now }
     {
-        let mark = group_scalars!(mark_group self);
+        let mark = group_sources!(all_fields mark_group self);
         mark
     }
 
@@ -105,7 +132,7 @@ impl GroupProps {
         ensures { self.new ≡ group_cut mark self.old }
     {
         group_lists!(cut_lists self, mark);
-        group_scalars!(copy_scalars self, mark);
+        group_truths!(copy_scalars self, mark);
     }
 
     /// Puts the lists of a group behind. After want of memory a part of them may stand there.
@@ -128,7 +155,7 @@ impl GroupProps {
         ensures begins { GroupBegins self.old self.new }
     {
         self.extend(alloc, other)?;
-        group_scalars!(merge_scalars self, other, winner);
+        group_truths!(merge_scalars self, other, winner);
         Ok(())
     }
 
@@ -155,7 +182,7 @@ impl GroupProps {
     pub(crate) fn restrict(&mut self, kind: ModuleKind)
         ensures { self.new ≡ group_restricted kind self.old }
     {
-        group_scalars!(keep_scalars self, kind);
+        group_truths!(keep_scalars self, kind);
         group_lists!(keep_lists self, kind);
     }
 }
@@ -164,7 +191,7 @@ impl Payload for GroupProps {
     fn copy(&self, alloc: Global) -> Result<Self, OutOfMemory> {
         let mut copy = GroupProps::empty(alloc);
         copy.extend(alloc, self)?;
-        group_scalars!(copy_scalars copy, self);
+        group_truths!(copy_scalars copy, self);
         Ok(copy)
     }
 }

@@ -12,6 +12,7 @@ mod group;
 mod group_id;
 mod groups;
 mod kind;
+pub mod laws;
 mod listed;
 mod mark;
 mod merge;

@@ -6,10 +6,13 @@ ghost use Rattle.bp_props.specs.Undo.{PropsBegins, BaseBegins};
 use crate::given::{copy_name, keep_scalar};
 use crate::merge::Winner;
 use crate::table::{
-    copy_lists, copy_scalars, extend_lists, group_scalars, keep_lists, keep_scalars, lists,
-    merge_scalars, or_cut, scalars,
+    copy_lists, copy_scalars, extend_lists, keep_lists, keep_scalars, merge_scalars,
+    module_scalars, or_cut,
 };
-use crate::{Field, Given, GroupId, GroupProps, Groups, Listed, ModuleKind, Multi};
+use crate::{
+    Field, Given, GroupId, GroupProps, Groups, Listed, ModuleKind, Multi, group_truths,
+    module_names, module_truths,
+};
 use bp_faults::{Item, NodeId, OutOfMemory, Path, Payload, Seq, Text};
 use std::alloc::Global;
 
@@ -77,13 +80,15 @@ impl Drop for Props {
     }
 }
 
-macro_rules! empty_lists {
-    ([$alloc:expr, $($set:ident),*] $(($name:ident $field:ident))*) => {
+macro_rules! with_names {
+    ([$alloc:expr, $($truth:ident)*] $(($name:ident $field:ident))*) => {
         Props {
             base: GroupProps::empty($alloc),
             name: None,
             defaults: Listed::empty($alloc),
-            $($set: None,)*
+            compile_multilib: None,
+            $($truth: None,)*
+            min_sdk_version: None,
             $($name: Listed::empty($alloc),)*
             groups: Groups::empty($alloc),
             asan: false,
@@ -98,7 +103,7 @@ macro_rules! empty_lists {
 
 macro_rules! empty_props {
     ([$alloc:expr] $(($name:ident $field:ident))*) => {
-        lists!(empty_lists $alloc, $($name),*)
+        module_names!(with_names $alloc, $($name)*)
     };
 }
 
@@ -107,7 +112,7 @@ impl Props {
     pub fn empty(alloc: Global) -> Props
         ensures { result ≡ props_empty }
     {
-        let empty = scalars!(empty_props alloc);
+        let empty = module_truths!(empty_props alloc);
         empty
     }
 
@@ -125,8 +130,8 @@ impl Props {
         self.base = other.base.copy(alloc)?;
         self.name = copy_name(alloc, &other.name)?;
         self.defaults = other.defaults.copy(alloc)?;
-        lists!(copy_lists self, alloc, other);
-        scalars!(copy_scalars self, other);
+        module_names!(copy_lists self, alloc, other);
+        module_scalars!(copy_scalars self, other);
         self.groups = other.groups.copy(alloc)?;
         self.asan = other.asan;
         self.level = other.level;
@@ -144,10 +149,10 @@ impl Props {
         ensures begins { OnErr result (PropsBegins self.old self.new) }
     {
         self.base.extend(alloc, &other.base)?;
-        lists!(extend_lists self, alloc, other);
+        module_names!(extend_lists self, alloc, other);
         self.groups.merge(alloc, &other.groups, winner)?;
-        group_scalars!(merge_scalars self.base, other.base, winner);
-        scalars!(merge_scalars self, other, winner);
+        group_truths!(merge_scalars self.base, other.base, winner);
+        module_scalars!(merge_scalars self, other, winner);
         Ok(())
     }
 
@@ -162,7 +167,7 @@ impl Props {
         ensures groups { OnOk result (EachMerged winner self.old.groups other.now.groups self.new.groups) }
         ensures begins { OnErr result (BaseBegins self.old self.new) }
     {
-        lists!(or_cut self, self.extend(alloc, other, winner))
+        module_names!(or_cut self, self.extend(alloc, other, winner))
     }
 
     // Merges a record into this one, but for `name` and `defaults`.
@@ -220,8 +225,8 @@ impl Props {
         self.base.restrict(kind);
         keep_scalar(&mut self.name, kind.has(Field::Name));
         self.defaults.keep_if(kind.has(Field::Defaults));
-        scalars!(keep_scalars self, kind);
-        lists!(keep_lists self, kind);
+        module_scalars!(keep_scalars self, kind);
+        module_names!(keep_lists self, kind);
         self.groups.restrict(kind);
     }
 }
