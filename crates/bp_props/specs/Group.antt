@@ -1,6 +1,6 @@
 -- The properties of a group: what sets nothing, what merging makes of two, and what restriction leaves.
 use Rattle.std.specs.Prelude.{None}
-use Rattle.bp_props.specs.Merge.{scalar_merged, list_merged, list_empty, kept_scalar, kept_list}
+use Rattle.bp_props.specs.Meaning.{scalar_merged, list_merged, list_empty, kept_scalar, kept_list}
 use Rattle.bp_props.specs.Kinds.{has_field}
 use Rattle.bp_props.specs.declared.kind.ModuleKind.{ModuleKind}
 use Rattle.bp_props.specs.declared.field.Field.TheVariants as F

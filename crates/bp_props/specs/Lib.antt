@@ -1,4 +1,4 @@
-pub mod Merge
+pub mod Meaning
 pub mod Kinds
 pub mod Group
 pub mod Groups

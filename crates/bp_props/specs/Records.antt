@@ -1,6 +1,6 @@
 -- The record of a module: what sets nothing, what the three merging calls make of two, and what restriction leaves.
 use Rattle.std.specs.Prelude.{None, [], false, filter}
-use Rattle.bp_props.specs.Merge.{scalar_merged, list_merged, list_empty, kept_scalar, kept_list}
+use Rattle.bp_props.specs.Meaning.{scalar_merged, list_merged, list_empty, kept_scalar, kept_list}
 use Rattle.bp_props.specs.Group.{group_empty, group_merged, group_restricted}
 use Rattle.bp_props.specs.Groups.{groups_merged, EachMerged}
 use Rattle.bp_props.specs.Kinds.{has_field}

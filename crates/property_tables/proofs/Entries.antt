@@ -6,13 +6,13 @@ use Rattle.bp_faults.specs.declared.refusal.Refusal.{Refusal}
 use Rattle.bp_faults.specs.declared.refusal.Refusal.TheVariants.{Bad, OutOfMemory}
 use Rattle.bp_values.specs.declared.value.Entry.{Entry}
 use Rattle.bp_values.specs.Values.{Field, field_of, fields_then, no_field}
-use Rattle.bp_values.proofs.Steps.{map_drop_cons}
-use Rattle.property_tables.specs.Typing.{each_entry}
+use Rattle.bp_faults.proofs.Lists.{drop-here}
+use Rattle.property_tables.specs.Entries.{each_entry}
 
 module _ {A : Type 0} (step : A → Field → Result A Fault) (es : List Entry) (i : ℕ) (e : Entry) (made : A) (within : i < length es) (item : e ≡ get_or es i e) where
   rest_after : each_entry step made (fields_then (map field_of (drop i es)) no_field) ≡ then_do (step made (field_of e)) (λ next. each_entry step next (fields_then (map field_of (drop (i + 1) es)) no_field))
   rest_after =
-      ap (λ fs. each_entry step made (fields_then fs no_field)) (map_drop_cons field_of es i e within ∙ ap (λ x. field_of x ∷ map field_of (drop (i + 1) es)) (sym item))
+      ap (λ fs. each_entry step made (fields_then fs no_field)) (ap (map field_of) (drop-here es i e within item))
 
   -- the entry is put into what was made
   pub entry_put : (whole : Result A Fault) (next : A) → whole ≡ each_entry step made (fields_then (map field_of (drop i es)) no_field) → step made (field_of e) ≡ Ok next → whole ≡ each_entry step next (fields_then (map field_of (drop (i + 1) es)) no_field)

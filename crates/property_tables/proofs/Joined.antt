@@ -6,7 +6,8 @@ use Rattle.std.proofs.lemmas.Bool.{and_parts, and_from}
 use Rattle.std.proofs.lemmas.List.{append-nil}
 use Rattle.std.proofs.lemmas.List.Splits.{join_with_byte-slice_split, slice_split-cons_no}
 use Rattle.bp_faults.specs.Paths.{is_component, is_normal}
-use Rattle.property_tables.specs.Paths.{parts, components, placed, behind, path_and}
+use Rattle.property_tables.specs.Paths.{parts, components, placed}
+use Rattle.property_tables.specs.Inside.{behind, path_and}
 use Rattle.property_tables.specs.Fits.{is_empty}
 
 abbrev join : List (List ℕ) → List ℕ

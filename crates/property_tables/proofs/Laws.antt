@@ -6,12 +6,14 @@ use Rattle.bp_faults.specs.declared.fault.Fault.{Fault}
 use Rattle.bp_faults.specs.Answers.{then_do}
 use Rattle.bp_props.specs.declared.kind.ModuleKind.{ModuleKind}
 use Rattle.bp_values.specs.Files.{Raw}
-use Rattle.property_tables.specs.Typing.{typed_by, is_dropped, name_in, types}
+use Rattle.property_tables.specs.Meaning.{typed_by}
+use Rattle.property_tables.specs.Types.{is_dropped, types}
+use Rattle.property_tables.specs.Names.{name_in}
 use Rattle.std.proofs.lemmas.Slice.Eq.{bytes_eq-Decides}
 use Rattle.std.specs.Prelude.{codes}
 use Rattle.bp_values.specs.Values.{fields_then, no_field}
 use Rattle.bp_props.specs.Records.{props_empty}
-use Rattle.property_tables.specs.Typing.{each_entry, module_entry}
+use Rattle.property_tables.specs.Entries.{each_entry, module_entry}
 use Rattle.std.specs.Prelude.{not}
 use Rattle.std.specs.Option.{IfSome}
 use Rattle.std.specs.List.{AllByRecursion, list_all}

@@ -9,6 +9,8 @@ use Rattle.bp_faults.specs.declared.place.Item.{Item}
 use Rattle.bp_faults.specs.declared.fault.Fault.{Fault}
 use Rattle.bp_faults.specs.declared.kind.FaultKind.TheVariants.{WrongType, BadValue, BadPath}
 use Rattle.bp_faults.specs.Answers.{then_do}
+use Rattle.bp_faults.specs.Characters.{is_control}
+use Rattle.bp_faults.specs.Phases.{each_in_turn}
 use Rattle.bp_faults.specs.Faults.{fault_on}
 use Rattle.bp_props.specs.declared.source.Source.{Source}
 use Rattle.bp_props.specs.declared.multi.Multi.TheVariants.{Both, First, Only32, Only64}
@@ -20,7 +22,7 @@ use Rattle.property_tables.specs.declared.row.PropKind.{PropKind}
 use Rattle.property_tables.specs.declared.row.PropKind.TheVariants as K
 use Rattle.property_tables.specs.declared.fit.Fit.{Fit}
 use Rattle.property_tables.specs.declared.fit.Fit.TheVariants.{Truth, Word, Flags, Names, Sources, Dirs, Multi, Level, Unset}
-use Rattle.property_tables.specs.Paths.{is_control, is_refused, components, placed}
+use Rattle.property_tables.specs.Paths.{is_refused, components, placed}
 
 -- the value of an entry is of another type than its property's
 abbrev pub wrong_type : {A : Type 0} → Place → List ℕ → Result A Fault
@@ -42,11 +44,6 @@ list_in at path other = wrong_type at path
 abbrev pub map_in : Place → List ℕ → Meaning → Result Fields Fault
 map_in at path (value.Body fields) = Ok fields
 map_in at path other = wrong_type at path
-
--- the items in turn, each by the same rule
-abbrev pub each : {A : Type 0} → (Item → Result A Fault) → List Item → Result (List A) Fault
-each rule [] = Ok []
-each rule (item ∷ items) = then_do (rule item) (λ a. then_do (each rule items) (λ more. Ok (a ∷ more)))
 
 -- a flag holds no control character
 abbrev pub flag_in : List ℕ → Item → Result (List ℕ) Fault
@@ -111,10 +108,10 @@ abbrev pub fits : List ℕ → Option Field → List ℕ → Entry → PropKind 
 fits dir effect path entry K.Bool = then_do (truth_in entry.at path entry.value) (λ b. Ok (Truth b))
 fits dir effect path entry K.Word = then_do (word_in entry.at path entry.value) (λ word. Ok (Word word))
 fits dir effect path entry K.Words = then_do (list_in entry.at path entry.value) (λ items. Ok Unset)
-fits dir effect path entry K.Flags = then_do (list_in entry.at path entry.value) (λ items. then_do (each (flag_in path) items) (λ flags. Ok (Flags flags)))
+fits dir effect path entry K.Flags = then_do (list_in entry.at path entry.value) (λ items. then_do (each_in_turn (flag_in path) items) (λ flags. Ok (Flags flags)))
 fits dir effect path entry K.Names = then_do (list_in entry.at path entry.value) (λ items. Ok (Names items))
-fits dir effect path entry K.Paths = then_do (list_in entry.at path entry.value) (λ items. then_do (each (source_in dir) items) (λ sources. Ok (Sources sources)))
-fits dir effect path entry K.Dirs = then_do (list_in entry.at path entry.value) (λ items. then_do (each (dir_in (base_of dir effect)) items) (λ dirs. Ok (Dirs dirs)))
+fits dir effect path entry K.Paths = then_do (list_in entry.at path entry.value) (λ items. then_do (each_in_turn (source_in dir) items) (λ sources. Ok (Sources sources)))
+fits dir effect path entry K.Dirs = then_do (list_in entry.at path entry.value) (λ items. then_do (each_in_turn (dir_in (base_of dir effect)) items) (λ dirs. Ok (Dirs dirs)))
 fits dir effect path entry K.Multi = then_do (word_in entry.at path entry.value) (λ word. multi_in entry.at path word)
 fits dir effect path entry K.Level = then_do (word_in entry.at path entry.value) (λ word. level_in entry.at path word)
 fits dir effect path entry K.Group = then_do (map_in entry.at path entry.value) (λ fields. Ok Unset)

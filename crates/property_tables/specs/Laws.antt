@@ -13,7 +13,9 @@ use Rattle.bp_values.specs.Values.{fields_then, no_field}
 use Rattle.bp_values.specs.Files.{Raw}
 use Rattle.property_tables.specs.Tables.{properties}
 use Rattle.property_tables.specs.Paths.{components, placed}
-use Rattle.property_tables.specs.Typing.{each_entry, module_entry, is_dropped, types, typed}
+use Rattle.property_tables.specs.Entries.{each_entry, module_entry}
+use Rattle.property_tables.specs.Types.{is_dropped, types}
+use Rattle.property_tables.specs.Meaning.{typed}
 
 -- A property stands in the table of a kind exactly where the kind has the field that it sets.
 abbrev pub TablesHaveFields : Type 0

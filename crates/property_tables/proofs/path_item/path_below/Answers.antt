@@ -2,7 +2,7 @@ use Rattle.std.proofs.Common.{lit<, ap, ◌∙◌}
 use Rattle.std.specs.List.{fold}
 use Rattle.std.proofs.lemmas.Iterator.Consumers.{YieldsList-end}
 use Rattle.std.proofs.lemmas.Iterator.Splits.{YieldsList-from_str_split}
-use Rattle.property_tables.specs.Paths.{path_and}
+use Rattle.property_tables.specs.Inside.{path_and}
 use Rattle.property_tables.proofs.Joined.{grown_placed}
 use Rattle.property_tables.proofs.path_item.path_below.Goals as goal
 
