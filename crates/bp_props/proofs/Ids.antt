@@ -24,7 +24,8 @@ ascend : List GroupId → Bool
 ascend [] = true
 ascend (id ∷ ids) = is_below_all id ids && ascend ids
 
-below_all : (id : GroupId) (ids : List GroupId) → is_below_all id ids ≡ true → AllByRecursion (λ other. by_id id other ≡ Less) ids
+below_all : (id : GroupId) (ids : List GroupId) → is_below_all id ids ≡ true
+    → AllByRecursion (λ other. by_id id other ≡ Less) ids
 unfolding is_below_all
 below_all id [] is = tt
 below_all id (other ∷ ids) is =

@@ -5,7 +5,7 @@ use Rattle.bp_props.specs.declared.listed.Listed.{Listed}
 use Rattle.bp_props.specs.declared.merge.Winner.{Winner}
 use Rattle.bp_props.specs.declared.merge.Winner.TheVariants.{Receiver, Argument}
 
--- the first of two, where it is set, else the second
+-- The first of two is taken where it is set, else the second.
 abbrev pub first_set : {A : Type 0} → Option A → Option A → Option A
 first_set (Some a) b = Some a
 first_set None b = b
@@ -19,16 +19,16 @@ scalar_merged Argument a b = first_set b a
 abbrev pub list_merged : {A : Type 0} → Listed A → Listed A → Listed A
 list_merged a b = record { items = a.items ++ b.items; at = first_set a.at b.at }
 
--- a list that isn't set
+-- A list that isn't set has no items and no place.
 abbrev pub list_empty : {A : Type 0} → Listed A
 list_empty = record { items = []; at = None }
 
--- what restriction leaves of a scalar, which the kind has or not
+-- Restriction leaves a scalar that the kind has, and unsets any other.
 abbrev pub kept_scalar : {A : Type 0} → Bool → Option (Given A) → Option (Given A)
 kept_scalar true scalar = scalar
 kept_scalar false scalar = None
 
--- what restriction leaves of a list
+-- Restriction leaves a list that the kind has, and unsets any other.
 abbrev pub kept_list : {A : Type 0} → Bool → Listed A → Listed A
 kept_list true list = list
 kept_list false list = list_empty

@@ -1,4 +1,4 @@
--- How a record comes back to what it was, where memory runs out in the middle of a merge.
+-- No public contract speaks of it: how a record comes back to what it was, where memory runs out in a merge.
 use Rattle.std.specs.Prelude.{◌≡◌, length, take}
 use Rattle.bp_props.specs.declared.listed.Listed.{Listed}
 use Rattle.bp_props.specs.declared.mark.Mark.{Mark}
@@ -6,19 +6,19 @@ use Rattle.bp_props.specs.declared.mark.GroupMark.{GroupMark}
 use Rattle.bp_props.specs.declared.group.GroupProps.{GroupProps}
 use Rattle.bp_props.specs.declared.props.Props.{Props}
 
--- what a list was: how many items it had, and its place
+-- A mark says how many items a list had, and its place.
 abbrev pub mark_of : {A : Type 0} → Listed A → Mark
 mark_of list = record { count = length list.items; at = list.at }
 
--- a list cut back to what it was
+-- A list is cut back to its mark.
 abbrev pub list_cut : {A : Type 0} → Mark → Listed A → Listed A
 list_cut mark list = record { items = take mark.count list.items; at = mark.at }
 
--- the second list is what came of the first by items put behind
+-- The second list comes back to the first, cut to what that was.
 abbrev pub ListBegins : {A : Type 0} → Listed A → Listed A → Type 0
 ListBegins a b = list_cut (mark_of a) b ≡ a
 
--- what a group was
+-- A mark of a group has that of each list, and the scalars.
 abbrev pub group_mark : GroupProps → GroupMark
 group_mark g = record {
   enabled = g.enabled;
@@ -40,7 +40,7 @@ group_mark g = record {
   export_header_lib_headers = mark_of g.export_header_lib_headers;
 }
 
--- a group cut back to what it was
+-- A group is cut back to its mark.
 abbrev pub group_cut : GroupMark → GroupProps → GroupProps
 group_cut mark g = record {
   enabled = mark.enabled;
@@ -62,18 +62,18 @@ group_cut mark g = record {
   export_header_lib_headers = list_cut mark.export_header_lib_headers g.export_header_lib_headers;
 }
 
--- the second group comes back to the first, cut to what that was
+-- The second group comes back to the first, cut to what that was.
 abbrev pub GroupBegins : GroupProps → GroupProps → Type 0
 GroupBegins a b = group_cut (group_mark a) b ≡ a
 
--- the same of a record, whose other fields are what they were
+-- The lists of the second record come back to those of the first; its other fields are what they were.
 pub record PropsBegins (a b : Props) : Type 0 where
   pub base : GroupBegins a.base b.base
   pub plugin_of : ListBegins a.plugin_of b.plugin_of
   pub data_bins : ListBegins a.data_bins b.data_bins
   pub rest : b ≡ record a { base = b.base; plugin_of = b.plugin_of; data_bins = b.data_bins }
 
--- the same where the record's own lists are what they were too
+-- The lists of the record's own group come back; its other fields are what they were.
 pub record BaseBegins (a b : Props) : Type 0 where
   pub base : GroupBegins a.base b.base
   pub rest : b ≡ record a { base = b.base }

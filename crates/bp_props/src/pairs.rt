@@ -64,7 +64,8 @@ fn merge_at(
     winner: Winner,
 ) -> Result<GroupMark, OutOfMemory>
     requires { place < length pairs.old.items }
-    ensures ok { OnOk result (pairs.new.items ≡ updated_at place (λ g. group_merged winner g group.now) pairs.old.items) }
+    ensures ok { OnOk result
+        (pairs.new.items ≡ updated_at place (λ g. group_merged winner g group.now) pairs.old.items) }
     ensures back { IfOk result (λ mark. updated_at place (group_cut mark) pairs.new.items ≡ pairs.old.items) }
     ensures err { OnErr result (pairs.new.items ≡ pairs.old.items) }
 {

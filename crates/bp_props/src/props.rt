@@ -1,6 +1,7 @@
 ghost use Rattle.std.specs.Prelude.{◌≡◌, OnOk, OnErr, option_copied};
 ghost use Rattle.bp_props.specs.Groups.{group_of, EachMerged};
-ghost use Rattle.bp_props.specs.Records.{props_empty, props_merged, props_appended, props_followed, props_over, props_restricted, GroupsFollowed, GroupsOver};
+ghost use Rattle.bp_props.specs.Records.{props_empty, props_merged, props_appended, props_followed, props_over};
+ghost use Rattle.bp_props.specs.Records.{props_restricted, GroupsFollowed, GroupsOver};
 ghost use Rattle.bp_props.specs.Undo.{PropsBegins, BaseBegins};
 
 use crate::given::{copy_name, keep_scalar};

@@ -16,16 +16,17 @@ use Rattle.property_tables.specs.Entries.{each_entry, module_entry}
 use Rattle.property_tables.specs.Types.{types, is_dropped}
 use Rattle.property_tables.specs.Names.{name_in}
 
--- a module of this kind: first its entries, and then its name
+-- A module of a kind is made of its entries first, and then of its name.
 abbrev pub module_typed : Raw → List ℕ → ModuleKind → Result (Option Module) Fault
 module_typed raw dir kind = then_do (each_entry (module_entry dir kind) props_empty (fields_then raw.entries no_field))
-    (λ props. then_do (name_in raw props.name) (λ name. Ok (Some (record { name = name; kind = kind; dir = dir; at = raw.at; props = props }))))
+    (λ props. then_do (name_in raw props.name)
+    (λ name. Ok (Some (record { name = name; kind = kind; dir = dir; at = raw.at; props = props }))))
 
--- a module by the kind of its type
+-- A module is typed by the kind of its type.
 abbrev pub typed_by : Raw → List ℕ → Option ModuleKind → Result (Option Module) Fault
 typed_by raw dir (Some kind) = module_typed raw dir kind
 typed_by raw dir None = Err (fault_on UnknownType raw.at raw.kind)
 
--- What a module of a file in this directory is typed as.
+-- A module of a file in this directory is dropped, or typed by its type.
 abbrev pub typed : Raw → List ℕ → Result (Option Module) Fault
 typed raw dir = if is_dropped raw.kind then Ok None else typed_by raw dir (lookup (bytes_eq raw.kind) types)

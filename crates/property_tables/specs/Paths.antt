@@ -10,23 +10,24 @@ use Rattle.bp_faults.specs.Paths.{is_component}
 abbrev pub is_barred : ℕ → Bool
 is_barred c = is_barred_in_paths c || (c == 42)
 
--- what stands between the slashes
+-- The parts of a text are what is between its slashes.
 abbrev pub parts : List ℕ → List (List ℕ)
 parts text = slice_split (λ c. c == 47) text
 
--- the text begins at the root of the file system
+-- An absolute path begins at the root of the file system.
 abbrev pub is_absolute : List ℕ → Bool
 is_absolute [] = false
 is_absolute (c ∷ text) = c == 47
 
 -- A path item is refused where it begins with `/`, has a part `..`, or holds what no path may hold.
 abbrev pub is_refused : List ℕ → Bool
-is_refused text = is_absolute text || (list_any (λ part. bytes_eq part (codes "..")) (parts text) || list_any is_barred text)
+is_refused text =
+    is_absolute text || (list_any (λ part. bytes_eq part (codes "..")) (parts text) || list_any is_barred text)
 
--- the components of a path item: its parts, but for `.` and the empty ones
+-- The components of a path item are its parts, but for `.` and the empty ones.
 abbrev pub components : List ℕ → List (List ℕ)
 components text = filter is_component (parts text)
 
--- the path of an item below a directory: the components of both, joined
+-- The path of an item below a directory has the components of both.
 abbrev pub placed : List ℕ → List ℕ → List ℕ
 placed dir text = join_with_byte 47 (components dir ++ components text)

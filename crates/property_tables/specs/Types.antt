@@ -3,9 +3,10 @@
 use Rattle.std.specs.Prelude.{ℕ, Bool, List, [], ◌∷◌, ◌||◌, codes}
 use Rattle.std.specs.Str.{bytes_eq}
 use Rattle.bp_props.specs.declared.kind.ModuleKind.{ModuleKind}
-use Rattle.bp_props.specs.declared.kind.ModuleKind.TheVariants.{Binary, Library, LibraryStatic, LibraryShared, LibraryHeaders, Test, Defaults, Filegroup}
+use Rattle.bp_props.specs.declared.kind.ModuleKind.TheVariants.{Binary, Library, LibraryStatic, LibraryShared}
+use Rattle.bp_props.specs.declared.kind.ModuleKind.TheVariants.{LibraryHeaders, Test, Defaults, Filegroup}
 
--- the types that are built, and the kinds of their modules
+-- These types are built, and their modules are of these kinds.
 abbrev pub types : List (List ℕ × ModuleKind)
 types =
     (codes "cc_binary", Binary)
@@ -18,6 +19,6 @@ types =
     ∷ (codes "filegroup", Filegroup)
     ∷ []
 
--- the types that are dropped
+-- Two types are dropped.
 abbrev pub is_dropped : List ℕ → Bool
 is_dropped name = bytes_eq name (codes "package") || bytes_eq name (codes "license")

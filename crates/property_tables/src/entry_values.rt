@@ -26,14 +26,16 @@ pub(crate) fn entry_fault(
 }
 
 fn wrong_type(alloc: Global, prefix: &str, entry: &Entry) -> Result<Fault, OutOfMemory>
-    ensures { IfOk result (λ fault. fault ≡ fault_on WrongType (field_of entry.now).at (prefix.now ++ (field_of entry.now).name)) }
+    ensures { IfOk result
+        (λ fault. fault ≡ fault_on WrongType (field_of entry.now).at (prefix.now ++ (field_of entry.now).name)) }
 {
     entry_fault(alloc, FaultKind::WrongType, entry.at, prefix, &entry.name)
 }
 
 /// The bool that an entry's value is.
 pub(crate) fn truth(alloc: Global, prefix: &str, entry: &Entry) -> Result<bool, LoadError>
-    ensures { Answers (λ b. b) result (truth_in (field_of entry.now).at (prefix.now ++ (field_of entry.now).name) (field_of entry.now).value) }
+    ensures { Answers (λ b. b) result
+        (truth_in (field_of entry.now).at (prefix.now ++ (field_of entry.now).name) (field_of entry.now).value) }
 {
     match &entry.value {
         Value::Bool(b) => Ok(*b),
@@ -43,7 +45,8 @@ pub(crate) fn truth(alloc: Global, prefix: &str, entry: &Entry) -> Result<bool, 
 
 /// The string that an entry's value is.
 pub(crate) fn word<'a>(alloc: Global, prefix: &str, entry: &'a Entry) -> Result<&'a Text, LoadError>
-    ensures { Answers (λ text. text.now) result (word_in (field_of entry.now).at (prefix.now ++ (field_of entry.now).name) (field_of entry.now).value) }
+    ensures { Answers (λ text. text.now) result
+        (word_in (field_of entry.now).at (prefix.now ++ (field_of entry.now).name) (field_of entry.now).value) }
 {
     match &entry.value {
         Value::Str(text) => Ok(text),
@@ -57,7 +60,8 @@ pub(crate) fn list<'a>(
     prefix: &str,
     entry: &'a Entry,
 ) -> Result<&'a [Item], LoadError>
-    ensures { Answers (λ items. items.now) result (list_in (field_of entry.now).at (prefix.now ++ (field_of entry.now).name) (field_of entry.now).value) }
+    ensures { Answers (λ items. items.now) result
+        (list_in (field_of entry.now).at (prefix.now ++ (field_of entry.now).name) (field_of entry.now).value) }
 {
     match &entry.value {
         Value::Strs(items) => Ok(items.as_slice()),
@@ -71,7 +75,8 @@ pub(crate) fn entries<'a>(
     prefix: &str,
     entry: &'a Entry,
 ) -> Result<&'a [Entry], LoadError>
-    ensures { Answers (λ es. fields_then (map field_of es.now) no_field) result (map_in (field_of entry.now).at (prefix.now ++ (field_of entry.now).name) (field_of entry.now).value) }
+    ensures { Answers (λ es. fields_then (map field_of es.now) no_field) result
+        (map_in (field_of entry.now).at (prefix.now ++ (field_of entry.now).name) (field_of entry.now).value) }
 {
     match &entry.value {
         Value::Map(entries) => Ok(entries.as_slice()),

@@ -4,7 +4,8 @@ ghost use Rattle.std.specs.Char.{is_ascii_digit};
 ghost use Rattle.std.specs.Str.Parse.{digits_value};
 ghost use Rattle.bp_faults.specs.Answers.{Answers};
 ghost use Rattle.bp_values.specs.Values.{field_of};
-ghost use Rattle.property_tables.specs.Fits.{multi_in, level_in, is_number as number, in_levels as levels, dir_in, base_of, fits};
+ghost use Rattle.property_tables.specs.Fits.{multi_in, level_in, is_number as number, in_levels as levels, dir_in};
+ghost use Rattle.property_tables.specs.Fits.{base_of, fits};
 ghost use Rattle.bp_faults.specs.Phases.{each_in_turn};
 
 use crate::entry_values::{entries, entry_fault, list, truth, word};
@@ -116,7 +117,8 @@ pub(crate) fn fitted(
     row: Row,
     entry: &Entry,
 ) -> Result<Fit, LoadError>
-    ensures { Answers (λ fit. fit) result (fits dir.now row.effect (prefix.now ++ (field_of entry.now).name) (field_of entry.now) row.kind) }
+    ensures { Answers (λ fit. fit) result
+        (fits dir.now row.effect (prefix.now ++ (field_of entry.now).name) (field_of entry.now) row.kind) }
 {
     match row.kind {
         PropKind::Bool => Ok(Fit::Truth(truth(alloc, prefix, entry)?)),

@@ -1,7 +1,8 @@
 ghost use Rattle.std.specs.Prelude.{◌≡◌, map, OnOk};
 ghost use Rattle.bp_faults.specs.Answers.{Answers, Leaves};
 ghost use Rattle.bp_values.specs.Values.{field_of, fields_then, no_field};
-ghost use Rattle.property_tables.specs.Entries.{each_entry, group_put, groups_put, group_entry as group_entry_as, group_typed, groups_entry as groups_entry_as};
+ghost use Rattle.property_tables.specs.Entries.{each_entry, group_with_fit, groups_with_group, group_entry as group_entry_as};
+ghost use Rattle.property_tables.specs.Entries.{group_typed, groups_entry as groups_entry_as};
 
 use crate::entry_values::entries;
 use crate::fields::set_group;
@@ -15,7 +16,7 @@ use bp_values::Entry;
 use std::alloc::Global;
 
 fn put_group(props: &mut GroupProps, effect: Option<Field>, at: Place, fit: Fit)
-    ensures { props.new ≡ group_put effect at fit props.old }
+    ensures { props.new ≡ group_with_fit effect at fit props.old }
 {
     if let Some(field) = effect {
         set_group(props, field, at, fit);
@@ -29,7 +30,8 @@ fn group_entry(
     props: &mut GroupProps,
     entry: &Entry,
 ) -> Result<(), LoadError>
-    ensures { Leaves (λ props. props) props.new result (group_entry_as dir.now prefix.now props.old (field_of entry.now)) }
+    ensures { Leaves (λ props. props) props.new result
+        (group_entry_as dir.now prefix.now props.old (field_of entry.now)) }
 {
     let row = row_of(alloc, &group(), prefix, entry)?;
     let fit = fitted(alloc, dir, prefix, row, entry)?;
@@ -44,7 +46,8 @@ pub(crate) fn group_of(
     prefix: &str,
     entries: &[Entry],
 ) -> Result<GroupProps, LoadError>
-    ensures { Answers (λ props. props) result (group_typed dir.now prefix.now (fields_then (map field_of entries.now) no_field)) }
+    ensures { Answers (λ props. props) result
+        (group_typed dir.now prefix.now (fields_then (map field_of entries.now) no_field)) }
 {
     let mut props = GroupProps::empty(alloc);
     'entries: for entry in entries {
@@ -58,7 +61,7 @@ fn put_groups(
     effect: Option<Field>,
     props: GroupProps,
 ) -> Result<(), OutOfMemory>
-    ensures { OnOk result (groups.new ≡ groups_put effect props groups.old) }
+    ensures { OnOk result (groups.new ≡ groups_with_group effect props groups.old) }
 {
     match effect {
         Some(Field::Group(id)) => groups.insert(id, props),
@@ -74,7 +77,8 @@ fn groups_entry<const N: usize>(
     groups: &mut Groups,
     entry: &Entry,
 ) -> Result<(), LoadError>
-    ensures { Leaves (λ groups. groups) groups.new result (groups_entry_as dir.now prefix.now table.now groups.old (field_of entry.now)) }
+    ensures { Leaves (λ groups. groups) groups.new result
+        (groups_entry_as dir.now prefix.now table.now groups.old (field_of entry.now)) }
 {
     let row = row_of(alloc, table, prefix, entry)?;
     let inside = entries(alloc, prefix, entry)?;
@@ -93,7 +97,9 @@ pub(crate) fn add_groups<const N: usize>(
     groups: &mut Groups,
     entries: &[Entry],
 ) -> Result<(), LoadError>
-    ensures { Leaves (λ groups. groups) groups.new result (each_entry (groups_entry_as dir.now prefix.now table.now) groups.old (fields_then (map field_of entries.now) no_field)) }
+    ensures { Leaves (λ groups. groups) groups.new result
+        (each_entry (groups_entry_as dir.now prefix.now table.now) groups.old
+        (fields_then (map field_of entries.now) no_field)) }
 {
     'entries: for entry in entries {
         groups_entry(alloc, dir, prefix, table, groups, entry)?;

@@ -38,7 +38,7 @@ pub(crate) fn flags(
 ) -> Result<Seq<Text>, LoadError>
     ensures { Answers (λ flags. flags) result (each_in_turn (flag_in (prefix.now ++ name.now)) items.now) }
 {
-    let mut flags = Vec::new(alloc);
+    let mut flags = Vec::with_capacity(alloc, items.len())?;
     for item in items {
         flags.push(flag(alloc, prefix, name, item)?)?;
     }
@@ -65,7 +65,7 @@ fn dir(alloc: Global, base: &Path, item: &Item) -> Result<Path, LoadError>
 pub(crate) fn dirs(alloc: Global, base: &Path, items: &[Item]) -> Result<Seq<Path>, LoadError>
     ensures { Answers (λ dirs. dirs) result (each_in_turn (dir_in base.now) items.now) }
 {
-    let mut dirs = Vec::new(alloc);
+    let mut dirs = Vec::with_capacity(alloc, items.len())?;
     for item in items {
         dirs.push(dir(alloc, base, item)?)?;
     }
@@ -107,7 +107,7 @@ fn source(alloc: Global, dir: &Path, item: &Item) -> Result<Source, LoadError>
 pub(crate) fn sources(alloc: Global, dir: &Path, items: &[Item]) -> Result<Seq<Source>, LoadError>
     ensures { Answers (λ sources. sources) result (each_in_turn (source_in dir.now) items.now) }
 {
-    let mut sources = Vec::new(alloc);
+    let mut sources = Vec::with_capacity(alloc, items.len())?;
     for item in items {
         sources.push(source(alloc, dir, item)?)?;
     }

@@ -2,7 +2,7 @@ ghost use Rattle.std.specs.Prelude.{◌≡◌, ◌++◌, [], IfOk, option_map};
 ghost use Rattle.bp_faults.specs.Answers.{Answers};
 ghost use Rattle.bp_values.specs.Values.{field_of};
 ghost use Rattle.property_tables.specs.Tables.{property_of, named, table_of};
-ghost use Rattle.property_tables.specs.Entries.{known as known_as, property_in, within as within_group};
+ghost use Rattle.property_tables.specs.Entries.{property_or_unknown, property_in, within as within_group};
 
 use crate::entry_values::entry_fault;
 use crate::tables::{cc, defaults, filegroup, library, shared_library, test};
@@ -37,7 +37,8 @@ fn module_row(kind: ModuleKind, name: &Text) -> Option<Row>
 }
 
 fn known(alloc: Global, row: Option<Row>, prefix: &str, entry: &Entry) -> Result<Row, LoadError>
-    ensures { Answers property_of result (known_as (field_of entry.now).at (prefix.now ++ (field_of entry.now).name) (option_map property_of row)) }
+    ensures { Answers property_of result
+        (property_or_unknown (field_of entry.now).at (prefix.now ++ (field_of entry.now).name) (option_map property_of row)) }
 {
     match row {
         Some(row) => Ok(row),

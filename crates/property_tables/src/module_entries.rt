@@ -4,7 +4,8 @@ ghost use Rattle.property_tables.specs.declared.row.PropKind.TheVariants as K;
 ghost use Rattle.bp_faults.specs.Answers.{Answers, Leaves};
 ghost use Rattle.bp_values.specs.Values.{field_of, fields_then, no_field};
 ghost use Rattle.bp_props.specs.Records.{props_empty};
-ghost use Rattle.property_tables.specs.Entries.{each_entry, props_put, sanitize_entry as sanitize_entry_as, groups_typed, opened, entry_typed, module_entry as module_entry_as};
+ghost use Rattle.property_tables.specs.Entries.{each_entry, props_with_fit, sanitize_entry as sanitize_entry_as};
+ghost use Rattle.property_tables.specs.Entries.{groups_typed, inner_typed, entry_typed, module_entry as module_entry_as};
 
 use crate::entry_values::entries;
 use crate::fields::set_props;
@@ -19,7 +20,7 @@ use bp_values::Entry;
 use std::alloc::Global;
 
 fn put_props(props: &mut Props, effect: Option<Field>, at: Place, fit: Fit)
-    ensures { props.new ≡ props_put effect at fit props.old }
+    ensures { props.new ≡ props_with_fit effect at fit props.old }
 {
     if let Some(field) = effect {
         set_props(props, field, at, fit);
@@ -33,7 +34,8 @@ fn sanitize_entry(
     props: &mut Props,
     entry: &Entry,
 ) -> Result<(), LoadError>
-    ensures { Leaves (λ props. props) props.new result (sanitize_entry_as dir.now prefix.now props.old (field_of entry.now)) }
+    ensures { Leaves (λ props. props) props.new result
+        (sanitize_entry_as dir.now prefix.now props.old (field_of entry.now)) }
 {
     let row = row_of(alloc, &sanitize(), prefix, entry)?;
     let fit = fitted(alloc, dir, prefix, row, entry)?;
@@ -48,7 +50,9 @@ fn add_sanitize(
     props: &mut Props,
     entries: &[Entry],
 ) -> Result<(), LoadError>
-    ensures { Leaves (λ props. props) props.new result (each_entry (sanitize_entry_as dir.now prefix.now) props.old (fields_then (map field_of entries.now) no_field)) }
+    ensures { Leaves (λ props. props) props.new result
+        (each_entry (sanitize_entry_as dir.now prefix.now) props.old
+        (fields_then (map field_of entries.now) no_field)) }
 {
     'entries: for entry in entries {
         sanitize_entry(alloc, dir, prefix, props, entry)?;
@@ -64,7 +68,8 @@ fn add_table<const N: usize>(
     props: &mut Props,
     entries: &[Entry],
 ) -> Result<(), LoadError>
-    ensures { Leaves (λ props. props) props.new result (groups_typed dir.now prefix.now table.now props.old (fields_then (map field_of entries.now) no_field)) }
+    ensures { Leaves (λ props. props) props.new result
+        (groups_typed dir.now prefix.now table.now props.old (fields_then (map field_of entries.now) no_field)) }
 {
     add_groups(alloc, dir, prefix, table, &mut props.groups, entries)
 }
@@ -77,7 +82,8 @@ fn add_group(
     props: &mut Props,
     entries: &[Entry],
 ) -> Result<(), LoadError>
-    ensures { Leaves (λ props. props) props.new result (opened dir.now prefix.now (Some (Group id)) props.old (fields_then (map field_of entries.now) no_field)) }
+    ensures { Leaves (λ props. props) props.new result
+        (inner_typed dir.now prefix.now (Some (Group id)) props.old (fields_then (map field_of entries.now) no_field)) }
 {
     let group = group_of(alloc, dir, prefix, entries)?;
     props.groups.insert(id, group)?;
@@ -93,7 +99,8 @@ fn open(
     props: &mut Props,
     entries: &[Entry],
 ) -> Result<(), LoadError>
-    ensures { Leaves (λ props. props) props.new result (opened dir.now prefix.now effect props.old (fields_then (map field_of entries.now) no_field)) }
+    ensures { Leaves (λ props. props) props.new result
+        (inner_typed dir.now prefix.now effect props.old (fields_then (map field_of entries.now) no_field)) }
 {
     match effect {
         Some(Field::Sanitize) => add_sanitize(alloc, dir, prefix, props, entries),
@@ -112,7 +119,8 @@ fn add_map(
     props: &mut Props,
     entry: &Entry,
 ) -> Result<(), LoadError>
-    ensures { Leaves (λ props. props) props.new result (entry_typed dir.now effect props.old (field_of entry.now) K.Group) }
+    ensures { Leaves (λ props. props) props.new result
+        (entry_typed dir.now effect props.old (field_of entry.now) K.Group) }
 {
     let inside = entries(alloc, "", entry)?;
     let inner = within(alloc, "", &entry.name)?;
@@ -126,7 +134,8 @@ fn add_entry(
     props: &mut Props,
     entry: &Entry,
 ) -> Result<(), LoadError>
-    ensures { Leaves (λ props. props) props.new result (entry_typed dir.now row.effect props.old (field_of entry.now) row.kind) }
+    ensures { Leaves (λ props. props) props.new result
+        (entry_typed dir.now row.effect props.old (field_of entry.now) row.kind) }
 {
     match row.kind {
         PropKind::Group => add_map(alloc, dir, row.effect, props, entry),
@@ -158,7 +167,8 @@ pub(crate) fn props_of(
     kind: ModuleKind,
     entries: &[Entry],
 ) -> Result<Props, LoadError>
-    ensures { Answers (λ props. props) result (each_entry (module_entry_as dir.now kind) props_empty (fields_then (map field_of entries.now) no_field)) }
+    ensures { Answers (λ props. props) result
+        (each_entry (module_entry_as dir.now kind) props_empty (fields_then (map field_of entries.now) no_field)) }
 {
     let mut props = Props::empty(alloc);
     'entries: for entry in entries {

@@ -75,11 +75,21 @@ fn put_part(path: &mut Text, part: &str) -> Result<(), OutOfMemory>
     }
 }
 
+// A copy of a directory's path, with room for an item behind it.
+fn with_room(alloc: Global, dir: &Text, item: &str) -> Result<Text, OutOfMemory>
+    ensures { IfOk result (λ copy. copy ≡ dir.now) }
+{
+    let dir = dir.as_str();
+    let mut copy = Text::new(String::with_capacity(alloc, dir.len() + 1 + item.len())?);
+    copy.push_str(dir)?;
+    Ok(copy)
+}
+
 /// The path of an item below a directory.
 pub(crate) fn path_below(alloc: Global, dir: &Path, item: &str) -> Result<Text, OutOfMemory>
     ensures { IfOk result (λ path. path ≡ placed dir.now item.now) }
 {
-    let mut path = dir.as_text().copy(alloc)?;
+    let mut path = with_room(alloc, dir.as_text(), item)?;
     for part in item.split('/') {
         put_part(&mut path, part)?;
     }

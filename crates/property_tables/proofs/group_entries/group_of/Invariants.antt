@@ -6,4 +6,5 @@ use Rattle.property_tables.proofs.group_entries.group_of.Given as goal
 abbrev pub invariant-entries : goal.invariant-entries
 invariant-entries l =
     group_typed l.dir l.prefix (fields_then (map field_of l.entries) no_field)
-    ≡ each_entry (group_entry l.dir l.prefix) l.props (fields_then (map field_of (drop l.entry-index l.entries)) no_field)
+    ≡ each_entry (group_entry l.dir l.prefix) l.props
+    (fields_then (map field_of (drop l.entry-index l.entries)) no_field)

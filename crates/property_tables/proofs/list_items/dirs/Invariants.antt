@@ -6,4 +6,5 @@ use Rattle.property_tables.proofs.list_items.dirs.Given as goal
 
 abbrev pub invariant-loop-item : goal.invariant-loop-item
 invariant-loop-item l =
-    each_in_turn (dir_in l.base) l.items ≡ then_do (each_in_turn (dir_in l.base) (drop l.item-index l.items)) (λ rest. Ok (l.dirs.items ++ rest))
+    each_in_turn (dir_in l.base) l.items ≡ then_do (each_in_turn (dir_in l.base) (drop l.item-index l.items))
+    (λ rest. Ok (l.dirs.items ++ rest))

@@ -6,4 +6,5 @@ use Rattle.property_tables.proofs.list_items.flags.Given as goal
 
 abbrev pub invariant-loop-item : goal.invariant-loop-item
 invariant-loop-item l =
-    each_in_turn (flag_in (l.prefix ++ l.name)) l.items ≡ then_do (each_in_turn (flag_in (l.prefix ++ l.name)) (drop l.item-index l.items)) (λ rest. Ok (l.flags.items ++ rest))
+    each_in_turn (flag_in (l.prefix ++ l.name)) l.items ≡ then_do
+    (each_in_turn (flag_in (l.prefix ++ l.name)) (drop l.item-index l.items)) (λ rest. Ok (l.flags.items ++ rest))

@@ -6,4 +6,5 @@ use Rattle.property_tables.proofs.list_items.sources.Given as goal
 
 abbrev pub invariant-loop-item : goal.invariant-loop-item
 invariant-loop-item l =
-    each_in_turn (source_in l.dir) l.items ≡ then_do (each_in_turn (source_in l.dir) (drop l.item-index l.items)) (λ rest. Ok (l.sources.items ++ rest))
+    each_in_turn (source_in l.dir) l.items ≡ then_do
+    (each_in_turn (source_in l.dir) (drop l.item-index l.items)) (λ rest. Ok (l.sources.items ++ rest))

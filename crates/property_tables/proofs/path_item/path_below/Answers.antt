@@ -11,5 +11,6 @@ pub returns : goal.returns
 returns c =
     let dir = c.args.dir.now in
     let item = c.args.item.now in
-    let all = YieldsList-end (YieldsList-from_str_split 47 item (lit< tt) (cc) (cc) (cc)) c.loop-part.yielded _ c.loop-part.yielded_by _ _ c.in-None.is c.next.ensures.steps in
+    let all = YieldsList-end (YieldsList-from_str_split 47 item (lit< tt) (cc) (cc) (cc)) c.loop-part.yielded
+    _ c.loop-part.yielded_by _ _ c.in-None.is c.next.ensures.steps in
     c.loop-part.invariant ∙ ap (fold path_and dir) all.0 ∙ grown_placed dir item c.as_text.ensures.normal
