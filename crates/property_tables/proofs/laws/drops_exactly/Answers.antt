@@ -1,4 +1,4 @@
-use Rattle.property_tables.proofs.Laws.{drops_exactly}
+use Rattle.property_tables.proofs.Consequences.{drops_exactly}
 use Rattle.property_tables.proofs.laws.drops_exactly.Goals as goal
 
 pub returns : goal.returns

@@ -1,4 +1,4 @@
-use Rattle.property_tables.proofs.Laws.{entries_come_first}
+use Rattle.property_tables.proofs.Consequences.{entries_come_first}
 use Rattle.property_tables.proofs.laws.entries_come_first.Goals as goal
 
 pub returns : goal.returns

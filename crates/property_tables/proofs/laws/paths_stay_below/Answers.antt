@@ -1,4 +1,4 @@
-use Rattle.property_tables.proofs.Laws.{stays_below}
+use Rattle.property_tables.proofs.Consequences.{stays_below}
 use Rattle.property_tables.proofs.laws.paths_stay_below.Goals as goal
 
 pub returns : goal.returns
