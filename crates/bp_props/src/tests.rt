@@ -37,7 +37,7 @@ fn record(alloc: Global, word: &str, line: u32, id: GroupId) -> Result<Props, Ou
     });
     props.base = group(alloc, word, line)?;
     props.min_sdk_version = Some(Given {
-        value: 10 * line,
+        value: line,
         at: place(line),
     });
     props
@@ -86,13 +86,13 @@ fn records_are_merged(rt: HostRuntime) -> Result<(), Fail> {
     for (record, want) in [
         (
             &followed,
-            "1 10 | a b 1 | ArchArm b 2 | Vendor a 1 | Static a b 1",
+            "1 1 | a b 1 | ArchArm b 2 | Vendor a 1 | Static a b 1",
         ),
         (
             &over,
-            "2 20 | a b 2 | ArchArm b 2 | Vendor a 1 | Static a b 2",
+            "2 2 | a b 2 | ArchArm b 2 | Vendor a 1 | Static a b 2",
         ),
-        (&appended, "1 10 | a b 2 | Vendor a 1 | Static a 1"),
+        (&appended, "1 1 | a b 2 | Vendor a 1 | Static a 1"),
         (&restricted, "2 0 | 2"),
     ] {
         assert_eq!(rt; shown(alloc, record)?.as_str(), want);
