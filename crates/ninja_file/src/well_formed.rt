@@ -8,8 +8,8 @@ ghost use Rattle.ninja_file.specs.Names.{is_name, is_value, is_path, is_rule_key
 ghost use Rattle.ninja_file.specs.Meaning.{is_literal, is_piece, are_apart, is_rule_value, IsRule};
 ghost use Rattle.ninja_file.specs.Meaning.{IsStatement, IsWellFormed, outs_of};
 
-use crate::names::{is_name, is_path, is_rule_key, is_value};
 use crate::listing::{add_texts, keys, set_of};
+use crate::names::{is_name, is_path, is_rule_key, is_value};
 use crate::{NinjaFile, NinjaRule, Piece, Statement};
 use bp_faults::{OutOfMemory, Seq, Text};
 use bp_names::NameSet;
@@ -132,10 +132,8 @@ fn is_statement(
     names: &NameSet<'_>,
     statement: &Statement,
 ) -> Result<bool, OutOfMemory>
-    ensures {
-        (texts : List (List ℕ)) → IsSetOf texts names.now →
-        IfOk result (λ good. IsTrue good ↔ IsStatement texts statement.now)
-    }
+    ensures { (texts : List (List ℕ)) → IsSetOf texts names.now →
+        IfOk result (λ good. IsTrue good ↔ IsStatement texts statement.now) }
 {
     let listed = keys(alloc, statement.vars.as_slice())?;
     let keys = listed.as_slice();
@@ -161,10 +159,8 @@ fn are_statements(
     names: &NameSet<'_>,
     statements: &[Statement],
 ) -> Result<bool, OutOfMemory>
-    ensures {
-        (texts : List (List ℕ)) → IsSetOf texts names.now →
-        IfOk result (λ good. IsTrue good ↔ All (IsStatement texts) statements.now)
-    }
+    ensures { (texts : List (List ℕ)) → IsSetOf texts names.now →
+        IfOk result (λ good. IsTrue good ↔ All (IsStatement texts) statements.now) }
 {
     for statement in statements {
         if !is_statement(alloc, names, statement)? {

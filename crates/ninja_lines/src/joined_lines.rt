@@ -59,10 +59,8 @@ pub fn dangles(text: &[u8]) -> bool
 }
 
 fn utf8(bytes: &[u8]) -> Option<&str>
-    ensures {
-        MatchOption result (is_utf8 bytes.now ≡ false)
-            (λ text. (is_utf8 bytes.now ≡ true) × (text.now ≡ bytes.now))
-    }
+    ensures { MatchOption result (is_utf8 bytes.now ≡ false)
+        (λ text. (is_utf8 bytes.now ≡ true) × (text.now ≡ bytes.now)) }
 {
     match str::from_utf8(bytes) {
         Ok(text) => Some(text),

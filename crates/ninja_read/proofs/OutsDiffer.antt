@@ -56,4 +56,3 @@ differ_in read f h =
 
 pub outs_differ : (text : List ℕ) (f : NinjaFile) → reading text ≡ Ok f → AllDiffer (outs_of f)
 outs_differ text f h = differ_in (read_lines no_book (joined_lines text)) f h
-

@@ -11,13 +11,12 @@ ghost use Rattle.ninja_read.specs.Book.{with_binding, statements_of, rules_of, n
 ghost use Rattle.ninja_read.specs.Meaning.{with_form, with_line, binds_command};
 
 use crate::command::binds_command;
-use ninja_file::{NinjaFile, NinjaRule, Statement};
 use crate::form::{LineForm, form_of};
 use crate::head::{binding_of, build_of, defaults_of, rule_name_of};
-use ninja_file::is_rule_key;
 use crate::value::{literal_value, rule_value};
 use bp_faults::{OutOfMemory, Seq, Text};
 use bp_names::NameSet;
+use ninja_file::{NinjaFile, NinjaRule, Statement, is_rule_key};
 use ninja_lines::Line;
 use std::alloc::Global;
 use std::mem;
@@ -61,10 +60,8 @@ fn bind_to_rule<'a>(
     written: &str,
 ) -> Result<bool, OutOfMemory>
     requires { IsSetOf (open_keys (Open.Rule rule.old)) keys.old }
-    ensures {
-        IfOk result (λ taken. Binds taken (Open.Rule rule.new) keys.new
-            (bind (key.now, written.now) (Open.Rule rule.old)) (Open.Rule rule.old))
-    }
+    ensures { IfOk result (λ taken. Binds taken (Open.Rule rule.new) keys.new
+        (bind (key.now, written.now) (Open.Rule rule.old)) (Open.Rule rule.old)) }
 {
     if !is_rule_key(key) || keys.knows(key) {
         return Ok(false);
@@ -86,10 +83,8 @@ fn bind_to_statement<'a>(
     written: &str,
 ) -> Result<bool, OutOfMemory>
     requires { IsSetOf (keys_of statement.old.vars) keys.old }
-    ensures {
-        (number : ℕ) → IfOk result (λ taken. Binds taken (Open.Build number statement.new) keys.new
-            (bind (key.now, written.now) (Open.Build number statement.old)) (Open.Build number statement.old))
-    }
+    ensures { (number : ℕ) → IfOk result (λ taken. Binds taken (Open.Build number statement.new) keys.new
+        (bind (key.now, written.now) (Open.Build number statement.old)) (Open.Build number statement.old)) }
 {
     if keys.knows(key) {
         return Ok(false);
@@ -167,13 +162,11 @@ impl<'a> Book<'a> {
 
     /// The file, where the last rule or statement is ended.
     pub fn into_file(self, alloc: Global) -> Result<NinjaFile, OutOfMemory>
-        ensures {
-            IfOk result (λ f. f ≡ record {
-                rules = self.entry.rules.items;
-                statements = map (λ s. s.1) self.entry.statements.items;
-                defaults = map (λ d. d.1) self.entry.defaults.items;
-            })
-        }
+        ensures { IfOk result (λ f. f ≡ record {
+          rules = self.entry.rules.items;
+          statements = map (λ s. s.1) self.entry.statements.items;
+          defaults = map (λ d. d.1) self.entry.defaults.items;
+        }) }
     {
         Ok(NinjaFile {
             rules: Seq::new(self.rules),
@@ -189,11 +182,9 @@ impl<'a> Book<'a> {
         has_command: bool,
     ) -> Result<bool, OutOfMemory>
         requires { IsLearnt self.old }
-        ensures {
-            IfOk result (λ taken. Takes taken self.new
-                (with_rule has_command (shown_book self.old) name.now)
-                (shown_book self.old))
-        }
+        ensures { IfOk result (λ taken. Takes taken self.new
+            (with_rule has_command (shown_book self.old) name.now)
+            (shown_book self.old)) }
     {
         if !has_command || self.names.knows(name) {
             return Ok(false);
@@ -223,11 +214,9 @@ impl<'a> Book<'a> {
     ) -> Result<bool, OutOfMemory>
         requires learnt { IsLearnt self.old }
         requires no_vars { statement.vars ≡ [] }
-        ensures {
-            IfOk result (λ taken. Takes taken self.new
-                (with_statement number (shown_book self.old) statement)
-                (shown_book self.old))
-        }
+        ensures { IfOk result (λ taken. Takes taken self.new
+            (with_statement number (shown_book self.old) statement)
+            (shown_book self.old)) }
     {
         if !self.knows(statement.rule.as_str()) {
             return Ok(false);
@@ -249,11 +238,9 @@ impl<'a> Book<'a> {
 
     fn take_binding(&mut self, alloc: Global, text: &'a str) -> Result<bool, OutOfMemory>
         requires { IsLearnt self.old }
-        ensures {
-            IfOk result (λ taken. Takes taken self.new
-                (option_and_then (with_binding (shown_book self.old)) (binding_of text.now))
-                (shown_book self.old))
-        }
+        ensures { IfOk result (λ taken. Takes taken self.new
+            (option_and_then (with_binding (shown_book self.old)) (binding_of text.now))
+            (shown_book self.old)) }
     {
         let Some((key, written)) = binding_of(text) else {
             return Ok(false);
@@ -264,11 +251,9 @@ impl<'a> Book<'a> {
 
     fn take_build(&mut self, alloc: Global, number: u32, rest: &str) -> Result<bool, OutOfMemory>
         requires { IsLearnt self.old }
-        ensures {
-            IfOk result (λ taken. Takes taken self.new
-                (option_and_then (with_statement number (shown_book self.old)) (build_of rest.now))
-                (shown_book self.old))
-        }
+        ensures { IfOk result (λ taken. Takes taken self.new
+            (option_and_then (with_statement number (shown_book self.old)) (build_of rest.now))
+            (shown_book self.old)) }
     {
         let Some(statement) = build_of(alloc, rest)? else {
             return Ok(false);
@@ -279,11 +264,9 @@ impl<'a> Book<'a> {
 
     fn take_default(&mut self, alloc: Global, number: u32, rest: &str) -> Result<bool, OutOfMemory>
         requires { IsLearnt self.old }
-        ensures {
-            IfOk result (λ taken. Takes taken self.new
-                (option_map (with_defaults number (shown_book self.old)) (defaults_of rest.now))
-                (shown_book self.old))
-        }
+        ensures { IfOk result (λ taken. Takes taken self.new
+            (option_map (with_defaults number (shown_book self.old)) (defaults_of rest.now))
+            (shown_book self.old)) }
     {
         let Some(paths) = defaults_of(alloc, rest)? else {
             return Ok(false);
@@ -299,12 +282,10 @@ impl<'a> Book<'a> {
         more: &[Line<'_>],
     ) -> Result<bool, OutOfMemory>
         requires { IsLearnt self.old }
-        ensures {
-            IfOk result (λ taken. Takes taken self.new
-                (option_and_then (with_rule (binds_command (map shown_line more.now)) (shown_book self.old))
-                    (rule_name_of rest.now))
-                (shown_book self.old))
-        }
+        ensures { IfOk result (λ taken. Takes taken self.new
+            (option_and_then (with_rule (binds_command (map shown_line more.now)) (shown_book self.old))
+            (rule_name_of rest.now))
+            (shown_book self.old)) }
     {
         let Some(name) = rule_name_of(alloc, rest)? else {
             return Ok(false);
@@ -321,12 +302,10 @@ impl<'a> Book<'a> {
         more: &[Line<'_>],
     ) -> Result<bool, OutOfMemory>
         requires { IsLearnt self.old }
-        ensures {
-            IfOk result (λ taken. Takes taken self.new
-                (with_form number (binds_command (map shown_line more.now)) (shown_book self.old)
-                    text.now (form_of text.now))
-                (shown_book self.old))
-        }
+        ensures { IfOk result (λ taken. Takes taken self.new
+            (with_form number (binds_command (map shown_line more.now)) (shown_book self.old)
+            text.now (form_of text.now))
+            (shown_book self.old)) }
     {
         match form_of(text) {
             LineForm::NoForm => Ok(false),
@@ -346,12 +325,10 @@ impl<'a> Book<'a> {
         more: &[Line<'_>],
     ) -> Result<bool, OutOfMemory>
         requires { IsLearnt self.old }
-        ensures {
-            IfOk result (λ taken. Takes taken self.new
-                (with_line line.now.number (shown_text line.now.content)
-                    (binds_command (map shown_line more.now)) (shown_book self.old))
-                (shown_book self.old))
-        }
+        ensures { IfOk result (λ taken. Takes taken self.new
+            (with_line line.now.number (shown_text line.now.content)
+            (binds_command (map shown_line more.now)) (shown_book self.old))
+            (shown_book self.old)) }
     {
         match line.text() {
             None => Ok(false),

@@ -4,10 +4,9 @@ ghost use Rattle.ninja_read.specs.Heads.{marked_paths, statement_of, statement_o
 ghost use Rattle.ninja_read.specs.Heads.{defaults_of, rule_name_of, binding_of};
 ghost use Rattle.ninja_lines.specs.Shown.{texts};
 
-use ninja_file::Statement;
-use ninja_file::{is_name, is_path};
 use crate::value::{literal_value, split_name};
 use bp_faults::{OutOfMemory, Seq, Text};
+use ninja_file::{Statement, is_name, is_path};
 use ninja_lines::{drop_spaces, parts_at, words};
 use std::alloc::Global;
 

@@ -9,9 +9,9 @@ ghost use Rattle.ninja_read.specs.Meaning.{read_lines, reading, or_line, repeate
 ghost use Rattle.ninja_read.specs.Meaning.{Reads};
 
 use crate::book::Book;
-use ninja_file::{NinjaFile, Statement};
 use bp_faults::{OutOfMemory, Text};
 use bp_names::NameSet;
+use ninja_file::{NinjaFile, Statement};
 use ninja_lines::{Line, joined};
 use std::alloc::Global;
 use thiserror::Error;
@@ -54,14 +54,10 @@ fn read_lines<'a>(
 
 // Adds the outs of a statement, where none was named before.
 fn add_outs<'a>(seen: &mut NameSet<'a>, outs: &'a [Text]) -> Result<bool, OutOfMemory>
-    ensures new {
-        (texts : List (List ℕ)) → IsSetOf texts seen.old
-            → IfOk result (λ new. new ≡ not (repeats texts outs.now))
-    }
-    ensures seen {
-        (texts : List (List ℕ)) → IsSetOf texts seen.old
-            → IfOk result (λ new. IsTrue new → IsSetOf (texts ++ outs.now) seen.new)
-    }
+    ensures new { (texts : List (List ℕ)) → IsSetOf texts seen.old
+        → IfOk result (λ new. new ≡ not (repeats texts outs.now)) }
+    ensures seen { (texts : List (List ℕ)) → IsSetOf texts seen.old
+        → IfOk result (λ new. IsTrue new → IsSetOf (texts ++ outs.now) seen.new) }
 {
     for out in outs {
         if !seen.learn(out.as_str())? {
@@ -76,11 +72,9 @@ fn outs_of<'a>(
     alloc: Global,
     statements: &'a [(u32, Statement)],
 ) -> Result<Result<NameSet<'a>, u32>, OutOfMemory>
-    ensures {
-        IfOk result (λ found. MatchResult found
-            (λ outs. (repeated [] statements.now ≡ None) × IsSetOf (flat_map (λ s. s.1.outs) statements.now) outs)
-            (λ line. repeated [] statements.now ≡ Some line))
-    }
+    ensures { IfOk result (λ found. MatchResult found
+        (λ outs. (repeated [] statements.now ≡ None) × IsSetOf (flat_map (λ s. s.1.outs) statements.now) outs)
+        (λ line. repeated [] statements.now ≡ Some line)) }
 {
     let mut seen = NameSet::new(alloc);
     for (number, statement) in statements {
@@ -110,10 +104,8 @@ fn refused(
     defaults: &[(u32, Text)],
     stop: Option<u32>,
 ) -> Result<Option<u32>, OutOfMemory>
-    ensures {
-        IfOk result (λ line. line ≡ or_line (repeated [] statements.now)
-            (or_line stop (stray (flat_map (λ s. s.1.outs) statements.now) defaults.now)))
-    }
+    ensures { IfOk result (λ line. line ≡ or_line (repeated [] statements.now)
+        (or_line stop (stray (flat_map (λ s. s.1.outs) statements.now) defaults.now))) }
 {
     match outs_of(alloc, statements)? {
         Err(line) => Ok(Some(line)),

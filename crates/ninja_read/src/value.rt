@@ -4,10 +4,8 @@ ghost use Rattle.ninja_file.specs.declared.file.Piece.{Piece};
 ghost use Rattle.ninja_read.specs.Inside.{built, with_text, with_sign, IsSign, dollar_at};
 ghost use Rattle.ninja_read.specs.Values.{behind_dollar, in_braces, name_length, pieces_of, value_of};
 
-use ninja_file::{Escape, is_escaped_byte};
-use ninja_file::Piece;
-use ninja_file::is_name_byte;
 use bp_faults::{OutOfMemory, Text};
+use ninja_file::{Escape, Piece, is_escaped_byte, is_name_byte};
 use std::alloc::Global;
 use std::mem;
 
@@ -103,10 +101,8 @@ fn name_length(bytes: &[u8]) -> usize
 
 /// The name that a text begins with, maybe an empty one, and what stands behind it.
 pub fn split_name(text: &str) -> (&str, &str)
-    ensures {
-        (result.0.now ≡ take (name_length text.now) text.now) ×
-        (result.1.now ≡ drop (name_length text.now) text.now)
-    }
+    ensures { (result.0.now ≡ take (name_length text.now) text.now) ×
+        (result.1.now ≡ drop (name_length text.now) text.now) }
 {
     text.split_at(name_length(text.as_bytes()))
 }

@@ -254,7 +254,12 @@ const FORMED: [(&[u8], &str, bool); 5] = [
 #[test]
 fn well_formed_files_come_back(rt: HostRuntime) -> Result<(), Fail> {
     for (text, wanted, formed) in &FORMED {
-        assert_eq!(rt; comes_back(rt.alloc(), text, wanted)?, *formed, "{:?}", text);
+        assert_eq!(rt;
+            comes_back(rt.alloc(), text, wanted)?,
+            *formed,
+            "{:?}",
+            text
+        );
     }
     Ok(())
 }
