@@ -76,7 +76,7 @@ fn raw(
     let mut entries = Vec::new(alloc);
     entries.push(nested(alloc, path, given)?)?;
     if !name.is_empty() {
-        entries.push(entry(alloc, "name", value(alloc, Given::Word(name))?)?)?;
+        entries.push(entry(alloc, "name", Value::Str(Text::from_str(alloc, name)?))?)?;
     }
     Ok(RawModule {
         kind: Text::from_str(alloc, kind)?,
