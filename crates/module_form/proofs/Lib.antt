@@ -3,3 +3,4 @@ pub mod Words
 pub mod Taken
 pub mod OneKnown
 pub mod AsMany
+pub mod SomeKnown
