@@ -1,0 +1,20 @@
+-- What holds of all configurations and files.
+use Rattle.std.specs.Prelude.{◌≡◌, ℕ, List, ◌++◌, Result}
+use Rattle.bp_faults.specs.declared.fault.Fault.{Fault}
+use Rattle.bp_ports.specs.Files.{Files}
+use Rattle.ninja_text.specs.declared.file.Statement.{Statement}
+use Rattle.ninja_text.specs.Text.{text_of, joined}
+use Rattle.bp_run.specs.declared.words.Configuration.{Configuration}
+use Rattle.bp_run.specs.Head.{head_lines}
+use Rattle.bp_run.specs.File.{file_of}
+use Rattle.bp_run.specs.Job.{JobMeans}
+
+-- A job has one outcome.
+abbrev pub OneJob : Type 0
+OneJob =
+    (c : Configuration) (files : Files) (a b : Result (List ℕ) Fault) → JobMeans c files a → JobMeans c files b → a ≡ b
+
+-- Every written text begins with the literal lines of the head.
+abbrev pub HeadIsText : Type 0
+HeadIsText =
+    (statements : List Statement) → (rest : List ℕ) × (text_of (file_of statements) ≡ joined head_lines ++ rest)
