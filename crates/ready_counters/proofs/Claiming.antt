@@ -1,5 +1,5 @@
 -- A claim keeps the rule.
-use Rattle.std.proofs.Common.{◌≡◌, ◌+◌, ◌<◌, ◌≤◌, ◌==◌, ℕ, zero, suc, List, [], ◌∷◌, length, set, get_or-set_same, get_or-set_other, refl, ap, arith, ◌∙◌, sym, subst, Bool, true, false, Option}
+use Rattle.std.proofs.Common.{◌≡◌, ◌+◌, ◌<◌, ◌≤◌, ◌==◌, ℕ, zero, suc, List, ◌∷◌, length, set, get_or-set_same, get_or-set_other, refl, ap, arith, ◌∙◌, sym, subst, Bool, true, false, Option}
 use Rattle.std.specs.Prelude.{slice_index}
 use Rattle.std.proofs.lemmas.Bool.Decides.{nat_tests}
 use Rattle.std.proofs.lemmas.List.{set-get_or}
@@ -15,10 +15,10 @@ use Rattle.pass_core.specs.declared.plan.PlanEdge.{PlanEdge}
 use Rattle.pass_core.specs.declared.published.Published.{Published}
 use Rattle.pass_core.specs.Results.{NodeResult}
 use Rattle.ready_counters.specs.declared.view.View.{View}
-use Rattle.ready_counters.specs.Edges.{left_from, left_of, to_of, from_of}
-use Rattle.ready_counters.specs.Meaning.{taken, HasWord, IsView, HasCounters, IsBoard}
+use Rattle.ready_counters.specs.Edges.{left_from, to_of, from_of}
+use Rattle.ready_counters.specs.Meaning.{taken, HasWord, IsView, IsBoard}
 use Rattle.ready_counters.specs.Sums.{claims, subtractions}
-use Rattle.ready_counters.specs.Views.{whole, times}
+use Rattle.ready_counters.specs.Views.{times}
 use Rattle.ready_counters.specs.Inside.{Found, Claims}
 use Rattle.ready_counters.specs.Views.{with_claim}
 use Rattle.ready_counters.proofs.Sums.{sum_set, sum_same, sum_at, total_less, times_here, times_else}

@@ -1,5 +1,5 @@
 -- What a whole seat with all tickets has done.
-use Rattle.std.proofs.Common.{◌≡◌, ◌+◌, ◌<◌, ◌≤◌, ◌==◌, ℕ, zero, suc, List, [], ◌∷◌, length, refl, ap, arith, ◌∙◌, sym, subst, Option, Some, None, eq-eqb}
+use Rattle.std.proofs.Common.{◌≡◌, ◌+◌, ◌<◌, ◌≤◌, ℕ, zero, suc, List, [], ◌∷◌, length, refl, ap, arith, ◌∙◌, sym, subst, Option, Some}
 use Rattle.std.specs.Prelude.{slice_index, slice_get}
 use Rattle.std.proofs.lemmas.Bool.Decides.{nat_tests}
 use Rattle.std.specs.declared.sync.Arc.{Arc}
@@ -14,13 +14,13 @@ use Rattle.pass_core.specs.Results.{NodeResult}
 use Rattle.pass_core.specs.declared.plan.Plan.{Plan}
 use Rattle.ready_counters.specs.declared.view.View.{View}
 use Rattle.ready_counters.specs.Edges.{to_of, from_of}
-use Rattle.ready_counters.specs.Meaning.{IsView, HasTickets, IsBoard}
-use Rattle.ready_counters.specs.Sums.{claims, opens, fills, subtractions, fetches, draws, drawn_numbers, uses}
+use Rattle.ready_counters.specs.Meaning.{IsView, IsBoard}
+use Rattle.ready_counters.specs.Sums.{claims, draws, drawn_numbers, uses}
 use Rattle.ready_counters.specs.Views.{whole, times, tickets_for, number_for, tickets_with}
 use Rattle.ready_counters.specs.Ends.{IsByTicket, IsDoneBy}
 use Rattle.ready_counters.specs.Inside.{IsInOrder}
-use Rattle.ready_counters.proofs.Sums.{sum_at, ticket_here, ticket_else, number_here, number_else, no_number, below_all, times_here, times_else}
-use Rattle.ready_counters.proofs.Knowing.{filled_drawn, drawn_fetched, drawn_claimed, subtracted_filled, claimed_subtracted, claim_mine, sole}
+use Rattle.ready_counters.proofs.Sums.{ticket_here, ticket_else, number_here, number_else, no_number, below_all, times_here, times_else}
+use Rattle.ready_counters.proofs.Knowing.{claimed_subtracted, sole}
 
 -- a number that is on a ticket is some node's
 pub user : (k : ℕ) (ts : List (ℕ × ℕ)) → ((n : ℕ) → tickets_for n ts ≤ 1) → 1 ≤ tickets_with k ts → (n : ℕ) × (1 ≤ tickets_for n ts) × (number_for n ts ≡ k)

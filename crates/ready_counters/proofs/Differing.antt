@@ -1,5 +1,5 @@
 -- No two tickets have one number.
-use Rattle.std.proofs.Common.{◌≡◌, ◌+◌, ◌<◌, ◌≤◌, ℕ, List, length, set, refl, ap, arith, ◌∙◌, sym, subst, Option}
+use Rattle.std.proofs.Common.{◌≡◌, ◌+◌, ◌≤◌, ℕ, List, length, refl, arith, sym, subst, Option}
 use Rattle.std.specs.Prelude.{slice_index}
 use Rattle.std.specs.declared.sync.Arc.{Arc}
 use mathlib.Core.Option.{some}

@@ -8,7 +8,7 @@ use mathlib.Core.Logic.{dite}
 use native.Mathlib.Decide.{ℕ_discrete}
 use prog.Atomic.{either}
 use lib.ListN.{get_elem?}
-use Rattle.atomic_table.specs.Table.{State, Me, takes, gives, stepped, Allows, homes_after, rest}
+use Rattle.atomic_table.specs.Table.{State, Me, takes, gives, stepped, Allows, homes_after}
 use Rattle.atomic_table.proofs.Lists.{set_here, set_else, set_again}
 use Rattle.pass_core.specs.declared.plan.PlanEdge.{PlanEdge}
 use Rattle.pass_core.specs.declared.published.Published.{Published}
@@ -17,7 +17,7 @@ use Rattle.pass_core.specs.Shown.{shown}
 use Rattle.ready_counters.specs.declared.view.View.{View}
 use Rattle.ready_counters.specs.Edges.{to_of, from_of}
 use Rattle.ready_counters.specs.Meaning.{IsFull, HasEdge, IsView, IsBoard}
-use Rattle.ready_counters.specs.Sums.{claims, opens, fills, subtractions, fetches, draws}
+use Rattle.ready_counters.specs.Sums.{opens, fills, fetches}
 use Rattle.ready_counters.specs.Views.{times, tickets_for}
 use Rattle.ready_counters.specs.Inside.{Opens, Fills, Fetches, Returns}
 use Rattle.ready_counters.specs.Views.{with_open, with_fill, with_fetch, tail_of}

@@ -1,5 +1,5 @@
 -- What a change at one word and in one view leaves as it was.
-use Rattle.std.proofs.Common.{◌≡◌, ◌+◌, ◌<◌, ◌≤◌, ℕ, zero, suc, List, [], ◌∷◌, length, length-set, set, get_or-set_same, get_or-set_other, refl, ap, arith, ◌∙◌, sym, subst, ⊎_elim, Option}
+use Rattle.std.proofs.Common.{◌≡◌, ◌+◌, ◌<◌, ◌≤◌, ℕ, List, length, length-set, set, get_or-set_same, get_or-set_other, refl, ap, arith, ◌∙◌, sym, subst, ⊎_elim, Option}
 use Rattle.std.specs.Prelude.{slice_index}
 use Rattle.std.specs.declared.sync.Arc.{Arc}
 use mathlib.Core.Option.{Option as Maybe, some}
@@ -12,11 +12,10 @@ use Rattle.pass_core.specs.declared.plan.PlanEdge.{PlanEdge}
 use Rattle.pass_core.specs.declared.published.Published.{Published}
 use Rattle.pass_core.specs.Results.{NodeResult}
 use Rattle.ready_counters.specs.declared.view.View.{View}
-use Rattle.ready_counters.specs.Edges.{left_from, to_of, from_of}
 use Rattle.ready_counters.specs.Meaning.{HasWord, IsView, HasCounters, HasTickets, HasEdge, HasEdges, IsBoard}
-use Rattle.ready_counters.specs.Sums.{weights, claims, opens, fills, subtractions, fetches, draws, drawn_numbers, uses}
-use Rattle.ready_counters.specs.Views.{whole, times, tickets_for, number_for, tickets_with}
-use Rattle.ready_counters.proofs.Sums.{sum_set, sum_same}
+use Rattle.ready_counters.specs.Sums.{claims, opens, fills, subtractions, fetches, draws, drawn_numbers, uses}
+use Rattle.ready_counters.specs.Views.{times, tickets_for, number_for, tickets_with}
+use Rattle.ready_counters.proofs.Sums.{sum_same}
 use Rattle.ready_counters.proofs.Left.{left_same}
 
 pub word_same : (c c' w w' l l' : ℕ) → c' ≡ c → w' ≡ w → l' ≡ l → HasWord c w l → HasWord c' w' l'

@@ -1,6 +1,5 @@
 -- What a seat knows of all views by its own.
-use Rattle.std.proofs.Common.{◌≡◌, ◌+◌, ◌<◌, ◌≤◌, ℕ, zero, suc, List, [], ◌∷◌, length, refl, ap, arith, ◌∙◌, sym, subst, zero-add, Option}
-use Rattle.std.proofs.lemmas.Bool.Decides.{nat_tests}
+use Rattle.std.proofs.Common.{◌≡◌, ◌+◌, ◌<◌, ◌≤◌, ℕ, zero, suc, List, ◌∷◌, length, refl, ap, arith, ◌∙◌, sym, subst, zero-add, Option}
 use Rattle.std.specs.Prelude.{slice_index}
 use Rattle.std.specs.declared.sync.Arc.{Arc}
 use mathlib.Core.Option.{some}
@@ -11,11 +10,11 @@ use Rattle.pass_core.specs.declared.published.Published.{Published}
 use Rattle.pass_core.specs.Results.{NodeResult}
 use Rattle.ready_counters.specs.declared.view.View.{View}
 use Rattle.ready_counters.specs.Edges.{left_from, left_of, to_of, from_of}
-use Rattle.ready_counters.specs.Meaning.{taken, HasWord, IsView, IsBoard}
+use Rattle.ready_counters.specs.Meaning.{taken, HasWord, IsBoard}
 use Rattle.ready_counters.specs.Sums.{total_of, claims, opens, fills, subtractions, fetches, draws}
 use Rattle.ready_counters.specs.Views.{whole, nothing, times, tickets_for}
-use Rattle.ready_counters.proofs.Sums.{sum_at, total_sole, total_less, total_at_most, total_add}
-use Rattle.ready_counters.proofs.Left.{left_none, left_at_most, left_same, left_bound}
+use Rattle.ready_counters.proofs.Sums.{sum_at, total_sole, total_at_most, total_add}
+use Rattle.ready_counters.proofs.Left.{left_none, left_at_most, left_same}
 
 pub times_grow : (x y : ℕ) (xs : List ℕ) → times x xs ≤ times x (y ∷ xs)
 times_grow x y xs = omega arith

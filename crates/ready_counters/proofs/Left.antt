@@ -1,8 +1,8 @@
 -- What is left of the edges into a node, as edges get done.
-use Rattle.std.proofs.Common.{◌≡◌, ◌+◌, ◌<◌, ◌≤◌, ◌==◌, ℕ, zero, suc, List, [], ◌∷◌, length, refl, ap, arith, ◌∙◌, sym, true, false, add-zero, zero-add, eq-eqb, ne_eqb, Bool}
+use Rattle.std.proofs.Common.{◌≡◌, ◌+◌, ◌<◌, ◌≤◌, ◌==◌, ℕ, zero, suc, List, [], ◌∷◌, length, refl, ap, arith, ◌∙◌, sym, true, false, add-zero, eq-eqb, ne_eqb, Bool}
 use Rattle.std.specs.Prelude.{if◌then◌else◌}
 use Rattle.pass_core.specs.declared.plan.PlanEdge.{PlanEdge}
-use Rattle.ready_counters.specs.Edges.{left_from, lacks, to_of, from_of}
+use Rattle.ready_counters.specs.Edges.{left_from, lacks, to_of}
 
 lacks_less : (a b : ℕ) → a ≤ b → lacks b ≤ lacks a
 lacks_less zero zero l = omega arith

@@ -11,16 +11,16 @@ use Rattle.pass_core.specs.declared.plan.PlanEdge.{PlanEdge}
 use Rattle.pass_core.specs.declared.published.Published.{Published}
 use Rattle.pass_core.specs.Results.{NodeResult}
 use Rattle.ready_counters.specs.declared.view.View.{View}
-use Rattle.ready_counters.specs.Edges.{left_from, left_of, to_of, from_of}
-use Rattle.ready_counters.specs.Meaning.{taken, HasWord, IsView, HasCounters, IsBoard}
-use Rattle.ready_counters.specs.Sums.{claims, fills, subtractions}
-use Rattle.ready_counters.specs.Views.{whole, times}
+use Rattle.ready_counters.specs.Edges.{left_from, to_of, from_of}
+use Rattle.ready_counters.specs.Meaning.{HasWord, IsView, IsBoard}
+use Rattle.ready_counters.specs.Sums.{claims, subtractions}
+use Rattle.ready_counters.specs.Views.{times}
 use Rattle.ready_counters.specs.Inside.{Lowered, Subtracts}
 use Rattle.ready_counters.specs.Views.{with_subtract}
-use Rattle.ready_counters.proofs.Sums.{sum_set, sum_same, sum_at, total_less, times_here, times_else}
-use Rattle.ready_counters.proofs.Left.{left_same, left_less, left_else}
+use Rattle.ready_counters.proofs.Sums.{sum_set, sum_same, total_less, times_here, times_else}
+use Rattle.ready_counters.proofs.Left.{left_less, left_else}
 use Rattle.ready_counters.proofs.Frames.{word_same, at_node}
-use Rattle.ready_counters.proofs.Knowing.{still_free, word_free, subtracted_claimed, left_within, left_sole, claim_mine}
+use Rattle.ready_counters.proofs.Knowing.{still_free, word_free, subtracted_claimed, left_within, left_sole}
 
 -- a word that is one less
 abbrev pub lowered : ℕ → ℕ
@@ -32,9 +32,6 @@ lowered_is x l u = omega arith
 module _ {O A : Type 0} (count : ℕ) (edges : List PlanEdge) (result : ℕ → NodeResult O) (id e : ℕ) (me : Me (Option (Arc (Published O) A)) View) (inside : e < length edges) (node : to_of edges e < count) (live : 1 ≤ me.0.weight)
     (filled : 1 ≤ times e me.0.filled) (fresh : times e me.0.subtracted ≡ 0)
     (s : State (Option (Arc (Published O) A)) View) (holds : IsBoard count edges result s) (here : get_elem? s.views id ≡ some me.0) where
-
-
-
   many : to_of edges e < length s.words
   many = subst (λ k. to_of edges e < k) (sym holds.many_words) (omega arith)
 

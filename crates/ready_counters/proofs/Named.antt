@@ -1,5 +1,5 @@
 -- The steps, under the names that a call picks.
-use Rattle.std.proofs.Common.{◌≡◌, ◌+◌, ◌<◌, ◌≤◌, ◌==◌, ℕ, zero, suc, List, [], ◌∷◌, length, refl, ap, arith, ◌∙◌, sym, subst, Bool, true, false, Option, Some, None, map, get_or}
+use Rattle.std.proofs.Common.{◌≡◌, ◌+◌, ◌<◌, ◌≤◌, ◌==◌, ℕ, zero, suc, List, [], ◌∷◌, length, refl, ap, arith, ◌∙◌, sym, subst, Bool, true, false, Option, Some, get_or}
 use Rattle.std.specs.declared.sync.Arc.{Arc}
 use Rattle.std.specs.Arc.{arc_value}
 use prog.Atomic.{either}
@@ -9,13 +9,11 @@ use Rattle.pass_core.specs.declared.published.Published.{Published}
 use Rattle.pass_core.specs.Results.{NodeResult}
 use Rattle.pass_core.specs.Shown.{shown}
 use Rattle.ready_counters.specs.declared.view.View.{View}
-use Rattle.ready_counters.specs.declared.claim.Claim.{Claim}
-use Rattle.ready_counters.specs.declared.claim.Claim.TheVariants.{Claimed, NotReady, Gone}
+use Rattle.ready_counters.specs.declared.claim.Claim.TheVariants.{Gone}
 use Rattle.ready_counters.specs.Edges.{left_of, to_of, from_of}
 use Rattle.ready_counters.specs.Meaning.{taken, HasWord, IsBoard}
-use Rattle.ready_counters.specs.Views.{whole, times, tickets_for}
-use Rattle.ready_counters.specs.Inside.{Found, Lowered, Takes, Claims, Draws, Subtracts, Opens, Fills, Fetches, Returns}
-use Rattle.ready_counters.specs.Views.{with_claim, with_subtract}
+use Rattle.ready_counters.specs.Views.{times, tickets_for}
+use Rattle.ready_counters.specs.Inside.{Lowered, Claims, Draws, Subtracts, Opens, Fills, Fetches, Returns}
 use Rattle.ready_counters.specs.Answers.{AnswersClaim, AnswersSubtract}
 use Rattle.ready_counters.specs.Edges.{targets_of}
 use Rattle.ready_counters.proofs.Left.{left_bound}

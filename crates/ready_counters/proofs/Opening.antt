@@ -1,18 +1,17 @@
 -- The table at the start.
 use Rattle.std.proofs.Common.{◌≡◌, ◌+◌, ◌<◌, ◌≤◌, ◌==◌, ◌++◌, ℕ, zero, suc, List, [], ◌∷◌, length, length-set, map, set, take, get_or, get_or-set_same, get_or-set_other, refl, ap, arith, ◌∙◌, sym, subst, Option, None, replicate, eq-eqb, ne_eqb, true, false, Bool}
 use Rattle.std.specs.Prelude.{slice_index, if◌then◌else◌}
-use Rattle.std.proofs.lemmas.Bool.Decides.{nat_tests}
 use Rattle.std.specs.declared.sync.Arc.{Arc}
-use mathlib.Core.Option.{Option as Maybe, some, some-injective, some-ne-none}
+use mathlib.Core.Option.{some, some-injective, some-ne-none}
 use mathlib.Core.Logic.{dite}
 use native.Mathlib.Decide.{ℕ_discrete}
 use lib.ListN.{get_elem?}
-use Rattle.atomic_table.specs.Table.{State, opening}
+use Rattle.atomic_table.specs.Table.{opening}
 use Rattle.pass_core.specs.declared.plan.PlanEdge.{PlanEdge}
 use Rattle.pass_core.specs.declared.published.Published.{Published}
 use Rattle.pass_core.specs.Results.{NodeResult}
 use Rattle.ready_counters.specs.declared.view.View.{View}
-use Rattle.ready_counters.specs.Edges.{left_from, lacks, to_of, from_of}
+use Rattle.ready_counters.specs.Edges.{left_from, to_of}
 use Rattle.ready_counters.specs.Meaning.{IsView, IsBoard}
 use Rattle.ready_counters.specs.Sums.{sum_below}
 use Rattle.ready_counters.specs.Views.{all_of_it}

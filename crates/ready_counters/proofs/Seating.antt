@@ -1,8 +1,8 @@
 -- Splitting and joining seats keeps the rule, and so does the table at the start.
-use Rattle.std.proofs.Common.{◌≡◌, ◌+◌, ◌<◌, ◌≤◌, ◌++◌, ℕ, zero, suc, List, [], ◌∷◌, length, set, refl, ap, arith, ◌∙◌, sym, subst, ⊎_elim, Option, None, map}
+use Rattle.std.proofs.Common.{◌≡◌, ◌+◌, ◌≤◌, ◌++◌, ℕ, List, [], ◌∷◌, length, set, refl, ap, arith, ◌∙◌, subst, ⊎_elim, Option}
 use Rattle.std.specs.Prelude.{slice_index}
 use Rattle.std.specs.declared.sync.Arc.{Arc}
-use mathlib.Core.Option.{Option as Maybe, some}
+use mathlib.Core.Option.{some}
 use lib.ListN.{get_elem?}
 use Rattle.atomic_table.specs.Table.{State, Splits, Joins}
 use Rattle.atomic_table.proofs.Lists.{at_set, at_snoc}
@@ -13,7 +13,7 @@ use Rattle.ready_counters.specs.declared.view.View.{View}
 use Rattle.ready_counters.specs.Edges.{to_of, from_of}
 use Rattle.ready_counters.specs.Meaning.{IsView, IsBoard}
 use Rattle.ready_counters.specs.Sums.{total_of}
-use Rattle.ready_counters.specs.Views.{whole, nothing, one, lighter, together, times, tickets_for, number_for, tickets_with}
+use Rattle.ready_counters.specs.Views.{nothing, one, lighter, together, times, tickets_for, number_for, tickets_with}
 use Rattle.ready_counters.proofs.Sums.{sum_set, sum_snoc, times_append, tickets_append, number_append, with_append}
 use Rattle.ready_counters.proofs.Frames.{counters_same, tickets_same, edges_same}
 

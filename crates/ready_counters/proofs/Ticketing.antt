@@ -1,25 +1,25 @@
 -- A ticket keeps the rule.
-use Rattle.std.proofs.Common.{◌≡◌, ◌+◌, ◌%◌, ◌^◌, ◌<◌, ◌≤◌, ℕ, zero, suc, List, [], ◌∷◌, length, set, refl, ap, arith, ◌∙◌, sym, subst, Option}
+use Rattle.std.proofs.Common.{◌≡◌, ◌+◌, ◌%◌, ◌^◌, ◌<◌, ◌≤◌, ℕ, suc, List, ◌∷◌, length, set, refl, ap, arith, ◌∙◌, sym, subst, Option}
 use Rattle.std.specs.Prelude.{slice_index}
 use Rattle.std.specs.declared.sync.Arc.{Arc}
 use mathlib.Core.Option.{some}
 use mathlib.Core.Logic.{dite}
 use native.Mathlib.Decide.{ℕ_discrete}
 use lib.ListN.{get_elem?}
-use Rattle.atomic_table.specs.Table.{State, Me, keeps, stepped, Allows}
+use Rattle.atomic_table.specs.Table.{State, Me, keeps, Allows}
 use Rattle.pass_core.specs.declared.plan.PlanEdge.{PlanEdge}
 use Rattle.pass_core.specs.declared.published.Published.{Published}
 use Rattle.pass_core.specs.Results.{NodeResult}
 use Rattle.ready_counters.specs.declared.view.View.{View}
 use Rattle.ready_counters.specs.Edges.{to_of, from_of}
 use Rattle.ready_counters.specs.Meaning.{IsView, HasTickets, IsBoard}
-use Rattle.ready_counters.specs.Sums.{sum_below, claims, fills, fetches, draws, drawn_numbers, uses}
+use Rattle.ready_counters.specs.Sums.{fetches, draws, drawn_numbers, uses}
 use Rattle.ready_counters.specs.Views.{times, tickets_for, number_for, tickets_with}
 use Rattle.ready_counters.specs.Inside.{Draws}
 use Rattle.ready_counters.specs.Views.{with_ticket}
-use Rattle.ready_counters.proofs.Sums.{sum_set, sum_at, total_less, total_none, ticket_here, ticket_else, number_here, number_else, used_here, used_else, no_number, below_more, below_bound, below_short}
+use Rattle.ready_counters.proofs.Sums.{sum_set, sum_at, total_less, total_none, ticket_here, ticket_else, number_here, number_else, used_here, used_else, no_number, below_more, below_short}
 use Rattle.ready_counters.proofs.Frames.{at_ticket}
-use Rattle.ready_counters.proofs.Knowing.{filled_drawn, drawn_fetched, drawn_claimed, claim_mine}
+use Rattle.ready_counters.proofs.Knowing.{filled_drawn, drawn_fetched, drawn_claimed}
 
 -- a word that is one more
 abbrev pub raised : ℕ → ℕ

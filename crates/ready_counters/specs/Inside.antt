@@ -1,5 +1,5 @@
 -- What the steps of a board tell their seat, and what the board's own functions make. No public contract speaks of it.
-use Rattle.std.specs.Prelude.{◌≡◌, ◌+◌, ◌<◌, ◌≤◌, ℕ, zero, suc, List, ◌∷◌, length, slice_get, slice_index, Option, Some, None}
+use Rattle.std.specs.Prelude.{◌≡◌, ◌<◌, ◌≤◌, ℕ, zero, suc, List, ◌∷◌, length, slice_get, Option, Some, None}
 use Rattle.std.specs.declared.sync.Arc.{Arc}
 use Rattle.std.specs.Arc.{arc_value}
 use Rattle.atomic_table.specs.Table.{Me, rest}
@@ -10,7 +10,7 @@ use Rattle.pass_core.specs.Results.{NodeResult}
 use Rattle.pass_core.specs.Shown.{shown}
 use Rattle.ready_counters.specs.declared.view.View.{View}
 use Rattle.ready_counters.specs.Views.{whole, times, tickets_for, tickets_with, with_claim, with_open, with_fill, with_subtract, with_fetch, with_ticket}
-use Rattle.ready_counters.specs.Edges.{from_of, to_of, left_from, left_of}
+use Rattle.ready_counters.specs.Edges.{from_of, to_of, left_of}
 use Rattle.ready_counters.specs.Meaning.{taken, HasWord}
 
 -- What the number that a claim found says of the seat's own view.

@@ -7,3 +7,5 @@ pub mod Ends
 pub mod Receipts
 pub mod Seen
 pub mod Inside
+pub mod Shows
+pub mod Laws

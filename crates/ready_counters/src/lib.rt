@@ -11,7 +11,7 @@
 
 mod board;
 mod claim;
-
+pub mod laws;
 mod play;
 mod receipt;
 mod rule;
@@ -23,6 +23,3 @@ pub use board::Board;
 pub use claim::Claim;
 pub use receipt::Receipt;
 pub use seat::Seat;
-
-
-

@@ -1,7 +1,5 @@
-use Rattle.std.proofs.Common.{◌≡◌, ◌<◌, ◌≤◌, ◌∙◌, ap, sym, subst, length, arith, get_or, rules, suc}
-use Rattle.std.specs.Prelude.{slice_index}
+use Rattle.std.proofs.Common.{◌<◌, subst, length, arith, get_or, rules}
 use Rattle.pass_core.specs.declared.plan.PlanEdge.{PlanEdge}
-use Rattle.ready_counters.specs.Edges.{to_of}
 use Rattle.ready_counters.proofs.Opening.{edge_to, found_small, first_more_as}
 use Rattle.ready_counters.proofs.words.first_words.Goals as goal
 

@@ -1,4 +1,4 @@
-use Rattle.std.proofs.Common.{◌≡◌, ◌∙◌, ap, sym, subst}
+use Rattle.std.proofs.Common.{◌∙◌, ap, sym, subst}
 use Rattle.pass_core.specs.declared.plan.Plan.{Plan}
 use Rattle.pass_core.specs.Orders.{IsLegal, numbers}
 use Rattle.ready_counters.specs.Edges.{result_at}

@@ -1,4 +1,4 @@
-use Rattle.std.proofs.Common.{◌≡◌, ◌<◌, ◌∙◌, ap, sym, subst, length, suc, ◌+◌, rules, arith}
+use Rattle.std.proofs.Common.{◌≡◌, ◌<◌, ◌∙◌, ap, sym, subst, length, suc, ◌+◌}
 use Rattle.pass_core.specs.declared.plan.Plan.{Plan}
 use Rattle.ready_counters.specs.Edges.{targets_of}
 use Rattle.ready_counters.specs.Edges.{result_at}

@@ -1,4 +1,4 @@
-use Rattle.std.proofs.Common.{◌≡◌, ◌<◌, ◌+◌, length, subst, sym, arith, ◌∙◌}
+use Rattle.std.proofs.Common.{◌≡◌, ◌<◌, subst, sym, arith, ◌∙◌}
 use Rattle.ready_counters.specs.Edges.{result_at, to_of}
 use Rattle.ready_counters.proofs.Named.{subtract_as, target_is}
 use Rattle.ready_counters.proofs.board.Board.subtract_as.Goals as goal
