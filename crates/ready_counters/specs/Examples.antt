@@ -14,3 +14,7 @@ pair = record { count = 2; edges = between 0 1 ∷ between 0 1 ∷ [] }
 -- A chain of three nodes.
 abbrev pub chain : Plan
 chain = record { count = 3; edges = between 0 1 ∷ between 1 2 ∷ [] }
+
+-- No node.
+abbrev pub no_nodes : Plan
+no_nodes = record { count = 0; edges = [] }

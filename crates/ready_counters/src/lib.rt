@@ -23,3 +23,6 @@ pub use board::Board;
 pub use claim::Claim;
 pub use receipt::Receipt;
 pub use seat::Seat;
+
+#[cfg(test)]
+mod tests;
