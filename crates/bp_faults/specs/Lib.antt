@@ -1,6 +1,11 @@
 pub mod Kinds
 pub mod Faults
 pub mod Answers
-pub mod Paths
+pub mod Phases
+pub mod Order
+pub mod Places
 pub mod Targets
+pub mod Paths
+pub mod Characters
 pub mod Line
+pub mod Laws

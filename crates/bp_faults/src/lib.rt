@@ -1,13 +1,16 @@
-//! The types that every layer shares: texts, paths, lists, ids, places and faults, and the line that
-//! a fault is printed as.
+//! The types that every layer shares: texts, paths, lists, ids, places, limits and faults, and the line
+//! that a fault is printed as.
 //!
-//! Nothing flows in; every other crate stands on this one. It is measured by `specs/Line.antt`, the
-//! fault line, and by `specs/Answers.antt`, the words in which every layer says what a call answers.
+//! Every other crate uses this one. It is measured by `specs/Line.antt`, the fault line. The layers say
+//! what their calls answer in the words of `specs/Answers.antt`, `specs/Phases.antt` and `specs/Order.antt`.
 #![tactic(auto)]
 
+mod characters;
 mod fault;
 mod ids;
 mod kind;
+pub mod laws;
+pub mod limits;
 mod line;
 mod path;
 mod payload;
@@ -17,6 +20,7 @@ mod seq;
 mod target;
 mod text;
 
+pub use characters::{is_barred_in_paths, is_control};
 pub use fault::Fault;
 pub use ids::{ModuleId, NodeId};
 pub use kind::FaultKind;

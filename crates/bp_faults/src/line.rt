@@ -1,13 +1,14 @@
 ghost use Rattle.std.specs.Prelude.{◌≡◌, ◌++◌, List, ℕ, IfOk, string_bytes, codes, map, take};
-ghost use Rattle.bp_faults.specs.Line.{line_of, head_of, tail_of, what_of, chain_of, after_arrows, shown, shown_text, path_at};
+ghost use Rattle.bp_faults.specs.Line.{line_of, head_of, tail_of, what_of, chain_of, after_arrows, shown, shown_text};
+ghost use Rattle.bp_faults.specs.Line.{path_at};
 
-use crate::{Fault, FaultKind, OutOfMemory, Place, Text};
+use crate::{Fault, FaultKind, OutOfMemory, Place, Text, is_control};
 use std::alloc::{AllocError, Global};
 
 fn shown_char(c: char) -> char
     ensures { result ≡ shown c }
 {
-    if c < ' ' || c == '\u{7f}' { '?' } else { c }
+    if is_control(c) { '?' } else { c }
 }
 
 // The first 80 characters, control characters as question marks.

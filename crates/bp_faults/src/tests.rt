@@ -1,6 +1,6 @@
 use crate::{
-    Fault, FaultKind, Item, ModuleId, NodeId, OutOfMemory, Path, Payload, Place, Seq, Target, Text,
-    fault_line,
+    Fault, FaultKind, Item, ModuleId, NodeId, OutOfMemory, Path, Payload, Place, Refusal, Seq,
+    Target, Text, fault_line, is_barred_in_paths, is_control,
 };
 use std::alloc::Global;
 use std::test::Fail;
@@ -97,11 +97,7 @@ fn paths_are_normal_and_values_are_copied(rt: HostRuntime) -> Result<(), Fail> {
     let mut seq = Seq::new(Vec::new(alloc));
     seq.push(Item {
         text: text(alloc, "x")?,
-        at: Place {
-            file: 1,
-            line: 2,
-            col: 3,
-        },
+        at: Place::start(1),
     })?;
     assert!(rt; copied(alloc, &seq)? == seq);
     seq.truncate(3);
@@ -113,7 +109,33 @@ fn paths_are_normal_and_values_are_copied(rt: HostRuntime) -> Result<(), Fail> {
     assert_eq!(rt; joined.as_str(), "éa");
     assert!(rt; copied(alloc, &NodeId(3))? == NodeId(3));
     assert!(rt; copied(alloc, &ModuleId(4))? == ModuleId(4));
-    assert!(rt; text(alloc, "a")?.is(&copied(alloc, &text(alloc, "a")?)?));
     assert_eq!(rt; Target::LinuxGlibcX86.name(), "linux_glibc_x86");
+    Ok(())
+}
+
+#[test]
+fn places_targets_and_characters_are_ordered(rt: HostRuntime) -> Result<(), Fail> {
+    let alloc = rt.alloc();
+    let place = |file, line, col| Place { file, line, col };
+    assert!(rt; place(1, 9, 1) < place(2, 1, 1));
+    assert!(rt; place(1, 1, 40) < place(1, 2, 1));
+    assert!(rt; Target::AndroidX86_64 < Target::AndroidX86);
+    for (c, control, barred) in [
+        ('\u{1f}', true, true),
+        (' ', false, false),
+        ('|', false, true),
+        ('\u{7f}', true, true),
+        ('\u{80}', false, false),
+    ] {
+        assert_eq!(rt; is_control(c), control);
+        assert_eq!(rt; is_barred_in_paths(c), barred);
+    }
+    let bad = Refusal::Bad(Fault::at(alloc, FaultKind::NoFile, Place::start(1)));
+    let short = Refusal::from(OutOfMemory);
+    let texts = format!(in alloc; "{bad}, {short}, {OutOfMemory}")?;
+    assert_eq!(rt;
+        texts.as_str(),
+        "the input has a fault, out of memory, out of memory"
+    );
     Ok(())
 }

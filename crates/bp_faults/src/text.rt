@@ -1,4 +1,4 @@
-ghost use Rattle.std.specs.Prelude.{◌≡◌, List, ℕ, IfOk, OnOk, OnErr, ◌++◌, IsTrue, ◌↔◌, string_bytes};
+ghost use Rattle.std.specs.Prelude.{◌≡◌, List, ℕ, IfOk, OnOk, OnErr, ◌++◌, string_bytes};
 
 use crate::OutOfMemory;
 use std::alloc::Global;
@@ -29,13 +29,6 @@ impl Text {
         ensures { result.now ≡ self.now }
     {
         self.text.as_str()
-    }
-
-    /// Whether both have the same bytes.
-    pub fn is(&self, other: &Text) -> bool
-        ensures { IsTrue result ↔ (self.now ≡ other.now) }
-    {
-        self.text.as_str() == other.text.as_str()
     }
 
     /// The text of a slice.

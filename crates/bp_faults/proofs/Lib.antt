@@ -1,0 +1,4 @@
+pub mod Lists
+pub mod Phases
+pub mod Gathered
+pub mod Refusals
