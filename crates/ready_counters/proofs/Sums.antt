@@ -10,12 +10,14 @@ use Rattle.ready_counters.specs.Views.{times, tickets_for, number_for, tickets_w
 
 module _ {V : Type 0} (f : V → ℕ) where
   -- one view is exchanged for another
-  pub sum_set : (vs : List V) (id : ℕ) (v w : V) → get_elem? vs id ≡ some v → total_of f (set vs id w) + f v ≡ total_of f vs + f w
+  pub sum_set : (vs : List V) (id : ℕ) (v w : V) → get_elem? vs id ≡ some v
+      → total_of f (set vs id w) + f v ≡ total_of f vs + f w
   sum_set [] id v w e = absurd (some-ne-none v (sym e))
   sum_set (x ∷ xs) zero v w e = let s : f x ≡ f v = ap f (some-injective x v e) in omega arith
   sum_set (x ∷ xs) (suc id) v w e = let h = sum_set xs id v w e in omega arith
 
-  pub sum_same : (vs : List V) (id : ℕ) (v w : V) → get_elem? vs id ≡ some v → f w ≡ f v → total_of f (set vs id w) ≡ total_of f vs
+  pub sum_same : (vs : List V) (id : ℕ) (v w : V) → get_elem? vs id ≡ some v → f w ≡ f v
+      → total_of f (set vs id w) ≡ total_of f vs
   sum_same vs id v w e s = let h = sum_set vs id v w e in omega arith
 
   -- no view has more than all
@@ -33,30 +35,40 @@ total_add f g [] = omega arith
 total_add f g (x ∷ xs) = let h = total_add f g xs in omega arith
 
 -- where one sum is at most another in each view, and less in one, it is less
-pub total_at_most : {V : Type 0} (f g : V → ℕ) (vs : List V) → ((id : ℕ) (v : V) → get_elem? vs id ≡ some v → f v ≤ g v) → total_of f vs ≤ total_of g vs
+pub total_at_most : {V : Type 0} (f g : V → ℕ) (vs : List V)
+    → ((id : ℕ) (v : V) → get_elem? vs id ≡ some v → f v ≤ g v) → total_of f vs ≤ total_of g vs
 total_at_most f g [] h = omega arith
-total_at_most f g (x ∷ xs) h = let a = h 0 x refl in let b = total_at_most f g xs (λ id v e. h (suc id) v e) in omega arith
+total_at_most f g (x ∷ xs) h = let a = h 0 x refl in let b = total_at_most f g xs (λ id v e. h (suc id) v e) in
+    omega arith
 
-pub total_less : {V : Type 0} (f g : V → ℕ) (vs : List V) (id : ℕ) (v : V) → ((id : ℕ) (v : V) → get_elem? vs id ≡ some v → f v ≤ g v) → get_elem? vs id ≡ some v → f v + 1 ≤ g v
+pub total_less : {V : Type 0} (f g : V → ℕ) (vs : List V) (id : ℕ) (v : V)
+    → ((id : ℕ) (v : V) → get_elem? vs id ≡ some v → f v ≤ g v) → get_elem? vs id ≡ some v → f v + 1 ≤ g v
     → total_of f vs + 1 ≤ total_of g vs
 total_less f g [] id v h e l = absurd (some-ne-none v (sym e))
 total_less f g (x ∷ xs) zero v h e l =
-    let s = some-injective x v e in let a = ap f s in let c = ap g s in let b = total_at_most f g xs (λ id v e. h (suc id) v e) in omega arith
-total_less f g (x ∷ xs) (suc id) v h e l = let a = h 0 x refl in let b = total_less f g xs id v (λ id v e. h (suc id) v e) e l in omega arith
+    let s = some-injective x v e in let a = ap f s in let c = ap g s in
+    let b = total_at_most f g xs (λ id v e. h (suc id) v e) in omega arith
+total_less f g (x ∷ xs) (suc id) v h e l = let a = h 0 x refl in
+    let b = total_less f g xs id v (λ id v e. h (suc id) v e) e l in omega arith
 
 -- where no view has any of g, and so none of f
-pub total_none : {V : Type 0} (f g : V → ℕ) (vs : List V) → ((id : ℕ) (v : V) → get_elem? vs id ≡ some v → g v ≡ 0 → f v ≡ 0) → total_of g vs ≡ 0 → total_of f vs ≡ 0
+pub total_none : {V : Type 0} (f g : V → ℕ) (vs : List V)
+    → ((id : ℕ) (v : V) → get_elem? vs id ≡ some v → g v ≡ 0 → f v ≡ 0) → total_of g vs ≡ 0 → total_of f vs ≡ 0
 total_none f g [] h z = refl
-total_none f g (x ∷ xs) h z = let a = h 0 x refl (omega arith) in let b = total_none f g xs (λ id v e. h (suc id) v e) (omega arith) in omega arith
+total_none f g (x ∷ xs) h z = let a = h 0 x refl (omega arith) in
+    let b = total_none f g xs (λ id v e. h (suc id) v e) (omega arith) in omega arith
 
 -- where one view has all of g, it has all of f
-pub total_sole : {V : Type 0} (f g : V → ℕ) (vs : List V) (id : ℕ) (v : V) → ((id : ℕ) (v : V) → get_elem? vs id ≡ some v → g v ≡ 0 → f v ≡ 0) → get_elem? vs id ≡ some v → total_of g vs ≡ g v → total_of f vs ≡ f v
+pub total_sole : {V : Type 0} (f g : V → ℕ) (vs : List V) (id : ℕ) (v : V)
+    → ((id : ℕ) (v : V) → get_elem? vs id ≡ some v → g v ≡ 0 → f v ≡ 0) → get_elem? vs id ≡ some v
+    → total_of g vs ≡ g v → total_of f vs ≡ f v
 total_sole f g [] id v h e z = absurd (some-ne-none v (sym e))
 total_sole f g (x ∷ xs) zero v h e z =
     let s = some-injective x v e in let a = ap f s in let c = ap g s in
     let b = total_none f g xs (λ id v e. h (suc id) v e) (omega arith) in omega arith
 total_sole f g (x ∷ xs) (suc id) v h e z =
-    let l = sum_at g xs id v e in let a = h 0 x refl (omega arith) in let b = total_sole f g xs id v (λ id v e. h (suc id) v e) e (omega arith) in omega arith
+    let l = sum_at g xs id v e in let a = h 0 x refl (omega arith) in
+    let b = total_sole f g xs id v (λ id v e. h (suc id) v e) e (omega arith) in omega arith
 
 pub times_here : (x : ℕ) (xs : List ℕ) → times x (x ∷ xs) ≡ 1 + times x xs
 times_here x xs = grind (arith, nat_tests)
@@ -107,12 +119,15 @@ with_append x (y ∷ xs) ys = let h = with_append x xs ys in omega arith
 -- sums over the numbers below a bound
 pub below_same : (f g : ℕ → ℕ) (n : ℕ) → ((k : ℕ) → k < n → f k ≡ g k) → sum_below f n ≡ sum_below g n
 below_same f g zero h = refl
-below_same f g (suc n) h = let a = h n (omega arith) in let b = below_same f g n (λ k l. h k (omega arith)) in omega arith
+below_same f g (suc n) h = let a = h n (omega arith) in let b = below_same f g n (λ k l. h k (omega arith)) in
+    omega arith
 
-pub below_more : (f g : ℕ → ℕ) (n k : ℕ) → k < n → g k ≡ suc (f k) → ((j : ℕ) → (j ≡ k → ⊥) → g j ≡ f j) → sum_below g n ≡ suc (sum_below f n)
+pub below_more : (f g : ℕ → ℕ) (n k : ℕ) → k < n → g k ≡ suc (f k) → ((j : ℕ) → (j ≡ k → ⊥) → g j ≡ f j)
+    → sum_below g n ≡ suc (sum_below f n)
 below_more f g zero k l here else = absurd (omega arith)
 below_more f g (suc n) k l here else = dite (ℕ_discrete n k)
-    (λ is. let a = below_same g f n (λ j lj. else j (λ e. omega arith)) in let b : g n ≡ suc (f n) = ap g is ∙ here ∙ ap (λ x. suc (f x)) (sym is) in omega arith)
+    (λ is. let a = below_same g f n (λ j lj. else j (λ e. omega arith)) in
+    let b : g n ≡ suc (f n) = ap g is ∙ here ∙ ap (λ x. suc (f x)) (sym is) in omega arith)
     (λ ne. let a = below_more f g n k (omega arith) here else in let b = else n ne in omega arith)
 
 pub below_bound : (f : ℕ → ℕ) (n : ℕ) → ((k : ℕ) → f k ≤ 1) → sum_below f n ≤ n

@@ -1,5 +1,5 @@
 -- The ends of edges, and how many of the edges into a node aren't done.
-use Rattle.std.specs.Prelude.{◌+◌, ◌==◌, ℕ, zero, suc, List, [], ◌∷◌, map, slice_index, if◌then◌else◌, Result}
+use Rattle.std.specs.Prelude.{◌≡◌, ◌<◌, ◌≤◌, ◌+◌, ◌==◌, ℕ, zero, suc, List, [], ◌∷◌, map, length, slice_index, if◌then◌else◌, Result}
 use Rattle.bp_faults.specs.declared.fault.Fault.{Fault}
 use Rattle.pass_core.specs.declared.plan.Plan.{Plan}
 use Rattle.pass_core.specs.declared.plan.PlanEdge.{PlanEdge}
@@ -23,6 +23,14 @@ to_of edges e = slice_index (targets_of edges) e
 -- The result of the source of the edge of a number.
 abbrev pub result_at : {O : Type 0} → (ℕ → List O → Result O Fault) → Plan → ℕ → NodeResult O
 result_at mean plan e = node_result mean plan (from_of plan.edges e)
+
+-- How many words a board of a plan has: a counter for each node, a state for each edge, and the ticket word.
+abbrev pub word_count : Plan → ℕ
+word_count plan = suc (plan.count + length plan.edges)
+
+-- A seat has fetched every edge into a node.
+abbrev pub HasFetched : List PlanEdge → ℕ → View → Type 0
+HasFetched edges n v = (e : ℕ) → e < length edges → to_of edges e ≡ n → 1 ≤ times e v.fetched
 
 -- 1 where there is none.
 abbrev pub lacks : ℕ → ℕ

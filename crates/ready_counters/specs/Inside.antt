@@ -17,7 +17,8 @@ use Rattle.ready_counters.specs.Meaning.{taken, HasWord}
 pub record Found (edges : List PlanEdge) (n : ℕ) (v : View) (found : ℕ) : Type 0 where
   pub fresh : (found ≡ taken → ⊥) → times n v.claimed ≡ 0
   pub left : (found ≡ taken → ⊥) → found ≤ left_of edges v n
-  pub gone : found ≡ taken → (e : ℕ) → e < length edges → to_of edges e ≡ n → 1 ≤ times (from_of edges e) v.claimed → 1 ≤ times e v.subtracted
+  pub gone : found ≡ taken → (e : ℕ) → e < length edges → to_of edges e ≡ n → 1 ≤ times (from_of edges e) v.claimed
+      → 1 ≤ times e v.subtracted
   pub exact : v.weight ≡ whole → HasWord (times n v.claimed) found (left_of edges v n)
 
 -- What the number that a subtraction found says of the seat's view after it.
@@ -44,7 +45,8 @@ module _ {S : Type 0} where
   -- Nothing changes, and no two of the seat's tickets have one number or one node.
   abbrev pub Differs : Me S View → Me S View → Type 0
   Differs me after =
-      (after.0 ≡ me.0) × (after.1 ≡ me.1) × ((k : ℕ) → tickets_with k me.0.tickets ≤ 1) × ((n : ℕ) → tickets_for n me.0.tickets ≤ 1)
+      (after.0 ≡ me.0) × (after.1 ≡ me.1) × ((k : ℕ) → tickets_with k me.0.tickets ≤ 1)
+      × ((n : ℕ) → tickets_for n me.0.tickets ≤ 1)
 
   -- What a subtraction tells.
   abbrev pub Subtracts : List PlanEdge → ℕ → Me S View → ℕ → Me S View → Type 0
@@ -65,7 +67,8 @@ module _ {O A : Type 0} where
   Fills e me after = (after.0 ≡ with_fill me.0 e) × (after.1 ≡ rest me.1)
 
   -- The edge is fetched, and its slot, which has the result, is out with the seat.
-  abbrev pub Fetches : ℕ → NodeResult O → Me (Option (Arc (Published O) A)) View → Me (Option (Arc (Published O) A)) View → Type 0
+  abbrev pub Fetches : ℕ → NodeResult O → Me (Option (Arc (Published O) A)) View
+      → Me (Option (Arc (Published O) A)) View → Type 0
   Fetches e value me after = (after.0 ≡ with_fetch me.0 e)
       × ((shared : Arc (Published O) A) × (after.1 ≡ (e, Some shared) ∷ me.1) × (shown (arc_value shared) ≡ value))
 
@@ -73,7 +76,8 @@ module _ {O A : Type 0} where
 abbrev pub IsInOrder : ℕ → List PlanEdge → List ℕ → Type 0
 IsInOrder count edges order = ((i n : ℕ) → slice_get order i ≡ Some n → n < count)
     × ((n : ℕ) → n < count → times n order ≡ 1)
-    × ((e i j : ℕ) → e < length edges → slice_get order i ≡ Some (from_of edges e) → slice_get order j ≡ Some (to_of edges e) → i < j)
+    × ((e i j : ℕ) → e < length edges → slice_get order i ≡ Some (from_of edges e)
+    → slice_get order j ≡ Some (to_of edges e) → i < j)
 
 -- The source of every edge is a node.
 abbrev pub BeginInside : Plan → Type 0

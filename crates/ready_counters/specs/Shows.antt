@@ -36,7 +36,8 @@ module _ {O : Type 0} (mean : ℕ → List O → Result O Fault) (plan : Plan) w
   core_of words views = record {
     counters = map (λ n. counter_of (slice_index words n)) (range_with_len 0 plan.count);
     claimed = map (λ n. slice_index words n == taken) (range_with_len 0 plan.count);
-    filled = map (λ e. held_at (slice_index words (plan.count + e)) (result_at mean plan e)) (range_with_len 0 (length plan.edges));
+    filled = map (λ e. held_at (slice_index words (plan.count + e)) (result_at mean plan e))
+        (range_with_len 0 (length plan.edges));
     subtracted = map (λ e. was_done (subtractions views e)) (range_with_len 0 (length plan.edges));
     fetched = map (λ e. was_done (fetches views e)) (range_with_len 0 (length plan.edges));
   }
@@ -72,12 +73,14 @@ module _ {S : Type 0} where
   Changes id v w i x s t = (get_elem? s.views id ≡ some v) × (1 ≤ v.weight)
       × (t.words ≡ slice_set s.words i x) × (t.views ≡ slice_set s.views id w)
 
-  -- A seat whose view is v takes a step of a kind: which word was found, what becomes of it and of the view, and what the
-  -- seat must have done before. Slots aren't spoken of, since a core state doesn't depend on them.
+  -- A seat whose view is v takes a step of a kind: which word was found, what becomes of it and of the view, and what
+  -- the seat must have done before. Slots aren't spoken of, since a core state doesn't depend on them.
   abbrev pub IsStep : Plan → BoardStep → ℕ → View → State S View → State S View → Type 0
-  IsStep plan (Claiming n) id v s t = (n < plan.count) × (slice_index s.words n ≡ 0) × Changes id v (with_claim v n) n taken s t
+  IsStep plan (Claiming n) id v s t = (n < plan.count) × (slice_index s.words n ≡ 0)
+      × Changes id v (with_claim v n) n taken s t
   IsStep plan (Ticketing n) id v s t =
-      Changes id v (with_ticket v n (slice_index s.words (plan.count + length plan.edges))) (plan.count + length plan.edges)
+      Changes id v (with_ticket v n (slice_index s.words (plan.count + length plan.edges)))
+      (plan.count + length plan.edges)
       (slice_index s.words (plan.count + length plan.edges) + 1) s t
   IsStep plan (Opening e) id v s t = (e < length plan.edges) × (slice_index s.words (plan.count + e) ≡ 0)
       × Changes id v (with_open v e) (plan.count + e) 1 s t

@@ -1,5 +1,5 @@
-ghost use Rattle.std.specs.Prelude.{◌≡◌, ◌<◌, ◌+◌, ℕ, suc, length};
-ghost use Rattle.ready_counters.specs.Edges.{targets_of};
+ghost use Rattle.std.specs.Prelude.{◌≡◌, ◌<◌, ℕ, length};
+ghost use Rattle.ready_counters.specs.Edges.{word_count, targets_of};
 ghost use Rattle.ready_counters.specs.Inside.{BeginInside, EndInside};
 
 use crate::claim::Claim;
@@ -39,7 +39,7 @@ pub struct Board<V: Visit> {
     pub ghost ends: { EndInside table.shared.key.plan.value },
     pub ghost counted: { count ≡ table.shared.key.plan.value.count },
     pub ghost targeted: { targets.items ≡ targets_of table.shared.key.plan.value.edges },
-    pub ghost sized: { table.shared.table_id.words ≡ suc (table.shared.key.plan.value.count + length table.shared.key.plan.value.edges) },
+    pub ghost sized: { table.shared.table_id.words ≡ word_count table.shared.key.plan.value },
     pub ghost small: { table.shared.key.plan.value.count < 4294967296 },
     pub ghost few: { length table.shared.key.plan.value.edges < 4294967296 },
 }
@@ -61,7 +61,7 @@ impl<V: Visit> Board<V> {
     ghost use Rattle.pass_core.specs.Plans.{IsPlan};
     ghost use Rattle.pass_core.specs.Shown.{shown};
     ghost use Rattle.ready_counters.specs.Answers.{AnswersClaim, AnswersSubtract};
-    ghost use Rattle.ready_counters.specs.Edges.{from_of, to_of, result_at};
+    ghost use Rattle.ready_counters.specs.Edges.{from_of, to_of, result_at, HasFetched};
     ghost use Rattle.ready_counters.specs.Ends.{IsByTicket, IsDoneBy};
     ghost use Rattle.ready_counters.specs.Inside.{Claims, Draws, Subtracts};
     ghost use Rattle.ready_counters.specs.Seen.{plan_of, visitor_of, view_of, IsSeatOf};
@@ -140,7 +140,7 @@ impl<V: Visit> Board<V> {
         requires seat { IsSeatOf self.now seat.old }
         requires node { n.0 < (plan_of self.now).count }
         requires claimed { 1 ≤ times n.0 (view_of seat.old).claimed }
-        requires ready { (e : ℕ) → e < length (plan_of self.now).edges → to_of (plan_of self.now).edges e ≡ n.0 → 1 ≤ times e (view_of seat.old).fetched }
+        requires ready { HasFetched (plan_of self.now).edges n.0 (view_of seat.old) }
         requires fresh { tickets_for n.0 (view_of seat.old).tickets ≡ 0 }
         ensures seat { IsSeatOf self.now seat.new }
         ensures drawn { view_of seat.new ≡ with_ticket (view_of seat.old) n.0 result }
@@ -162,8 +162,8 @@ impl<V: Visit> Board<V> {
         self.fill_as::<Brand>(seat, e, value);
     }
 
-    /// Lowers the counter of the target of an edge that the seat filled, and answers whether none of the target's in-edges
-    /// is left.
+    /// Lowers the counter of the target of an edge that the seat filled, and answers whether none of its
+    /// in-edges is left.
     pub fn subtract(&self, seat: &mut Seat<V>, e: u32) -> bool
         requires seat { IsSeatOf self.now seat.old }
         requires edge { e < length (plan_of self.now).edges }
@@ -243,7 +243,7 @@ impl<V: Visit> Board<V> {
         requires seat { IsSeatOf self.now seat.old }
         requires node { n < (plan_of self.now).count }
         requires claimed { 1 ≤ times n (view_of seat.old).claimed }
-        requires ready { (e : ℕ) → e < length (plan_of self.now).edges → to_of (plan_of self.now).edges e ≡ n → 1 ≤ times e (view_of seat.old).fetched }
+        requires ready { HasFetched (plan_of self.now).edges n (view_of seat.old) }
         requires fresh { tickets_for n (view_of seat.old).tickets ≡ 0 }
         ensures seat { IsSeatOf self.now seat.new }
         ensures told { Draws E.count E.node seat.old.seat.me result seat.new.seat.me }

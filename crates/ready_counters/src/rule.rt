@@ -30,11 +30,10 @@ pub struct BoardRule<V> {
 }
 
 impl<V: Visit> TableRule<Slot<V::Out>, View, About<V>> for BoardRule<V> {
-    ghost use Rattle.ready_counters.specs.Edges.{result_at};
-    ghost use Rattle.ready_counters.specs.Meaning.{IsBoard};
+    ghost use Rattle.ready_counters.specs.Meaning.{IsBoardOf};
     ghost use Rattle.ready_counters.specs.Views.{all_of_it};
 
-    ghost holds = { λ about s. IsBoard about.plan.value.count about.plan.value.edges (result_at (V.meaning about.visitor.value) about.plan.value) s };
+    ghost holds = { λ about s. IsBoardOf (V.meaning about.visitor.value) about.plan.value s };
 
     ghost first = { λ about. all_of_it };
 }

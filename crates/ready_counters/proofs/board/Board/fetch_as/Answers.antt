@@ -9,8 +9,10 @@ use Rattle.ready_counters.proofs.board.Board.fetch_as.Goals as goal
 pub compare_exchange-requires : goal.compare_exchange-requires
 compare_exchange-requires g c = (
   c.requires.seat,
-  subst (λ k. c.args.self.now.count + c.args.e < k) (sym c.args.self.now.sized) (omega (arith, c.requires.edge, c.args.self.now.counted)),
-  fetch_as c.args.self.now.table.shared.key.plan.value.count c.args.self.now.table.shared.key.plan.value.edges (result_at (g.V.Visit.meaning c.args.self.now.table.shared.key.visitor.value) c.args.self.now.table.shared.key.plan.value) c.args.self.now.table.shared.table_id.slots c.args.seat.now.seat.id c.args.seat.now.seat.me c.args.seat.now.live c.args.e g.E.Pick.edge c.args.self.now.count g.E.Pick.value c.requires.named c.args.self.now.counted c.requires.value
+  subst (λ k. c.args.self.now.count + c.args.e < k) (sym c.args.self.now.sized)
+      (omega (arith, c.requires.edge, c.args.self.now.counted)),
+  fetch_as c.args.self.now.table.shared.key.plan.value.count c.args.self.now.table.shared.key.plan.value.edges
+      (result_at (g.V.Visit.meaning c.args.self.now.table.shared.key.visitor.value) c.args.self.now.table.shared.key.plan.value) c.args.self.now.table.shared.table_id.slots c.args.seat.now.seat.id c.args.seat.now.seat.me c.args.seat.now.live c.args.e g.E.Pick.edge c.args.self.now.count g.E.Pick.value c.requires.named c.args.self.now.counted c.requires.value
       c.requires.edge (c.args.self.now.ends c.args.e c.requires.edge) c.requires.claimed c.requires.fresh,
 )
 
@@ -23,12 +25,17 @@ exchange-full-requires g c =
 pub load-requires : goal.load-requires
 load-requires g c =
     let h = c.compare_exchange.ensures in let i = c.exchange-full.ensures in let t = h.2.1 in
-    let n : 1 ≤ times c.args.e (c.args.e ∷ c.args.seat.now.seat.me.0.fetched) = omega (arith, times_here c.args.e c.args.seat.now.seat.me.0.fetched) in
+    let n : 1 ≤ times c.args.e (c.args.e ∷ c.args.seat.now.seat.me.0.fetched) =
+    omega (arith, times_here c.args.e c.args.seat.now.seat.me.0.fetched) in
     let view = ap (λ m. m.0) i.3 ∙ h.2.0 in (
       i.0 ∙ h.0 ∙ c.requires.seat,
-      subst (λ k. c.args.self.now.count + c.args.e < k) (sym c.args.self.now.sized) (omega (arith, c.requires.edge, c.args.self.now.counted)),
-      return_as c.args.self.now.table.shared.key.plan.value.count c.args.self.now.table.shared.key.plan.value.edges (result_at (g.V.Visit.meaning c.args.self.now.table.shared.key.visitor.value) c.args.self.now.table.shared.key.plan.value) c.args.self.now.table.shared.table_id.slots c.exchange-full.new.seat.id c.exchange-full.new.seat.me
-          (subst (λ v. 1 ≤ v.weight) (sym view) c.args.seat.now.live) c.args.e c.args.self.now.count c.args.self.now.counted c.requires.edge
-          (subst (λ v. 1 ≤ times c.args.e v.fetched) (sym view) (subst (λ k. 1 ≤ times c.args.e (k ∷ c.args.seat.now.seat.me.0.fetched)) c.requires.named n)) None
+      subst (λ k. c.args.self.now.count + c.args.e < k) (sym c.args.self.now.sized)
+          (omega (arith, c.requires.edge, c.args.self.now.counted)),
+      return_as c.args.self.now.table.shared.key.plan.value.count c.args.self.now.table.shared.key.plan.value.edges
+          (result_at (g.V.Visit.meaning c.args.self.now.table.shared.key.visitor.value) c.args.self.now.table.shared.key.plan.value) c.args.self.now.table.shared.table_id.slots c.exchange-full.new.seat.id c.exchange-full.new.seat.me
+          (subst (λ v. 1 ≤ v.weight)
+          (sym view) c.args.seat.now.live) c.args.e c.args.self.now.count c.args.self.now.counted c.requires.edge
+          (subst (λ v. 1 ≤ times c.args.e v.fetched) (sym view)
+          (subst (λ k. 1 ≤ times c.args.e (k ∷ c.args.seat.now.seat.me.0.fetched)) c.requires.named n)) None
           (ap (λ m. m.1) i.3 ∙ ap (λ l. (c.args.e, None) ∷ l) (ap rest t.1 ∙ c.args.seat.now.free)),
     )

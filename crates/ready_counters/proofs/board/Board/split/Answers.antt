@@ -4,4 +4,9 @@ use Rattle.ready_counters.proofs.Seating.{split_allows}
 use Rattle.ready_counters.proofs.board.Board.split.Goals as goal
 
 pub split_seat-other-requires : goal.split_seat-other-requires
-split_seat-other-requires g c = (c.requires.seat, subst (λ k. 0 < k) (sym c.args.self.now.sized) (omega arith), split_allows c.args.self.now.table.shared.key.plan.value.count c.args.self.now.table.shared.key.plan.value.edges (result_at (g.V.Visit.meaning c.args.self.now.table.shared.key.visitor.value) c.args.self.now.table.shared.key.plan.value) c.args.seat.now.seat.id c.args.seat.now.seat.me.0 c.requires.heavy)
+split_seat-other-requires g c = (
+  c.requires.seat,
+  subst (λ k. 0 < k) (sym c.args.self.now.sized) (omega arith),
+  split_allows c.args.self.now.table.shared.key.plan.value.count c.args.self.now.table.shared.key.plan.value.edges
+      (result_at (g.V.Visit.meaning c.args.self.now.table.shared.key.visitor.value) c.args.self.now.table.shared.key.plan.value) c.args.seat.now.seat.id c.args.seat.now.seat.me.0 c.requires.heavy,
+)

@@ -9,6 +9,7 @@ fetch_add-requires g c =
     let word : c.args.self.now.count + c.len.result ≡ c.args.self.now.table.shared.key.plan.value.count + length c.args.self.now.table.shared.key.plan.value.edges = omega (arith, c.len.ensures, c.args.self.now.counted) in (
       c.requires.seat,
       subst (λ k. c.args.self.now.count + c.len.result < k) (sym c.args.self.now.sized) (omega arith),
-      ticket_as c.args.self.now.table.shared.key.plan.value.count c.args.self.now.table.shared.key.plan.value.edges (result_at (g.V.Visit.meaning c.args.self.now.table.shared.key.visitor.value) c.args.self.now.table.shared.key.plan.value) c.args.self.now.table.shared.table_id.slots c.args.seat.now.seat.id c.args.seat.now.seat.me c.args.seat.now.live g.E.Pick.count c.args.n g.E.Pick.node (c.args.self.now.count + c.len.result) c.requires.count c.requires.named word c.args.self.now.small
+      ticket_as c.args.self.now.table.shared.key.plan.value.count c.args.self.now.table.shared.key.plan.value.edges
+          (result_at (g.V.Visit.meaning c.args.self.now.table.shared.key.visitor.value) c.args.self.now.table.shared.key.plan.value) c.args.self.now.table.shared.table_id.slots c.args.seat.now.seat.id c.args.seat.now.seat.me c.args.seat.now.live g.E.Pick.count c.args.n g.E.Pick.node (c.args.self.now.count + c.len.result) c.requires.count c.requires.named word c.args.self.now.small
           c.requires.node c.requires.claimed c.requires.ready c.requires.fresh,
     )
