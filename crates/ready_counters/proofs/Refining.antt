@@ -204,7 +204,7 @@ module _ {O A : Type 0} (mean : ℕ → List O → Result O Fault) (plan : Plan)
         done_same (fetches (set s.views id w)) (fetches s.views) (length plan.edges)
         (λ e. sum_same (λ (u : View). times e u.fetched) s.views id v w here (ap (times e) same))
 
-    -- a step at an edge's word, or at the ticket word, that changes neither what is filled nor what is subtracted or fetched
+    -- a step at an edge's word, or at the ticket word, that changes nothing of what the core has
     unchanged : (w : View) → w.subtracted ≡ v.subtracted → w.fetched ≡ v.fetched → (i x : ℕ) → plan.count ≤ i
         → filled_in (result_at mean plan) plan.count (length plan.edges) (set s.words i x) ≡ filled_in
         (result_at mean plan) plan.count (length plan.edges) s.words

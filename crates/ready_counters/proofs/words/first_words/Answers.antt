@@ -19,12 +19,14 @@ index_mut-requires c =
 pub overflow_add-index_mut : goal.overflow_add-index_mut
 overflow_add-index_mut c =
     let h = found_small c.args.plan.now.count
-    (length c.args.plan.now.edges) c.args.plan.now.edges c.as_slice-edges.result.now c.loop-edge.words.items c.loop-edge.edge-index c.index_mut.result.now blank
+    (length c.args.plan.now.edges) c.args.plan.now.edges c.as_slice-edges.result.now c.loop-edge.words.items
+    c.loop-edge.edge-index c.index_mut.result.now blank
     c.as_slice-edges.ensures c.loop-edge-test.true c.requires.ends c.loop-edge.invariant c.index_mut.ensures.value in
     let f = c.requires.few in search (rules, arith)
 
 pub loop-edge-preserved : goal.loop-edge-preserved
 loop-edge-preserved c =
     first_more_as c.args.plan.now.count
-    (length c.args.plan.now.edges) c.args.plan.now.edges c.as_slice-edges.result.now c.loop-edge.words.items c.loop-edge.edge-index c.index_mut.result.now blank
+    (length c.args.plan.now.edges) c.args.plan.now.edges c.as_slice-edges.result.now c.loop-edge.words.items
+    c.loop-edge.edge-index c.index_mut.result.now blank
     c.as_slice-edges.ensures c.loop-edge-test.true c.requires.ends c.loop-edge.invariant c.index_mut.ensures.value

@@ -1,6 +1,7 @@
 use Rattle.std.proofs.Common.{◌<◌, ◌≤◌, ◌+◌, ◌∙◌, ap, subst, sym, arith, ◌∷◌, Some, None}
 use Rattle.atomic_table.specs.Table.{rest}
 use Rattle.ready_counters.specs.Edges.{result_at}
+use Rattle.ready_counters.specs.Seen.{plan_of, visitor_of}
 use Rattle.ready_counters.proofs.Named.{open_as, fill_as}
 use Rattle.ready_counters.proofs.board.Board.fill_as.Goals as goal
 
@@ -9,8 +10,11 @@ compare_exchange-requires g c = (
   c.requires.seat,
   subst (λ k. c.args.self.now.count + c.args.e < k) (sym c.args.self.now.sized)
       (omega (arith, c.requires.edge, c.args.self.now.counted)),
-  open_as c.args.self.now.table.shared.key.plan.value.count c.args.self.now.table.shared.key.plan.value.edges
-      (result_at (g.V.Visit.meaning c.args.self.now.table.shared.key.visitor.value) c.args.self.now.table.shared.key.plan.value) c.args.self.now.table.shared.table_id.slots c.args.seat.now.seat.id c.args.seat.now.seat.me c.args.seat.now.live c.args.e g.E.Pick.edge c.args.self.now.count c.requires.named c.args.self.now.counted c.requires.edge c.requires.ticket c.args.seat.now.shut c.requires.fresh,
+  open_as (plan_of c.args.self.now).count (plan_of c.args.self.now).edges
+      (result_at (g.V.Visit.meaning (visitor_of c.args.self.now))
+      (plan_of c.args.self.now)) c.args.self.now.table.shared.table_id.slots c.args.seat.now.seat.id
+      c.args.seat.now.seat.me c.args.seat.now.live c.args.e g.E.Pick.edge c.args.self.now.count c.requires.named
+      c.args.self.now.counted c.requires.edge c.requires.ticket c.args.seat.now.shut c.requires.fresh,
 )
 
 pub exchange-before-requires : goal.exchange-before-requires
@@ -25,11 +29,14 @@ store-requires g c =
       i.0 ∙ h.0 ∙ c.requires.seat,
       subst (λ k. c.args.self.now.count + c.args.e < k) (sym c.args.self.now.sized)
           (omega (arith, c.requires.edge, c.args.self.now.counted)),
-      fill_as c.args.self.now.table.shared.key.plan.value.count c.args.self.now.table.shared.key.plan.value.edges
-          (result_at (g.V.Visit.meaning c.args.self.now.table.shared.key.visitor.value) c.args.self.now.table.shared.key.plan.value) c.args.self.now.table.shared.table_id.slots c.exchange-before.new.seat.id c.exchange-before.new.seat.me
+      fill_as (plan_of c.args.self.now).count (plan_of c.args.self.now).edges
+          (result_at (g.V.Visit.meaning (visitor_of c.args.self.now))
+          (plan_of c.args.self.now)) c.args.self.now.table.shared.table_id.slots c.exchange-before.new.seat.id
+          c.exchange-before.new.seat.me
           (subst (λ v. 1 ≤ v.weight)
           (sym (ap (λ m. m.0) i.3
-          ∙ h.2.0)) c.args.seat.now.live) c.args.e g.E.Pick.edge c.args.self.now.count c.requires.named c.args.self.now.counted c.requires.edge
+          ∙ h.2.0)) c.args.seat.now.live) c.args.e g.E.Pick.edge c.args.self.now.count c.requires.named
+          c.args.self.now.counted c.requires.edge
           (ap (λ m. m.0.opened) i.3 ∙ ap (λ v. v.opened) h.2.0
           ∙ ap (λ l. g.E.Pick.edge ∷ l) c.args.seat.now.shut) c.args.value
           (ap (λ m. m.1) i.3 ∙ ap (λ l. (c.args.e, Some c.args.value) ∷ l)

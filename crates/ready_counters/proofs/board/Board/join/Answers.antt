@@ -1,5 +1,6 @@
 use Rattle.std.proofs.Common.{◌<◌, ap, ◌∙◌, subst, sym, arith}
 use Rattle.ready_counters.specs.Edges.{result_at}
+use Rattle.ready_counters.specs.Seen.{plan_of, visitor_of}
 use Rattle.ready_counters.proofs.Seating.{join_allows}
 use Rattle.ready_counters.proofs.Differing.{differ_allows}
 use Rattle.ready_counters.proofs.board.Board.join.Goals as goal
@@ -11,14 +12,18 @@ join_seat-requires g c =
       ap (λ s. s.table_id) same ∙ c.requires.other,
       c.into_inner-theirs.ensures.free,
       subst (λ k. 0 < k) (sym c.args.self.now.sized) (omega arith),
-      join_allows c.args.self.now.table.shared.key.plan.value.count c.args.self.now.table.shared.key.plan.value.edges
-          (result_at (g.V.Visit.meaning c.args.self.now.table.shared.key.visitor.value) c.args.self.now.table.shared.key.plan.value) c.args.seat.now.seat.id c.args.seat.now.seat.me.0 c.into_inner-theirs.result.id c.into_inner-theirs.result.me.0 c.args.seat.now.live,
+      join_allows (plan_of c.args.self.now).count (plan_of c.args.self.now).edges
+          (result_at (g.V.Visit.meaning (visitor_of c.args.self.now))
+          (plan_of c.args.self.now)) c.args.seat.now.seat.id c.args.seat.now.seat.me.0 c.into_inner-theirs.result.id
+          c.into_inner-theirs.result.me.0 c.args.seat.now.live,
     )
 
 pub load-requires : goal.load-requires
 load-requires g c = (
   c.join_seat.ensures.0 ∙ c.requires.seat,
   subst (λ k. 0 < k) (sym c.args.self.now.sized) (omega arith),
-  differ_allows c.args.self.now.table.shared.key.plan.value.count c.args.self.now.table.shared.key.plan.value.edges
-      (result_at (g.V.Visit.meaning c.args.self.now.table.shared.key.visitor.value) c.args.self.now.table.shared.key.plan.value) c.args.self.now.table.shared.table_id.slots c.join_seat.new.seat.id 0 c.join_seat.new.seat.me,
+  differ_allows (plan_of c.args.self.now).count (plan_of c.args.self.now).edges
+      (result_at (g.V.Visit.meaning (visitor_of c.args.self.now))
+      (plan_of c.args.self.now)) c.args.self.now.table.shared.table_id.slots c.join_seat.new.seat.id 0
+      c.join_seat.new.seat.me,
 )
