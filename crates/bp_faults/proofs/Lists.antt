@@ -6,8 +6,8 @@ use Rattle.std.specs.Prelude.{slice_get}
 use Rattle.std.specs.List.{AllByRecursion, Contains}
 use Rattle.std.specs.Str.{bytes_eq}
 use Rattle.std.specs.Cmp.Lexicographic.{same_text}
-use Rattle.std.proofs.Math.Seq.{drop-cons}
-use Rattle.std.proofs.lemmas.List.{get_or-take, length-take-le, drop_all}
+use Rattle.std.proofs.Math.Seq.{drop-cons, take-suc}
+use Rattle.std.proofs.lemmas.List.{get_or-take, length-take-le, drop_all, map-append}
 use Rattle.std.proofs.lemmas.List.Elements.{All-from_recursion}
 use Rattle.bp_faults.specs.Answers.{then_do}
 use Rattle.bp_faults.specs.Phases.{each_in_turn}
@@ -88,6 +88,20 @@ pub drop-here : {X : Type 0} (xs : List X) (i : ℕ) (x : X) → i < length xs �
 drop-here xs i x within is =
     drop-cons xs i x within ∙ ap (λ y. y ∷ drop (suc i) xs) (sym is)
     ∙ ap (λ n. x ∷ drop n xs) (let more : suc i ≡ i + 1 = omega arith in more)
+
+-- the elements so far and the one that a loop is at
+pub take-more : {X : Type 0} (xs : List X) (i : ℕ) (x : X) → i < length xs → x ≡ get_or xs i x
+    → take (i + 1) xs ≡ take i xs ++ x ∷ []
+take-more xs i x within is =
+    ap (λ n. take n xs) (let more : i + 1 ≡ suc i = omega arith in more) ∙ take-suc xs i x within
+    ∙ ap (λ y. take i xs ++ y ∷ []) (sym is)
+
+-- the same of what a function makes of them
+pub map-take-more : {X Y : Type 0} (f : X → Y) (xs : List X) (i : ℕ) (x : X) (y : Y) → i < length xs → x ≡ get_or xs i x
+    → y ≡ f x → map f (take (i + 1) xs) ≡ map f (take i xs) ++ y ∷ []
+map-take-more f xs i x y within is made =
+    ap (map f) (take-more xs i x within is) ∙ map-append f (take i xs) (x ∷ [])
+    ∙ ap (λ z. map f (take i xs) ++ z ∷ []) (sym made)
 
 -- values that are there before those that are still to come
 abbrev pub behind : {Y E : Type 0} → List Y → Result (List Y) E → Result (List Y) E

@@ -1,10 +1,10 @@
--- The words in which every layer says what a call answers. What is meant is a value or a fault.
+-- The words in which every layer says what a call answers. Its meaning is a value or a fault.
 use Rattle.std.specs.Prelude.{◌≡◌, Result, Ok, Err, ⊤}
 use Rattle.bp_faults.specs.declared.fault.Fault.{Fault}
 use Rattle.bp_faults.specs.declared.refusal.Refusal.{Refusal}
 use Rattle.bp_faults.specs.declared.refusal.Refusal.TheVariants.{Bad, OutOfMemory}
 
--- A refusal is the fault that is meant, or want of memory.
+-- A refusal is the fault that is meant, or memory ran out.
 abbrev pub Refuses : {V : Type 0} → Refusal → Result V Fault → Type 0
 Refuses (Bad fault) meant = meant ≡ Err fault
 Refuses OutOfMemory meant = ⊤
@@ -25,7 +25,7 @@ abbrev pub Leaves : {T V : Type 0} → (T → V) → T → Result Unit Refusal �
 Leaves view new (Ok done) meant = meant ≡ Ok (view new)
 Leaves view new (Err refusal) meant = Refuses refusal meant
 
--- One step after another: the first fault stands.
+-- One step after another: the first error is the answer.
 abbrev pub then_do : {A B E : Type 0} → Result A E → (A → Result B E) → Result B E
 then_do (Ok value) next = next value
 then_do (Err error) next = Err error

@@ -1,8 +1,17 @@
 -- The fault table: each kind of fault by its number and its text.
 use Rattle.std.specs.Prelude.{ℕ, List, codes}
 use Rattle.bp_faults.specs.declared.kind.FaultKind.{FaultKind}
-use Rattle.bp_faults.specs.declared.kind.FaultKind.TheVariants.{NotUtf8, BadChar, OpenString, OpenComment, BadEscape, BadNumber, Expected, TooNested, DuplicateProperty, UnknownVariable, VariableSet, NotLocal, AfterUse, BadSum, UnknownType, UnknownProperty, WrongType, MissingName, BadName, DuplicateName, MissingModule, NotDefaults, Cycle, MissingVariant, BadSource, BadValue, BadPath, DuplicateSource, LinkTooLong, TooMany, NoFile, FileTooLarge, BadList, OutputTooLarge, NotReady, OrderEnds, NotBuilt}
+use Rattle.bp_faults.specs.declared.kind.FaultKind.TheVariants.{NotUtf8, BadChar, OpenString, OpenComment, BadEscape}
+use Rattle.bp_faults.specs.declared.kind.FaultKind.TheVariants.{BadNumber, Expected, TooNested, DuplicateProperty}
+use Rattle.bp_faults.specs.declared.kind.FaultKind.TheVariants.{UnknownVariable, VariableSet, NotLocal, AfterUse}
+use Rattle.bp_faults.specs.declared.kind.FaultKind.TheVariants.{BadSum, UnknownType, UnknownProperty, WrongType}
+use Rattle.bp_faults.specs.declared.kind.FaultKind.TheVariants.{MissingName, BadName, DuplicateName, MissingModule}
+use Rattle.bp_faults.specs.declared.kind.FaultKind.TheVariants.{NotDefaults, Cycle, MissingVariant, BadSource, BadValue}
+use Rattle.bp_faults.specs.declared.kind.FaultKind.TheVariants.{BadPath, DuplicateSource, LinkTooLong, TooMany, NoFile}
+use Rattle.bp_faults.specs.declared.kind.FaultKind.TheVariants.{FileTooLarge, BadList, OutputTooLarge, NotReady}
+use Rattle.bp_faults.specs.declared.kind.FaultKind.TheVariants.{OrderEnds, NotBuilt}
 
+-- Each kind has a number.
 abbrev pub number_of : FaultKind → ℕ
 number_of NotUtf8 = 1
 number_of BadChar = 2
@@ -42,6 +51,7 @@ number_of NotReady = 35
 number_of OrderEnds = 36
 number_of NotBuilt = 37
 
+-- Each kind has a text.
 abbrev pub text_of : FaultKind → List ℕ
 text_of NotUtf8 = codes "not UTF-8"
 text_of BadChar = codes "unexpected character"

@@ -1,7 +1,8 @@
 -- The six targets by their names, and their order.
 use Rattle.std.specs.Prelude.{ℕ, List, codes}
 use Rattle.bp_faults.specs.declared.target.Target.{Target}
-use Rattle.bp_faults.specs.declared.target.Target.TheVariants.{AndroidArm64, AndroidArm, AndroidX86_64, AndroidX86, LinuxGlibcX86_64, LinuxGlibcX86}
+use Rattle.bp_faults.specs.declared.target.Target.TheVariants.{AndroidArm64, AndroidArm, AndroidX86_64, AndroidX86}
+use Rattle.bp_faults.specs.declared.target.Target.TheVariants.{LinuxGlibcX86_64, LinuxGlibcX86}
 
 -- Each target has a name, which the words of the command line and the variants spell alike.
 abbrev pub target_name : Target → List ℕ

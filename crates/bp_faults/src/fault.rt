@@ -4,7 +4,7 @@ ghost use Rattle.bp_faults.specs.Faults.{fault_at, fault_on};
 use crate::{FaultKind, Place, Seq, Text};
 use std::alloc::Global;
 
-/// A fault of the input: what it is, where it stands, and of what it speaks.
+/// A fault of the input: its kind, its place and its subject.
 ///
 /// The chain lists the labels of a dependency cycle, and is empty in every other fault.
 #[derive(Debug, Drop, PartialEq)]

@@ -74,6 +74,7 @@ impl Path {
         }
     }
 
+    /// The path as a text.
     pub fn as_text(&self) -> &Text
         ensures same { result.now ≡ self.now }
         ensures normal { IsTrue (is_normal self.now) }
@@ -81,12 +82,14 @@ impl Path {
         &self.text
     }
 
+    /// The path as a slice.
     pub fn as_str(&self) -> &str
         ensures { result.now ≡ self.now }
     {
         self.text.as_str()
     }
 
+    /// The path's text. It takes no memory.
     pub fn into_text(self) -> Text
         ensures same { result ≡ self }
         ensures normal { IsTrue (is_normal self) }
@@ -94,6 +97,7 @@ impl Path {
         self.text
     }
 
+    /// The same path in memory of its own.
     pub fn copy(&self, alloc: Global) -> Result<Path, OutOfMemory>
         ensures { IfOk result (λ copy. copy ≡ self.now) }
     {

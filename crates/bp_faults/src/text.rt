@@ -19,12 +19,14 @@ impl Model for Text {
 }
 
 impl Text {
+    /// The text of a string. It takes no memory.
     pub fn new(text: String) -> Text
         ensures { result ≡ string_bytes text }
     {
         Text { text }
     }
 
+    /// The text as a slice.
     pub fn as_str(&self) -> &str
         ensures { result.now ≡ self.now }
     {
@@ -48,6 +50,7 @@ impl Text {
         Ok(())
     }
 
+    /// The same text in memory of its own.
     pub fn copy(&self, alloc: Global) -> Result<Text, OutOfMemory>
         ensures { IfOk result (λ copy. copy ≡ self.now) }
     {

@@ -1,13 +1,12 @@
 -- Facts about names and their numbers.
 use Rattle.std.proofs.Common.{◌≡◌, ◌∙◌, ◌<◌, ℕ, ◌+◌, Bool, true, false, cond, List, [], ◌∷◌, ◌++◌, map, length, get_or}
-use Rattle.std.proofs.Common.{take, refl, ap, sym, subst, arith, suc, Option, Some, None, true≢false}
+use Rattle.std.proofs.Common.{take, refl, ap, sym, arith, Option, Some, None, true≢false}
 use Rattle.std.specs.Prelude.{◌||◌, if◌then◌else◌}
 use Rattle.std.specs.Option.{option_or, is_none}
 use Rattle.std.specs.Str.{bytes_eq}
 use Rattle.std.proofs.lemmas.Cmp.{nat_list_eq_equiv}
-use Rattle.std.proofs.Math.Seq.{take-suc}
 use Rattle.std.proofs.lemmas.List.{get_or-map, length-map, length-take-le}
-use Rattle.bp_faults.proofs.Lists.{same_bytes}
+use Rattle.bp_faults.proofs.Lists.{same_bytes, take-more}
 use Rattle.bp_names.specs.Meaning.{knows, number_of, number_for, first_number, first_number_from}
 
 passed_on : (a b c : Bool) → a || cond b true c ≡ cond b true (a || c)
@@ -76,16 +75,10 @@ first_number_stays names name query =
 one_more_taken : (names : List (List ℕ)) (n : ℕ) (name query : List ℕ) → n < length names → get_or names n name ≡ name
     → first_number (take (n + 1) names) query ≡ option_or (first_number (take n names) query) (number_for name n query)
 one_more_taken names n name query within here =
-    ap (λ ns. first_number ns query) taken
+    ap (λ ns. first_number ns query) (take-more names n name within (sym here))
     ∙ first_number_stays (take n names) name query
     ∙ ap (λ m. option_or (first_number (take n names) query) (number_for name m query))
     (length-take-le n names (omega (arith, within)))
-  where
-    more : n + 1 ≡ suc n
-    more = omega arith
-
-    taken : take (n + 1) names ≡ take n names ++ name ∷ []
-    taken = ap (λ m. take m names) more ∙ take-suc names n name within ∙ ap (λ y. take n names ++ y ∷ []) here
 
 -- the first numbers of one value more
 pub one_more_value : {X : Type 0} (name_of : X → List ℕ) (xs : List X) (n : ℕ) (x : X) (name query : List ℕ)

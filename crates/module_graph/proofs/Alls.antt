@@ -4,7 +4,7 @@ use Rattle.std.specs.List.{AllByRecursion}
 use Rattle.std.proofs.lemmas.List.{take_more, take_all}
 use Rattle.pass_core.specs.declared.plan.PlanEdge.{PlanEdge}
 use Rattle.pass_core.specs.Plans.{HaveEndsBelow}
-use Rattle.pass_core.proofs.Lists.{all_pushed}
+use Rattle.bp_faults.proofs.Lists.{all_pushed}
 use Rattle.module_graph.specs.declared.direction.Direction.TheVariants.{BottomUp}
 use Rattle.module_graph.specs.declared.graph.Edge.{Edge}
 use Rattle.module_graph.specs.declared.graph.Node.{Node}
@@ -27,6 +27,10 @@ all_of_taken P xs i le h = subst (λ l. AllByRecursion P l) (take_all i xs le) h
 pub all_image : {A B : Type 0} (P : A → Type 0) (Q : B → Type 0) (f : A → B) → ((x : A) → P x → Q (f x)) → (xs : List A) → AllByRecursion P xs → AllByRecursion Q (map f xs)
 all_image P Q f imp [] h = tt
 all_image P Q f imp (x ∷ xs) h = (imp x h.0, all_image P Q f imp xs h.1)
+
+pub all_before : {A B : Type 0} (f : A → B) (Q : B → Type 0) (xs : List A) → AllByRecursion Q (map f xs) → AllByRecursion (λ x. Q (f x)) xs
+all_before f Q [] h = tt
+all_before f Q (x ∷ xs) h = (h.0, all_before f Q xs h.1)
 
 pub all_by_number : {X A : Type 0} (P : X → Type 0) (Q : A → Type 0) (bound : ℕ) (f : ℕ → X → List A) → ((n : ℕ) (x : X) → n < bound → P x → AllByRecursion Q (f n x))
     → (k : ℕ) (xs : List X) → k + length xs ≡ bound → AllByRecursion P xs → AllByRecursion Q (by_number f k xs)

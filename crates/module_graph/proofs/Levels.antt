@@ -11,9 +11,9 @@ use Rattle.pass_core.specs.declared.plan.PlanEdge.{PlanEdge}
 use Rattle.pass_core.specs.Plans.{in_edges, HaveEndsBelow}
 use Rattle.module_graph.specs.Walks.{Walk}
 use Rattle.module_graph.specs.Search.{found_at, BeginWithin, IsGrowing, IsGiven, AreDistances, unfound}
-use Rattle.pass_core.proofs.Lists.{all_map}
+use Rattle.bp_faults.proofs.Lists.{all_map}
 use Rattle.module_graph.proofs.Alls.{all_append, all_taken}
-use Rattle.module_graph.proofs.Sorted.{all_into, all_of_into}
+use Rattle.module_graph.proofs.Sorted.{all_into, each_into}
 
 module _ (found : List (Option ℕ)) (m level : ℕ) (inside : m < length found) (free : found_at found m ≡ None) where
   abbrev after : List (Option ℕ)
@@ -61,9 +61,6 @@ module _ (found : List (Option ℕ)) (m level : ℕ) (inside : m < length found)
       last = λ n e. ⊎_elim (λ t. subst (λ x. Contains (next ++ m ∷ []) x) (sym t.0) (Contains-push next m)) (λ t. Contains-append_left next (m ∷ []) n (g.last n t)) (either n level e);
       fresh = at_next;
     }
-
-pub each_into : (edges : List PlanEdge) (n : ℕ) (Q : PlanEdge → Type 0) → AllByRecursion Q (in_edges edges n) → (e : PlanEdge) → Contains edges e → e.to.0 ≡ n → Q e
-each_into edges n Q h e has at = All-contains (λ (e : PlanEdge). e.to.0 ≡ n → Q e) edges e (All-from_recursion (λ (e : PlanEdge). e.to.0 ≡ n → Q e) edges (all_of_into edges n Q h)) has at
 
 -- the j-th edge into n
 pub edge_into : (edges : List PlanEdge) (n j : ℕ) (d : PlanEdge) → j < length (in_edges edges n) → Contains edges (get_or (in_edges edges n) j d) × ((get_or (in_edges edges n) j d).to.0 ≡ n)

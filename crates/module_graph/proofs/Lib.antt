@@ -2,6 +2,7 @@ pub mod Alls
 pub mod Numbers
 pub mod Ordered
 pub mod Spelled
+pub mod PlainNames
 pub mod Buckets
 pub mod Sorted
 pub mod PlanOf
@@ -14,6 +15,7 @@ pub mod Levels
 pub mod Nearer
 pub mod Climbing
 pub mod Outward
+pub mod Back
 pub mod Starting
 pub mod Ways
 pub mod Lines

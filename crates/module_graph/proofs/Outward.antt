@@ -4,14 +4,14 @@ use Rattle.std.specs.Prelude.{Contains}
 use Rattle.std.specs.List.{AllByRecursion}
 use Rattle.std.proofs.lemmas.List.Elements.{All-from_recursion, recursion_from_All, All-contains, All-contains_itself}
 use Rattle.pass_core.specs.declared.plan.PlanEdge.{PlanEdge}
-use Rattle.pass_core.proofs.Lists.{all_map}
+use Rattle.bp_faults.proofs.Lists.{all_map}
 use Rattle.module_graph.specs.declared.graph.Edge.{Edge}
 use Rattle.module_graph.specs.declared.graph.Node.{Node}
 use Rattle.module_graph.specs.Numbered.{by_number}
 use Rattle.module_graph.specs.Graphs.{outward, edges_of}
 use Rattle.module_graph.specs.Walks.{Leads}
 use Rattle.module_graph.specs.Cycles.{edges_at}
-use Rattle.module_graph.proofs.Alls.{all_append, all_image}
+use Rattle.module_graph.proofs.Alls.{all_append, all_before, all_image}
 
 all_first : {A : Type 0} (Q : A → Type 0) (xs ys : List A) → AllByRecursion Q (xs ++ ys) → AllByRecursion Q xs
 all_first Q [] ys h = tt
@@ -24,10 +24,6 @@ all_second Q (x ∷ xs) ys h = all_second Q xs ys h.1
 -- what holds of each item holds of one in the middle
 pub all_middle : {A : Type 0} (Q : A → Type 0) (xs : List A) (x : A) (ys : List A) → AllByRecursion Q (xs ++ x ∷ ys) → Q x
 all_middle Q xs x ys h = (all_second Q xs (x ∷ ys) h).0
-
-all_before : {A B : Type 0} (f : A → B) (Q : B → Type 0) (xs : List A) → AllByRecursion Q (map f xs) → AllByRecursion (λ x. Q (f x)) xs
-all_before f Q [] h = tt
-all_before f Q (x ∷ xs) h = (h.0, all_before f Q xs h.1)
 
 here_only : (Q : ℕ → Type 0) (k n : ℕ) (es : List Edge) → k ≢ n → AllByRecursion (λ (e : PlanEdge). e.from.0 ≡ n → Q e.to.0) (map (outward k) es)
 here_only Q k n [] ne = tt

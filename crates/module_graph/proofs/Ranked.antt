@@ -2,28 +2,17 @@
 use Rattle.std.proofs.Common.{◌≡◌, ◌<◌, ◌≤◌, ◌==◌, ℕ, zero, suc, List, [], ◌∷◌, map, refl, ap, ◌∙◌, sym, subst, arith, get_or, ◌⊎◌, inl, inr, ⊎_elim, false, ne_eqb}
 use Rattle.std.specs.List.{AllByRecursion, IsDistinct}
 use Rattle.std.specs.Prelude.{Contains, max}
-use Rattle.std.proofs.lemmas.List.Elements.{All-from_recursion, All-contains, recursion_from_All, All-contains_itself, Contains-get_or}
+use Rattle.std.proofs.lemmas.List.Elements.{recursion_from_All, All-contains_itself, Contains-get_or}
 use Rattle.std.proofs.Math.Decide.{dec_lt}
 use Rattle.pass_core.specs.declared.plan.PlanEdge.{PlanEdge}
 use Rattle.pass_core.specs.Plans.{in_edges, predecessors, HasNoCycle, HaveEndsBelow}
 use Rattle.pass_core.specs.Heights.{above_all, unroll}
 use Rattle.module_graph.specs.Walks.{Leads, Walk, NoneReturns}
-use Rattle.pass_core.proofs.Lists.{all_map, map-same}
-use Rattle.module_graph.proofs.Alls.{all_image}
-use Rattle.module_graph.proofs.Sorted.{all_into, all_of_into}
+use Rattle.bp_faults.proofs.Lists.{all_map, below_top, map-same}
+use Rattle.module_graph.proofs.Alls.{all_before, all_image}
+use Rattle.module_graph.proofs.Sorted.{all_into, each_into}
 use Rattle.module_graph.proofs.Starts.{starts, distinct_cons, distinct_nil, distinct_short}
 use Rattle.module_graph.proofs.Walking.{walk_push}
-
-all_before : {A B : Type 0} (f : A → B) (Q : B → Type 0) (xs : List A) → AllByRecursion Q (map f xs) → AllByRecursion (λ x. Q (f x)) xs
-all_before f Q [] h = tt
-all_before f Q (x ∷ xs) h = (h.0, all_before f Q xs h.1)
-
-each_into : (edges : List PlanEdge) (n : ℕ) (Q : PlanEdge → Type 0) → AllByRecursion Q (in_edges edges n) → (e : PlanEdge) → Contains edges e → e.to.0 ≡ n → Q e
-each_into edges n Q h e has at = All-contains (λ (e : PlanEdge). e.to.0 ≡ n → Q e) edges e (All-from_recursion (λ (e : PlanEdge). e.to.0 ≡ n → Q e) edges (all_of_into edges n Q h)) has at
-
-below_top : (f : ℕ → ℕ) (ms : List ℕ) → AllByRecursion (λ m. f m < above_all (map f ms)) ms
-below_top f [] = tt
-below_top f (m ∷ ms) = (omega arith, all_map (λ x. f x < above_all (map f ms)) (λ x. f x < max (suc (f m)) (above_all (map f ms))) (λ x h. omega arith) ms (below_top f ms))
 
 max_is : (a b : ℕ) → (max a b ≡ a) ⊎ (max a b ≡ b)
 max_is a b = dec_cases (dec_lt a b)

@@ -1,7 +1,7 @@
 -- The reported cycle is a walk from its start back to it, and none is shorter.
 use Rattle.std.proofs.Common.{◌<◌, ◌≤◌, ℕ, zero, suc, List, [], ◌∷◌, length, sym, subst, arith}
 use Rattle.std.specs.List.{AllByRecursion}
-use Rattle.pass_core.proofs.Lists.{all_map}
+use Rattle.bp_faults.proofs.Lists.{all_map}
 use Rattle.module_graph.specs.declared.graph.Edge.{Edge}
 use Rattle.module_graph.specs.declared.graph.Node.{Node}
 use Rattle.module_graph.specs.Graphs.{edges_of}

@@ -9,7 +9,8 @@ use Rattle.bp_faults.specs.declared.target.Target.TheVariants.{AndroidArm64, And
 use Rattle.bp_faults.specs.Targets.{target_name}
 use Rattle.module_graph.specs.declared.variation.Variation.{Variation}
 use Rattle.module_graph.specs.declared.variation.Variation.TheVariants.{Empty, Target as ForTarget, Common, Vendor, Recovery, Static, Shared, PerSource, Asan}
-use Rattle.module_graph.specs.Names.{spelling, is_set, added, variant_name_of}
+use Rattle.module_graph.specs.Inside.{added}
+use Rattle.module_graph.specs.Names.{spelling, is_set, variant_name_of}
 
 target_named : (t : Target) → target_name t ≢ []
 target_named AndroidArm64 = λ e. cc

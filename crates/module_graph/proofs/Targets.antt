@@ -1,5 +1,6 @@
 -- From the bottom up the predecessors of a node are the targets of its edges.
-use Rattle.std.proofs.Common.{◌≡◌, ◌≢◌, ◌+◌, ◌<◌, ◌++◌, ℕ, zero, suc, List, [], ◌∷◌, map, length, get_or, refl, ap, ◌∙◌, sym, arith, append-nil, eq-eqb, ne_eqb, add-zero, zero-add}
+use Rattle.std.proofs.Common.{◌≡◌, ◌≢◌, ◌+◌, ◌<◌, ◌++◌, ℕ, zero, suc, List, [], ◌∷◌, map, length, get_or, refl, ap, ◌∙◌, sym, arith, append-nil, eq-eqb, ne_eqb, add-zero, zero-add, Some}
+use Rattle.std.specs.Prelude.{slice_get}
 use Rattle.std.proofs.lemmas.List.{map-append, length-map}
 use Rattle.std.proofs.lemmas.List.Elements.{filter-append}
 use Rattle.pass_core.specs.declared.plan.PlanEdge.{PlanEdge}
@@ -8,6 +9,7 @@ use Rattle.module_graph.specs.declared.direction.Direction.TheVariants.{BottomUp
 use Rattle.module_graph.specs.declared.graph.Edge.{Edge}
 use Rattle.module_graph.specs.declared.graph.Node.{Node}
 use Rattle.module_graph.specs.Numbered.{by_number}
+use Rattle.module_graph.specs.Cycles.{edges_at}
 use Rattle.module_graph.specs.Graphs.{targets}
 use Rattle.module_graph.specs.Planned.{turned, plan_edges}
 
@@ -62,3 +64,9 @@ module _ {P : Type 0} where
   -- a node has as many predecessors as edges
   pub many_predecessors : (nodes : List (Node P)) (n : ℕ) (x : Node P) → n < length nodes → length (predecessors (plan_edges BottomUp nodes) n) ≡ length (get_or nodes n x).edges
   many_predecessors nodes n x lt = ap length (predecessors_targets nodes n ∙ targets_at nodes n x lt) ∙ length-map (get_or nodes n x).edges (λ (e : Edge). e.to.0)
+
+  -- what stands at a node's number is the node's
+  pub edges_stand : (nodes : List (Node P)) (n : ℕ) (x : Node P) → slice_get nodes n ≡ Some x → (edges_at nodes n ≡ x.edges) × (targets nodes n ≡ map (λ (e : Edge). e.to.0) x.edges)
+  edges_stand [] n x at = cc
+  edges_stand (y ∷ ys) zero x at = let same : y ≡ x = cc in ((λ i. (same i).edges), λ i. map (λ (e : Edge). e.to.0) (same i).edges)
+  edges_stand (y ∷ ys) (suc n) x at = edges_stand ys n x at

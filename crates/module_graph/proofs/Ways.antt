@@ -1,7 +1,7 @@
 -- Along the nearest edges each step comes one nearer to the start.
 use Rattle.std.proofs.Common.{◌≡◌, ◌≢◌, ◌<◌, ◌≤◌, ◌++◌, ℕ, suc, List, [], ◌∷◌, refl, ◌∙◌, sym, subst, arith, Option, Some, None}
 use Rattle.std.specs.List.{AllByRecursion}
-use Rattle.pass_core.proofs.Lists.{all_map}
+use Rattle.bp_faults.proofs.Lists.{all_map}
 use Rattle.module_graph.specs.declared.graph.Edge.{Edge}
 use Rattle.module_graph.specs.declared.graph.Node.{Node}
 use Rattle.module_graph.specs.declared.nearest.Near.{Near}

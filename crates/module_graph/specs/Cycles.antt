@@ -51,12 +51,21 @@ module _ {P : Type 0} where
 -- The fault of a cycle stands at its first edge's place. Its chain lists the labels, the start's first and last.
 abbrev pub cycle_fault : List (List ℕ) → ℕ → Edge → List Edge → Fault
 cycle_fault names s first rest =
-    record { kind = Cycle; at = first.at; subject = []; chain = name_at names s ∷ map (λ (e : Edge). name_at names e.to.0) (first ∷ rest) }
+    record {
+      kind =
+          Cycle;
+      at = first.at;
+      subject = [];
+      chain = name_at names s
+          ∷ map (λ (e : Edge). name_at names e.to.0) (first ∷ rest);
+    }
 
 module _ {P : Type 0} where
   -- The fault that is reported of a graph.
   abbrev pub IsReported : List (Node P) → List (List ℕ) → Fault → Type 0
-  IsReported nodes names fault = (s : ℕ) × (first : Edge) × (rest : List Edge) × IsCycle nodes s first rest × (fault ≡ cycle_fault names s first rest)
+  IsReported nodes names fault =
+      (s : ℕ) × (first : Edge) × (rest : List Edge) × IsCycle nodes s first rest
+      × (fault ≡ cycle_fault names s first rest)
 
   -- What the cycle rule says of a graph: no walk returns, or the fault is reported.
   abbrev pub CycleMeans : List (Node P) → List (List ℕ) → Result Unit Fault → Type 0

@@ -6,5 +6,7 @@ pub mod Walks
 pub mod Planned
 pub mod Laws
 pub mod Cycles
+pub mod Inside
 pub mod Search
+pub mod Parts
 pub mod GraphText

@@ -1,10 +1,12 @@
 -- The names of variants, and the labels of nodes.
-use Rattle.std.specs.Prelude.{ℕ, Bool, true, false, List, [], ◌∷◌, ◌++◌, codes, slice_index_or}
+use Rattle.std.specs.Prelude.{◌&&◌, ◌||◌, ◌==◌, ℕ, Bool, true, false, List, [], ◌∷◌, ◌++◌, codes, nat_le}
+use Rattle.std.specs.Prelude.{slice_index_or}
 use Rattle.std.specs.List.{filter, join_by}
 use Rattle.std.specs.Fmt.{decimal}
 use Rattle.bp_faults.specs.Targets.{target_name}
 use Rattle.module_graph.specs.declared.variation.Variation.{Variation}
-use Rattle.module_graph.specs.declared.variation.Variation.TheVariants.{Empty, Target, Common, Vendor, Recovery, Static, Shared, PerSource, Asan}
+use Rattle.module_graph.specs.declared.variation.Variation.TheVariants.{Empty, Target, Common, Vendor, Recovery}
+use Rattle.module_graph.specs.declared.variation.Variation.TheVariants.{Static, Shared, PerSource, Asan}
 
 -- How a variation is spelled: a target by its name, the variant of a source by its number from 1.
 abbrev pub spelling : Variation → List ℕ
@@ -18,6 +20,7 @@ spelling Shared = codes "shared"
 spelling (PerSource source) = codes "t" ++ decimal source
 spelling Asan = codes "asan"
 
+-- A variation is set unless it is the empty one.
 abbrev pub is_set : Variation → Bool
 is_set Empty = false
 is_set variation = true
@@ -35,11 +38,9 @@ braced (c ∷ name) = codes "{" ++ ((c ∷ name) ++ codes "}")
 abbrev pub label_of : List ℕ → List Variation → List ℕ
 label_of name variations = name ++ braced (variant_name_of variations)
 
--- A name with one part more, behind `_` where both aren't empty.
-abbrev pub added : List ℕ → List ℕ → List ℕ
-added [] part = part
-added (c ∷ name) [] = c ∷ name
-added (c ∷ name) (d ∷ part) = (c ∷ name) ++ (codes "_" ++ d ∷ part)
+-- The letters a to z, the digits and `_`.
+abbrev pub is_plain : ℕ → Bool
+is_plain c = (nat_le 97 c && nat_le c 122) || ((nat_le 48 c && nat_le c 57) || (c == 95))
 
 -- The name of node n in a list of names by node number, and the empty one beyond the list.
 abbrev pub name_at : List (List ℕ) → ℕ → List ℕ

@@ -2,11 +2,11 @@ ghost use Rattle.std.specs.Prelude.{◌≡◌, IfOk};
 ghost use Rattle.pass_core.specs.Plans.{IsPlan};
 ghost use Rattle.module_graph.specs.Graphs.{IsNumbered};
 ghost use Rattle.module_graph.specs.Planned.{plan_of, plan_edges};
-ghost use Rattle.module_graph.specs.declared.direction.Direction.TheVariants.{BottomUp};
 
 use crate::Graph;
 use crate::by_target::edges_by_target;
-use bp_faults::{NodeId, OutOfMemory, Seq};
+use crate::edges::edges_along;
+use bp_faults::{OutOfMemory, Seq};
 use pass_core::{Plan, PlanEdge};
 use std::alloc::Global;
 
@@ -19,31 +19,13 @@ pub enum Direction {
     TopDown,
 }
 
-/// The edges of a graph turned round, by node and place.
-fn turned_edges<P>(alloc: Global, g: &Graph<P>) -> Result<Vec<PlanEdge>, OutOfMemory>
-    requires { IsNumbered g.now.nodes }
-    ensures { IfOk result (λ edges. edges.items ≡ plan_edges BottomUp g.now.nodes) }
-{
-    let mut edges = Vec::new(alloc);
-    let mut n = 0;
-    for node in g.nodes.as_slice() {
-        for edge in node.edges.as_slice() {
-            edges.push(PlanEdge {
-                from: edge.to,
-                to: NodeId(n),
-            })?;
-        }
-        n += 1;
-    }
-    Ok(edges)
-}
-
+/// The edges of the plan of a pass over a graph.
 fn edges_for<P>(alloc: Global, g: &Graph<P>, dir: Direction) -> Result<Vec<PlanEdge>, OutOfMemory>
     requires { IsNumbered g.now.nodes }
     ensures { IfOk result (λ edges. edges.items ≡ plan_edges dir g.now.nodes) }
 {
     match dir {
-        Direction::BottomUp => turned_edges(alloc, g),
+        Direction::BottomUp => edges_along(alloc, g, dir),
         Direction::TopDown => edges_by_target(alloc, g),
     }
 }

@@ -2,7 +2,7 @@ ghost use Rattle.std.specs.Prelude.{◌≡◌, ◌<◌, ◌+◌, ℕ, [], length
 ghost use Rattle.std.specs.List.{AllByRecursion};
 ghost use Rattle.pass_core.specs.InEdges.{AreStarts};
 ghost use Rattle.pass_core.specs.Plans.{IsPlan};
-ghost use Rattle.module_graph.specs.Search.{AreDistances, BeginWithin, IsGrowing, IsGiven, unfound};
+ghost use Rattle.module_graph.specs.Search.{AreDistances, GrowsPast, IsGiven, unfound};
 
 use bp_faults::{NodeId, OutOfMemory};
 use pass_core::{Plan, edges_into};
@@ -38,7 +38,7 @@ fn grow(
     requires starts { AreStarts plan.now starts.now }
     requires many { length found.old ≡ plan.now.count }
     requires inside { AllByRecursion (λ n. n < plan.now.count) front.now }
-    ensures grown { IfOk result (λ next. (s : ℕ) → IsGrowing plan.now.edges s level front.now 0 found.old [] → IsGrowing plan.now.edges s level front.now (length front.now) found.new next.items) }
+    ensures grown { IfOk result (λ next. GrowsPast plan.now.edges level front.now found.old found.new next.items) }
     ensures fewer { IfOk result (λ next. unfound found.new + length next.items ≡ unfound found.old) }
     ensures inside { IfOk result (λ next. AllByRecursion (λ n. n < plan.now.count) next.items) }
 {

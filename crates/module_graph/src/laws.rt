@@ -1,6 +1,11 @@
 //! What holds of every graph and its plans: each law is the contract of a function that does nothing.
 
-ghost use Rattle.module_graph.specs.Laws.{NoneReturnsWhereNumberingRises, NoneReturnsWherePlansHaveNoCycle, ValidPlansHaveNoCycle, PredecessorsAreTargets, PredecessorsAreSources, ReportedWhereAWalkReturns, OneCycleMeaning, TheCycleIsShortest};
+ghost use Rattle.module_graph.specs.Laws.{NoneReturnsWhereNumberingRises, NoneReturnsWherePlansHaveNoCycle};
+ghost use Rattle.module_graph.specs.Laws.{ValidPlansHaveNoCycle, PlansOfGraphsArePlans};
+ghost use Rattle.module_graph.specs.Laws.{PredecessorsAreTargets, PredecessorsAreSources, InEdgesStayByTarget};
+ghost use Rattle.module_graph.specs.Laws.{EdgesJoinNodes, OneMoreNode, OneMoreItem, EdgesStandAtTheirNode};
+ghost use Rattle.module_graph.specs.Laws.{ReportedWhereAWalkReturns, OneCycleMeaning, AtMostOneCycleMeaning};
+ghost use Rattle.module_graph.specs.Laws.{TheCycleIsShortest, VariantNamesArePlain};
 
 /// No walk along some edges returns exactly where a numbering of the nodes rises along each of them.
 pub fn none_returns_where_numbering_rises()
@@ -40,4 +45,44 @@ pub fn one_cycle_meaning<P>()
 /// No walk from the start of the reported cycle and back is shorter than the cycle.
 pub fn the_cycle_is_shortest<P>()
     ensures { TheCycleIsShortest P }
+{}
+
+/// The cycle rule says at most one thing of any list of nodes.
+pub fn at_most_one_cycle_meaning<P>()
+    ensures { AtMostOneCycleMeaning P }
+{}
+
+/// The plan of a graph is a plan.
+pub fn plans_of_graphs_are_plans<P>()
+    ensures { PlansOfGraphsArePlans P }
+{}
+
+/// A node receives the same edges after a sort by target.
+pub fn in_edges_stay_by_target()
+    ensures { InEdgesStayByTarget }
+{}
+
+/// The edges of a graph join its nodes.
+pub fn edges_join_nodes<P>()
+    ensures { EdgesJoinNodes P }
+{}
+
+/// One node more adds its own edges.
+pub fn one_more_node<P>()
+    ensures { OneMoreNode P }
+{}
+
+/// One item more adds its own piece.
+pub fn one_more_item<X, A>()
+    ensures { OneMoreItem X A }
+{}
+
+/// The edges at a node's number are the node's.
+pub fn edges_stand_at_their_node<P>()
+    ensures { EdgesStandAtTheirNode P }
+{}
+
+/// A variant's name holds no `/`, no space and no other special character.
+pub fn variant_names_are_plain()
+    ensures { VariantNamesArePlain }
 {}

@@ -37,28 +37,11 @@ fn shared(alloc: Global) -> Variations {
     vars
 }
 
-/// The example *reverse_cycle* after its dependencies.
+/// The example *reverse_cycle* after its dependencies, and an edge of every kind.
 #[test]
-fn reverse_cycle_as_text(rt: HostRuntime) -> Result<(), Fail> {
+fn graphs_as_text(rt: HostRuntime) -> Result<(), Fail> {
     let alloc = rt.alloc();
-    let mut nodes = Vec::new(alloc);
-    nodes.push(node(alloc, shared(alloc), &[])?)?;
-    nodes.push(node(alloc, shared(alloc), &[(EdgeKind::Shared, 0)])?)?;
-    let g = Graph {
-        nodes: Seq::new(nodes),
-    };
-    let names = [Text::from_str(alloc, "host")?, Text::from_str(alloc, "p")?];
-    assert_eq!(rt;
-        graph_text(alloc, &g, &names)?.as_slice(),
-        b"0 host android_arm64_shared\n1 p android_arm64_shared\n  shared 0\n".as_slice()
-    );
-    Ok(())
-}
-
-#[test]
-fn every_kind_as_text(rt: HostRuntime) -> Result<(), Fail> {
-    let alloc = rt.alloc();
-    let edges = [
+    let kinds = [
         (EdgeKind::Defaults, 0),
         (EdgeKind::Whole, 12),
         (EdgeKind::Static, 345),
@@ -68,14 +51,30 @@ fn every_kind_as_text(rt: HostRuntime) -> Result<(), Fail> {
         (EdgeKind::Sources, 4294967295),
     ];
     let mut nodes = Vec::new(alloc);
-    nodes.push(node(alloc, Variations::empty(alloc), &edges)?)?;
+    nodes.push(node(alloc, shared(alloc), &[])?)?;
+    nodes.push(node(alloc, shared(alloc), &[(EdgeKind::Shared, 0)])?)?;
+    nodes.push(node(alloc, Variations::empty(alloc), &kinds)?)?;
     let g = Graph {
         nodes: Seq::new(nodes),
     };
-    let names = [Text::from_str(alloc, "a b")?];
-    assert_eq!(rt;
-        graph_text(alloc, &g, &names)?.as_slice(),
-        b"0 a b -\n  defaults 0\n  whole 12\n  static 345\n  shared 0\n  header 0\n  data 0\n  sources 4294967295\n".as_slice()
-    );
+    let names = [
+        Text::from_str(alloc, "host")?,
+        Text::from_str(alloc, "p")?,
+        Text::from_str(alloc, "a b")?,
+    ];
+    assert_eq!(rt; graph_text(alloc, &g, &names)?.as_slice(), TEXT.as_bytes());
     Ok(())
 }
+
+const TEXT: &str = "0 host android_arm64_shared
+1 p android_arm64_shared
+  shared 0
+2 a b -
+  defaults 0
+  whole 12
+  static 345
+  shared 0
+  header 0
+  data 0
+  sources 4294967295
+";

@@ -1,5 +1,6 @@
 ghost use Rattle.std.specs.Prelude.{◌≡◌, ◌++◌, IfOk, OnOk, string_bytes};
-ghost use Rattle.module_graph.specs.Names.{spelling, added, variant_name_of, label_of, name_at};
+ghost use Rattle.module_graph.specs.Inside.{added};
+ghost use Rattle.module_graph.specs.Names.{spelling, variant_name_of, label_of, name_at};
 
 use crate::{Variation, Variations};
 use bp_faults::{OutOfMemory, Text};
@@ -34,6 +35,15 @@ fn append(alloc: Global, name: &mut String, variation: Variation) -> Result<(), 
         name.push_str("_")?;
     }
     push_spelling(alloc, name, variation)
+}
+
+/// How a variation is spelled. The empty one has the empty spelling.
+pub fn variation_name(alloc: Global, variation: Variation) -> Result<Text, OutOfMemory>
+    ensures { IfOk result (λ name. name ≡ spelling variation) }
+{
+    let mut name = String::new(alloc);
+    push_spelling(alloc, &mut name, variation)?;
+    Ok(Text::new(name))
 }
 
 /// The name of a variant: the spellings of its variations, joined by `_`.

@@ -10,7 +10,7 @@ use std::alloc::Global;
 
 /// A node whose edges are being followed: when it was met, and the first of its edges that isn't done.
 #[derive(Clone, Copy)]
-struct Visit {
+struct Descent {
     node: NodeId,
     met: u32,
     next: usize,
@@ -28,7 +28,7 @@ struct Followed {
 #[derive(Drop)]
 struct Search {
     marks: Vec<u32>,
-    path: Vec<Visit>,
+    path: Vec<Descent>,
     open: Vec<NodeId>,
     met: u32,
     part: u32,
@@ -57,9 +57,9 @@ fn set_mark(marks: &mut Vec<u32>, n: NodeId, mark: u32)
 }
 
 /// Follows the edges of a node from the next one on, up to one whose target wasn't met.
-fn follow(marks: &[u32], edges: &[Edge], visit: Visit) -> Followed {
-    let mut low = mark_of(marks, visit.node);
-    for i in visit.next..edges.len() {
+fn follow(marks: &[u32], edges: &[Edge], descent: Descent) -> Followed {
+    let mut low = mark_of(marks, descent.node);
+    for i in descent.next..edges.len() {
         let mark = mark_of(marks, edges[i].to);
         if mark == 0 {
             return Followed { next: i, low };
@@ -81,7 +81,7 @@ impl Search {
         self.met = met;
         set_mark(&mut self.marks, node, met);
         self.open.push(node)?;
-        self.path.push(Visit { node, met, next: 0 })?;
+        self.path.push(Descent { node, met, next: 0 })?;
         Ok(())
     }
 
@@ -104,17 +104,17 @@ impl Search {
     fn step<P>(&mut self, g: &Graph<P>) -> Result<bool, OutOfMemory>
         ensures { vec_len self.new.marks ≡ vec_len self.old.marks }
     {
-        let Some(visit) = self.path.pop() else {
+        let Some(descent) = self.path.pop() else {
             return Ok(false);
         };
-        let edges = edges_of(g, visit.node);
-        let Followed { next, low } = follow(&self.marks, edges, visit);
-        set_mark(&mut self.marks, visit.node, low);
+        let edges = edges_of(g, descent.node);
+        let Followed { next, low } = follow(&self.marks, edges, descent);
+        set_mark(&mut self.marks, descent.node, low);
         if next < edges.len() {
-            self.path.push(Visit { next, ..visit })?;
+            self.path.push(Descent { next, ..descent })?;
             self.enter(edges[next].to)?;
-        } else if low == visit.met {
-            self.close(visit.node);
+        } else if low == descent.met {
+            self.close(descent.node);
         }
         Ok(true)
     }

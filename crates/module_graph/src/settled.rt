@@ -1,19 +1,28 @@
-ghost use Rattle.std.specs.Prelude.{◌≡◌, ◌<◌, ◌≤◌, ℕ, length, slice_index, IsTrue};
+ghost use Rattle.std.specs.Prelude.{◌≡◌, ◌<◌, ◌≤◌, ◌^◌, ◌-◌, ◌⊎◌, ℕ, length, min, slice_index, IsTrue};
 ghost use Rattle.std.specs.List.{AllByRecursion};
 ghost use Rattle.module_graph.specs.declared.graph.Edge.{Edge};
 ghost use Rattle.module_graph.specs.Graphs.{IsNumbered, edges_of};
+ghost use Rattle.module_graph.specs.Parts.{HasTarget, IsFirstByParts};
 ghost use Rattle.module_graph.specs.Walks.{Returns};
 
 use crate::{Edge, Graph};
 
-/// A number that none of the edges' targets is below.
-fn least_target(numbers: &[u32], edges: &[Edge]) -> u32
-    requires { AllByRecursion (λ (e : Edge). e.to.0 < length numbers.now) edges.now }
-    ensures { AllByRecursion (λ (e : Edge). result ≤ slice_index numbers.now e.to.0) edges.now }
+/// The lesser of the least number so far and another.
+fn lesser(least: u64, number: u32) -> u64
+    ensures { result ≡ min least number }
 {
-    let mut least = u32::MAX;
+    least.min(u64::from(number))
+}
+
+/// The least number of the edges' targets, and `u64::MAX` where there are none.
+fn least_target(numbers: &[u32], edges: &[Edge]) -> u64
+    requires { AllByRecursion (λ (e : Edge). e.to.0 < length numbers.now) edges.now }
+    ensures below { AllByRecursion (λ (e : Edge). result ≤ slice_index numbers.now e.to.0) edges.now }
+    ensures met { HasTarget numbers.now edges.now result ⊎ (result ≡ 2 ^ 64 - 1) }
+{
+    let mut least = u64::MAX;
     for edge in edges {
-        least = least.min(numbers[edge.to.0 as usize]);
+        least = lesser(least, numbers[edge.to.0 as usize]);
     }
     least
 }
@@ -22,6 +31,7 @@ fn least_target(numbers: &[u32], edges: &[Edge]) -> u32
 fn narrowed(first: u32, n: u32, counts: bool) -> u32
     ensures within { result ≤ first }
     ensures counted { IsTrue counts → result ≤ n }
+    ensures one { (result ≡ first) ⊎ ((result ≡ n) × IsTrue counts) }
 {
     if counts { first.min(n) } else { first }
 }
@@ -34,12 +44,13 @@ pub fn settled<P>(g: &Graph<P>, numbers: &[u32]) -> u32
     requires many { length numbers.now ≡ length g.now.nodes }
     ensures inside { result ≤ length g.now.nodes }
     ensures none { (n : ℕ) → n < result → Returns (edges_of g.now.nodes) n → ⊥ }
+    ensures exact { IsFirstByParts (edges_of g.now.nodes) numbers.now (length g.now.nodes) result }
 {
     let nodes = g.nodes.as_slice();
     let count = nodes.len() as u32;
     let mut first = count;
     for n in 0..count {
-        let number = numbers[n as usize];
+        let number = u64::from(numbers[n as usize]);
         let least = least_target(numbers, nodes[n as usize].edges.as_slice());
         if least < number {
             return 0;

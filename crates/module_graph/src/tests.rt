@@ -6,7 +6,7 @@ ghost use Rattle.module_graph.specs.Graphs.{IsNumbered};
 
 use crate::{
     Axis, Direction, Edge, EdgeKind, Graph, Node, Variation, Variations, heights, label, laws,
-    plan, variant_name,
+    plan, variant_name, variation_name,
 };
 use bp_faults::{ModuleId, NodeId, OutOfMemory, Place, Seq, Target, Text};
 use pass_core::Plan;
@@ -104,32 +104,20 @@ fn ends(alloc: Global, g: &Graph<bool>, dir: Direction) -> Result<Vec<(u32, u32)
 
 const DIAMOND: [&[u32]; 4] = [&[1, 2], &[3], &[3, 3], &[]];
 
-#[test]
-fn plans_of_a_diamond(rt: HostRuntime) -> Result<(), Fail> {
-    let alloc = rt.alloc();
-    let g = graph(alloc, &DIAMOND)?;
-    assert!(rt; is_numbered(&g));
-    let up = ends(alloc, &g, Direction::BottomUp)?;
-    assert_eq!(rt;
-        up.as_slice(),
-        [(1, 0), (2, 0), (3, 1), (3, 2), (3, 2)].as_slice()
-    );
-    let down = ends(alloc, &g, Direction::TopDown)?;
-    assert_eq!(rt;
-        down.as_slice(),
-        [(0, 1), (0, 2), (1, 3), (2, 3), (2, 3)].as_slice()
-    );
-    Ok(())
-}
+const UP: [(u32, u32); 5] = [(1, 0), (2, 0), (3, 1), (3, 2), (3, 2)];
+
+const DOWN: [(u32, u32); 5] = [(0, 1), (0, 2), (1, 3), (2, 3), (2, 3)];
 
 #[test]
-fn heights_of_a_diamond(rt: HostRuntime) -> Result<(), Fail> {
+fn diamond(rt: HostRuntime) -> Result<(), Fail> {
     let alloc = rt.alloc();
     let g = graph(alloc, &DIAMOND)?;
     assert!(rt; is_numbered(&g));
+    assert!(rt; ends(alloc, &g, Direction::BottomUp)?.as_slice() == UP.as_slice());
+    assert!(rt; ends(alloc, &g, Direction::TopDown)?.as_slice() == DOWN.as_slice());
     let plan = plan(alloc, &g, Direction::BottomUp)?;
     assert!(rt; falls(&plan));
-    assert_eq!(rt; heights(alloc, &plan)?.as_slice(), [2, 1, 1, 0].as_slice());
+    assert!(rt; heights(alloc, &plan)?.as_slice() == [2, 1, 1, 0].as_slice());
     Ok(())
 }
 
@@ -142,67 +130,78 @@ fn laws_at_a_type() {
     laws::predecessors_are_sources::<bool>();
     laws::reported_where_a_walk_returns::<bool>();
     laws::one_cycle_meaning::<bool>();
+    laws::at_most_one_cycle_meaning::<bool>();
     laws::the_cycle_is_shortest::<bool>();
+    laws::plans_of_graphs_are_plans::<bool>();
+    laws::in_edges_stay_by_target();
+    laws::edges_join_nodes::<bool>();
+    laws::one_more_node::<bool>();
+    laws::one_more_item::<u32, bool>();
+    laws::edges_stand_at_their_node::<bool>();
+    laws::variant_names_are_plain();
 }
+
+/// One variation after another, and the label of a variant of `a` behind each.
+const NAMES: [(Axis, Variation, &str); 10] = [
+    (Axis::Target, Variation::Empty, "a"),
+    (Axis::Link, Variation::Static, "a{static}"),
+    (
+        Axis::Target,
+        Variation::Target(Target::AndroidArm64),
+        "a{android_arm64_static}",
+    ),
+    (
+        Axis::Image,
+        Variation::Vendor,
+        "a{android_arm64_vendor_static}",
+    ),
+    (
+        Axis::PerSource,
+        Variation::PerSource(12),
+        "a{android_arm64_vendor_static_t12}",
+    ),
+    (
+        Axis::Sanitize,
+        Variation::Asan,
+        "a{android_arm64_vendor_static_t12_asan}",
+    ),
+    (
+        Axis::Target,
+        Variation::Common,
+        "a{common_vendor_static_t12_asan}",
+    ),
+    (
+        Axis::Image,
+        Variation::Recovery,
+        "a{common_recovery_static_t12_asan}",
+    ),
+    (
+        Axis::Link,
+        Variation::Shared,
+        "a{common_recovery_shared_t12_asan}",
+    ),
+    (
+        Axis::Target,
+        Variation::Empty,
+        "a{recovery_shared_t12_asan}",
+    ),
+];
 
 #[test]
 fn names_of_variants(rt: HostRuntime) -> Result<(), Fail> {
     let alloc = rt.alloc();
     let module = Text::from_str(alloc, "a")?;
     let mut variations = Variations::empty(alloc);
-    assert_eq!(rt; variant_name(alloc, &variations)?.as_str(), "");
-    assert_eq!(rt; label(alloc, &module, &variations)?.as_str(), "a");
-    let steps = [
-        (Axis::Link, Variation::Static, "a{static}"),
-        (
-            Axis::Target,
-            Variation::Target(Target::AndroidArm64),
-            "a{android_arm64_static}",
-        ),
-        (
-            Axis::Image,
-            Variation::Vendor,
-            "a{android_arm64_vendor_static}",
-        ),
-        (
-            Axis::PerSource,
-            Variation::PerSource(12),
-            "a{android_arm64_vendor_static_t12}",
-        ),
-        (
-            Axis::Sanitize,
-            Variation::Asan,
-            "a{android_arm64_vendor_static_t12_asan}",
-        ),
-        (
-            Axis::Target,
-            Variation::Common,
-            "a{common_vendor_static_t12_asan}",
-        ),
-        (
-            Axis::Image,
-            Variation::Recovery,
-            "a{common_recovery_static_t12_asan}",
-        ),
-        (
-            Axis::Link,
-            Variation::Shared,
-            "a{common_recovery_shared_t12_asan}",
-        ),
-        (
-            Axis::Target,
-            Variation::Empty,
-            "a{recovery_shared_t12_asan}",
-        ),
-    ];
-    for (axis, variation, want) in steps {
+    for (axis, variation, want) in NAMES {
         variations.set(axis, variation);
-        assert!(rt; variations.get(axis) == variation);
-        assert_eq!(rt; label(alloc, &module, &variations)?.as_str(), want);
+        let copy = variations.copy(alloc);
+        assert!(rt; copy.get(axis).is_same(variation));
+        assert_eq!(rt; label(alloc, &module, &copy)?.as_str(), want);
     }
     assert_eq!(rt;
         variant_name(alloc, &variations)?.as_str(),
         "recovery_shared_t12_asan"
     );
+    assert_eq!(rt; variation_name(alloc, Variation::Asan)?.as_str(), "asan");
     Ok(())
 }

@@ -1,3 +1,5 @@
+ghost use Rattle.std.specs.Prelude.{◌≡◌, ◌↔◌, IsTrue};
+
 use bp_faults::Target;
 
 /// In what a variant of a module differs from its others, along one axis.
@@ -13,4 +15,13 @@ pub enum Variation {
     /// The variant of one source, counted from 1.
     PerSource(u64),
     Asan,
+}
+
+impl Variation {
+    /// Whether two variations are the same.
+    pub fn is_same(self, other: Variation) -> bool
+        ensures { IsTrue result ↔ self ≡ other }
+    {
+        self == other
+    }
 }

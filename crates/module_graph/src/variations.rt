@@ -58,6 +58,7 @@ impl Variations {
         }
     }
 
+    /// The variations in the order of the axes: target, image, link, source, sanitizer.
     pub fn as_slice(&self) -> &[Variation]
         ensures list { result.now ≡ self.now }
         ensures five { length self.now ≡ 5 }
@@ -65,15 +66,31 @@ impl Variations {
         self.variations.as_slice()
     }
 
+    /// The variation along an axis.
     pub fn get(&self, axis: Axis) -> Variation
         ensures { result ≡ slice_index_or self.now (place_of axis) Empty }
     {
         self.variations.as_slice()[axis.place()]
     }
 
+    /// Gives an axis another variation. Those along the other axes stay.
     pub fn set(&mut self, axis: Axis, variation: Variation)
         ensures { self.new ≡ slice_set self.old (place_of axis) variation }
     {
         self.variations.as_mut_slice()[axis.place()] = variation;
+    }
+
+    /// The same variations once more.
+    pub fn copy(&self, alloc: Global) -> Variations
+        ensures { result ≡ self.now }
+    {
+        let _five = self.as_slice();
+        let mut copy = Variations::empty(alloc);
+        copy.set(Axis::Target, self.get(Axis::Target));
+        copy.set(Axis::Image, self.get(Axis::Image));
+        copy.set(Axis::Link, self.get(Axis::Link));
+        copy.set(Axis::PerSource, self.get(Axis::PerSource));
+        copy.set(Axis::Sanitize, self.get(Axis::Sanitize));
+        copy
     }
 }

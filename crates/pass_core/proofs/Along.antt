@@ -23,7 +23,7 @@ use Rattle.pass_core.specs.Results.{NodeResult, Done, Bad, IsDone, node_result}
 use Rattle.pass_core.specs.Outcomes.{IsOutcome, AnswersPass}
 use Rattle.pass_core.specs.Made.{made_at, value_of, AnswersVisit, IsMade}
 use Rattle.pass_core.proofs.Legal.{node_at, stands_before, predecessors_before}
-use Rattle.pass_core.proofs.Lists.{all_contained, all_map, all_pushed, get_else, get_here}
+use Rattle.bp_faults.proofs.Lists.{all_contained, all_map, all_pushed, get_else, get_here}
 
 none_made : (O A : Type 0) (n k : ℕ) → made_at {O = O} {A = A} (replicate n None) k ≡ None
 none_made O A zero k = refl

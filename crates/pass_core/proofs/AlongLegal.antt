@@ -15,7 +15,7 @@ use Rattle.pass_core.specs.Orders.{IsLegal, numbers}
 use Rattle.pass_core.specs.Results.{Done, node_result}
 use Rattle.pass_core.specs.Made.{made_at, IsMade}
 use Rattle.pass_core.proofs.Along.{made_more}
-use Rattle.pass_core.proofs.Lists.{all_map, all_contained}
+use Rattle.bp_faults.proofs.Lists.{all_map, all_contained}
 
 module _ (plan : Plan) (nodes : List NodeId) (legal : IsLegal plan (numbers nodes)) where
   module _ (i : ℕ) (lt : i < length nodes) where

@@ -14,7 +14,7 @@ use Rattle.pass_core.specs.Heights.{above_all, height}
 use Rattle.pass_core.specs.Settling.{settled_at, joined, AreSettled}
 use Rattle.pass_core.proofs.Unrolled.{height_rises, height_equation}
 use Rattle.pass_core.proofs.Induction.{height_below}
-use Rattle.pass_core.proofs.Lists.{all_map}
+use Rattle.bp_faults.proofs.Lists.{all_map}
 use Rattle.pass_core.proofs.Predecessors.{all_predecessors, source_at}
 
 above_pushed : (hs : List ℕ) (h : ℕ) → above_all (hs ++ h ∷ []) ≡ max (above_all hs) (h + 1)

@@ -29,6 +29,7 @@ begins_core mean takes plan starts is_plan free takes_plan are = record {
   free = free;
   takes_plan = takes_plan;
   are_starts = are;
+  reached = ([], record { allowed = tt; there = refl }, refl);
   sound = begins_sound mean plan is_plan free;
   unfetched_many = length-map (range_with_len 0 plan.count) (λ n. length (predecessors plan.edges n)) ∙ length-range_with_len 0 plan.count;
   unfetched_are = begins_counted mean plan is_plan free;

@@ -16,9 +16,10 @@ use Rattle.pass_core.specs.Results.{node_result}
 use Rattle.pass_core.specs.Shown.{shown}
 use Rattle.pass_core.specs.CoreStates.{CoreState, from_of, to_of, numbers_into, IsMarked, VisitWasMade, made, Allows, after}
 use Rattle.pass_core.specs.CoreKept.{IsSound, IsCore, PublishesLast, left, shown_in}
-use Rattle.pass_core.proofs.Lists.{get_here, get_else}
+use Rattle.bp_faults.proofs.Lists.{get_here, get_else}
 use Rattle.pass_core.proofs.Marks.{map_set, marks_most, fills_most, marked_before, still_marked, now_marked}
 use Rattle.pass_core.proofs.Numbered.{all_into, each_into, left_none, none_left, left_lower, left_same}
+use Rattle.pass_core.proofs.Reaching.{one_more_step}
 use Rattle.pass_core.proofs.Sound.{step_keeps, step_adds, made_right, source_inside, target_inside}
 
 module _ (plan : Plan) (marks : List Bool) (n : ℕ) where
@@ -48,6 +49,7 @@ module _ {O : Type 0} (mean : ℕ → List O → Result O Fault) (takes : ℕ �
       free = core.free;
       takes_plan = core.takes_plan;
       are_starts = core.are_starts;
+      reached = one_more_step mean plan s t steps core.reached may;
       sound = after_sound;
       unfetched_many = many;
       unfetched_are = are;

@@ -12,7 +12,7 @@ use Rattle.pass_core.specs.Shown.{shown}
 use Rattle.pass_core.specs.CoreStates.{CoreState, from_of, to_of}
 use Rattle.pass_core.specs.CoreViews.{CoreView}
 use Rattle.pass_core.specs.CoreKept.{shown_in, PublishesLast}
-use Rattle.pass_core.proofs.Lists.{same_at}
+use Rattle.bp_faults.proofs.Lists.{same_at}
 use Rattle.pass_core.proofs.Marks.{get_mapped}
 
 abbrev pub seen : {V O : Type 0} → Plan → V → CoreState O → CoreView V O

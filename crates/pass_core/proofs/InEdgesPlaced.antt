@@ -7,7 +7,7 @@ use Rattle.std.proofs.lemmas.Bool.Decides.{nat_tests}
 use Rattle.pass_core.specs.declared.plan.PlanEdge.{PlanEdge}
 use Rattle.pass_core.specs.Plans.{in_edges, StandByTarget}
 use Rattle.pass_core.specs.InEdges.{edges_below}
-use Rattle.pass_core.proofs.Lists.{all_map}
+use Rattle.bp_faults.proofs.Lists.{all_map}
 
 -- no edge of these leads to a node below n
 pub none_below : (n : ℕ) (es : List PlanEdge) → AllByRecursion (λ (e : PlanEdge). n ≤ e.to.0) es → edges_below es n ≡ 0

@@ -9,7 +9,7 @@ use Rattle.pass_core.specs.Plans.{predecessors, HaveEndsBelow, HasNoCycle}
 use Rattle.pass_core.specs.Results.{NodeResult, judged, outs_of, node_result}
 use Rattle.pass_core.specs.Heights.{above_all, height}
 use Rattle.pass_core.proofs.Unrolled.{result_equation, height_equation, tight, tight_below, tight_rises}
-use Rattle.pass_core.proofs.Lists.{all_map, both, map-same}
+use Rattle.bp_faults.proofs.Lists.{all_map, both, map-same}
 use Rattle.pass_core.proofs.Predecessors.{all_predecessors}
 
 above_at_most : (f : ℕ → ℕ) (k : ℕ) (ms : List ℕ) → AllByRecursion (λ m. f m < k) ms → above_all (map f ms) ≤ k

@@ -9,7 +9,7 @@ use Rattle.pass_core.specs.Plans.{predecessors, HaveEndsBelow, HasNoCycle}
 use Rattle.pass_core.specs.Heights.{IsBefore}
 use Rattle.pass_core.specs.Orders.{IsSerial, IsLegal}
 use Rattle.pass_core.proofs.Unique.{never_both, before_node}
-use Rattle.pass_core.proofs.Lists.{all_map, contains_earlier, same_at}
+use Rattle.bp_faults.proofs.Lists.{all_map, contains_earlier, same_at}
 
 module _ (plan : Plan) (order : List ℕ) (serial : IsSerial plan order) where
   pub node_at : (i d : ℕ) → i < length order → get_or order i d < plan.count

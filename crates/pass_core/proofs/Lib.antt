@@ -1,8 +1,9 @@
-pub mod Lists
 pub mod Predecessors
 pub mod Unrolled
 pub mod Induction
 pub mod Unique
+pub mod Gathering
+pub mod OutEquations
 pub mod Legal
 pub mod Sorted
 pub mod Outcome
@@ -23,6 +24,7 @@ pub mod Readied
 pub mod AlongLegal
 pub mod HeldOuts
 pub mod PlacedValues
+pub mod Reaching
 pub mod CoreSteps
 pub mod HeldPlaced
 pub mod CoreTables

@@ -12,7 +12,7 @@ use Rattle.pass_core.specs.Plans.{predecessors}
 use Rattle.pass_core.specs.Orders.{IsLegal}
 use Rattle.pass_core.specs.CoreStates.{IsMarked, IsUnmarked, marks}
 use Rattle.pass_core.specs.OrderOutcomes.{IsReady, IsReadyAt, IsFirstRefused, IsShort, OrderOutcome, Ran, Refused, Short, IsOrderOutcome}
-use Rattle.pass_core.proofs.Lists.{all_map, all_pushed, all_contained, same_at}
+use Rattle.bp_faults.proofs.Lists.{all_map, all_pushed, all_contained, same_at}
 use Rattle.pass_core.proofs.Marks.{marks_more, marks_most, marks_full, marks_none, marked_or, marked_before, still_marked, now_marked, not_both, get_blank}
 use Rattle.pass_core.proofs.Unique.{outcome_unique}
 

@@ -6,7 +6,7 @@ use native.Mathlib.Decide.{ℕ_discrete}
 use Rattle.std.proofs.lemmas.List.{length-map}
 use Rattle.std.proofs.lemmas.Option.{slice_get_within}
 use Rattle.pass_core.specs.CoreStates.{IsMarked, IsUnmarked, marks, fills}
-use Rattle.pass_core.proofs.Lists.{get_here, get_else}
+use Rattle.bp_faults.proofs.Lists.{get_here, get_else}
 
 pub marks_more : (bs : List Bool) (k : ℕ) → IsUnmarked bs k → marks (slice_set bs k true) ≡ suc (marks bs)
 marks_more [] k h = cc

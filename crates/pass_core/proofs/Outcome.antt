@@ -14,7 +14,7 @@ use Rattle.pass_core.specs.Outcomes.{IsFirstUndone, IsOutcome}
 use Rattle.pass_core.proofs.Legal.{node_at, stands_before}
 use Rattle.pass_core.proofs.Sorted.{the_order, the_order_is_serial}
 use Rattle.pass_core.proofs.Unique.{bad_at_first}
-use Rattle.pass_core.proofs.Lists.{all_contained, all_pushed}
+use Rattle.bp_faults.proofs.Lists.{all_contained, all_pushed}
 
 module _ {O : Type 0} where
   one_done : (f : ℕ → NodeResult O) (n : ℕ) (ns : List ℕ) (r : NodeResult O) → f n ≡ r → IsDone r → (outs : List O) → map Done outs ≡ map f ns → (all : List O) × (map Done all ≡ f n ∷ map f ns)

@@ -18,7 +18,7 @@ use Rattle.pass_core.specs.Heights.{height}
 use Rattle.pass_core.specs.Settling.{settled_at, joined, AreSettled, IsOn, IsDue, IsPath, total, cost, path_cost, IsAdvanced, sought, gone_up, start_at, IsOnWay}
 use Rattle.pass_core.proofs.Climbing.{source_below}
 use Rattle.pass_core.proofs.Unrolled.{unroll_equation, tight, tight_below, tight_rises}
-use Rattle.pass_core.proofs.Lists.{all_map, all_pushed, get_else, get_here, same_at, take-past}
+use Rattle.bp_faults.proofs.Lists.{all_map, all_pushed, get_else, get_here, same_at, take-past}
 use Rattle.pass_core.proofs.Predecessors.{in_edges_few}
 
 on_end : (cs ds : List Climb) (n : ℕ) → IsOn ds n → IsOn (cs ++ ds) n

@@ -15,7 +15,7 @@ use Rattle.pass_core.specs.Plans.{predecessors, HasNoCycle, IsPlan}
 use Rattle.pass_core.specs.Results.{node_result}
 use Rattle.pass_core.specs.CoreStates.{CoreState, from_of, to_of, numbers_into, IsMarked, IsFilled, VisitWasMade, made, Allows, IsFinished, entries}
 use Rattle.pass_core.proofs.Induction.{plan_induction}
-use Rattle.pass_core.proofs.Lists.{map-same}
+use Rattle.bp_faults.proofs.Lists.{map-same}
 use Rattle.pass_core.proofs.Marks.{marked_or, filled_or, marks_most, marks_full, full_marks, fills_most, fills_full, full_fills}
 use Rattle.pass_core.proofs.Numbered.{into_sources, all_into, each_into, left_none, none_left}
 use Rattle.pass_core.specs.CoreKept.{IsSound}

@@ -16,7 +16,8 @@ use Rattle.std.proofs.lemmas.Map.Keys.{IsDistinct-IsPermutation, apart_from_dist
 use Rattle.bp_faults.specs.declared.ids.NodeId.{NodeId}
 use Rattle.pass_core.specs.declared.plan.Plan.{Plan}
 use Rattle.pass_core.specs.Heights.{height, IsBefore}
-use Rattle.pass_core.specs.Orders.{numbers, HasEachOnce, IsSerial, ranked}
+use Rattle.pass_core.specs.Inside.{ranked}
+use Rattle.pass_core.specs.Orders.{numbers, HasEachOnce, IsSerial}
 
 -- what holds of neighbours and goes on holds of each pair
 far : {X : Type 0} (R : X → X → Type 0) → ((x y z : X) → R x y → R y z → R x z) → (xs : List X) → ((k : ℕ) (d : X) → k + 1 < length xs → R (get_or xs k d) (get_or xs (k + 1) d))

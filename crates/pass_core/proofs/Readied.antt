@@ -9,7 +9,7 @@ use Rattle.std.proofs.lemmas.List.Elements.{All-from_recursion}
 use Rattle.pass_core.specs.declared.plan.PlanEdge.{PlanEdge}
 use Rattle.pass_core.specs.Plans.{sources, in_edges, predecessors, HaveEndsBelow}
 use Rattle.pass_core.specs.CoreStates.{IsMarked}
-use Rattle.pass_core.proofs.Lists.{all_pushed}
+use Rattle.bp_faults.proofs.Lists.{all_pushed}
 use Rattle.pass_core.proofs.Predecessors.{in_edges_below, source_at}
 
 pub mark_read : (marks : List Bool) (k : ℕ) (b : Bool) → k < length marks → get_or marks k false ≡ b → slice_get marks k ≡ Some b

@@ -8,7 +8,7 @@ use Rattle.pass_core.specs.declared.plan.Plan.{Plan}
 use Rattle.pass_core.specs.declared.step.Step.{Step}
 use Rattle.pass_core.specs.declared.step.Step.TheVariants.{Claim, Fetch, Fill, Subtract}
 use Rattle.pass_core.specs.CoreStates.{CoreState, from_of, IsMarked, IsFilled, made, Allows, after, AreAllowed}
-use Rattle.pass_core.proofs.Lists.{get_here}
+use Rattle.bp_faults.proofs.Lists.{get_here}
 use Rattle.pass_core.proofs.Marks.{now_marked, still_marked, still_filled, not_both}
 
 pairs_cons : {X : Type 0} (R : X → X → Type 0) (x : X) (xs : List X) → AllByRecursion (R x) xs → AllPairs R xs → AllPairs R (x ∷ xs)

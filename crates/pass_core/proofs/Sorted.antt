@@ -8,7 +8,7 @@ use Rattle.pass_core.specs.declared.plan.Plan.{Plan}
 use Rattle.pass_core.specs.Heights.{height, IsBefore}
 use Rattle.pass_core.specs.Orders.{IsSerial}
 use Rattle.pass_core.proofs.Unique.{ordered, never_both}
-use Rattle.pass_core.proofs.Lists.{all_map}
+use Rattle.bp_faults.proofs.Lists.{all_map}
 
 contains_none : (m : ℕ) → Contains [] m → ⊥
 contains_none m h = let lt = h.1 in omega arith

@@ -16,7 +16,7 @@ use Rattle.pass_core.specs.declared.step.Step.TheVariants.{Claim, Fetch, Fill, S
 use Rattle.pass_core.specs.Plans.{predecessors, HasNoCycle, IsPlan}
 use Rattle.pass_core.specs.Results.{NodeResult, outs_of, judged, node_result}
 use Rattle.pass_core.specs.CoreStates.{CoreState, from_of, to_of, numbers_into, IsMarked, IsUnmarked, result_in, IsFilled, held, VisitWasMade, made, Allows, after, beginning, after_all, AreAllowed, IsReached, entries}
-use Rattle.pass_core.proofs.Lists.{all_map, map-same, get_here, get_else}
+use Rattle.bp_faults.proofs.Lists.{all_map, map-same, get_here, get_else}
 use Rattle.pass_core.proofs.Marks.{marked_before, still_filled, get_blank, marks_more, fills_more, marks_none, fills_none}
 use Rattle.pass_core.specs.CoreKept.{IsSound, left}
 use Rattle.pass_core.proofs.Numbered.{into_sources, left_begins, left_lower, left_same}

@@ -10,7 +10,7 @@ use Rattle.pass_core.specs.Heights.{height, IsBefore}
 use Rattle.pass_core.specs.Results.{NodeResult, Done, Bad, Poisoned, IsDone, cons_if, outs_of, visited, judged, node_result}
 use Rattle.pass_core.specs.Outcomes.{IsFirstUndone, IsOutcome}
 use Rattle.pass_core.proofs.Unrolled.{height_rises, result_equation}
-use Rattle.pass_core.proofs.Lists.{all_map, both}
+use Rattle.bp_faults.proofs.Lists.{all_map, both}
 use Rattle.pass_core.proofs.Predecessors.{all_predecessors}
 
 by_height : (hm m hn n : ℕ) → Dec (hm < hn) → Dec (hn < hm) → Dec (m < n) → Dec (n < m)

@@ -1,6 +1,6 @@
 -- The recursion over predecessors meets its equation where a numbering rises along every edge.
-use Rattle.std.proofs.Common.{◌≡◌, ◌+◌, ◌<◌, ◌≤◌, ℕ, zero, suc, List, [], ◌∷◌, map, ap, arith, subst}
-use Rattle.std.specs.Prelude.{if◌then◌else◌, nat_lt, max}
+use Rattle.std.proofs.Common.{◌≡◌, ◌+◌, ◌<◌, ◌≤◌, ℕ, zero, suc, List, map, ap, arith, subst}
+use Rattle.std.specs.Prelude.{if◌then◌else◌, nat_lt}
 use Rattle.std.specs.List.{AllByRecursion}
 use Rattle.std.proofs.lemmas.Bool.Decides.{nat_tests}
 use mathlib.Core.Logic.{dite}
@@ -12,7 +12,7 @@ use Rattle.pass_core.specs.declared.plan.Plan.{Plan}
 use Rattle.pass_core.specs.Plans.{predecessors, HaveEndsBelow, HasNoCycle}
 use Rattle.pass_core.specs.Heights.{unroll, above_all, height}
 use Rattle.pass_core.specs.Results.{Poisoned, judged, outs_of, node_result}
-use Rattle.pass_core.proofs.Lists.{all_map, all_with, map-same}
+use Rattle.bp_faults.proofs.Lists.{all_map, all_with, below_top, map-same}
 use Rattle.pass_core.proofs.Predecessors.{all_predecessors}
 
 -- past a node's rank the depth makes no difference
@@ -32,10 +32,6 @@ unroll_equation ins rank rises step base (suc d) n lt =
     ap (step n) (map-same (unroll ins step base d) (unroll ins step base (suc d)) (ins n)
     (all_map (λ m. rank m < rank n) (λ m. unroll ins step base d m ≡ unroll ins step base (suc d) m)
     (λ m less. unroll_deeper ins rank rises step base d (suc d) m (omega arith) (omega arith)) (ins n) (rises n)))
-
-below_top : (f : ℕ → ℕ) (ms : List ℕ) → AllByRecursion (λ m. f m < above_all (map f ms)) ms
-below_top f [] = tt
-below_top f (m ∷ ms) = (omega arith, all_map (λ x. f x < above_all (map f ms)) (λ x. f x < max (suc (f m)) (above_all (map f ms))) (λ x h. omega arith) ms (below_top f ms))
 
 -- how many numbers below k have a rank below r
 abbrev pub lower : (ℕ → ℕ) → ℕ → ℕ → ℕ

@@ -1,5 +1,6 @@
 -- What every state of a core keeps, and what a core keeps beside it. No public contract speaks of it.
-use Rattle.std.specs.Prelude.{◌≡◌, ◌<◌, ◌+◌, ◌==◌, ℕ, Bool, true, false, List, [], ◌∷◌, map, length, slice_get, slice_index, slice_set, Option, Some, Result}
+use Rattle.std.specs.Prelude.{◌≡◌, ◌<◌, ◌+◌, ◌==◌, ℕ, Bool, true, false, List, [], ◌∷◌, map, length, slice_get}
+use Rattle.std.specs.Prelude.{slice_index, slice_set, Option, Some, Result}
 use Rattle.std.specs.Option.{option_map}
 use Rattle.bp_faults.specs.declared.fault.Fault.{Fault}
 use Rattle.pass_core.specs.declared.plan.Plan.{Plan}
@@ -8,9 +9,10 @@ use Rattle.pass_core.specs.declared.published.Published.{Published}
 use Rattle.pass_core.specs.Plans.{IsPlan, HasNoCycle}
 use Rattle.pass_core.specs.InEdges.{AreStarts}
 use Rattle.pass_core.specs.Outcomes.{TakesPlan}
-use Rattle.pass_core.specs.Results.{NodeResult, node_result}
+use Rattle.pass_core.specs.Results.{NodeResult, outs_of, node_result}
 use Rattle.pass_core.specs.Shown.{shown}
-use Rattle.pass_core.specs.CoreStates.{CoreState, from_of, IsMarked, IsFilled, VisitWasMade, entries}
+use Rattle.pass_core.specs.CoreStates.{CoreState, from_of, result_in, IsMarked, IsFilled, VisitWasMade}
+use Rattle.pass_core.specs.CoreStates.{IsReachedIn, entries}
 
 -- 1 where it is so, else 0.
 abbrev pub one_if : Bool → ℕ
@@ -31,7 +33,8 @@ pub record IsSound {O : Type 0} (mean : ℕ → List O → Result O Fault) (plan
   pub filled_many : length s.filled ≡ length plan.edges
   pub subtracted_many : length s.subtracted ≡ length plan.edges
   pub fetched_many : length s.fetched ≡ length plan.edges
-  pub right : (e : ℕ) (r : NodeResult O) → slice_get s.filled e ≡ Some (Some r) → r ≡ node_result mean plan (from_of plan e)
+  pub right : (e : ℕ) (r : NodeResult O) → slice_get s.filled e ≡ Some (Some r)
+      → r ≡ node_result mean plan (from_of plan e)
   pub taken : (e : ℕ) → IsMarked s.fetched e → IsFilled s e
   pub counted : (n : ℕ) → n < plan.count → slice_index s.counters n ≡ left plan.edges s.subtracted n
   pub awaited : (n : ℕ) → IsMarked s.claimed n → left plan.edges s.subtracted n ≡ 0
@@ -40,25 +43,42 @@ pub record IsSound {O : Type 0} (mean : ℕ → List O → Result O Fault) (plan
 abbrev pub shown_in : {O : Type 0} → Option (Published O) → Option (NodeResult O)
 shown_in x = option_map shown x
 
+-- What some edges hold, if each holds a result that is done.
+abbrev pub held_outs : {O : Type 0} → List (Option (Published O)) → Option (List O)
+held_outs held = outs_of (map (λ h. result_in (Some (shown_in h))) held)
+
 -- The state that the tables of a core show.
-abbrev pub state_of : {O : Type 0} → List ℕ → List Bool → List (Option (Published O)) → List Bool → List Bool → CoreState O
-state_of counters claimed filled subtracted fetched = record { counters = counters; claimed = claimed; filled = map shown_in filled; subtracted = subtracted; fetched = fetched }
+abbrev pub state_of : {O : Type 0} → List ℕ → List Bool → List (Option (Published O)) → List Bool → List Bool
+    → CoreState O
+state_of counters claimed filled subtracted fetched = record {
+  counters = counters;
+  claimed = claimed;
+  filled = map shown_in filled;
+  subtracted = subtracted;
+  fetched = fetched;
+}
 
 -- A core keeps, beside its state, how many in-edges of each node aren't fetched, what was published of each node, and
 -- the number of steps.
-pub record IsCore {O : Type 0} (mean : ℕ → List O → Result O Fault) (takes : ℕ → ℕ → Type 0) (plan : Plan) (starts : List ℕ) (s : CoreState O) (unfetched : List ℕ) (published : List (Option (Published O))) (steps : ℕ) : Type 0 where
+pub record IsCore {O : Type 0} (mean : ℕ → List O → Result O Fault) (takes : ℕ → ℕ → Type 0) (plan : Plan)
+    (starts : List ℕ) (s : CoreState O) (unfetched : List ℕ) (published : List (Option (Published O))) (steps : ℕ)
+    : Type 0 where
   pub is_plan : IsPlan plan
   pub free : HasNoCycle plan.edges
   pub takes_plan : TakesPlan takes plan
   pub are_starts : AreStarts plan starts
+  pub reached : IsReachedIn mean plan steps s
   pub sound : IsSound mean plan s
   pub unfetched_many : length unfetched ≡ plan.count
   pub unfetched_are : (n : ℕ) → n < plan.count → slice_index unfetched n ≡ left plan.edges s.fetched n
   pub published_many : length published ≡ plan.count
-  pub right : (n : ℕ) (p : Published O) → slice_get published n ≡ Some (Some p) → (shown p ≡ node_result mean plan n) × VisitWasMade plan s n
+  pub right : (n : ℕ) (p : Published O) → slice_get published n ≡ Some (Some p)
+      → (shown p ≡ node_result mean plan n) × VisitWasMade plan s n
   pub visited : (n : ℕ) → VisitWasMade plan s n → (p : Published O) × (slice_get published n ≡ Some (Some p))
   pub counted : steps ≡ entries s
 
 -- A node's result is published where it has fetched its last in-edge, and else nothing changes.
-abbrev pub PublishesLast : {O : Type 0} → Type 0 → ℕ → NodeResult O → List (Option (Published O)) → List (Option (Published O)) → Type 0
-PublishesLast {O} Last n r old new = (Last → (p : Published O) × (shown p ≡ r) × (new ≡ slice_set old n (Some p))) × ((Last → ⊥) → new ≡ old)
+abbrev pub PublishesLast : {O : Type 0} → Type 0 → ℕ → NodeResult O → List (Option (Published O))
+    → List (Option (Published O)) → Type 0
+PublishesLast {O} Last n r old new =
+    (Last → (p : Published O) × (shown p ≡ r) × (new ≡ slice_set old n (Some p))) × ((Last → ⊥) → new ≡ old)

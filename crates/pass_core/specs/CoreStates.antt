@@ -1,6 +1,8 @@
 -- The core machine: the states of a pass whose nodes are visited in any order that the counters allow, and the four
 -- steps that lead from one state to the next.
-use Rattle.std.specs.Prelude.{◌≡◌, ◌<◌, ◌+◌, ◌-◌, ◌==◌, ℕ, suc, Bool, true, false, List, [], ◌∷◌, length, map, replicate, slice_get, slice_index, slice_set, if◌then◌else◌, Option, Some, None, is_some, Result, ⊤}
+use Rattle.std.specs.Prelude.{◌≡◌, ◌<◌, ◌+◌, ◌-◌, ◌==◌, ℕ, suc, Bool, true, false, List, [], ◌∷◌, length, map}
+use Rattle.std.specs.Prelude.{replicate, slice_get, slice_index, slice_set, if◌then◌else◌, Option, Some, None}
+use Rattle.std.specs.Prelude.{is_some, Result, ⊤}
 use Rattle.std.specs.List.{AllByRecursion, range_with_len}
 use Rattle.bp_faults.specs.declared.fault.Fault.{Fault}
 use Rattle.pass_core.specs.declared.plan.Plan.{Plan}
@@ -32,10 +34,11 @@ abbrev pub numbers_into : ℕ → List PlanEdge → ℕ → List ℕ
 numbers_into k [] n = []
 numbers_into k (d ∷ ds) n = if d.to.0 == n then k ∷ numbers_into (suc k) ds n else numbers_into (suc k) ds n
 
--- What is so numbered is marked, or it is there and isn't marked.
+-- What has that number is marked.
 abbrev pub IsMarked : List Bool → ℕ → Type 0
 IsMarked marks k = slice_get marks k ≡ Some true
 
+-- What has that number is there and isn't marked.
 abbrev pub IsUnmarked : List Bool → ℕ → Type 0
 IsUnmarked marks k = slice_get marks k ≡ Some false
 
@@ -50,10 +53,11 @@ abbrev pub fills : {X : Type 0} → List (Option X) → ℕ
 fills xs = marks (map is_some xs)
 
 module _ {O : Type 0} where
-  -- The edge is filled, or it is there and isn't filled.
+  -- The edge is filled.
   abbrev pub IsFilled : CoreState O → ℕ → Type 0
   IsFilled s e = (r : NodeResult O) × (slice_get s.filled e ≡ Some (Some r))
 
+  -- The edge is there and isn't filled.
   abbrev pub IsUnfilled : CoreState O → ℕ → Type 0
   IsUnfilled s e = slice_get s.filled e ≡ Some None
 
@@ -84,9 +88,27 @@ module _ {O : Type 0} where
 
   -- The state after a step that is allowed.
   abbrev pub after : (ℕ → List O → Result O Fault) → Plan → CoreState O → Step → CoreState O
-  after mean plan s (Claim n) = record { counters = s.counters; claimed = slice_set s.claimed n.0 true; filled = s.filled; subtracted = s.subtracted; fetched = s.fetched }
-  after mean plan s (Fetch e) = record { counters = s.counters; claimed = s.claimed; filled = s.filled; subtracted = s.subtracted; fetched = slice_set s.fetched e true }
-  after mean plan s (Fill e) = record { counters = s.counters; claimed = s.claimed; filled = slice_set s.filled e (Some (made mean plan s (from_of plan e))); subtracted = s.subtracted; fetched = s.fetched }
+  after mean plan s (Claim n) = record {
+    counters = s.counters;
+    claimed = slice_set s.claimed n.0 true;
+    filled = s.filled;
+    subtracted = s.subtracted;
+    fetched = s.fetched;
+  }
+  after mean plan s (Fetch e) = record {
+    counters = s.counters;
+    claimed = s.claimed;
+    filled = s.filled;
+    subtracted = s.subtracted;
+    fetched = slice_set s.fetched e true;
+  }
+  after mean plan s (Fill e) = record {
+    counters = s.counters;
+    claimed = s.claimed;
+    filled = slice_set s.filled e (Some (made mean plan s (from_of plan e)));
+    subtracted = s.subtracted;
+    fetched = s.fetched;
+  }
   after mean plan s (Subtract e) = record {
     counters = slice_set s.counters (to_of plan e) (slice_index s.counters (to_of plan e) - 1);
     claimed = s.claimed;
@@ -123,9 +145,14 @@ module _ {O : Type 0} where
   AreAllowed mean plan s (t ∷ ts) = Allows plan s t × AreAllowed mean plan (after mean plan s t) ts
 
   -- A state is reached from the beginning by some steps, each of them allowed.
-  pub record IsReached (mean : ℕ → List O → Result O Fault) (plan : Plan) (steps : List Step) (s : CoreState O) : Type 0 where
+  pub record IsReached (mean : ℕ → List O
+      → Result O Fault) (plan : Plan) (steps : List Step) (s : CoreState O) : Type 0 where
     pub allowed : AreAllowed mean plan (beginning plan) steps
     pub there : s ≡ after_all mean plan (beginning plan) steps
+
+  -- A state is reached from the beginning by that many allowed steps.
+  abbrev pub IsReachedIn : (ℕ → List O → Result O Fault) → Plan → ℕ → CoreState O → Type 0
+  IsReachedIn mean plan many s = (steps : List Step) × IsReached mean plan steps s × (length steps ≡ many)
 
   -- How many entries a state has: claimed nodes, and filled, subtracted and fetched edges.
   abbrev pub entries : CoreState O → ℕ

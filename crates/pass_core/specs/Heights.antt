@@ -1,5 +1,6 @@
 -- Heights of nodes, and the serial order by height and number.
-use Rattle.std.specs.Prelude.{◌≡◌, ◌<◌, ℕ, zero, suc, List, [], ◌∷◌, map, max, ◌⊎◌}
+use Rattle.std.specs.Prelude.{ℕ, zero, suc, List, map}
+pub use Rattle.bp_faults.specs.Order.{above_all, Precedes}
 use Rattle.pass_core.specs.declared.plan.Plan.{Plan}
 use Rattle.pass_core.specs.Plans.{predecessors}
 
@@ -9,15 +10,10 @@ abbrev pub unroll : {X : Type 0} → (ℕ → List ℕ) → (ℕ → List X → 
 unroll before step base zero n = base
 unroll before step base (suc depth) n = step n (map (unroll before step base depth) (before n))
 
--- One more than the greatest of some heights, and 0 where there are none.
-abbrev pub above_all : List ℕ → ℕ
-above_all [] = 0
-above_all (h ∷ hs) = max (suc h) (above_all hs)
-
 -- The height of a node: 0 without predecessors, else one more than its greatest predecessor's.
 unfoldable pub height : Plan → ℕ → ℕ
 height plan = unroll (predecessors plan.edges) (λ n hs. above_all hs) 0 plan.count
 
 -- Serial order: by height, then by number.
 abbrev pub IsBefore : Plan → ℕ → ℕ → Type 0
-IsBefore plan m n = (height plan m < height plan n) ⊎ ((height plan m ≡ height plan n) × (m < n))
+IsBefore plan = Precedes (height plan)

@@ -3,6 +3,11 @@ use Rattle.std.specs.Prelude.{◌≡◌, ◌≤◌, ◌+◌, ℕ, List, length, 
 use Rattle.std.specs.List.{filter}
 use Rattle.pass_core.specs.declared.plan.Plan.{Plan}
 use Rattle.pass_core.specs.declared.plan.PlanEdge.{PlanEdge}
+use Rattle.pass_core.specs.Plans.{predecessors}
+
+-- The number of edges into a node.
+abbrev pub in_degree : Plan → ℕ → ℕ
+in_degree plan n = length (predecessors plan.edges n)
 
 -- How many edges lead to nodes below n: where the in-edges of n begin, in a plan by target.
 abbrev pub edges_below : List PlanEdge → ℕ → ℕ

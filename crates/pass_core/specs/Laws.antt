@@ -1,43 +1,144 @@
 -- What holds of every plan without a cycle, whatever a visitor means.
-use Rattle.std.specs.Prelude.{◌≡◌, ◌<◌, ℕ, List, map, Result}
+use Rattle.std.specs.Prelude.{◌≡◌, ◌<◌, ◌≤◌, ◌+◌, ◌-◌, ◌↔◌, ℕ, List, map, length, take, drop, slice_index}
+use Rattle.std.specs.Prelude.{slice_index_or, Result, Ok}
+use Rattle.std.specs.List.{AllByRecursion, Contains}
 use Rattle.bp_faults.specs.declared.fault.Fault.{Fault}
+use Rattle.bp_faults.specs.Order.{Gathers}
 use Rattle.pass_core.specs.declared.plan.Plan.{Plan}
-use Rattle.pass_core.specs.Plans.{predecessors, IsPlan, HasNoCycle}
-use Rattle.pass_core.specs.Heights.{height, above_all}
+use Rattle.pass_core.specs.declared.plan.PlanEdge.{PlanEdge}
+use Rattle.pass_core.specs.Plans.{in_edges, predecessors, StandByTarget, HaveEndsBelow, IsPlan, HasNoCycle}
+use Rattle.pass_core.specs.InEdges.{edges_below}
+use Rattle.pass_core.specs.Heights.{height, above_all, unroll, IsBefore}
 use Rattle.pass_core.specs.Results.{NodeResult, Bad, outs_of, judged, node_result}
 use Rattle.pass_core.specs.Orders.{IsSerial, IsLegal}
-use Rattle.pass_core.specs.Outcomes.{IsFirstUndone, IsOutcome}
+use Rattle.pass_core.specs.Outcomes.{IsFirstUndone, IsOutcome, PassMeans}
+
+-- Where edges stand by target, the edges into a node are those between two places.
+abbrev pub InEdgesAreTogether : Type 0
+InEdgesAreTogether =
+    (edges : List PlanEdge) (n : ℕ) → StandByTarget edges
+    → take (edges_below edges (n + 1) - edges_below edges n) (drop (edges_below edges n) edges) ≡ in_edges edges n
+
+-- These places rise with the nodes, and none is past the edges.
+abbrev pub PlacesOfEdgesRise : Type 0
+PlacesOfEdgesRise =
+    (edges : List PlanEdge) (n : ℕ)
+    → (edges_below edges n ≤ edges_below edges (n + 1)) × (edges_below edges n ≤ length edges)
+
+-- Where edges stand by target, an edge leads below a node exactly where its number is below the node's place.
+abbrev pub PlacesTellTargets : Type 0
+PlacesTellTargets =
+    (edges : List PlanEdge) (n i : ℕ) (e : PlanEdge) → StandByTarget edges → i < length edges
+    → ((slice_index_or edges i e).to.0 < n) ↔ (i < edges_below edges n)
+
+-- The predecessors of a node are nodes.
+abbrev pub PredecessorsAreNodes : Type 0
+PredecessorsAreNodes =
+    (count : ℕ) (edges : List PlanEdge) (n : ℕ) → HaveEndsBelow count edges
+    → AllByRecursion (λ m. m < count) (predecessors edges n)
+
+-- What rises along every edge is less at the predecessors of a node.
+abbrev pub PredecessorsAreLess : Type 0
+PredecessorsAreLess =
+    (rank : ℕ → ℕ) (edges : List PlanEdge) (n : ℕ)
+    → AllByRecursion (λ (e : PlanEdge). rank e.from.0 < rank e.to.0) edges
+    → AllByRecursion (λ m. rank m < rank n) (predecessors edges n)
 
 -- A node's height is one more than the greatest of its predecessors' heights, and 0 without predecessors.
 abbrev pub HeightsMeetTheirEquation : Type 0
-HeightsMeetTheirEquation = (plan : Plan) (n : ℕ) → IsPlan plan → HasNoCycle plan.edges → n < plan.count → height plan n ≡ above_all (map (height plan) (predecessors plan.edges n))
+HeightsMeetTheirEquation =
+    (plan : Plan) (n : ℕ) → IsPlan plan → HasNoCycle plan.edges → n < plan.count
+    → height plan n ≡ above_all (map (height plan) (predecessors plan.edges n))
+
+-- A node's height is below the number of nodes.
+abbrev pub HeightsAreBelowTheCount : Type 0
+HeightsAreBelowTheCount =
+    (plan : Plan) (n : ℕ) → IsPlan plan → HasNoCycle plan.edges → n < plan.count → height plan n < plan.count
+
+-- The predecessors of a node are nodes that come before it.
+abbrev pub PredecessorsComeBefore : Type 0
+PredecessorsComeBefore =
+    (plan : Plan) (n : ℕ) → IsPlan plan → HasNoCycle plan.edges → n < plan.count
+    → AllByRecursion (λ m. (m < plan.count) × IsBefore plan m n) (predecessors plan.edges n)
 
 -- There is exactly one serial order.
 abbrev pub OneSerialOrder : Type 0
-OneSerialOrder = (plan : Plan) → IsPlan plan → HasNoCycle plan.edges → (order : List ℕ) × IsSerial plan order × ((other : List ℕ) → IsSerial plan other → other ≡ order)
+OneSerialOrder =
+    (plan : Plan) → IsPlan plan → HasNoCycle plan.edges
+    → (order : List ℕ) × IsSerial plan order × ((other : List ℕ) → IsSerial plan other → other ≡ order)
 
 -- The serial order is legal.
 abbrev pub SerialIsLegal : Type 0
-SerialIsLegal = (plan : Plan) (order : List ℕ) → IsPlan plan → HasNoCycle plan.edges → IsSerial plan order → IsLegal plan order
+SerialIsLegal =
+    (plan : Plan) (order : List ℕ) → IsPlan plan → HasNoCycle plan.edges → IsSerial plan order → IsLegal plan order
+
+-- In the serial order the nodes that come before that at a place stand at earlier places.
+abbrev pub EarlierNodesStandEarlier : Type 0
+EarlierNodesStandEarlier =
+    (plan : Plan) (order : List ℕ) (m place : ℕ) → IsSerial plan order → m < plan.count → place < length order
+    → IsBefore plan m (slice_index order place) → Contains (take place order) m
+
+-- A value by recursion over predecessors is what the step makes of the predecessors' values.
+abbrev pub RecursionMeetsItsEquation : Type 0 → Type 0
+RecursionMeetsItsEquation X =
+    (plan : Plan) (step : ℕ → List X → X) (base : X) (n : ℕ) → IsPlan plan → HasNoCycle plan.edges → n < plan.count
+    → unroll (predecessors plan.edges) step base plan.count n
+    ≡ step n (map (unroll (predecessors plan.edges) step base plan.count) (predecessors plan.edges n))
 
 module _ (O : Type 0) where
   -- A node's result is poisoned where some predecessor's result isn't done, else what the meaning gives for the
   -- predecessors' results.
   abbrev pub ResultsMeetTheirEquation : Type 0
-  ResultsMeetTheirEquation = (mean : ℕ → List O → Result O Fault) (plan : Plan) (n : ℕ) → IsPlan plan → HasNoCycle plan.edges → n < plan.count
-      → node_result mean plan n ≡ judged (mean n) (outs_of (map (node_result mean plan) (predecessors plan.edges n)))
+  ResultsMeetTheirEquation =
+      (mean : ℕ → List O → Result O Fault) (plan : Plan) (n : ℕ) → IsPlan plan → HasNoCycle plan.edges → n < plan.count
+      → node_result mean plan n
+      ≡ judged (mean n) (outs_of (map (node_result mean plan) (predecessors plan.edges n)))
 
   -- Whatever meets that equation is the results.
   abbrev pub OneSolution : Type 0
-  OneSolution = (mean : ℕ → List O → Result O Fault) (plan : Plan) (f : ℕ → NodeResult O) → IsPlan plan → HasNoCycle plan.edges
-      → ((n : ℕ) → n < plan.count → f n ≡ judged (mean n) (outs_of (map f (predecessors plan.edges n)))) → (n : ℕ) → n < plan.count → f n ≡ node_result mean plan n
+  OneSolution =
+      (mean : ℕ → List O → Result O Fault) (plan : Plan) (f : ℕ → NodeResult O) → IsPlan plan → HasNoCycle plan.edges
+      → ((n : ℕ) → n < plan.count → f n ≡ judged (mean n) (outs_of (map f (predecessors plan.edges n))))
+      → (n : ℕ) → n < plan.count → f n ≡ node_result mean plan n
 
   -- The first node in serial order whose result isn't done has a fault of its own: it is never poisoned.
   abbrev pub FirstUndoneIsBad : Type 0
-  FirstUndoneIsBad = (mean : ℕ → List O → Result O Fault) (plan : Plan) (n : ℕ) → IsPlan plan → HasNoCycle plan.edges
+  FirstUndoneIsBad =
+      (mean : ℕ → List O → Result O Fault) (plan : Plan) (n : ℕ) → IsPlan plan → HasNoCycle plan.edges
       → IsFirstUndone (node_result mean plan) plan n → (fault : Fault) × (node_result mean plan n ≡ Bad fault)
 
   -- A pass has exactly one outcome.
   abbrev pub OneOutcome : Type 0
-  OneOutcome = (mean : ℕ → List O → Result O Fault) (plan : Plan) → IsPlan plan → HasNoCycle plan.edges
-      → (outcome : Result (List O) (ℕ × Fault)) × IsOutcome mean plan outcome × ((other : Result (List O) (ℕ × Fault)) → IsOutcome mean plan other → other ≡ outcome)
+  OneOutcome =
+      (mean : ℕ → List O → Result O Fault) (plan : Plan) → IsPlan plan → HasNoCycle plan.edges
+      → (outcome : Result (List O) (ℕ × Fault)) × IsOutcome mean plan outcome
+      × ((other : Result (List O) (ℕ × Fault)) → IsOutcome mean plan other → other ≡ outcome)
+
+  -- A pass has at most one outcome, whatever its plan is.
+  abbrev pub AtMostOneOutcome : Type 0
+  AtMostOneOutcome =
+      (mean : ℕ → List O → Result O Fault) (plan : Plan) (outcome other : Result (List O) (ℕ × Fault))
+      → IsOutcome mean plan outcome → IsOutcome mean plan other → outcome ≡ other
+
+  -- A pass that makes all results makes as many as there are nodes.
+  abbrev pub OutsAreMany : Type 0
+  OutsAreMany =
+      (mean : ℕ → List O → Result O Fault) (plan : Plan) (outs : List O)
+      → IsOutcome mean plan (Ok outs) → length outs ≡ plan.count
+
+  -- Each of these is what the meaning gives for the results of the node's predecessors.
+  abbrev pub OutsMeetTheirEquation : Type 0
+  OutsMeetTheirEquation =
+      (mean : ℕ → List O → Result O Fault) (plan : Plan) (outs : List O) (n : ℕ) (d : O)
+      → IsPlan plan → HasNoCycle plan.edges → IsOutcome mean plan (Ok outs) → n < plan.count
+      → mean n (map (λ m. slice_index_or outs m d) (predecessors plan.edges n)) ≡ Ok (slice_index_or outs n d)
+
+  -- Where each node's meaning, over what a step makes of its predecessors, is what the step makes of the node, a pass
+  -- gathers what the step makes of all nodes.
+  abbrev pub PassGathers : Type 0
+  PassGathers =
+      (mean : ℕ → List O → Result O Fault) (step : ℕ → Result O Fault) (plan : Plan) (outcome : Result (List O) Fault)
+      → IsPlan plan → HasNoCycle plan.edges
+      → ((n : ℕ) (outs : List O) → n < plan.count → map Ok outs ≡ map step (predecessors plan.edges n)
+      → mean n outs ≡ step n)
+      → PassMeans mean plan outcome → Gathers (height plan) plan.count step outcome

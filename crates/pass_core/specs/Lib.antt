@@ -5,6 +5,7 @@ pub mod Outcomes
 pub mod Orders
 pub mod InEdges
 pub mod Made
+pub mod Inside
 pub mod Settling
 pub mod Laws
 pub mod CoreStates

@@ -35,7 +35,8 @@ AnswersVisit n is (Err (At m fault)) = (m.0 ≡ n) × (is ≡ Bad fault)
 AnswersVisit n is (Err OutOfMemory) = ⊤
 
 -- Something was made of the nodes that are done, and what was made is right.
-pub record IsMade {O A : Type 0} (results : ℕ → NodeResult O) (count : ℕ) (done : List ℕ) (made : List (Option (Arc O A))) : Type 0 where
+pub record IsMade {O A : Type 0} (results : ℕ
+    → NodeResult O) (count : ℕ) (done : List ℕ) (made : List (Option (Arc O A))) : Type 0 where
   pub many : length made ≡ count
   pub filled : AllByRecursion (λ n. IsSome (made_at made n)) done
   pub right : AreRight results made

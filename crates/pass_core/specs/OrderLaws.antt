@@ -9,9 +9,14 @@ use Rattle.pass_core.specs.OrderOutcomes.{OrderOutcome, IsOrderOutcome}
 module _ (O : Type 0) where
   -- Runs along any two legal orders come to the same.
   abbrev pub LegalOrdersAgree : Type 0
-  LegalOrdersAgree = (mean : ℕ → List O → Result O Fault) (plan : Plan) (order other : List ℕ) (x y : OrderOutcome O) → IsPlan plan → HasNoCycle plan.edges → IsLegal plan order → IsLegal plan other
+  LegalOrdersAgree =
+      (mean : ℕ → List O → Result O Fault) (plan : Plan) (order other : List ℕ) (x y : OrderOutcome O)
+      → IsPlan plan → HasNoCycle plan.edges → IsLegal plan order → IsLegal plan other
       → IsOrderOutcome mean plan order x → IsOrderOutcome mean plan other y → x ≡ y
 
   -- A run along a list comes to one thing alone, whether the list is a legal order or not.
   abbrev pub OneOrderOutcome : Type 0
-  OneOrderOutcome = (mean : ℕ → List O → Result O Fault) (plan : Plan) (order : List ℕ) (x y : OrderOutcome O) → IsPlan plan → HasNoCycle plan.edges → IsOrderOutcome mean plan order x → IsOrderOutcome mean plan order y → x ≡ y
+  OneOrderOutcome =
+      (mean : ℕ → List O → Result O Fault) (plan : Plan) (order : List ℕ) (x y : OrderOutcome O)
+      → IsPlan plan → HasNoCycle plan.edges
+      → IsOrderOutcome mean plan order x → IsOrderOutcome mean plan order y → x ≡ y

@@ -50,7 +50,8 @@ module _ {O : Type 0} where
   IsOrderOutcome mean plan order (Short many) = IsShort plan order many
 
   -- A run answers its outcome, where an `Arc` counts as what it holds, or want of memory.
-  abbrev pub AnswersOrder : (ℕ → List O → Result O Fault) → Plan → List ℕ → Result (Vec (Arc O Global) Global) OrderError → Type 0
+  abbrev pub AnswersOrder : (ℕ → List O → Result O Fault) → Plan → List ℕ
+      → Result (Vec (Arc O Global) Global) OrderError → Type 0
   AnswersOrder mean plan order (Ok outs) = IsOrderOutcome mean plan order (Ran (Ok (map arc_value outs.items)))
   AnswersOrder mean plan order (Err (NotReady place)) = IsOrderOutcome mean plan order (Refused place)
   AnswersOrder mean plan order (Err (Ends many)) = IsOrderOutcome mean plan order (Short many)

@@ -4,7 +4,7 @@ use Rattle.std.specs.List.{AllByRecursion, AllPairs, Contains}
 use Rattle.bp_faults.specs.declared.ids.NodeId.{NodeId}
 use Rattle.pass_core.specs.declared.plan.Plan.{Plan}
 use Rattle.pass_core.specs.Plans.{predecessors}
-use Rattle.pass_core.specs.Heights.{height, IsBefore}
+use Rattle.pass_core.specs.Heights.{IsBefore}
 
 -- The numbers of some nodes.
 abbrev pub numbers : List NodeId → List ℕ
@@ -19,13 +19,10 @@ pub record HasEachOnce (plan : Plan) (order : List ℕ) : Type 0 where
 -- A legal order has each node once, each after all its predecessors.
 pub record IsLegal (plan : Plan) (order : List ℕ) : Type 0 where
   pub each_once : HasEachOnce plan order
-  pub after : (place : ℕ) → place < length order → AllByRecursion (Contains (take place order)) (predecessors plan.edges (slice_index order place))
+  pub after : (place : ℕ) → place < length order
+      → AllByRecursion (Contains (take place order)) (predecessors plan.edges (slice_index order place))
 
 -- The serial order has each node once, by height and then by number.
 pub record IsSerial (plan : Plan) (order : List ℕ) : Type 0 where
   pub each_once : HasEachOnce plan order
   pub sorted : AllPairs (IsBefore plan) order
-
--- A node with its height.
-abbrev pub ranked : Plan → ℕ → ℕ × NodeId
-ranked plan n = (height plan n, record { 0 = n })

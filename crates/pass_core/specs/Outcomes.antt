@@ -27,7 +27,13 @@ module _ {O : Type 0} where
   -- whose result isn't done, with its fault.
   abbrev pub IsOutcome : (ℕ → List O → Result O Fault) → Plan → Result (List O) (ℕ × Fault) → Type 0
   IsOutcome mean plan (Ok outs) = map Done outs ≡ map (node_result mean plan) (range_with_len 0 plan.count)
-  IsOutcome mean plan (Err at) = IsFirstUndone (node_result mean plan) plan at.0 × (node_result mean plan at.0 ≡ Bad at.1)
+  IsOutcome mean plan (Err at) =
+      IsFirstUndone (node_result mean plan) plan at.0 × (node_result mean plan at.0 ≡ Bad at.1)
+
+  -- What a pass means, whichever node its fault is of.
+  abbrev pub PassMeans : (ℕ → List O → Result O Fault) → Plan → Result (List O) Fault → Type 0
+  PassMeans mean plan (Ok outs) = IsOutcome mean plan (Ok outs)
+  PassMeans mean plan (Err fault) = (n : ℕ) × IsOutcome mean plan (Err (n, fault))
 
   -- A pass answers its outcome, where an `Arc` counts as what it holds, or want of memory.
   abbrev pub AnswersPass : (ℕ → List O → Result O Fault) → Plan → Result (Vec (Arc O Global) Global) PassError → Type 0

@@ -1,5 +1,6 @@
 -- How far the heights of a plan are settled: what the search for them keeps. No public contract speaks of it.
-use Rattle.std.specs.Prelude.{◌≡◌, ◌<◌, ◌+◌, ℕ, suc, List, [], ◌∷◌, map, length, take, drop, slice_get, Option, Some, None, IsSome, ⊤, ◌⊎◌}
+use Rattle.std.specs.Prelude.{◌≡◌, ◌<◌, ◌+◌, ℕ, suc, List, [], ◌∷◌, map, length, take, drop, slice_get, Option, Some}
+use Rattle.std.specs.Prelude.{None, IsSome, ⊤, ◌⊎◌}
 use Rattle.std.specs.List.{AllByRecursion}
 use Rattle.bp_faults.specs.declared.ids.NodeId.{NodeId}
 use Rattle.pass_core.specs.declared.plan.Plan.{Plan}
@@ -21,6 +22,11 @@ pub record AreSettled (plan : Plan) (settled : List (Option ℕ)) : Type 0 where
   pub many : length settled ≡ plan.count
   pub right : (n h : ℕ) → settled_at settled n ≡ Some h → h ≡ height plan n
 
+-- The height of each node is settled.
+abbrev pub AreAllSettled : Plan → List (Option ℕ) → Type 0
+AreAllSettled plan settled =
+    AreSettled plan settled × ((n : ℕ) → n < plan.count → IsSome (settled_at settled n))
+
 -- The climb from a node, of which no in-edge was looked at.
 abbrev pub start_at : ℕ → Climb
 start_at n = record { node = record { 0 = n }; next = 0 }
@@ -37,7 +43,9 @@ IsDue settled path n = IsSome (settled_at settled n) ⊎ IsOn path n
 -- On a path each climb stands at a node, and the predecessors that it has looked at are settled or above it.
 abbrev pub IsPath : Plan → List (Option ℕ) → List Climb → Type 0
 IsPath plan settled [] = ⊤
-IsPath plan settled (c ∷ cs) = (c.node.0 < plan.count) × AllByRecursion (IsDue settled cs) (take c.next (predecessors plan.edges c.node.0)) × IsPath plan settled cs
+IsPath plan settled (c ∷ cs) =
+    (c.node.0 < plan.count) × AllByRecursion (IsDue settled cs) (take c.next (predecessors plan.edges c.node.0))
+    × IsPath plan settled cs
 
 -- A node is sought above a climb unless its height is there.
 abbrev pub sought : NodeId → Option ℕ → List Climb
@@ -60,10 +68,12 @@ cost plan = unroll (predecessors plan.edges) (λ n cs. suc (total cs)) 0 plan.co
 -- The most steps that are left of a path.
 abbrev pub path_cost : Plan → List Climb → ℕ
 path_cost plan [] = 0
-path_cost plan (c ∷ cs) = suc (total (map (cost plan) (drop c.next (predecessors plan.edges c.node.0)))) + path_cost plan cs
+path_cost plan (c ∷ cs) =
+    suc (total (map (cost plan) (drop c.next (predecessors plan.edges c.node.0)))) + path_cost plan cs
 
 -- Going on along a path keeps what it is for, and leaves fewer steps.
-pub record IsAdvanced (plan : Plan) (settled : List (Option ℕ)) (path : List Climb) (after : List (Option ℕ)) (rest : List Climb) : Type 0 where
+pub record IsAdvanced (plan : Plan) (settled : List (Option ℕ)) (path : List Climb)
+    (after : List (Option ℕ)) (rest : List Climb) : Type 0 where
   pub right : AreSettled plan after
   pub on_path : IsPath plan after rest
   pub due : (n : ℕ) → IsDue settled path n → IsDue after rest n

@@ -1,9 +1,10 @@
-ghost use Rattle.std.specs.Prelude.{◌≡◌, ◌<◌, ◌+◌, ◌^◌, ◌++◌, ℕ, [], ◌∷◌, map, length, IfOk, OnOk, IsSome};
+ghost use Rattle.std.specs.Prelude.{◌≡◌, ◌<◌, ◌+◌, ◌^◌, ◌++◌, [], ◌∷◌, map, length, IfOk, OnOk, IsSome};
 ghost use Rattle.std.specs.List.{AllByRecursion, range_with_len};
 ghost use Rattle.pass_core.specs.Heights.{height};
 ghost use Rattle.pass_core.specs.InEdges.{AreStarts};
 ghost use Rattle.pass_core.specs.Plans.{IsPlan, HasNoCycle, predecessors};
-ghost use Rattle.pass_core.specs.Settling.{settled_at, AreSettled, IsPath, IsAdvanced, gone_up, start_at};
+ghost use Rattle.pass_core.specs.Settling.{settled_at, AreSettled, AreAllSettled};
+ghost use Rattle.pass_core.specs.Settling.{IsPath, IsAdvanced, gone_up, start_at};
 
 use crate::in_edges::{edges_into, starts_of};
 use crate::places::{empty_places, unwrapped};
@@ -109,7 +110,7 @@ fn settle(alloc: Global, plan: &Plan, starts: &[u32]) -> Result<Vec<Option<u32>>
     requires plan { IsPlan plan.now }
     requires free { HasNoCycle plan.now.edges }
     requires starts { AreStarts plan.now starts.now }
-    ensures { IfOk result (λ settled. AreSettled plan.now settled.items × ((n : ℕ) → n < plan.now.count → IsSome (settled_at settled.items n))) }
+    ensures { IfOk result (λ settled. AreAllSettled plan.now settled.items) }
 {
     let mut settled = empty_places(alloc, plan.count)?;
     let mut path = every_climb(alloc, plan.count)?;

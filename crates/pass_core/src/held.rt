@@ -1,36 +1,23 @@
-ghost use Rattle.std.specs.Prelude.{◌≡◌, ◌<◌, ◌≤◌, ◌+◌, ◌-◌, length, map, take, drop, slice_index, Some, IfOk, OnOk, OnErr, IsTrue};
+ghost use Rattle.std.specs.Prelude.{◌≡◌, ◌<◌, ◌≤◌, ◌+◌, ◌-◌, length, map, take, drop, slice_index};
+ghost use Rattle.std.specs.Prelude.{IfOk, OnOk, OnErr, IsTrue};
 ghost use Rattle.std.specs.Option.{option_map};
 ghost use Rattle.std.specs.Arc.{arc_value};
-ghost use Rattle.pass_core.specs.CoreKept.{shown_in, PublishesLast};
-ghost use Rattle.pass_core.specs.CoreStates.{result_in};
-ghost use Rattle.pass_core.specs.Results.{judged, outs_of};
+ghost use Rattle.pass_core.specs.CoreKept.{held_outs, PublishesLast};
+ghost use Rattle.pass_core.specs.Results.{judged};
 ghost use Rattle.pass_core.specs.Shown.{shown};
 
 use crate::published::Published;
 use crate::visit::{Visit, VisitError};
-use bp_faults::{NodeId, OutOfMemory, Payload};
+use bp_faults::{NodeId, OutOfMemory};
 use std::alloc::Global;
 use std::sync::Arc;
-
-impl<O: Drop> Published<O> {
-    /// The same result, of which an `Arc` is shared.
-    pub fn copy(&self, alloc: Global) -> Result<Published<O>, OutOfMemory>
-        ensures { IfOk result (λ copy. shown copy ≡ shown self.now) }
-    {
-        match self {
-            Published::Done(out) => Ok(Published::Done(Arc::try_clone(out)?)),
-            Published::Bad(fault) => Ok(Published::Bad(fault.copy(alloc)?)),
-            Published::Poisoned => Ok(Published::Poisoned),
-        }
-    }
-}
 
 /// What some edges hold, if each holds a result that is done.
 fn gather_held<O: Drop>(
     alloc: Global,
     held: &[Option<Published<O>>],
 ) -> Result<Option<Vec<Arc<O>>>, OutOfMemory>
-    ensures { IfOk result (λ r. option_map (λ ins. map arc_value ins.items) r ≡ outs_of (map (λ h. result_in (Some (shown_in h))) held.now)) }
+    ensures { IfOk result (λ r. option_map (λ ins. map arc_value ins.items) r ≡ held_outs held.now) }
 {
     let mut ins = Vec::new(alloc);
     for result in held {
@@ -66,7 +53,7 @@ pub fn visit_held<V: Visit>(
     held: &[Option<Published<V::Out>>],
 ) -> Result<Published<V::Out>, OutOfMemory>
     requires { V.takes v.now n.0 (length held.now) }
-    ensures { IfOk result (λ p. shown p ≡ judged (V.meaning v.now n.0) (outs_of (map (λ h. result_in (Some (shown_in h))) held.now))) }
+    ensures { IfOk result (λ p. shown p ≡ judged (V.meaning v.now n.0) (held_outs held.now)) }
 {
     let Some(ins) = gather_held(alloc, held)? else {
         return Ok(Published::Poisoned);
@@ -89,7 +76,7 @@ pub fn publish_last<V: Visit>(
 ) -> Result<(), OutOfMemory>
     requires takes { V.takes v.now n.0 (length held.now) }
     requires inside { n.0 < length published.old.items }
-    ensures done { OnOk result (PublishesLast (IsTrue last) n.0 (judged (V.meaning v.now n.0) (outs_of (map (λ h. result_in (Some (shown_in h))) held.now))) published.old.items published.new.items) }
+    ensures done { OnOk result (PublishesLast (IsTrue last) n.0 (judged (V.meaning v.now n.0) (held_outs held.now)) published.old.items published.new.items) }
     ensures unchanged { OnErr result (published.new.items ≡ published.old.items) }
 {
     if last {

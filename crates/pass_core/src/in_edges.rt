@@ -1,5 +1,6 @@
-ghost use Rattle.std.specs.Prelude.{◌≡◌, ◌<◌, ◌+◌, IfOk};
-ghost use Rattle.pass_core.specs.InEdges.{edges_below, AreStarts};
+ghost use Rattle.std.specs.Prelude.{◌≡◌, ◌<◌, ◌+◌, map, IfOk};
+ghost use Rattle.std.specs.List.{range_with_len};
+ghost use Rattle.pass_core.specs.InEdges.{in_degree, edges_below, AreStarts};
 ghost use Rattle.pass_core.specs.Plans.{IsPlan, StandByTarget, in_edges};
 
 use crate::plan::{Plan, PlanEdge};
@@ -45,4 +46,17 @@ pub fn edges_into<'a, 'b>(plan: &'a Plan, starts: &'b [u32], n: NodeId) -> &'a [
     let begin = starts[n.0 as usize] as usize;
     let end = starts[n.0 as usize + 1] as usize;
     &plan.edges.as_slice()[begin..end]
+}
+
+/// The number of in-edges of each node.
+pub fn in_degrees(alloc: Global, plan: &Plan, starts: &[u32]) -> Result<Vec<u32>, OutOfMemory>
+    requires plan { IsPlan plan.now }
+    requires starts { AreStarts plan.now starts.now }
+    ensures { IfOk result (λ counts. counts.items ≡ map (in_degree plan.now) (range_with_len 0 plan.now.count)) }
+{
+    let mut counts = Vec::with_capacity(alloc, plan.count as usize)?;
+    for n in 0..plan.count {
+        counts.push(edges_into(plan, starts, NodeId(n)).len() as u32)?;
+    }
+    Ok(counts)
 }

@@ -1,8 +1,65 @@
 //! What holds of every plan without a cycle: each law is the contract of a function that does nothing.
 
-ghost use Rattle.pass_core.specs.Laws.{HeightsMeetTheirEquation, OneSerialOrder, SerialIsLegal, ResultsMeetTheirEquation, OneSolution, FirstUndoneIsBad, OneOutcome};
+ghost use Rattle.pass_core.specs.Laws.{InEdgesAreTogether, PlacesOfEdgesRise, PlacesTellTargets};
+ghost use Rattle.pass_core.specs.Laws.{PredecessorsAreNodes, PredecessorsAreLess, PredecessorsComeBefore};
+ghost use Rattle.pass_core.specs.Laws.{HeightsMeetTheirEquation, HeightsAreBelowTheCount, RecursionMeetsItsEquation};
+ghost use Rattle.pass_core.specs.Laws.{OneSerialOrder, SerialIsLegal, EarlierNodesStandEarlier};
+ghost use Rattle.pass_core.specs.Laws.{ResultsMeetTheirEquation, OneSolution, FirstUndoneIsBad};
+ghost use Rattle.pass_core.specs.Laws.{OneOutcome, AtMostOneOutcome, PassGathers};
+ghost use Rattle.pass_core.specs.Laws.{OutsAreMany, OutsMeetTheirEquation};
 ghost use Rattle.pass_core.specs.OrderLaws.{LegalOrdersAgree, OneOrderOutcome};
-ghost use Rattle.pass_core.specs.CoreLaws.{FilledHoldResults, NoStepTwice, ClaimedAfterInEdges, StepsAreEntries, FinishedByCount, NeverStuck, FinishedHasResults};
+ghost use Rattle.pass_core.specs.CoreLaws.{FilledHoldResults, NoStepTwice, ClaimedAfterInEdges, StepsAreEntries};
+ghost use Rattle.pass_core.specs.CoreLaws.{FinishedByCount, NeverStuck, FinishedHasResults};
+
+/// The edges into a node stand together.
+pub fn in_edges_are_together()
+    ensures { InEdgesAreTogether }
+{}
+
+/// The places where the in-edges of the nodes begin rise with the nodes.
+pub fn places_of_edges_rise()
+    ensures { PlacesOfEdgesRise }
+{}
+
+/// The place of an edge tells whether it leads below a node.
+pub fn places_tell_targets()
+    ensures { PlacesTellTargets }
+{}
+
+/// The predecessors of a node are nodes.
+pub fn predecessors_are_nodes()
+    ensures { PredecessorsAreNodes }
+{}
+
+/// What rises along the edges is less at a node's predecessors.
+pub fn predecessors_are_less()
+    ensures { PredecessorsAreLess }
+{}
+
+/// A node's predecessors come before it.
+pub fn predecessors_come_before()
+    ensures { PredecessorsComeBefore }
+{}
+
+/// A node's height is below the number of nodes.
+pub fn heights_are_below_the_count()
+    ensures { HeightsAreBelowTheCount }
+{}
+
+/// A value by recursion over predecessors meets its equation.
+pub fn recursion_meets_its_equation<X>()
+    ensures { RecursionMeetsItsEquation X }
+{}
+
+/// In the serial order a node that comes before another stands before it.
+pub fn earlier_nodes_stand_earlier()
+    ensures { EarlierNodesStandEarlier }
+{}
+
+/// A pass over any plan has at most one outcome.
+pub fn at_most_one_outcome<O>()
+    ensures { AtMostOneOutcome O }
+{}
 
 /// A node's height by those of its predecessors.
 pub fn heights_meet_their_equation()
@@ -37,6 +94,21 @@ pub fn first_undone_is_bad<O>()
 /// A pass has exactly one outcome.
 pub fn one_outcome<O>()
     ensures { OneOutcome O }
+{}
+
+/// A pass makes as many results as it has nodes.
+pub fn outs_are_many<O>()
+    ensures { OutsAreMany O }
+{}
+
+/// The results of a whole pass meet their equation, node by node.
+pub fn outs_meet_their_equation<O>()
+    ensures { OutsMeetTheirEquation O }
+{}
+
+/// A pass whose meaning is a step's gathers what the step makes of all nodes.
+pub fn pass_gathers<O>()
+    ensures { PassGathers O }
 {}
 
 /// In the core machine each filled edge holds the result of its source.

@@ -2,13 +2,11 @@ ghost use Rattle.std.specs.Prelude.{◌≡◌, ◌<◌, ◌↔◌, map, IfOk, Is
 ghost use Rattle.std.specs.List.{range_with_len};
 
 use crate::held::{held_by, publish_last};
-use crate::in_edges::starts_of;
-use crate::order_run::no_marks;
-use crate::places::{empty_places, unwrapped};
+use crate::in_edges::{in_degrees, starts_of};
+use crate::places::{empty_places, no_marks, unwrapped};
 use crate::plan::Plan;
 use crate::published::Published;
 use crate::step::{Step, StepError};
-use crate::unfetched::in_degrees;
 use crate::visit::Visit;
 use bp_faults::{NodeId, OutOfMemory};
 use std::alloc::Global;
@@ -45,7 +43,17 @@ impl<V: Visit> Core<V> {
     ghost use Rattle.std.specs.Prelude.{◌≡◌, ◌↔◌, IsTrue};
     ghost use Rattle.pass_core.specs.declared.step.Step.TheVariants.{Claim, Fetch, Fill, Subtract};
     ghost use Rattle.pass_core.specs.CoreAnswers.{AnswersStep};
-    ghost use Rattle.pass_core.specs.CoreStates.{IsFinished};
+    ghost use Rattle.pass_core.specs.CoreStates.{IsFinished, IsReachedIn};
+    ghost use Rattle.pass_core.specs.Plans.{IsPlan, HasNoCycle};
+
+    /// How many steps were taken. Its clauses are what the laws of the core machine ask of a state, for every core.
+    pub fn steps(&self) -> u64
+        ensures plan { IsPlan self.now.plan }
+        ensures free { HasNoCycle self.now.plan.edges }
+        ensures reached { IsReachedIn (V.meaning self.now.visitor) self.now.plan result self.now.state }
+    {
+        self.steps
+    }
 
     /// Whether every visit was made, and every edge is filled, subtracted and fetched.
     pub fn finished(&self) -> bool

@@ -1,6 +1,7 @@
 ghost use Rattle.std.specs.Prelude.{◌≡◌, map, IfOk};
 ghost use Rattle.std.specs.List.{range_with_len};
-ghost use Rattle.pass_core.specs.Orders.{IsSerial, numbers, ranked};
+ghost use Rattle.pass_core.specs.Inside.{ranked};
+ghost use Rattle.pass_core.specs.Orders.{IsSerial, numbers};
 ghost use Rattle.pass_core.specs.Plans.{IsPlan, HasNoCycle};
 
 use crate::height::heights;

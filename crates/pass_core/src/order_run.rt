@@ -1,17 +1,16 @@
-ghost use Rattle.std.specs.Prelude.{◌≡◌, ◌<◌, ◌↔◌, length, map, IfOk, IfSome, IsTrue, Ok, Bool, true, false, replicate};
-ghost use Rattle.std.specs.List.{AllByRecursion};
+ghost use Rattle.std.specs.Prelude.{◌≡◌, ◌↔◌, length, map, IfOk, IfSome, IsTrue, Ok};
 ghost use Rattle.std.specs.Arc.{arc_value};
-ghost use Rattle.pass_core.specs.CoreStates.{IsMarked, IsUnmarked};
 ghost use Rattle.pass_core.specs.InEdges.{AreStarts};
+ghost use Rattle.pass_core.specs.Inside.{IsReadyByMarks};
 ghost use Rattle.pass_core.specs.OrderOutcomes.{AnswersLegality, AnswersOrder};
 ghost use Rattle.pass_core.specs.Orders.{IsLegal, numbers};
 ghost use Rattle.pass_core.specs.Outcomes.{IsOutcome, TakesPlan};
-ghost use Rattle.pass_core.specs.Plans.{IsPlan, HasNoCycle, predecessors};
+ghost use Rattle.pass_core.specs.Plans.{IsPlan, HasNoCycle};
 
 use crate::error::PassError;
 use crate::in_edges::{edges_into, starts_of};
 use crate::order_error::OrderError;
-use crate::places::{empty_places, unwrapped};
+use crate::places::{empty_places, no_marks, unwrapped};
 use crate::plan::Plan;
 use crate::serial::{run_serial, visit_at};
 use crate::visit::Visit;
@@ -19,23 +18,12 @@ use bp_faults::{NodeId, OutOfMemory};
 use std::alloc::Global;
 use std::sync::Arc;
 
-/// That many marks, of which none is set.
-pub fn no_marks(alloc: Global, count: usize) -> Result<Vec<bool>, OutOfMemory>
-    ensures { IfOk result (λ marks. marks.items ≡ replicate count false) }
-{
-    let mut marks = Vec::with_capacity(alloc, count)?;
-    for _place in 0..count {
-        marks.push(false)?;
-    }
-    Ok(marks)
-}
-
 /// Whether a node is one of the plan, isn't visited, and all its predecessors are.
 fn is_ready(plan: &Plan, starts: &[u32], n: NodeId, visited: &[bool]) -> bool
     requires plan { IsPlan plan.now }
     requires starts { AreStarts plan.now starts.now }
     requires many { length visited.now ≡ plan.now.count }
-    ensures { IsTrue result ↔ ((n.0 < plan.now.count) × IsUnmarked visited.now n.0 × AllByRecursion (IsMarked visited.now) (predecessors plan.now.edges n.0)) }
+    ensures { IsTrue result ↔ IsReadyByMarks plan.now visited.now n.0 }
 {
     if n.0 >= plan.count || visited[n.0 as usize] {
         return false;
@@ -48,8 +36,8 @@ fn is_ready(plan: &Plan, starts: &[u32], n: NodeId, visited: &[bool]) -> bool
     true
 }
 
-/// Whether a list of nodes is a legal order of the plan.
-fn check_order(
+/// Whether a list of nodes is a legal order of the plan, by where the in-edges of each node begin.
+pub fn check_order(
     alloc: Global,
     plan: &Plan,
     starts: &[u32],

@@ -1,4 +1,4 @@
-ghost use Rattle.std.specs.Prelude.{◌≡◌, map, IfOk, Some, None, IsSome, All, replicate};
+ghost use Rattle.std.specs.Prelude.{◌≡◌, map, IfOk, Some, None, IsSome, All, replicate, false};
 
 use bp_faults::OutOfMemory;
 use std::alloc::Global;
@@ -12,6 +12,17 @@ pub fn empty_places<T: Drop>(alloc: Global, count: u32) -> Result<Vec<Option<T>>
         places.push(None)?;
     }
     Ok(places)
+}
+
+/// That many marks, of which none is set.
+pub fn no_marks(alloc: Global, count: usize) -> Result<Vec<bool>, OutOfMemory>
+    ensures { IfOk result (λ marks. marks.items ≡ replicate count false) }
+{
+    let mut marks = Vec::with_capacity(alloc, count)?;
+    for _place in 0..count {
+        marks.push(false)?;
+    }
+    Ok(marks)
 }
 
 /// What stands in the places, where each is filled.

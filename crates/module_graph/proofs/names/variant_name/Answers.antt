@@ -1,6 +1,7 @@
 use Rattle.std.proofs.Common.{◌∙◌, ap, get_or}
 use Rattle.module_graph.specs.declared.variation.Variation.TheVariants.{Empty}
-use Rattle.module_graph.specs.Names.{spelling, added}
+use Rattle.module_graph.specs.Inside.{added}
+use Rattle.module_graph.specs.Names.{spelling}
 use Rattle.module_graph.proofs.Spelled.{name_more}
 use Rattle.module_graph.proofs.names.variant_name.Goals as goal
 

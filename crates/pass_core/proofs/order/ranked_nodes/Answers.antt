@@ -1,7 +1,7 @@
 use Rattle.std.proofs.Common.{◌++◌, [], ◌∷◌, ◌∙◌, ap, sym, arith, rules, length, get_or}
 use Rattle.std.proofs.lemmas.List.FromFn.{map-range_with_len_more, length-map-range_with_len, get_or-map-range_with_len}
 use Rattle.pass_core.specs.Heights.{height}
-use Rattle.pass_core.specs.Orders.{ranked}
+use Rattle.pass_core.specs.Inside.{ranked}
 use Rattle.pass_core.proofs.order.ranked_nodes.Goals as goal
 
 pub index-requires : goal.index-requires

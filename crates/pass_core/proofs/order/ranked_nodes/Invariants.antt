@@ -1,6 +1,6 @@
 use Rattle.std.proofs.Common.{◌≡◌, map}
 use Rattle.std.specs.List.{range_with_len}
-use Rattle.pass_core.specs.Orders.{ranked}
+use Rattle.pass_core.specs.Inside.{ranked}
 use Rattle.pass_core.proofs.order.ranked_nodes.Given as goal
 
 abbrev pub invariant-loop-n : goal.invariant-loop-n

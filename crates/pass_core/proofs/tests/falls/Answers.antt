@@ -5,7 +5,7 @@ use Rattle.std.proofs.lemmas.List.{take_more}
 use Rattle.pass_core.specs.declared.plan.PlanEdge.{PlanEdge}
 use Rattle.pass_core.specs.Plans.{StandByTarget, HasNoCycle}
 use Rattle.pass_core.proofs.tests.falls.Invariants.{Falls}
-use Rattle.pass_core.proofs.Lists.{all_map, all_pushed}
+use Rattle.bp_faults.proofs.Lists.{all_map, all_pushed}
 use Rattle.pass_core.proofs.tests.falls.Goals as goal
 
 by_target_pushed : (es : List PlanEdge) (e : PlanEdge) → StandByTarget es → AllByRecursion (λ (x : PlanEdge). x.to.0 ≤ e.to.0) es → StandByTarget (es ++ e ∷ [])

@@ -9,5 +9,5 @@ loop-number-preserved g c query =
     c.in_ok-learn.ensures.known query
     ∙ ap (λ first. option_or first (number_for c.name.result.now c.loop-number.number query))
     (c.loop-number.invariant query)
-    ∙ sym (one_more_value g.T.Named.name c.args.values.now c.loop-number.number c.index-values-number.result c.name.result.now query
-    c.loop-number-test.true c.index-values-number.is c.name.ensures)
+    ∙ sym (one_more_value g.T.Named.name c.args.values.now c.loop-number.number c.index-values-number.result
+    c.name.result.now query c.loop-number-test.true c.index-values-number.is c.name.ensures)

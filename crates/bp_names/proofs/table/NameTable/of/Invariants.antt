@@ -1,4 +1,4 @@
-use Rattle.std.proofs.Common.{◌≡◌, ℕ, List, map, take}
+use Rattle.std.proofs.Common.{map, take}
 use Rattle.bp_names.specs.Meaning.{NumbersFirst}
 use Rattle.bp_names.proofs.table.NameTable.of.Given as goal
 

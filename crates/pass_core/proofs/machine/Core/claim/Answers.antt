@@ -9,7 +9,7 @@ use Rattle.pass_core.specs.CoreStates.{made}
 use Rattle.pass_core.proofs.CoreSteps.{claim_core, steps_most}
 use Rattle.pass_core.proofs.CoreTables.{mark_shows, publishes_as, test_zero, zero_test}
 use Rattle.pass_core.proofs.HeldPlaced.{starts_rise, starts_end, slice_judged, slice_many}
-use Rattle.pass_core.proofs.Lists.{same_at}
+use Rattle.bp_faults.proofs.Lists.{same_at}
 use Rattle.pass_core.proofs.machine.Core.claim.Goals as goal
 
 pub held_by-held-requires-clause-rises : goal.held_by-held-requires-clause-rises

@@ -11,7 +11,7 @@ use Rattle.pass_core.specs.CoreKept.{PublishesLast}
 use Rattle.pass_core.proofs.CoreSteps.{fetch_core, fetch_some, steps_most}
 use Rattle.pass_core.proofs.CoreTables.{filled_shows, mark_shows, to_is, count_is, lowered_is, publishes_as, test_zero, zero_test}
 use Rattle.pass_core.proofs.HeldPlaced.{starts_rise, starts_end, slice_judged, slice_many}
-use Rattle.pass_core.proofs.Lists.{same_at}
+use Rattle.bp_faults.proofs.Lists.{same_at}
 use Rattle.pass_core.proofs.Sound.{target_inside}
 use Rattle.pass_core.proofs.machine.Core.fetch.Goals as goal
 

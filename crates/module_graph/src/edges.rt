@@ -1,0 +1,40 @@
+ghost use Rattle.std.specs.Prelude.{◌≡◌, IfOk, map};
+ghost use Rattle.module_graph.specs.Graphs.{IsNumbered};
+ghost use Rattle.module_graph.specs.Numbered.{by_number};
+ghost use Rattle.module_graph.specs.Planned.{directed};
+
+use crate::{Direction, Edge, Graph};
+use bp_faults::{NodeId, OutOfMemory};
+use pass_core::PlanEdge;
+use std::alloc::Global;
+
+/// An edge of node n as a pass in a direction has it.
+fn plan_edge(dir: Direction, n: u32, edge: &Edge) -> PlanEdge
+    ensures { result ≡ directed dir n edge.now }
+{
+    let (node, to) = (NodeId(n), edge.to);
+    match dir {
+        Direction::BottomUp => PlanEdge { from: to, to: node },
+        Direction::TopDown => PlanEdge { from: node, to },
+    }
+}
+
+/// The edges of a graph by node and place, as a pass in a direction has them.
+pub fn edges_along<P>(
+    alloc: Global,
+    g: &Graph<P>,
+    dir: Direction,
+) -> Result<Vec<PlanEdge>, OutOfMemory>
+    requires { IsNumbered g.now.nodes }
+    ensures { IfOk result (λ edges. edges.items ≡ by_number (λ n x. map (directed dir n) x.edges) 0 g.now.nodes) }
+{
+    let mut edges = Vec::new(alloc);
+    let mut n = 0;
+    for node in g.nodes.as_slice() {
+        for edge in node.edges.as_slice() {
+            edges.push(plan_edge(dir, n, edge))?;
+        }
+        n += 1;
+    }
+    Ok(edges)
+}
