@@ -50,3 +50,16 @@ module _ (P : ℕ → Type 0) where
   pub all_into : (ds : List PlanEdge) (n : ℕ) → ((e : ℕ) → e < length ds → to_of ds e ≡ n → P e)
       → AllByRecursion P (numbers_into 0 ds n)
   all_into ds n h = all_from 0 ds n (λ e l to. subst P (sym (zero-add e)) (h e l to))
+
+  source_if : (d : PlanEdge) (n : ℕ) (ds : List PlanEdge) → (d.to.0 ≡ n → P d.from.0) → AllByRecursion P (predecessors ds n)
+      → (b : Bool) → (d.to.0 == n) ≡ b → AllByRecursion P (predecessors (d ∷ ds) n)
+  source_if d n ds here there true is = let same : d.to.0 ≡ n = grind (arith, nat_tests) in rw is (here same, there)
+  source_if d n ds here there false is = rw is there
+
+  -- what holds of the source of each edge that leads to a node holds of all its predecessors
+  pub all_sources : (ds : List PlanEdge) (n : ℕ) → ((e : ℕ) → e < length ds → to_of ds e ≡ n → P (from_of ds e))
+      → AllByRecursion P (predecessors ds n)
+  all_sources [] n h = tt
+  all_sources (d ∷ ds) n h =
+      source_if d n ds (λ same. h 0 (omega arith) same) (all_sources ds n (λ e l to. h (suc e) (omega arith) to))
+      (d.to.0 == n) refl

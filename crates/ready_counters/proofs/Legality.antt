@@ -8,8 +8,8 @@ use Rattle.pass_core.specs.declared.plan.Plan.{Plan}
 use Rattle.pass_core.specs.declared.plan.PlanEdge.{PlanEdge}
 use Rattle.pass_core.specs.Plans.{predecessors, HaveEndsBelow}
 use Rattle.pass_core.specs.Orders.{IsLegal}
-use Rattle.pass_core.proofs.Lists.{all_map, contains_earlier}
-use Rattle.pass_core.proofs.Predecessors.{all_predecessors}
+use Rattle.bp_faults.proofs.Lists.{contains_earlier}
+use Rattle.ready_counters.proofs.Entering.{all_sources}
 use Rattle.ready_counters.specs.Edges.{from_of, to_of}
 use Rattle.ready_counters.specs.Views.{times}
 use Rattle.ready_counters.specs.Inside.{IsInOrder}
@@ -27,12 +27,6 @@ pub ends_to : (count : ℕ) (es : List PlanEdge) → HaveEndsBelow count es → 
 ends_to count [] h e l = absurd (omega arith)
 ends_to count (d ∷ ds) h zero l = h.0.1
 ends_to count (d ∷ ds) h (suc e) l = ends_to count ds h.1 e (omega arith)
-
--- what holds of the ends of each edge by number
-pub all_ends : (Q : ℕ → ℕ → Type 0) (es : List PlanEdge) → ((e : ℕ) → e < length es → Q (from_of es e) (to_of es e))
-    → AllByRecursion (λ (d : PlanEdge). Q d.from.0 d.to.0) es
-all_ends Q [] h = tt
-all_ends Q (d ∷ ds) h = (h 0 (omega arith), all_ends Q ds (λ e l. h (suc e) (omega arith)))
 
 all_get : (P : ℕ → Type 0) (xs : List ℕ) → ((i n : ℕ) → slice_get xs i ≡ Some n → P n) → AllByRecursion P xs
 all_get P [] h = tt
@@ -97,11 +91,6 @@ module _ (plan : Plan) (begins : (e : ℕ) → e < length plan.edges → from_of
       each = stands;
       once = apart;
     };
-    after = λ place l.
-        let all = all_predecessors (λ m n. n ≡ slice_index order place → Contains (take place order) m) plan.edges
-        (slice_index order place)
-        (all_ends (λ m n. n ≡ slice_index order place → Contains (take place order) m) plan.edges
-        (source_earlier place l)) in
-        all_map (λ m. slice_index order place ≡ slice_index order place → Contains (take place order) m)
-        (Contains (take place order)) (λ m h. h refl) (predecessors plan.edges (slice_index order place)) all;
+    after = λ place l. all_sources (Contains (take place order)) plan.edges (slice_index order place)
+        (λ e inside to. source_earlier place l e inside to);
   }
