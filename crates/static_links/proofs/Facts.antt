@@ -12,7 +12,7 @@ use Rattle.pass_core.specs.Plans.{predecessors}
 use Rattle.bp_faults.specs.Order.{above_all}
 use Rattle.pass_core.specs.Heights.{height, unroll}
 use Rattle.pass_core.specs.Laws.{RecursionMeetsItsEquation}
-use Rattle.ninja_text.specs.declared.file.Statement.{Statement}
+use Rattle.ninja_file.specs.declared.file.Statement.{Statement}
 use Rattle.static_links.specs.declared.module.Module.{Module}
 use Rattle.static_links.specs.Names.{number_in, targets_of}
 use Rattle.static_links.specs.Lines.{libraries_at, line_over, link_line, limited, line_step, height_in}
@@ -88,8 +88,8 @@ module _ (ms : List Module) (plan : Plan) (h : IsPlanned ms plan) where
   line_right rule n outs lt e =
       let l : n < length ms = (let c = h.count_is in omega (arith, c, lt)) in
       let lines =
-          step_lines (libraries_at ms n) outs (libraries_inside n (some_module ms n l) l)
-          (e ∙ ap (λ ins. map (line_step ms) (ins n)) before) in
+      step_lines (libraries_at ms n) outs (libraries_inside n (some_module ms n l) l)
+      (e ∙ ap (λ ins. map (line_step ms) (ins n)) before) in
       ap (λ line. option_map_or (limited line) (slice_get ms n) (Ok []))
       (ap (line_over (libraries_at ms n)) lines ∙ sym (line_equation rule n l))
 

@@ -2,7 +2,7 @@
 use Rattle.std.proofs.Common.{◌≡◌, ◌∙◌, ◌≤◌, ◌^◌, ℕ, List, length, map, ap, sym, subst, refl, Result, Ok, Err}
 use Rattle.bp_faults.specs.declared.fault.Fault.{Fault}
 use Rattle.bp_faults.specs.Answers.{then_do}
-use Rattle.ninja_text.specs.declared.file.Statement.{Statement}
+use Rattle.ninja_file.specs.declared.file.Statement.{Statement}
 use Rattle.module_graph.specs.declared.graph.Node.{Node}
 use Rattle.module_graph.specs.Graphs.{IsNumbered, edges_of}
 use Rattle.module_graph.specs.Cycles.{CycleMeans}
@@ -28,53 +28,53 @@ use Rattle.static_links.proofs.Counted.{few_items}
 use Rattle.static_links.proofs.Planned.{length-nodes, targets-nodes, numbered, no_cycle}
 
 module _ (ms : List Module) (table : List (List ℕ × ℕ)) (first : NumbersFirst (map (λ (m : Module). m.name) ms) table)
-    where
-  names_are : number_of table ≡ number_in ms
-  names_are = λ i name. first name i
+  where
+    names_are : number_of table ≡ number_in ms
+    names_are = λ i name. first name i
 
-  pub named_by : (r : Result Unit Fault) → names_checked (number_of table) ms ≡ r → names_checked (number_in ms) ms ≡ r
-  named_by r h = ap (λ names. names_checked names ms) (sym names_are) ∙ h
+    pub named_by : (r : Result Unit Fault) → names_checked (number_of table) ms ≡ r → names_checked (number_in ms) ms ≡ r
+    named_by r h = ap (λ names. names_checked names ms) (sym names_are) ∙ h
 
-  pub nodes_by : (nodes : List (Node Unit)) → nodes ≡ nodes_from (number_of table) 0 ms → nodes ≡ graph_of ms
-  nodes_by nodes h = h ∙ ap (λ names. nodes_from names 0 ms) names_are
+    pub nodes_by : (nodes : List (Node Unit)) → nodes ≡ nodes_from (number_of table) 0 ms → nodes ≡ graph_of ms
+    nodes_by nodes h = h ∙ ap (λ names. nodes_from names 0 ms) names_are
 
-  -- the names are checked, and the items counted
-  pub checked_by : names_checked (number_of table) ms ≡ Ok tt → edges_counted ms ≡ Ok tt → checks ms ≡ Ok tt
-  checked_by named counted = ap (λ r. then_do r (λ done. edges_counted ms)) (named_by (Ok tt) named) ∙ counted
+    -- the names are checked, and the items counted
+    pub checked_by : names_checked (number_of table) ms ≡ Ok tt → edges_counted ms ≡ Ok tt → checks ms ≡ Ok tt
+    checked_by named counted = ap (λ r. then_do r (λ done. edges_counted ms)) (named_by (Ok tt) named) ∙ counted
 
-  pub numbered_by : (nodes : List (Node Unit)) → length ms ≤ 2 ^ 17 → names_checked (number_of table) ms ≡ Ok tt
-      → edges_counted ms ≡ Ok tt → nodes ≡ nodes_from (number_of table) 0 ms → IsNumbered nodes
-  numbered_by nodes few named counted are =
-      subst (λ (ns : List (Node Unit)). IsNumbered ns) (sym (nodes_by nodes are))
-      (numbered ms few (few_items ms counted) (all_inside ms (named_by (Ok tt) named)))
+    pub numbered_by : (nodes : List (Node Unit)) → length ms ≤ 2 ^ 17 → names_checked (number_of table) ms ≡ Ok tt
+        → edges_counted ms ≡ Ok tt → nodes ≡ nodes_from (number_of table) 0 ms → IsNumbered nodes
+    numbered_by nodes few named counted are =
+        subst (λ (ns : List (Node Unit)). IsNumbered ns) (sym (nodes_by nodes are))
+        (numbered ms few (few_items ms counted) (all_inside ms (named_by (Ok tt) named)))
 
-  -- what the cycle rule says of the nodes it says of the modules
-  pub cycle_by : (nodes : List (Node Unit)) (said : Result Unit Fault) → nodes ≡ nodes_from (number_of table) 0 ms
-      → CycleMeans nodes (labels_of ms) said → CycleSays ms said
-  cycle_by nodes said are means =
-      subst (λ (ns : List (Node Unit)). CycleMeans ns (labels_of ms) said) (nodes_by nodes are) means
+    -- what the cycle rule says of the nodes it says of the modules
+    pub cycle_by : (nodes : List (Node Unit)) (said : Result Unit Fault) → nodes ≡ nodes_from (number_of table) 0 ms
+        → CycleMeans nodes (labels_of ms) said → CycleSays ms said
+    cycle_by nodes said are means =
+        subst (λ (ns : List (Node Unit)). CycleMeans ns (labels_of ms) said) (nodes_by nodes are) means
 
-  module _ (nodes : List (Node Unit)) (plan : Plan) (are : nodes ≡ nodes_from (number_of table) 0 ms)
-      (plan_is : plan ≡ plan_of BottomUp nodes) where
-    abbrev of_modules : plan ≡ plan_of BottomUp (graph_of ms)
-    of_modules = plan_is ∙ ap (plan_of BottomUp) (nodes_by nodes are)
+    module _ (nodes : List (Node Unit)) (plan : Plan) (are : nodes ≡ nodes_from (number_of table) 0 ms)
+        (plan_is : plan ≡ plan_of BottomUp nodes) where
+      abbrev of_modules : plan ≡ plan_of BottomUp (graph_of ms)
+      of_modules = plan_is ∙ ap (plan_of BottomUp) (nodes_by nodes are)
 
-    before_by : PredecessorsAreTargets Unit → (n : ℕ) → predecessors plan.edges n ≡ libraries_at ms n
-    before_by rule n =
-        ap (λ (p : Plan). predecessors p.edges n) of_modules ∙ rule (graph_of ms) n
-        ∙ targets-nodes (number_in ms) 0 ms n
+      before_by : PredecessorsAreTargets Unit → (n : ℕ) → predecessors plan.edges n ≡ libraries_at ms n
+      before_by rule n =
+          ap (λ (p : Plan). predecessors p.edges n) of_modules ∙ rule (graph_of ms) n
+          ∙ targets-nodes (number_in ms) 0 ms n
 
-    pub planned_by : NoneReturnsWherePlansHaveNoCycle Unit → PredecessorsAreTargets Unit
-        → names_checked (number_of table) ms ≡ Ok tt → NoneReturns (edges_of nodes) → IsPlan plan → IsPlanned ms plan
-    planned_by free_rule before_rule named none is_plan = record {
-      named = named_by (Ok tt) named;
-      is_plan = is_plan;
-      count_is = ap (λ (p : Plan). p.count) of_modules ∙ length-nodes (number_in ms) 0 ms;
-      free =
-          subst (λ (p : Plan). HasNoCycle p.edges) (sym of_modules)
-          (no_cycle ms free_rule (all_inside ms (named_by (Ok tt) named)) (cycle_by nodes (Ok tt) are none));
-      before = before_by before_rule;
-    }
+      pub planned_by : NoneReturnsWherePlansHaveNoCycle Unit → PredecessorsAreTargets Unit
+          → names_checked (number_of table) ms ≡ Ok tt → NoneReturns (edges_of nodes) → IsPlan plan → IsPlanned ms plan
+      planned_by free_rule before_rule named none is_plan = record {
+        named = named_by (Ok tt) named;
+        is_plan = is_plan;
+        count_is = ap (λ (p : Plan). p.count) of_modules ∙ length-nodes (number_in ms) 0 ms;
+        free =
+            subst (λ (p : Plan). HasNoCycle p.edges) (sym of_modules)
+            (no_cycle ms free_rule (all_inside ms (named_by (Ok tt) named)) (cycle_by nodes (Ok tt) are none));
+        before = before_by before_rule;
+      }
 
 module _ (ms : List Module) where
   abbrev Uncycled : Unit {0} → Result (List Statement) Fault → Type 0

@@ -11,7 +11,7 @@ use crate::text_of::text_of;
 use crate::variants::variant_of;
 use crate::{Module, ModuleKind};
 use bp_faults::{Item, NodeId, OutOfMemory, Seq, Text};
-use ninja_text::Statement;
+use ninja_file::Statement;
 use pass_core::{Visit, VisitError};
 use std::alloc::Global;
 use std::sync::Arc;
@@ -135,11 +135,7 @@ fn compile(
 }
 
 // The compile steps of a module. There is room for one step more.
-fn compiles(
-    alloc: Global,
-    item: &Module,
-    directory: &str,
-) -> Result<Vec<Statement>, OutOfMemory>
+fn compiles(alloc: Global, item: &Module, directory: &str) -> Result<Vec<Statement>, OutOfMemory>
     ensures { IfOk result (λ statements. statements.items ≡ compiles item.now directory.now) }
 {
     let sources = item.srcs.as_slice();

@@ -24,11 +24,7 @@ fn edge(table: &NameTable, item: &Item) -> Edge
     }
 }
 
-fn edges(
-    alloc: Global,
-    table: &NameTable,
-    items: &[Item],
-) -> Result<Vec<Edge>, OutOfMemory>
+fn edges(alloc: Global, table: &NameTable, items: &[Item]) -> Result<Vec<Edge>, OutOfMemory>
     ensures { IfOk result (λ edges. edges.items ≡ map (edge_of (number_of table.now)) items.now) }
 {
     let mut edges = Vec::new(alloc);

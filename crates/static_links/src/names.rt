@@ -55,11 +55,7 @@ fn check_libraries(
 }
 
 /// Each item of each module names a library.
-pub fn check_names(
-    alloc: Global,
-    table: &NameTable,
-    modules: &[Module],
-) -> Result<(), Refusal>
+pub fn check_names(alloc: Global, table: &NameTable, modules: &[Module]) -> Result<(), Refusal>
     ensures { Answers (λ done. done) result (names_checked (number_of table.now) modules.now) }
 {
     for item in modules {

@@ -16,11 +16,7 @@ fn fault(alloc: Global, kind: FaultKind, item: &Item) -> Result<Fault, OutOfMemo
 }
 
 // A source of C ends with `.c`, and no earlier one has its path.
-fn check_source<'a>(
-    alloc: Global,
-    earlier: &mut NameSet<'a>,
-    item: &'a Item,
-) -> Result<(), Refusal>
+fn check_source<'a>(alloc: Global, earlier: &mut NameSet<'a>, item: &'a Item) -> Result<(), Refusal>
     ensures checked { Answers (λ done. done) result (source_checked earlier.old item.now) }
     ensures learned { OnOk result (Learns earlier.old item.now.text earlier.new) }
 {

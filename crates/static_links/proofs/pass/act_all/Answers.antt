@@ -13,8 +13,8 @@ pub run_pass-requires-clause-takes : goal.run_pass-requires-clause-takes
 run_pass-requires-clause-takes c = λ n lt.
     let many = c.requires.planned.count_is in
     let made =
-        many_lines_made c.args.modules.now c.args.plan.now c.requires.planned 0 (length c.args.modules.now)
-        (map arc_value c.args.lines.now) c.requires.lines in
+    many_lines_made c.args.modules.now c.args.plan.now c.requires.planned 0 (length c.args.modules.now)
+    (map arc_value c.args.lines.now) c.requires.lines in
     let lines = length-map c.args.lines.now arc_value in
     (omega (arith, many, lt), omega (arith, many, lt, made, lines))
 
