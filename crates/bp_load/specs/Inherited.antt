@@ -6,7 +6,7 @@ use Rattle.bp_faults.specs.declared.fault.Fault.{Fault}
 use Rattle.bp_faults.specs.Answers.{then_do}
 use Rattle.bp_values.specs.declared.file.RawModule.{RawModule}
 use Rattle.bp_values.specs.Scopes.{Pairs}
-use Rattle.bp_values.specs.Files.{Raw, raw_of, evaluated}
+use Rattle.bp_values.specs.Meaning.{Raw, raw_of, evaluated}
 use Rattle.bp_load.specs.Directories.{is_above}
 use Rattle.bp_load.specs.Phases.{Then}
 use Rattle.bp_load.specs.Trees.{Source, Placed, TreesMean}

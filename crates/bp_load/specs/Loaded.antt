@@ -10,7 +10,7 @@ use Rattle.bp_faults.specs.Answers.{then_do}
 use Rattle.bp_faults.specs.Faults.{fault_on}
 use Rattle.bp_props.specs.declared.given.Given.{Given}
 use Rattle.bp_props.specs.declared.module.Module.{Module}
-use Rattle.bp_values.specs.Files.{Raw}
+use Rattle.bp_values.specs.Meaning.{Raw}
 use Rattle.property_tables.specs.Typing.{typed}
 use Rattle.bp_load.specs.Phases.{Then}
 use Rattle.bp_load.specs.Trees.{Source}

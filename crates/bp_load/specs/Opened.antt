@@ -3,7 +3,7 @@ use Rattle.std.specs.Prelude.{ℕ, List, [], ◌∷◌, ◌++◌, map, reverse, 
 use Rattle.bp_faults.specs.declared.fault.Fault.{Fault}
 use Rattle.bp_faults.specs.Answers.{then_do}
 use Rattle.bp_values.specs.Scopes.{pairs_of}
-use Rattle.bp_values.specs.Files.{Raw, evaluated}
+use Rattle.bp_values.specs.Meaning.{Raw, evaluated}
 use Rattle.bp_load.specs.declared.opened.Open.{Open}
 use Rattle.bp_load.specs.declared.opened.Evaluation.{Evaluation}
 use Rattle.bp_load.specs.Directories.{is_above}

@@ -12,7 +12,7 @@ use Rattle.pass_core.specs.Plans.{predecessors}
 use Rattle.bp_faults.specs.Order.{above_all}
 use Rattle.pass_core.specs.Heights.{height, unroll}
 use Rattle.pass_core.specs.Laws.{RecursionMeetsItsEquation}
-use Rattle.ninja_text.specs.declared.file.Statement.{Statement}
+use Rattle.ninja_file.specs.declared.file.Statement.{Statement}
 use Rattle.static_links.specs.declared.module.Module.{Module}
 use Rattle.static_links.specs.Names.{number_in, targets_of}
 use Rattle.static_links.specs.Lines.{libraries_at, line_over, link_line, limited, line_step, height_in}

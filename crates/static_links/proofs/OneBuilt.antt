@@ -6,7 +6,7 @@ use Rattle.bp_faults.specs.Phases.{IsOnce, HasOutcome, GoesOn, Then}
 use Rattle.bp_faults.specs.Order.{Gathers}
 use Rattle.bp_faults.proofs.Phases.{value_once, then_once, then_some}
 use Rattle.bp_faults.proofs.Gathered.{gathers_once, gathers_some}
-use Rattle.ninja_text.specs.declared.file.Statement.{Statement}
+use Rattle.ninja_file.specs.declared.file.Statement.{Statement}
 use Rattle.module_graph.specs.Laws.{OneCycleMeaning}
 use Rattle.static_links.specs.declared.module.Module.{Module}
 use Rattle.static_links.specs.Names.{number_in, names_checked}

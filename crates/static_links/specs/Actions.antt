@@ -5,7 +5,7 @@ use Rattle.std.specs.List.{flat_map}
 use Rattle.bp_faults.specs.declared.fault.Fault.{Fault}
 use Rattle.bp_faults.specs.declared.place.Item.{Item}
 use Rattle.bp_faults.specs.Answers.{then_do}
-use Rattle.ninja_text.specs.declared.file.Statement.{Statement}
+use Rattle.ninja_file.specs.declared.file.Statement.{Statement}
 use Rattle.static_links.specs.declared.module.Module.{Module}
 use Rattle.static_links.specs.declared.module.ModuleKind.{ModuleKind}
 use Rattle.static_links.specs.declared.module.ModuleKind.TheVariants.{Binary, StaticLibrary}

@@ -2,7 +2,7 @@
 use Rattle.std.specs.Prelude.{◌≡◌, List, length, Result, Ok}
 use Rattle.bp_faults.specs.declared.fault.Fault.{Fault}
 use Rattle.bp_faults.specs.Answers.{then_do}
-use Rattle.ninja_text.specs.declared.file.Statement.{Statement}
+use Rattle.ninja_file.specs.declared.file.Statement.{Statement}
 use Rattle.module_graph.specs.Cycles.{CycleMeans}
 use Rattle.static_links.specs.declared.module.Module.{Module}
 use Rattle.bp_faults.specs.Phases.{GoesOn, Then}

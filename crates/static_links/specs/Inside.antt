@@ -7,7 +7,7 @@ use Rattle.bp_faults.specs.declared.fault.Fault.{Fault}
 use Rattle.pass_core.specs.declared.plan.Plan.{Plan}
 use Rattle.pass_core.specs.Plans.{IsPlan, HasNoCycle, predecessors}
 use Rattle.module_graph.specs.declared.graph.Edge.{Edge}
-use Rattle.ninja_text.specs.declared.file.Statement.{Statement}
+use Rattle.ninja_file.specs.declared.file.Statement.{Statement}
 use Rattle.static_links.specs.declared.module.Module.{Module}
 use Rattle.static_links.specs.Names.{number_in, names_checked}
 use Rattle.static_links.specs.Lines.{libraries_at, line_over, limited}

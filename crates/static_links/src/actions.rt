@@ -11,7 +11,7 @@ use crate::text_of::text_of;
 use crate::variants::variant_of;
 use crate::{Module, ModuleKind};
 use bp_faults::{Item, NodeId, OutOfMemory, Seq, Text};
-use ninja_text::Statement;
+use ninja_file::Statement;
 use pass_core::{Visit, VisitError};
 use std::alloc::Global;
 use std::sync::Arc;

@@ -13,7 +13,7 @@ use bp_faults::Refusal;
 use bp_names::NameTable;
 use module_graph::laws::{none_returns_where_plans_have_no_cycle, predecessors_are_targets};
 use module_graph::{Direction, plan};
-use ninja_text::Statement;
+use ninja_file::Statement;
 use std::alloc::Global;
 
 /// The statements that build some modules, of which there are at most 2^17, or the first fault.

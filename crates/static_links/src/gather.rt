@@ -5,45 +5,9 @@ ghost use Rattle.static_links.specs.Actions.{all_step};
 
 use crate::actions::step;
 use bp_faults::{OutOfMemory, Seq, Text, copy_all};
-use ninja_text::Statement;
+use ninja_file::Statement;
 use std::alloc::Global;
 use std::sync::Arc;
-
-fn copy_variables(
-    alloc: Global,
-    variables: &[(Text, Text)],
-) -> Result<Seq<(Text, Text)>, OutOfMemory>
-    ensures { IfOk result (λ copies. copies ≡ variables.now) }
-{
-    let mut copies = Vec::new(alloc);
-    for (key, value) in variables {
-        copies.push((key.copy(alloc)?, value.copy(alloc)?))?;
-    }
-    Ok(Seq::new(copies))
-}
-
-fn copy_statement(alloc: Global, statement: &Statement) -> Result<Statement, OutOfMemory>
-    ensures { IfOk result (λ copy. copy ≡ statement.now) }
-{
-    Ok(Statement {
-        outs: Seq::new(copy_all(alloc, statement.outs.as_slice())?),
-        rule: statement.rule.copy(alloc)?,
-        ins: Seq::new(copy_all(alloc, statement.ins.as_slice())?),
-        implicit: Seq::new(copy_all(alloc, statement.implicit.as_slice())?),
-        order_only: Seq::new(copy_all(alloc, statement.order_only.as_slice())?),
-        vars: copy_variables(alloc, statement.vars.as_slice())?,
-    })
-}
-
-fn copy_statements(alloc: Global, statements: &[Statement]) -> Result<Vec<Statement>, OutOfMemory>
-    ensures { IfOk result (λ copies. copies.items ≡ statements.now) }
-{
-    let mut copies = Vec::new(alloc);
-    for statement in statements {
-        copies.push(copy_statement(alloc, statement)?)?;
-    }
-    Ok(copies)
-}
 
 // The statements of a node are taken over. They are copied only where something else holds them too.
 fn take(alloc: Global, made: Arc<Seq<Statement>>) -> Result<Vec<Statement>, OutOfMemory>
@@ -51,7 +15,7 @@ fn take(alloc: Global, made: Arc<Seq<Statement>>) -> Result<Vec<Statement>, OutO
 {
     match Arc::try_unwrap(made) {
         Ok(statements) => Ok(statements.into_vec()),
-        Err(shared) => copy_statements(alloc, shared.as_slice()),
+        Err(shared) => copy_all(alloc, shared.as_slice()),
     }
 }
 

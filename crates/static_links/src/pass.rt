@@ -13,7 +13,7 @@ use crate::actions::ActionVisit;
 use crate::line::LineVisit;
 use bp_faults::{Refusal, Seq, Text};
 use module_graph::Graph;
-use ninja_text::Statement;
+use ninja_file::Statement;
 use pass_core::laws::{pass_gathers, recursion_meets_its_equation};
 use pass_core::{Plan, run_pass};
 use std::alloc::Global;
