@@ -12,7 +12,7 @@ use Rattle.property_tables.specs.Typing.{typed}
 use Rattle.std.specs.Option.{option_to_list}
 use Rattle.bp_load.specs.Inherited.{placed_raw}
 use Rattle.bp_load.specs.Loaded.{all_typed}
-use Rattle.bp_load.proofs.Told.{answered}
+use Rattle.bp_faults.proofs.Refusals.{answered}
 use Rattle.bp_load.proofs.Typed.{typed_more, typed_fault}
 use Rattle.bp_load.proofs.typing.type_all.Goals as goal
 
