@@ -32,7 +32,7 @@ text_lexed number text Means value tokens means = elim means [ inl h ↦ (h.0, t
 file_lexed : (number : ℕ) (file : Source) (p : Placed) → FileMeans number file (Ok p) → IsLexed number file.1
 file_lexed number file p means =
     let tree =
-        first_value (AsText number file.1 (TextMeans number file.1)) (λ tree o. Ok (placed file.0 tree) ≡ o) p means in
+    first_value (AsText number file.1 (TextMeans number file.1)) (λ tree o. Ok (placed file.0 tree) ≡ o) p means in
     text_lexed number file.1 (TextMeans number file.1) tree.0
     (first_value (LexMeans number file.1) (ParseMeans file.1) tree.0) tree.1
 
