@@ -1,6 +1,6 @@
 #!/bin/sh
 # The real Ninja reads what the writer writes: its targets, queries and commands have the names and words that
-# crates/ninja_sample put in, spaces, dollars and colons included. It needs rt and ninja, and is no part of the gate.
+# `ninja_trials sample` puts in, spaces, dollars and colons included. It needs rt and ninja, and is no part of the gate.
 set -eu
 
 top=$(cd "$(dirname "$0")/.." && pwd)
@@ -11,12 +11,12 @@ fi
 
 work=$(mktemp -d)
 trap 'rm -rf "$work"' EXIT
-if ! (cd "$top/crates/ninja_sample" && rt run) > "$work/log" 2>&1; then
+if ! (cd "$top/crates/ninja_trials" && rt run -- sample) > "$work/log" 2>&1; then
     cat "$work/log"
     exit 1
 fi
 cd "$work"
-"$top/crates/ninja_sample/out/ninja_sample" > build.ninja
+"$top/crates/ninja_trials/out/ninja_trials" sample > build.ninja
 
 # What Ninja reports, beside what went in.
 same() {

@@ -11,11 +11,11 @@ fi
 
 work=$(mktemp -d)
 trap 'rm -rf "$work"' EXIT
-if ! (cd "$top/crates/ninja_again" && rt run) > "$work/log" 2>&1; then
+if ! (cd "$top/crates/ninja_trials" && rt run -- sample) > "$work/log" 2>&1; then
     cat "$work/log"
     exit 1
 fi
-again="$top/crates/ninja_again/out/ninja_again"
+trials="$top/crates/ninja_trials/out/ninja_trials"
 mkdir "$work/a" "$work/b"
 
 # What Ninja says of the file in a folder.
@@ -33,7 +33,7 @@ said() {
 compared=0
 compare() {
     cat > "$work/a/build.ninja"
-    "$again" < "$work/a/build.ninja" > "$work/b/build.ninja"
+    "$trials" again < "$work/a/build.ninja" > "$work/b/build.ninja"
     said "$work/a" > "$work/said_a" || true
     said "$work/b" > "$work/said_b" || true
     if grep -q '^ninja: error\|is refused' "$work/said_a" "$work/b/build.ninja" || ! diff "$work/said_a" "$work/said_b"; then
@@ -95,7 +95,6 @@ build x: r ü
 default x
 default ü
 END
-"$top/crates/ninja_sample/out/ninja_sample" > /dev/null 2>&1 || (cd "$top/crates/ninja_sample" && rt run) > "$work/log" 2>&1
-"$top/crates/ninja_sample/out/ninja_sample" > "$work/sample"
+"$trials" sample > "$work/sample"
 compare < "$work/sample"
 echo "ninja_reads: $compared texts agree"

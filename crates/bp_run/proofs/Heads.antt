@@ -1,7 +1,7 @@
 -- The text that every written file begins with.
 use Rattle.std.proofs.Common.{◌≡◌, ◌∙◌, ℕ, List, [], ◌∷◌, ◌++◌, append_assoc, refl, sym, ap}
 use Rattle.std.specs.List.{flat_map}
-use Rattle.ninja_text.specs.Text.{joined, ended, head_line, rule_lines, statement_lines, default_lines}
+use Rattle.ninja_write.specs.Meaning.{joined, ended, head_line, rule_lines, statement_lines, default_lines}
 use Rattle.static_links.specs.Actions.{all_path}
 use Rattle.bp_run.specs.Head.{head_rules, head_lines, compile_command, dependencies, assemble_rule, archive_rule}
 use Rattle.bp_run.specs.Head.{link_rule}

@@ -12,7 +12,7 @@ use Rattle.bp_props.specs.declared.module.Module.{Module as Typed}
 use Rattle.bp_load.specs.Trees.{Source}
 use Rattle.bp_load.specs.Loaded.{LoadMeans}
 use Rattle.module_form.specs.Known.{AreKnown}
-use Rattle.ninja_text.specs.declared.file.Statement.{Statement}
+use Rattle.ninja_file.specs.declared.file.Statement.{Statement}
 use Rattle.static_links.specs.declared.module.Module.{Module}
 use Rattle.bp_faults.specs.Phases.{GoesOn}
 use Rattle.static_links.specs.Built.{IsBuilt}

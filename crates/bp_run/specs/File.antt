@@ -1,7 +1,7 @@
 -- The file for Ninja that holds some build statements.
 use Rattle.std.specs.Prelude.{List, [], ◌∷◌}
-use Rattle.ninja_text.specs.declared.file.Statement.{Statement}
-use Rattle.ninja_text.specs.declared.file.NinjaFile.{NinjaFile}
+use Rattle.ninja_file.specs.declared.file.Statement.{Statement}
+use Rattle.ninja_file.specs.declared.file.NinjaFile.{NinjaFile}
 use Rattle.static_links.specs.Actions.{all_path}
 use Rattle.bp_run.specs.Head.{head_rules}
 

@@ -1,9 +1,9 @@
 -- The rules that every written file begins with.
 use Rattle.std.specs.Prelude.{ℕ, List, [], ◌∷◌, ◌++◌, codes}
 use Rattle.std.specs.List.{flat_map}
-use Rattle.ninja_text.specs.declared.file.Piece.{Piece}
-use Rattle.ninja_text.specs.declared.file.Piece.TheVariants.{Lit, Var}
-use Rattle.ninja_text.specs.declared.file.NinjaRule.{NinjaRule}
+use Rattle.ninja_file.specs.declared.file.Piece.{Piece}
+use Rattle.ninja_file.specs.declared.file.Piece.TheVariants.{Lit, Var}
+use Rattle.ninja_file.specs.declared.file.NinjaRule.{NinjaRule}
 
 -- A literal piece, where the text isn't empty.
 abbrev pub literal : List ℕ → List Piece

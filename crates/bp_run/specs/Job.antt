@@ -16,8 +16,8 @@ use Rattle.module_form.specs.Known.{AreKnown}
 use Rattle.static_links.specs.declared.module.Module.{Module}
 use Rattle.bp_faults.specs.Phases.{GoesOn, Then}
 use Rattle.static_links.specs.Built.{IsBuilt}
-use Rattle.ninja_text.specs.declared.file.NinjaFile.{NinjaFile}
-use Rattle.ninja_text.specs.Text.{text_of}
+use Rattle.ninja_file.specs.declared.file.NinjaFile.{NinjaFile}
+use Rattle.ninja_write.specs.Meaning.{text_of}
 use Rattle.bp_run.specs.declared.words.Configuration.{Configuration}
 use Rattle.bp_run.specs.File.{file_of}
 

@@ -2,8 +2,8 @@
 use Rattle.std.specs.Prelude.{◌≡◌, ℕ, List, ◌++◌}
 use Rattle.bp_faults.specs.Phases.{IsOnce, HasOutcome}
 use Rattle.bp_ports.specs.Files.{Files}
-use Rattle.ninja_text.specs.declared.file.Statement.{Statement}
-use Rattle.ninja_text.specs.Text.{text_of, joined}
+use Rattle.ninja_file.specs.declared.file.Statement.{Statement}
+use Rattle.ninja_write.specs.Meaning.{text_of, joined}
 use Rattle.bp_run.specs.declared.words.Configuration.{Configuration}
 use Rattle.bp_run.specs.Head.{head_lines}
 use Rattle.bp_run.specs.File.{file_of}

@@ -3,7 +3,7 @@ ghost use Rattle.bp_run.specs.File.{file_of};
 
 use crate::head::head_rules;
 use bp_faults::{OutOfMemory, Seq, Text};
-use ninja_text::{NinjaFile, Statement};
+use ninja_file::{NinjaFile, Statement};
 use std::alloc::Global;
 
 /// The file for Ninja that holds some build statements. Its default asks for all outputs.

@@ -3,7 +3,7 @@ ghost use Rattle.bp_run.specs.Head.{literal, reference, commanded, compiler, com
 ghost use Rattle.bp_run.specs.Head.{compile_rule, assemble_rule, archive_rule, link_rule, head_rules};
 
 use bp_faults::{OutOfMemory, Seq, Text};
-use ninja_text::{NinjaRule, Piece};
+use ninja_file::{NinjaRule, Piece};
 use std::alloc::Global;
 
 // The beginning of a value, up to its first variable.

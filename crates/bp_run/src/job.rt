@@ -14,7 +14,8 @@ use bp_load::load;
 use bp_ports::Store;
 use module_form::known_modules;
 use module_form::laws::known_as_many;
-use ninja_text::{NinjaFile, Statement, WriteError, write};
+use ninja_file::{NinjaFile, Statement};
+use ninja_write::{WriteError, write};
 use static_links::build;
 use std::alloc::Global;
 

@@ -2,7 +2,7 @@
 
 ghost use Rattle.module_form.specs.Laws.{OneKnown, SomeKnown, KnownAsMany};
 
-use bp_lexer::one_meaning;
+use bp_lexer::laws::one_meaning;
 
 /// Typed modules give one list of modules, or have one fault.
 pub fn one_known()

@@ -2,7 +2,7 @@
 use Rattle.std.proofs.Common.{◌≡◌, ◌<◌, ◌≤◌, ◌==◌, ℕ, zero, suc, List, [], ◌∷◌, map, refl, ap, ◌∙◌, sym, subst, arith, get_or, ◌⊎◌, inl, inr, ⊎_elim, false, ne_eqb}
 use Rattle.std.specs.List.{AllByRecursion, IsDistinct}
 use Rattle.std.specs.Prelude.{Contains, max}
-use Rattle.std.proofs.lemmas.List.Elements.{All-from_recursion, All-contains, recursion_from_All, All-contains_itself, Contains-get_or}
+use Rattle.std.proofs.lemmas.List.Elements.{recursion_from_All, All-contains_itself, Contains-get_or}
 use Rattle.std.proofs.Math.Decide.{dec_lt}
 use Rattle.pass_core.specs.declared.plan.PlanEdge.{PlanEdge}
 use Rattle.pass_core.specs.Plans.{in_edges, predecessors, HasNoCycle, HaveEndsBelow}

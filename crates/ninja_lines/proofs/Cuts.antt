@@ -1,8 +1,9 @@
 -- Cutting one part off.
 use Rattle.std.proofs.Common.{◌≡◌, ◌++◌, append_assoc, ℕ, suc, ◌+◌, ◌<◌, ◌≤◌, add-one, drop-cons, sym, ◌∙◌, Bool, true, false, cond, List, [], ◌∷◌, eqb, eqb-true, length, take, drop, get_or, ap, refl, arith}
 use Rattle.std.specs.List.{onto_first}
-use Rattle.ninja_lines.specs.Lines.{dollar}
-use Rattle.ninja_lines.specs.Cuts.{cut, reach}
+use Rattle.ninja_lines.specs.Meaning.{dollar}
+use Rattle.ninja_lines.specs.Cuts.{cut}
+use Rattle.ninja_lines.specs.Inside.{reach}
 
 -- what cutting one part off gives
 abbrev IsCutOff : ℕ → List (List ℕ) → ℕ → List ℕ → Type 0

@@ -4,8 +4,9 @@ use Rattle.std.specs.Borrow.{Bor}
 use Rattle.std.specs.Str.{is_utf8}
 use Rattle.std.proofs.lemmas.List.{get_or-map, length-map}
 use Rattle.ninja_lines.specs.declared.line.Line.{Line}
-use Rattle.ninja_lines.specs.Lines.{JoinedLine, glue, joined, dangles, without_last, drop_spaces}
-use Rattle.ninja_lines.specs.Shown.{texts, shown_line, IsNextLine}
+use Rattle.ninja_lines.specs.Meaning.{JoinedLine, glue, joined, dangles, without_last, drop_spaces}
+use Rattle.ninja_lines.specs.Shown.{texts, shown_line}
+use Rattle.ninja_lines.specs.Inside.{IsNextLine}
 use Rattle.ninja_lines.proofs.Glue.{glue_twice, dangles_spaces, without_last_spaces}
 
 -- the text of the line at an index

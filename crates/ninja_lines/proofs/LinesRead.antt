@@ -1,7 +1,8 @@
 -- Lines, one after another.
 use Rattle.std.proofs.Common.{◌≡◌, ℕ, suc, ◌+◌, ◌<◌, ◌≤◌, Bool, true, false, cond, List, [], ◌∷◌, ◌++◌, eqb, length, take, drop, get_or, add-one, drop-cons, ap, sym, ◌∙◌, refl, append_assoc, arith}
 use Rattle.std.specs.List.{onto_first}
-use Rattle.ninja_lines.specs.Lines.{lines, line_length, line_feed}
+use Rattle.ninja_lines.specs.Meaning.{lines, line_feed}
+use Rattle.ninja_lines.specs.Inside.{line_length}
 
 line_off_by : (b : ℕ) (bytes : List ℕ) (e : Bool) → (0 < length bytes → lines bytes ≡ take (line_length bytes) bytes ∷ lines (drop (suc (line_length bytes)) bytes)) → cond e ([] ∷ lines bytes) (onto_first b (lines bytes)) ≡ take (cond e 0 (suc (line_length bytes))) (b ∷ bytes) ∷ lines (drop (suc (cond e 0 (suc (line_length bytes)))) (b ∷ bytes))
 line_off_by b bytes true more = refl

@@ -1,20 +1,19 @@
 -- Texts that are cut at a byte, and words. A byte that a dollar takes with it cuts nothing.
-use Rattle.std.specs.Prelude.{ℕ, Bool, true, false, List, [], ◌∷◌, ◌==◌, not, length, filter, if◌then◌else◌, suc}
+use Rattle.std.specs.Prelude.{ℕ, Bool, true, false, List, [], ◌∷◌, ◌==◌, not, length, filter, if◌then◌else◌}
 use Rattle.std.specs.List.{onto_first}
-use Rattle.ninja_lines.specs.Lines.{dollar, space}
+use Rattle.ninja_lines.specs.Meaning.{dollar, space}
+
+-- A byte that no dollar takes, before parts: it may cut.
+abbrev pub cut_byte : ℕ → ℕ → List (List ℕ) → List (List ℕ)
+cut_byte at b parts = if b == at then [] ∷ parts else onto_first b parts
 
 -- The parts between the bytes `at`. The flag says that a dollar stands before.
 abbrev pub cut : ℕ → Bool → List ℕ → List (List ℕ)
 cut at behind [] = [] ∷ []
 cut at true (b ∷ bytes) = onto_first b (cut at false bytes)
-cut at false (b ∷ bytes) = if b == dollar then onto_first b (cut at true bytes) else (if b == at then [] ∷ cut at false bytes else onto_first b (cut at false bytes))
+cut at false (b ∷ bytes) =
+    if b == dollar then onto_first b (cut at true bytes) else cut_byte at b (cut at false bytes)
 
--- the parts between spaces; several spaces count as one
+-- The parts between spaces, where several spaces count as one.
 abbrev pub words : List ℕ → List (List ℕ)
 words text = filter (λ part. not (length part == 0)) (cut space false text)
-
--- how far the first part goes
-abbrev pub reach : ℕ → Bool → List ℕ → ℕ
-reach at behind [] = 0
-reach at true (b ∷ bytes) = suc (reach at false bytes)
-reach at false (b ∷ bytes) = if b == dollar then suc (reach at true bytes) else (if b == at then 0 else suc (reach at false bytes))

@@ -1,5 +1,6 @@
 ghost use Rattle.std.specs.Prelude.{◌≡◌, ◌<◌, ◌≤◌, false, length, map, IfOk, take, drop, ◌+◌, IsUtf8};
-ghost use Rattle.ninja_lines.specs.Cuts.{cut, words, reach};
+ghost use Rattle.ninja_lines.specs.Cuts.{cut, words};
+ghost use Rattle.ninja_lines.specs.Inside.{reach};
 
 use bp_faults::OutOfMemory;
 use std::alloc::Global;

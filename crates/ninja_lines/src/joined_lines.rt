@@ -1,7 +1,10 @@
-ghost use Rattle.std.specs.Prelude.{◌≡◌, ◌<◌, ◌+◌, ◌-◌, true, false, IfOk, MatchOption, map, length, drop, get_or, [], ◌^◌, Some, None};
+ghost use Rattle.std.specs.Prelude.{◌≡◌, ◌<◌, ◌+◌, ◌-◌, true, false, IfOk, MatchOption, map, length, drop};
+ghost use Rattle.std.specs.Prelude.{get_or, [], ◌^◌, Some, None};
 ghost use Rattle.std.specs.Str.{is_utf8};
-ghost use Rattle.ninja_lines.specs.Lines.{lines, line_length, joined_lines, dangles, without_last};
-ghost use Rattle.ninja_lines.specs.Shown.{shown_line, texts, IsNextLine};
+ghost use Rattle.ninja_lines.specs.Meaning.{lines, joined_lines, dangles, without_last};
+ghost use Rattle.ninja_lines.specs.Inside.{line_length};
+ghost use Rattle.ninja_lines.specs.Shown.{shown_line, texts};
+ghost use Rattle.ninja_lines.specs.Inside.{IsNextLine};
 
 use crate::line::{Line, LineText};
 use crate::spaces::drop_spaces;
@@ -56,7 +59,8 @@ pub fn dangles(text: &[u8]) -> bool
 }
 
 fn utf8(bytes: &[u8]) -> Option<&str>
-    ensures { MatchOption result (is_utf8 bytes.now ≡ false) (λ text. (is_utf8 bytes.now ≡ true) × (text.now ≡ bytes.now)) }
+    ensures { MatchOption result (is_utf8 bytes.now ≡ false)
+        (λ text. (is_utf8 bytes.now ≡ true) × (text.now ≡ bytes.now)) }
 {
     match str::from_utf8(bytes) {
         Ok(text) => Some(text),

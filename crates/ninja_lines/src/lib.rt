@@ -1,7 +1,7 @@
 //! The lines and words of text for Ninja.
 //!
 //! A text flows in, as bytes. Its joined lines flow out, with their numbers, and the words of a
-//! line. It is measured by `specs/Lines.antt`, what a joined line is, and `specs/Cuts.antt`, where a
+//! line. It is measured by `specs/Meaning.antt`, what a joined line is, and `specs/Cuts.antt`, where a
 //! text is cut.
 #![tactic(auto)]
 

@@ -1,5 +1,5 @@
 ghost use Rattle.std.specs.Prelude.{◌≡◌};
-ghost use Rattle.ninja_lines.specs.Lines.{drop_spaces};
+ghost use Rattle.ninja_lines.specs.Meaning.{drop_spaces};
 
 /// The text behind the spaces that it begins with.
 pub fn drop_spaces(text: &str) -> &str

@@ -1,26 +1,60 @@
--- Lines that are written one after another.
-use Rattle.std.proofs.Common.{◌≡◌, ℕ, List, [], ◌∷◌, ◌++◌, map, refl, ap, ◌∙◌}
-use Rattle.std.specs.List.{flat_map}
-use Rattle.std.proofs.lemmas.Grind.{flat_map-append}
-use Rattle.std.proofs.lemmas.List.Folds.{flat_map-map}
-use Rattle.ninja_text.specs.Text.{rule_lines, statement_lines, default_lines, head_line, ended, joined, text_of}
-use Rattle.ninja_text.specs.declared.file.NinjaFile.{NinjaFile}
+-- The lines of a text that is put together from lines.
+use Rattle.std.proofs.Common.{◌≡◌, ℕ, suc, ◌+◌, ◌<◌, Bool, true, false, cond, not, List, [], ◌∷◌, ◌++◌, eqb, length, take, drop, get_or, Some, IsUtf8, append_assoc, length-append, ap, sym, subst, ◌∙◌, refl, arith}
+use Rattle.std.specs.List.{All, flat_map, list_all, onto_first}
+use Rattle.std.specs.Str.{is_utf8}
+use Rattle.std.proofs.Math.Seq.{get_or-append_seam, take-append_seam}
+use Rattle.std.proofs.lemmas.List.Elements.{All-cons}
+use Rattle.std.proofs.lemmas.List.Prefix.{front_rest}
+use Rattle.std.proofs.lemmas.Str.{IsUtf8-take, IsUtf8-drop, IsCharBoundary-before_ascii, IsCharBoundary-after_ascii, is_utf8-from_IsUtf8}
+use Rattle.ninja_lines.specs.Meaning.{JoinedLine, lines, joined, dangles}
+use Rattle.ninja_write.specs.Laws.{IsOneLine}
+use Rattle.ninja_write.specs.Meaning.{ended}
+use Rattle.std.proofs.lemmas.Bool.{and_parts}
 
--- a line for each
-pub joined-map : {A : Type 0} (line : A → List ℕ) (xs : List A) → joined (map line xs) ≡ flat_map (λ x. ended (line x)) xs
-joined-map line xs = flat_map-map ended line xs
+-- lines with their numbers
+abbrev pub plain : ℕ → List (List ℕ) → List JoinedLine
+plain n [] = []
+plain n (line ∷ more) = record { number = n; text = Some line } ∷ plain (n + 1) more
 
-pub joined-append : (xs ys : List (List ℕ)) → joined (xs ++ ys) ≡ joined xs ++ joined ys
-joined-append xs ys = flat_map-append ended xs ys
+line_by : (b : ℕ) (line rest found : List ℕ) (more : List (List ℕ)) (e : Bool) → not e ≡ true → lines found ≡ line ∷ more → cond e ([] ∷ lines found) (onto_first b (lines found)) ≡ (b ∷ line) ∷ more
+line_by b line rest found more true h is = absurd (cc)
+line_by b line rest found more false h is = ap (onto_first b) is
 
-append_both : {a b c d : List ℕ} → a ≡ b → c ≡ d → a ++ c ≡ b ++ d
-append_both e h = cc
+line_ended : (line rest : List ℕ) → IsOneLine line → lines (line ++ 10 ∷ rest) ≡ line ∷ lines rest
+line_ended [] rest h = refl
+line_ended (b ∷ line) rest h = line_by b line rest (line ++ 10 ∷ rest) (lines rest) (eqb b 10) ((and_parts (not (eqb b 10)) (list_all (λ c. not (eqb c 10)) line) h).0) (line_ended line rest ((and_parts (not (eqb b 10)) (list_all (λ c. not (eqb c 10)) line) h).1))
 
--- lines of each
-pub joined-flat_map : {A : Type 0} (lines : A → List (List ℕ)) (xs : List A) → joined (flat_map lines xs) ≡ flat_map (λ x. joined (lines x)) xs
-joined-flat_map lines [] = refl
-joined-flat_map lines (x ∷ xs) = joined-append (lines x) (flat_map lines xs) ∙ ap (λ more. joined (lines x) ++ more) (joined-flat_map lines xs)
+pub lines_joined : (list : List (List ℕ)) → All IsOneLine list → lines (flat_map ended list) ≡ list
+lines_joined [] h = refl
+lines_joined (line ∷ list) h = ap lines (append_assoc line (10 ∷ []) (flat_map ended list)) ∙ line_ended line (flat_map ended list) (h 0 line (omega arith)) ∙ ap (λ x. line ∷ x) (lines_joined list (λ k d inside. h (suc k) d (omega arith)))
 
--- the text of a file by its rules, its statements and its defaults
-pub text-parts : (f : NinjaFile) → text_of f ≡ ended head_line ++ (flat_map (λ r. joined (rule_lines r)) f.rules ++ (flat_map (λ s. joined (statement_lines s)) f.statements ++ joined (default_lines f.defaults)))
-text-parts f = ap (λ x. ended head_line ++ x) (joined-append (flat_map rule_lines f.rules) _ ∙ append_both (joined-flat_map rule_lines f.rules) (joined-append (flat_map statement_lines f.statements) _ ∙ ap (λ x. x ++ joined (default_lines f.defaults)) (joined-flat_map statement_lines f.statements)))
+-- no line has a dollar open at its end
+abbrev pub AreWhole : List (List ℕ) → Type 0
+AreWhole list = list_all (λ line. not (dangles false line)) list ≡ true
+
+closed_of : (e : Bool) → not e ≡ true → e ≡ false
+closed_of true h = absurd (cc)
+closed_of false h = refl
+
+pub joined_plain : (n : ℕ) (list : List (List ℕ)) → All (λ line. is_utf8 line ≡ true) list → AreWhole list → joined n list ≡ plain n list
+joined_plain n [] utf8 whole = refl
+joined_plain n (line ∷ list) utf8 whole =
+    let u : is_utf8 line ≡ true = utf8 0 line (omega arith) in
+    let w : dangles false line ≡ false = closed_of (dangles false line) ((and_parts (not (dangles false line)) (list_all (λ l. not (dangles false l)) list) whole).0) in
+    rw (u, w) (ap (λ x. record { number = n; text = Some line } ∷ x) (joined_plain (n + 1) list (λ k d inside. utf8 (suc k) d (omega arith)) ((and_parts (not (dangles false line)) (list_all (λ l. not (dangles false l)) list) whole).1)))
+
+-- text before and behind an LF
+cut_utf8 : (line rest : List ℕ) → IsUtf8 (line ++ 10 ∷ rest) → IsUtf8 line × IsUtf8 rest
+cut_utf8 line rest utf8 =
+    let text : List ℕ = line ++ 10 ∷ rest in
+    let inside : length line < length text = omega (arith, length-append line (10 ∷ rest)) in
+    let ascii : get_or text (length line) 0 < 128 = rw (get_or-append_seam line 10 rest 0) (omega arith) in
+    let front : take (length line) text ≡ line = take-append_seam line (10 ∷ rest) in
+    let behind : drop (length line + 1) text ≡ rest = ap (λ n. drop n text) (sym (length-append line (10 ∷ []))) ∙ front_rest text (line ++ 10 ∷ []) rest (sym (append_assoc line (10 ∷ []) rest)) in
+    (subst IsUtf8 front (IsUtf8-take text (length line) utf8 (IsCharBoundary-before_ascii text (length line) inside ascii)), subst IsUtf8 behind (IsUtf8-drop text (length line + 1) utf8 (IsCharBoundary-after_ascii text (length line) utf8 inside ascii)))
+
+pub utf8_lines : (list : List (List ℕ)) → IsUtf8 (flat_map ended list) → All (λ line. is_utf8 line ≡ true) list
+utf8_lines [] utf8 = λ k d inside. absurd (omega arith)
+utf8_lines (line ∷ list) utf8 =
+    let parts = cut_utf8 line (flat_map ended list) (subst IsUtf8 (append_assoc line (10 ∷ []) (flat_map ended list)) utf8) in
+    All-cons (λ l. is_utf8 l ≡ true) line list (is_utf8-from_IsUtf8 line parts.0) (utf8_lines list parts.1)

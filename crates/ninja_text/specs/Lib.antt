@@ -1,13 +1,1 @@
-pub mod Laws
-pub mod Limit
-pub mod Listing
-pub mod Escapes
-pub mod Parts
-pub mod Text
-pub mod WellFormed
-pub mod Values
-pub mod Heads
-pub mod Reading
-pub mod Reads
-pub mod Built
-pub mod Learnt
+pub mod Meaning

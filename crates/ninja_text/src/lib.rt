@@ -1,37 +1,14 @@
-//! Files for Ninja, and their text.
+//! The text of files for Ninja, written and read.
 //!
-//! A `NinjaFile` flows in: rules, build statements and defaults, as data. Its text flows out, of at
-//! most 2^29 bytes, with every escape that Ninja needs. It is measured by `specs/Text.antt`: the
-//! text of a file is its lines one after another. `specs/WellFormed.antt` says which files the text
-//! is meant for, and `laws` what makes the text believable.
+//! A `NinjaFile` flows in and its text out (`write`, of `ninja_write`), or a text in and its file out
+//! (`read`, of `ninja_read`). It is measured by `specs/Meaning.antt`: what was written for a well-formed
+//! file is read back, which `laws` says of the two calls.
 #![tactic(auto)]
 
-mod book;
-mod command;
-mod escape;
-mod file;
-mod form;
-mod head;
-mod laws;
-mod letters;
-mod listing;
-mod output;
-mod reader;
-#[cfg(test)]
-mod reader_tests;
+pub mod laws;
 #[cfg(test)]
 mod tests;
-mod text;
-mod value;
-mod well_formed;
 
-pub use file::{NinjaFile, NinjaRule, Piece, Statement};
-pub use laws::{
-    a_text_has_one_file, a_text_names_no_output_twice, different_paths_are_written_differently,
-    different_rule_values_are_written_differently, different_values_are_written_differently,
-    lines_hold_no_line_feed, written_paths_are_guarded,
-};
-pub use output::WriteError;
-pub use reader::{NinjaError, read};
-pub use text::write;
-pub use well_formed::is_well_formed;
+pub use ninja_file::{NinjaFile, NinjaRule, Piece, Statement, is_well_formed};
+pub use ninja_read::{NinjaError, read};
+pub use ninja_write::{WriteError, write};

@@ -1,152 +1,274 @@
-use crate::{NinjaFile, NinjaRule, Piece, Statement, is_well_formed, write};
-use bp_faults::{OutOfMemory, Seq, Text};
+use crate::laws::written_and_read;
+use crate::{NinjaError, NinjaFile, is_well_formed, read, write};
 use std::alloc::Global;
 use std::test::Fail;
 
-fn texts(alloc: Global, words: &[&str]) -> Result<Seq<Text>, OutOfMemory> {
-    let mut texts = Vec::new(alloc);
-    for word in words {
-        texts.push(Text::from_str(alloc, word)?)?;
+/// A text, and what `write` makes of the file that it stands for, or the line that is refused.
+type Case = (&'static [u8], Result<&'static str, u32>);
+
+const HEAD: usize = b"# build.ninja written by bpgen\n".len();
+
+fn same(alloc: Global, file: &NinjaFile, wanted: &str) -> Result<bool, Fail> {
+    let text = write(alloc, file)?;
+    let behind = text.as_slice().split_at_checked(HEAD);
+    Ok(behind.is_some_and(|(_, rest)| rest == wanted.as_bytes()))
+}
+
+fn holds(alloc: Global, case: &Case) -> Result<bool, Fail> {
+    if case.0.len() > 1000 {
+        return Ok(false);
     }
-    Ok(Seq::new(texts))
-}
-
-fn variables(alloc: Global, pairs: &[(&str, &str)]) -> Result<Seq<(Text, Text)>, OutOfMemory> {
-    let mut variables = Vec::new(alloc);
-    for (key, value) in pairs {
-        variables.push((Text::from_str(alloc, key)?, Text::from_str(alloc, value)?))?;
+    match (read(alloc, case.0), case.1) {
+        (Ok(file), Ok(wanted)) => same(alloc, &file, wanted),
+        (Err(NinjaError::BadLine(line)), Err(wanted)) => Ok(line == wanted),
+        _ => Ok(false),
     }
-    Ok(Seq::new(variables))
 }
 
-fn statement(
-    alloc: Global,
-    out: &str,
-    rule: &str,
-    ins: &[&str],
-    vars: &[(&str, &str)],
-) -> Result<Statement, OutOfMemory> {
-    Ok(Statement {
-        outs: texts(alloc, &[out])?,
-        rule: Text::from_str(alloc, rule)?,
-        ins: texts(alloc, ins)?,
-        implicit: texts(alloc, &[])?,
-        order_only: texts(alloc, &[])?,
-        vars: variables(alloc, vars)?,
-    })
+// Whether the file of a text is well formed; such a file comes back.
+fn comes_back(alloc: Global, text: &[u8], wanted: &str) -> Result<bool, Fail> {
+    if text.len() > 1000 {
+        return Ok(false);
+    }
+    let file = read(alloc, text)?;
+    if !is_well_formed(alloc, &file)? {
+        return Ok(false);
+    }
+    let back = written_and_read(alloc, &file)??;
+    same(alloc, &back, wanted)
 }
 
-const TARGET: (&str, &str) = ("target", "--target=aarch64-linux-android");
+// Texts that are read, in the spirit of Ninja's own tests of its manifest parser and lexer.
+const READ: [Case; 34] = [
+    (b"", Ok("")),
+    (b"\n  \n# a comment\n   # another\n", Ok("")),
+    (b"# joined $\nbogus\n", Ok("")),
+    (
+        b"rule cat\n  command = cat $in > $out\n\nbuild result: cat in_1.cc in-2.O\n",
+        Ok("rule cat\n  command = cat ${in} > ${out}\nbuild result: cat in_1.cc in-2.O\n"),
+    ),
+    (
+        b"rule cc\n  deps = gcc\n  depfile = ${out}.d\n  command = cc\n  description = CC $out\n",
+        Ok(
+            "rule cc\n  deps = gcc\n  depfile = ${out}.d\n  command = cc\n  description = CC ${out}\n",
+        ),
+    ),
+    (
+        b"  # indented\nrule cat\n  command = x\n  # generator = 1\n  \n  description = y\n",
+        Ok("rule cat\n  command = x\n  description = y\n"),
+    ),
+    (
+        b"rule link\n  command = foo bar $\n      baz\n\nbuild a: link c $\n d e f\n",
+        Ok("rule link\n  command = foo bar baz\nbuild a: link c d e f\n"),
+    ),
+    (
+        b"rule r\n  command = a\\b # c\n",
+        Ok("rule r\n  command = a\\b # c\n"),
+    ),
+    (
+        b"rule r\n  command = ${out}bar$$baz$$$\n  blah\n",
+        Ok("rule r\n  command = ${out}bar$$baz$$blah\n"),
+    ),
+    (
+        b"build foo$ bar: phony $$one two$$$ three a$:b\n",
+        Ok("build foo$ bar: phony $$one two$$$ three a$:b\n"),
+    ),
+    (
+        b"build ./a: phony ../b/./c\n",
+        Ok("build ./a: phony ../b/./c\n"),
+    ),
+    (
+        b"build a: phony b | c d || e f\n",
+        Ok("build a: phony b | c d || e f\n"),
+    ),
+    (b"build a: phony | b\n", Ok("build a: phony | b\n")),
+    (b"build a: phony || b\n", Ok("build a: phony || b\n")),
+    (b"build a b  c : phony\n", Ok("build a b c: phony\n")),
+    (b"build   a:phony   b  \n", Ok("build a: phony b\n")),
+    (b"bu$\nild a: ph$\n    ony b\n", Ok("build a: phony b\n")),
+    (
+        b"rule build\n  command = x\nrule rule\n  command = y\nbuild default: build include\nbuild rule: rule subninja\ndefault default rule\n",
+        Ok(
+            "rule build\n  command = x\nrule rule\n  command = y\nbuild default: build include\nbuild rule: rule subninja\ndefault default rule\n",
+        ),
+    ),
+    (
+        b"rule r\n  command   =   x  \n",
+        Ok("rule r\n  command = x  \n"),
+    ),
+    (b"rule r\n command=x\n", Ok("rule r\n  command = x\n")),
+    (b"rule r\n  command =\n", Ok("rule r\n  command = \n")),
+    (
+        b"rule r  \n  command = $ x\n",
+        Ok("rule r\n  command = $ x\n"),
+    ),
+    (
+        b"rule r\n  command = $a-$b_1$$c${d}e\n",
+        Ok("rule r\n  command = ${a}-${b_1}$$c${d}e\n"),
+    ),
+    (
+        b"rule r\n  command = a$ b$:c d:e|f\n",
+        Ok("rule r\n  command = a b:c d:e|f\n"),
+    ),
+    (
+        b"rule r\n  command = a\tb\n",
+        Ok("rule r\n  command = a\tb\n"),
+    ),
+    (
+        b"build a: phony\n  k = v = w\n  k_2 =x|:y\n",
+        Ok("build a: phony\n  k = v = w\n  k_2 = x|:y\n"),
+    ),
+    (
+        b"build a: phony\n  v = x$$\n  w = y\n",
+        Ok("build a: phony\n  v = x$$\n  w = y\n"),
+    ),
+    (
+        b"build a: phony\ndefault a\n  k = v\n",
+        Ok("build a: phony\n  k = v\ndefault a\n"),
+    ),
+    (
+        b"default a\nbuild a: phony\n",
+        Ok("build a: phony\ndefault a\n"),
+    ),
+    (
+        b"build a: phony\nbuild b: phony a\ndefault b\ndefault  a\n",
+        Ok("build a: phony\nbuild b: phony a\ndefault b a\n"),
+    ),
+    (b"build a: phony b", Ok("build a: phony b\n")),
+    (
+        b"build a: phony $\n\nbuild b: phony $\n  $\n   c\n",
+        Ok("build a: phony\nbuild b: phony c\n"),
+    ),
+    (
+        b"build \xc3\xbc$ \xe2\x82\xac: phony \xf0\x9f\x98\x80\n",
+        Ok("build ü$ €: phony 😀\n"),
+    ),
+    (
+        b"rule r\n  command = x\nbuild a: r\n  command = y\n",
+        Ok("rule r\n  command = x\nbuild a: r\n  command = y\n"),
+    ),
+];
+
+// Texts that are refused.
+const REFUSED: [Case; 58] = [
+    (b"bogus", Err(1)),
+    (b"foobar\n", Err(1)),
+    (b"x 3\n", Err(1)),
+    (b"# c\nfoo = bar\n", Err(2)),
+    (b"include x\n", Err(1)),
+    (b"subninja x\n", Err(1)),
+    (b"pool p\n  depth = 1\n", Err(1)),
+    (b"rule\n", Err(1)),
+    (b"rule \n", Err(1)),
+    (b"rule %foo\n  command = x\n", Err(1)),
+    (b"rule a b\n  command = x\n", Err(1)),
+    (b"rule phony\n  command = x\n", Err(1)),
+    (b"rule r\r\n  command = x\r\n", Err(1)),
+    (b"rule cat\n", Err(1)),
+    (b"rule r\n  description = x\n", Err(1)),
+    (b"rule r\n  bogus = x\n", Err(1)),
+    (b"rule r\n  bogus = x\n  command = y\n", Err(2)),
+    (b"rule r\nbuild a: phony\n  command = y\n", Err(1)),
+    (b"rule r\n  command = $\n", Err(2)),
+    (b"rule r\n  command = $", Err(2)),
+    (b"rule r\n  command = ${a b}\n", Err(2)),
+    (b"rule r\n  command = ${}\n", Err(2)),
+    (b"rule r\n  command = ${fafsd\nfoo = bar\n", Err(2)),
+    (b"rule r\n  command = a$-b\n", Err(2)),
+    (b"rule r\n  command = a\n  && bar\n", Err(3)),
+    (b"rule r\n  command = a\n  othervar = b\n", Err(3)),
+    (b"rule r\n  command = a\n  command = b\n", Err(3)),
+    (b"rule r\n  command = a\n  \n\n  = b\n", Err(5)),
+    (b"rule r\n  command = a\n  depfile b\n", Err(3)),
+    (b"rule r\n  command = a\n\tdeps = b\n", Err(3)),
+    (b"rule r\n  command = a\nrule r\n  command = b\n", Err(3)),
+    (b"build a: r\nrule r\n  command = x\n", Err(1)),
+    (b"build\n", Err(1)),
+    (b"build a\n", Err(1)),
+    (b"build a:\n", Err(1)),
+    (b"build : phony\n", Err(1)),
+    (b"build a: nonesuch b\n", Err(1)),
+    (b"build a:: phony b\n", Err(1)),
+    (b"build a: phony b:c\n", Err(1)),
+    (b"build a: phony b $\n :\n", Err(1)),
+    (b"build $.: phony\n", Err(1)),
+    (b"build $: phony b\n", Err(1)),
+    (b"build a: phony $b\n", Err(1)),
+    (b"build a: phony b|c\n", Err(1)),
+    (b"build a: phony |\n", Err(1)),
+    (b"build a: phony b ||\n", Err(1)),
+    (b"build a: phony | || b\n", Err(1)),
+    (b"build a: phony || b | c\n", Err(1)),
+    (b"build a | b: phony\n", Err(1)),
+    (b"build a: phony b\tc\n", Err(1)),
+    (b" build a: phony\n", Err(1)),
+    (b"  k = v\n", Err(1)),
+    (b"build a: phony\n  k = $v\n", Err(2)),
+    (b"build a: phony\n  k = v\n  k = w\n", Err(3)),
+    (b"build a a: phony\n", Err(1)),
+    (b"build a: phony\nbuild b a: phony\nbogus\n", Err(2)),
+    (b"default\n", Err(1)),
+    (b"# x\nbuild a: phony\ndefault a\ndefault a b\n", Err(4)),
+];
+
+// Texts that are refused for what is at their end, or for bytes that are no text. A line that isn't UTF-8 binds no
+// `command`.
+const ENDS: [Case; 12] = [
+    (b"build a: phony b$", Err(1)),
+    (b"\nbuild a: phony $\n b$", Err(2)),
+    (b"# c $", Err(1)),
+    (b"# c $\n", Err(1)),
+    (b"build a: phony \xff\n", Err(1)),
+    (b"# \xff\n", Err(1)),
+    (b"build a: phony $\n  b$\n \xc3\n", Err(3)),
+    (b"rule r\n  command = \xff\n", Err(1)),
+    (b"rule r\n  command = a $\n  \xff\n", Err(1)),
+    (b"rule r\n  command = a\n  depfile = \xff\n", Err(3)),
+    (b"build a: phony\n$\n", Err(2)),
+    (b"default $a\nbogus\n", Err(1)),
+];
 
 #[test]
-fn plain_start(rt: HostRuntime) -> Result<(), Fail> {
-    let alloc = rt.alloc();
-    let object = "out/m/hello/android_arm64/obj/hello.c.o";
-    let binary = "out/m/hello/android_arm64/bin/hello";
-    let mut statements = Vec::new(alloc);
-    statements.push(statement(alloc, object, "cc", &["hello.c"], &[TARGET])?)?;
-    statements.push(statement(alloc, binary, "link", &[object], &[TARGET])?)?;
-    statements.push(statement(alloc, "out/all", "phony", &[binary], &[])?)?;
-    let file = NinjaFile {
-        rules: Seq::new(Vec::new(alloc)),
-        statements: Seq::new(statements),
-        defaults: texts(alloc, &["out/all"])?,
-    };
-    assert_eq!(rt;
-        write(alloc, &file)?.as_slice(),
-        b"# build.ninja written by bpgen
-build out/m/hello/android_arm64/obj/hello.c.o: cc hello.c
-  target = --target=aarch64-linux-android
-build out/m/hello/android_arm64/bin/hello: link out/m/hello/android_arm64/obj/hello.c.o
-  target = --target=aarch64-linux-android
-build out/all: phony out/m/hello/android_arm64/bin/hello
-default out/all
-"
-            .as_slice()
-    );
-    // The rules `cc` and `link` aren't in this file.
-    assert!(rt; !is_well_formed(alloc, &file)?);
+fn texts_that_are_read(rt: HostRuntime) -> Result<(), Fail> {
+    for case in &READ {
+        assert!(rt; holds(rt.alloc(), case)?, "{:?}", case.0);
+    }
     Ok(())
 }
 
 #[test]
-fn escapes(rt: HostRuntime) -> Result<(), Fail> {
-    let alloc = rt.alloc();
-    let object = "out/m/x/android_arm64/obj/a b:$.c.o";
-    let mut statements = Vec::new(alloc);
-    for cflags in [" -X", "-D$"] {
-        let vars = [TARGET, ("cflags", cflags)];
-        statements.push(statement(alloc, object, "cc", &["a b:$.c"], &vars)?)?;
+fn texts_that_are_refused(rt: HostRuntime) -> Result<(), Fail> {
+    for case in &REFUSED {
+        assert!(rt; holds(rt.alloc(), case)?, "{:?}", case.0);
     }
-    let file = NinjaFile {
-        rules: Seq::new(Vec::new(alloc)),
-        statements: Seq::new(statements),
-        defaults: texts(alloc, &[])?,
-    };
-    assert_eq!(rt;
-        write(alloc, &file)?.as_slice(),
-        b"# build.ninja written by bpgen
-build out/m/x/android_arm64/obj/a$ b$:$$.c.o: cc a$ b$:$$.c
-  target = --target=aarch64-linux-android
-  cflags = $ -X
-build out/m/x/android_arm64/obj/a$ b$:$$.c.o: cc a$ b$:$$.c
-  target = --target=aarch64-linux-android
-  cflags = -D$$
-"
-            .as_slice()
-    );
+    for case in &ENDS {
+        assert!(rt; holds(rt.alloc(), case)?, "{:?}", case.0);
+    }
     Ok(())
 }
 
-fn pieces(alloc: Global, before: &str, variable: &str) -> Result<Seq<Piece>, OutOfMemory> {
-    let mut pieces = Vec::new(alloc);
-    pieces.push(Piece::Lit(Text::from_str(alloc, before)?))?;
-    pieces.push(Piece::Var(Text::from_str(alloc, variable)?))?;
-    Ok(Seq::new(pieces))
-}
+// A file that is read is well formed but for empty values and control characters in values.
+const FORMED: [(&[u8], &str, bool); 5] = [
+    (b"", "", true),
+    (
+        b"rule r\n command = $ x$y$$\nbuild a$ b:r c || d\n k = :\ndefault a$ b",
+        "rule r\n  command = $ x${y}$$\nbuild a$ b: r c || d\n  k = :\ndefault a$ b\n",
+        true,
+    ),
+    (b"rule r\n  command =\n", "", false),
+    (b"build a: phony\n  k =\n", "", false),
+    (b"build a: phony\n  k = \t\n", "", false),
+];
 
 #[test]
-fn every_part_of_a_file(rt: HostRuntime) -> Result<(), Fail> {
-    let alloc = rt.alloc();
-    let mut bindings = Vec::new(alloc);
-    bindings.push((
-        Text::from_str(alloc, "command")?,
-        pieces(alloc, "cp $1: ", "in")?,
-    ))?;
-    bindings.push((
-        Text::from_str(alloc, "description")?,
-        pieces(alloc, " CP ", "out")?,
-    ))?;
-    let mut rules = Vec::new(alloc);
-    rules.push(NinjaRule {
-        name: Text::from_str(alloc, "copy")?,
-        bindings: Seq::new(bindings),
-    })?;
-    let mut statements = Vec::new(alloc);
-    statements.push(Statement {
-        outs: texts(alloc, &["a", "b"])?,
-        rule: Text::from_str(alloc, "copy")?,
-        ins: texts(alloc, &["c"])?,
-        implicit: texts(alloc, &["d", "e"])?,
-        order_only: texts(alloc, &["f", "g"])?,
-        vars: variables(alloc, &[])?,
-    })?;
-    let file = NinjaFile {
-        rules: Seq::new(rules),
-        statements: Seq::new(statements),
-        defaults: texts(alloc, &["b", "a"])?,
-    };
-    assert_eq!(rt;
-        write(alloc, &file)?.as_slice(),
-        b"# build.ninja written by bpgen
-rule copy
-  command = cp $$1: ${in}
-  description = $ CP ${out}
-build a b: copy c | d e || f g
-default b a
-"
-            .as_slice()
-    );
-    assert!(rt; is_well_formed(alloc, &file)?);
+fn well_formed_files_come_back(rt: HostRuntime) -> Result<(), Fail> {
+    for (text, wanted, formed) in &FORMED {
+        assert_eq!(rt;
+            comes_back(rt.alloc(), text, wanted)?,
+            *formed,
+            "{:?}",
+            text
+        );
+    }
     Ok(())
 }

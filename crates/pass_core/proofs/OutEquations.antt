@@ -1,13 +1,13 @@
 -- The outs of a whole pass, node by node.
-use Rattle.std.proofs.Common.{◌≡◌, ◌+◌, ◌<◌, ◌≤◌, ℕ, zero, suc, List, [], ◌∷◌, map, length, get_or, refl, ap, ◌∙◌, sym, subst, arith, Option, Some, None, Result, Ok, Err}
-use Rattle.std.specs.List.{AllByRecursion, range_with_len}
+use Rattle.std.proofs.Common.{◌≡◌, ◌+◌, ◌<◌, ℕ, zero, suc, List, [], ◌∷◌, map, length, get_or, refl, ap, ◌∙◌, sym, arith, Some, Result, Ok, Err}
+use Rattle.std.specs.List.{AllByRecursion}
 use Rattle.std.proofs.lemmas.List.{length-map}
 use Rattle.std.proofs.lemmas.List.FromFn.{length-map-range_with_len, get_or-map-range_with_len}
 use Rattle.bp_faults.specs.declared.fault.Fault.{Fault}
 use Rattle.pass_core.specs.declared.plan.Plan.{Plan}
 use Rattle.pass_core.specs.declared.plan.PlanEdge.{PlanEdge}
-use Rattle.pass_core.specs.Plans.{IsPlan, HasNoCycle, HaveEndsBelow, predecessors, in_edges, sources}
-use Rattle.pass_core.specs.Results.{NodeResult, Done, Bad, Poisoned, visited, outs_of, judged, node_result, cons_if}
+use Rattle.pass_core.specs.Plans.{IsPlan, HasNoCycle, predecessors}
+use Rattle.pass_core.specs.Results.{Done, visited, outs_of, judged, node_result, cons_if}
 use Rattle.pass_core.specs.Outcomes.{IsOutcome}
 use Rattle.pass_core.proofs.Unrolled.{result_equation}
 use Rattle.pass_core.proofs.Predecessors.{all_predecessors}

@@ -1,9 +1,9 @@
 -- A state that is reached leads to another by each step that it allows.
-use Rattle.std.proofs.Common.{◌≡◌, ℕ, List, [], ◌∷◌, ◌++◌, ◌+◌, length, length-append, refl, ap, ◌∙◌, sym, subst, Result}
+use Rattle.std.proofs.Common.{◌≡◌, ℕ, List, [], ◌∷◌, ◌++◌, ◌+◌, length-append, refl, ap, ◌∙◌, sym, subst, Result}
 use Rattle.bp_faults.specs.declared.fault.Fault.{Fault}
 use Rattle.pass_core.specs.declared.plan.Plan.{Plan}
 use Rattle.pass_core.specs.declared.step.Step.{Step}
-use Rattle.pass_core.specs.CoreStates.{CoreState, Allows, after, beginning, after_all, AreAllowed, IsReached, IsReachedIn}
+use Rattle.pass_core.specs.CoreStates.{CoreState, Allows, after, beginning, after_all, AreAllowed, IsReachedIn}
 
 module _ {O : Type 0} (mean : ℕ → List O → Result O Fault) (plan : Plan) where
   after_snoc : (s : CoreState O) (ts : List Step) (t : Step) → after_all mean plan s (ts ++ t ∷ []) ≡ after mean plan (after_all mean plan s ts) t

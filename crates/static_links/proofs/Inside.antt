@@ -2,12 +2,13 @@
 use Rattle.std.proofs.Common.{◌≡◌, ◌<◌, ℕ, List, [], ◌∷◌, length, map, Option, Some, None, Result, Ok, Err, refl, arith}
 use Rattle.std.specs.Option.{unwrap_or}
 use Rattle.std.specs.List.{AllByRecursion}
+use Rattle.std.proofs.lemmas.List.{length-map}
 use Rattle.bp_faults.specs.declared.fault.Fault.{Fault}
 use Rattle.bp_faults.specs.declared.place.Item.{Item}
 use Rattle.bp_faults.specs.Answers.{then_do}
 use Rattle.static_links.specs.declared.module.Module.{Module}
 use Rattle.bp_faults.specs.Phases.{check_each}
-use Rattle.static_links.specs.Names.{number_of, library_at, is_library, has_libraries, names_checked, target_of}
+use Rattle.static_links.specs.Names.{number_in, library_at, is_library, has_libraries, names_checked, target_of}
 use Rattle.static_links.proofs.Numbered.{number_within}
 
 -- where both are done, each is
@@ -21,7 +22,7 @@ done_then (Err fault) b value h = cc
 
 module _ (all : List Module) where
   abbrev names : List ℕ → Option ℕ
-  names = number_of all
+  names = number_in all
 
   -- the items name modules
   abbrev pub AreInside : List Item → Type 0
@@ -32,7 +33,9 @@ module _ (all : List Module) where
 
   by_number : (item : Item) (r : Option ℕ) → names item.text ≡ r → library_at all item r ≡ Ok tt → unwrap_or r 0 < length all
   by_number item None is l = cc
-  by_number item (Some n) is l = let within = number_within 0 all item.text n is in omega arith
+  by_number item (Some n) is l =
+      let within = number_within 0 (map (λ (m : Module). m.name) all) item.text n is in
+      let many = length-map all (λ (m : Module). m.name) in omega (arith, within, many)
 
   items_inside : (items : List Item) → check_each (is_library names all) items ≡ Ok tt → AreInside items
   items_inside [] library = tt

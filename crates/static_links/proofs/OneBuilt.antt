@@ -6,10 +6,10 @@ use Rattle.bp_faults.specs.Phases.{IsOnce, HasOutcome, GoesOn, Then}
 use Rattle.bp_faults.specs.Order.{Gathers}
 use Rattle.bp_faults.proofs.Phases.{value_once, then_once, then_some}
 use Rattle.bp_faults.proofs.Gathered.{gathers_once, gathers_some}
-use Rattle.ninja_text.specs.declared.file.Statement.{Statement}
+use Rattle.ninja_file.specs.declared.file.Statement.{Statement}
 use Rattle.module_graph.specs.Laws.{OneCycleMeaning}
 use Rattle.static_links.specs.declared.module.Module.{Module}
-use Rattle.static_links.specs.Names.{number_of, names_checked}
+use Rattle.static_links.specs.Names.{number_in, names_checked}
 use Rattle.static_links.specs.Limits.{edges_counted}
 use Rattle.static_links.specs.Nodes.{graph_of, labels_of}
 use Rattle.static_links.specs.Lines.{line_step, height_in}
@@ -58,7 +58,7 @@ module _ (ms : List Module) where
   says_one rule checked =
       rule (graph_of ms) (labels_of ms)
       (name_nodes ms
-      (all_inside ms (done_first (names_checked (number_of ms) ms) (edges_counted ms) tt checked)))
+      (all_inside ms (done_first (names_checked (number_in ms) ms) (edges_counted ms) tt checked)))
 
   said_once : SaysOne → IsOnce (CycleSays ms)
   said_once one a b x y = sym (one.2 a x) ∙ one.2 b y

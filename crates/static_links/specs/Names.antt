@@ -1,24 +1,20 @@
 -- The modules that are meant by names. Modules are numbered from 0, in their order.
-use Rattle.std.specs.Prelude.{ℕ, ◌+◌, List, [], ◌∷◌, map, Option, Some, None, Result, Ok, Err, if◌then◌else◌, slice_get}
+use Rattle.std.specs.Prelude.{ℕ, List, map, Option, Some, None, Result, Ok, Err, slice_get}
 use Rattle.std.specs.Option.{unwrap_or, option_map_or}
-use Rattle.std.specs.Str.{bytes_eq}
 use Rattle.bp_faults.specs.declared.fault.Fault.{Fault}
 use Rattle.bp_faults.specs.declared.place.Item.{Item}
 use Rattle.bp_faults.specs.declared.kind.FaultKind.TheVariants.{MissingModule, MissingVariant}
 use Rattle.bp_faults.specs.Faults.{fault_on}
+use Rattle.bp_names.specs.Meaning.{first_number}
 use Rattle.static_links.specs.declared.module.Module.{Module}
 use Rattle.static_links.specs.declared.module.ModuleKind.{ModuleKind}
 use Rattle.static_links.specs.declared.module.ModuleKind.TheVariants.{Binary, StaticLibrary}
 use Rattle.bp_faults.specs.Phases.{check_each}
 use Rattle.static_links.specs.Variants.{variant_label}
 
--- The number of the first module of a name, counted on from k.
-abbrev pub number_from : ℕ → List Module → List ℕ → Option ℕ
-number_from k [] name = None
-number_from k (m ∷ ms) name = if bytes_eq m.name name then Some k else number_from (k + 1) ms name
-
-abbrev pub number_of : List Module → List ℕ → Option ℕ
-number_of ms name = number_from 0 ms name
+-- The number of the first module of a name.
+abbrev pub number_in : List Module → List ℕ → Option ℕ
+number_in ms name = first_number (map (λ (m : Module). m.name) ms) name
 
 -- the static variant is wanted
 abbrev pub missing_variant : Item → Fault

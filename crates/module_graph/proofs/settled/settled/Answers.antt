@@ -1,5 +1,4 @@
 use Rattle.std.proofs.Common.{◌≡◌, ◌∙◌, ◌<◌, ◌≤◌, ◌⊎◌, ⊎_elim, ℕ, List, take, slice_index, length, arith, subst, sym, ap}
-use Rattle.std.specs.List.{AllByRecursion}
 use Rattle.std.proofs.lemmas.Bool.Decides.{nat_tests}
 use Rattle.bp_faults.proofs.Lists.{all_map}
 use Rattle.pass_core.specs.declared.plan.PlanEdge.{PlanEdge}

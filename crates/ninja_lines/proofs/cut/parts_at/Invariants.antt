@@ -1,7 +1,8 @@
 use Rattle.std.proofs.Common.{◌≡◌, length, false, map, ◌++◌}
 use denote.Text.{Utf8}
 use denote.Shadow.{shadow}
-use Rattle.ninja_lines.specs.Cuts.{cut, reach}
+use Rattle.ninja_lines.specs.Cuts.{cut}
+use Rattle.ninja_lines.specs.Inside.{reach}
 use Rattle.ninja_lines.proofs.cut.parts_at.Given as goal
 
 -- the parts that are there and those of what is left are all parts

@@ -1,5 +1,5 @@
 use Rattle.std.proofs.Common.{◌≡◌, ◌+◌, false, drop}
-use Rattle.ninja_lines.specs.Cuts.{reach}
+use Rattle.ninja_lines.specs.Inside.{reach}
 use Rattle.ninja_lines.proofs.cut.reach.Given as goal
 
 -- the whole way is what was passed and what is left

@@ -1,5 +1,5 @@
 use Rattle.std.proofs.Common.{◌≡◌, false, drop}
-use Rattle.ninja_lines.specs.Lines.{dangles}
+use Rattle.ninja_lines.specs.Meaning.{dangles}
 use Rattle.ninja_lines.proofs.joined_lines.dangles.Given as goal
 
 -- what is left decides

@@ -1,5 +1,5 @@
 use Rattle.std.proofs.Common.{arith, ap, sym, ◌∙◌, false}
-use Rattle.ninja_lines.specs.Lines.{dangles, drop_spaces}
+use Rattle.ninja_lines.specs.Meaning.{dangles, drop_spaces}
 use Rattle.ninja_lines.proofs.JoinedAt.{closed_by_not_text, closed_by_line, stays_open}
 use Rattle.ninja_lines.proofs.joined_lines.join.Goals as goal
 

@@ -1,5 +1,5 @@
 use Rattle.std.proofs.Common.{◌≡◌, ◌+◌, ◌-◌, ◌<◌, ◌≤◌, length, drop}
-use Rattle.ninja_lines.specs.Lines.{joined, glue}
+use Rattle.ninja_lines.specs.Meaning.{joined, glue}
 use Rattle.ninja_lines.specs.Shown.{texts}
 use Rattle.ninja_lines.proofs.joined_lines.join.Given as goal
 

@@ -1,5 +1,5 @@
 use Rattle.std.proofs.Common.{◌≡◌, ◌+◌, ◌-◌, ◌≤◌, ◌++◌, map, length, drop}
-use Rattle.ninja_lines.specs.Lines.{joined}
+use Rattle.ninja_lines.specs.Meaning.{joined}
 use Rattle.ninja_lines.specs.Shown.{texts, shown_line}
 use Rattle.ninja_lines.proofs.joined_lines.joined.Given as goal
 

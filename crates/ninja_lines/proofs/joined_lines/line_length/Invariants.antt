@@ -1,5 +1,5 @@
 use Rattle.std.proofs.Common.{◌≡◌, ◌+◌, drop}
-use Rattle.ninja_lines.specs.Lines.{line_length}
+use Rattle.ninja_lines.specs.Inside.{line_length}
 use Rattle.ninja_lines.proofs.joined_lines.line_length.Given as goal
 
 -- the whole way is what was passed and what is left

@@ -1,5 +1,5 @@
 use Rattle.std.proofs.Common.{◌≡◌, ◌++◌, length}
-use Rattle.ninja_lines.specs.Lines.{lines}
+use Rattle.ninja_lines.specs.Meaning.{lines}
 use Rattle.ninja_lines.specs.Shown.{texts}
 use Rattle.ninja_lines.proofs.joined_lines.lines.Given as goal
 

@@ -1,5 +1,5 @@
 use Rattle.std.proofs.Common.{ap, sym, ◌∙◌, false}
-use Rattle.ninja_lines.specs.Lines.{dangles}
+use Rattle.ninja_lines.specs.Meaning.{dangles}
 use Rattle.ninja_lines.proofs.JoinedAt.{one_not_text, one_whole}
 use Rattle.ninja_lines.proofs.joined_lines.next_line.Goals as goal
 

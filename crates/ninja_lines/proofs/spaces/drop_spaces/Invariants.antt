@@ -1,7 +1,7 @@
 use Rattle.std.proofs.Common.{◌≡◌, length}
 use denote.Text.{Utf8}
 use denote.Shadow.{shadow}
-use Rattle.ninja_lines.specs.Lines.{drop_spaces}
+use Rattle.ninja_lines.specs.Meaning.{drop_spaces}
 use Rattle.ninja_lines.proofs.spaces.drop_spaces.Given as goal
 
 -- the same is left

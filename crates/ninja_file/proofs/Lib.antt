@@ -1,0 +1,3 @@
+pub mod Firsts
+pub mod TextSets
+pub mod Wholes

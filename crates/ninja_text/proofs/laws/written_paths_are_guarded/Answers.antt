@@ -1,5 +1,0 @@
-use Rattle.ninja_text.proofs.Guarded.{guarded}
-use Rattle.ninja_text.proofs.laws.written_paths_are_guarded.Goals as goal
-
-pub returns : goal.returns
-returns c = guarded

@@ -1,9 +1,0 @@
-use Rattle.std.proofs.Common.{map, take}
-use Rattle.std.specs.List.{IsDistinct}
-use Rattle.std.specs.Str.{bytes_eq}
-use Rattle.ninja_text.specs.Listing.{IsSetOf}
-use Rattle.ninja_text.proofs.listing.set_of.Given as goal
-
--- the set has the first texts, which differ
-abbrev pub invariant-loop-text : goal.invariant-loop-text
-invariant-loop-text l = IsSetOf (take l.text-index (map (λ t. t.now) l.texts)) l.set × IsDistinct bytes_eq (take l.text-index (map (λ t. t.now) l.texts))

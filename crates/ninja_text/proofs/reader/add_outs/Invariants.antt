@@ -1,8 +1,0 @@
-use Rattle.std.proofs.Common.{ℕ, List}
-use Rattle.ninja_text.specs.Listing.{IsSetOf}
-use Rattle.ninja_text.proofs.Outs.{Adds}
-use Rattle.ninja_text.proofs.reader.add_outs.Given as goal
-
--- the first outs are in the set, and what is left decides
-abbrev pub invariant-loop-out : goal.invariant-loop-out
-invariant-loop-out l = (texts : List (List ℕ)) → IsSetOf texts l.fn.seen → Adds texts l.outs l.out-index l.seen

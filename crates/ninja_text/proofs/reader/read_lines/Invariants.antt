@@ -1,9 +1,0 @@
-use Rattle.std.proofs.Common.{◌≡◌, map, drop}
-use Rattle.ninja_lines.specs.Shown.{shown_line}
-use Rattle.ninja_text.specs.Learnt.{shown_book, IsLearnt}
-use Rattle.ninja_text.specs.Reading.{no_book, read_lines}
-use Rattle.ninja_text.proofs.reader.read_lines.Given as goal
-
--- what is left decides
-abbrev pub invariant-loop-index : goal.invariant-loop-index
-invariant-loop-index l = record { learnt : IsLearnt l.book; same : read_lines (shown_book l.book) (map shown_line (drop l.index l.lines)) ≡ read_lines no_book (map shown_line l.lines) }

@@ -1,6 +1,0 @@
-use Rattle.ninja_text.specs.Text.{binding_line}
-use Rattle.ninja_text.proofs.Lines.{joined-map}
-use Rattle.ninja_text.proofs.text.put_bindings.Goals as goal
-
-pub returns : goal.returns
-returns c = rw (joined-map binding_line c.args.bindings.now) c.put_all.ensures

@@ -1,0 +1,9 @@
+pub mod Boundaries
+pub mod Bytes
+pub mod Grows
+pub mod Guarded
+pub mod Lines
+pub mod OneLine
+pub mod PieceReading
+pub mod Reading
+pub mod Runs

@@ -1,0 +1,4 @@
+pub mod Meaning
+pub mod Escaped
+pub mod Laws
+pub mod Inside

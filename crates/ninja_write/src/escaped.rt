@@ -1,0 +1,37 @@
+ghost use Rattle.std.specs.Prelude.{◌≡◌, ◌∷◌, ◌++◌};
+ghost use Rattle.std.specs.List.{position};
+ghost use Rattle.ninja_write.specs.Inside.{Puts};
+ghost use Rattle.ninja_file.specs.Escapes.{dollar, is_escaped};
+ghost use Rattle.ninja_write.specs.Escaped.{escaped};
+
+use crate::output::{Output, WriteError};
+use ninja_file::{Escape, is_escaped_byte};
+
+fn first_escaped(escape: Escape, bytes: &[u8]) -> Option<usize>
+    ensures { result ≡ position (is_escaped escape) bytes.now }
+{
+    bytes.iter().position(|byte| is_escaped_byte(escape, *byte))
+}
+
+// Puts a run and, behind a dollar, what follows it.
+fn put_run(output: &mut Output, run: &str, special: &str) -> Result<(), WriteError>
+    ensures { Puts (run.now ++ (dollar ∷ special.now)) output.old output.new result }
+{
+    output.put(run)?;
+    output.put("$")?;
+    output.put(special)
+}
+
+/// Puts a text with its escapes, and each run that has none at once.
+pub fn put_escaped(output: &mut Output, escape: Escape, text: &str) -> Result<(), WriteError>
+    ensures { Puts (escaped escape text.now) output.old output.new result }
+{
+    let mut rest = text;
+    while let Some(at) = first_escaped(escape, rest.as_bytes()) {
+        let (run, tail) = rest.split_at(at);
+        let (special, after) = tail.split_at(1);
+        put_run(output, run, special)?;
+        rest = after;
+    }
+    output.put(rest)
+}

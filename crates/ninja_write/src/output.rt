@@ -1,0 +1,85 @@
+ghost use Rattle.std.specs.Prelude.{◌≡◌, ℕ, ◌≤◌, ◌^◌, List, [], IsUtf8, length, string_bytes, string_len};
+ghost use Rattle.std.specs.List.{flat_map};
+ghost use Rattle.ninja_write.specs.Inside.{Puts};
+
+use std::alloc::Global;
+use std::marker::Model;
+use thiserror::Error;
+
+/// Why a file has no text.
+#[derive(Clone, Copy, Debug, Error, PartialEq, Eq)]
+pub enum WriteError {
+    /// The text is longer than 2^29 bytes.
+    #[error("the text is too large")]
+    TooLarge,
+    #[error("out of memory")]
+    OutOfMemory,
+}
+
+/// The most bytes that a text may have.
+const LIMIT: usize = 1 << 29;
+
+/// A text that grows up to the limit. Contracts see it as its bytes.
+#[derive(Debug, Drop)]
+pub struct Output {
+    text: String,
+}
+
+impl Model for Output {
+    ghost Value = { List ℕ };
+
+    ghost view = { λ o. string_bytes o.text };
+
+    ghost invariant = { λ o. string_len o.text ≤ 2 ^ 29 };
+}
+
+impl Output {
+    pub fn new(alloc: Global) -> Output
+        ensures { result ≡ [] }
+    {
+        Output {
+            text: String::new(alloc),
+        }
+    }
+
+    /// The text as bytes.
+    pub fn into_bytes(self) -> Vec<u8>
+        ensures bytes { result.items ≡ self }
+        ensures fits { length result.items ≤ 2 ^ 29 }
+        ensures utf8 { IsUtf8 result.items }
+    {
+        let _text = self.text.as_str();
+        self.text.into_bytes()
+    }
+
+    /// Puts a text behind what is there. A text that would pass the limit isn't built.
+    pub fn put(&mut self, text: &str) -> Result<(), WriteError>
+        ensures { Puts text.now self.old self.new result }
+    {
+        if text.len() > LIMIT - self.text.len() {
+            return Err(WriteError::TooLarge);
+        }
+        match self.text.push_str(text) {
+            Ok(()) => Ok(()),
+            Err(_) => Err(WriteError::OutOfMemory),
+        }
+    }
+}
+
+/// What has a text in the file.
+pub trait Written {
+    ghost text: { Self → List ℕ };
+
+    fn put(&self, output: &mut Output) -> Result<(), WriteError>
+        ensures { Puts (text self.now) output.old output.new result };
+}
+
+/// Puts the text of each, one behind the other.
+pub fn put_all<W: Written>(output: &mut Output, all: &[W]) -> Result<(), WriteError>
+    ensures { Puts (flat_map W.text all.now) output.old output.new result }
+{
+    for one in all {
+        one.put(output)?;
+    }
+    Ok(())
+}

@@ -1,0 +1,206 @@
+ghost use Rattle.std.specs.Prelude.{◌≡◌, ℕ, ◌^◌, ◌<◌, ◌≤◌, List, [], ◌∷◌, ◌++◌, IfOk, IsErrOf, IsUtf8, map};
+ghost use Rattle.std.specs.Prelude.{length, codes};
+ghost use Rattle.std.specs.List.{flat_map};
+ghost use Rattle.ninja_write.specs.Inside.{Puts};
+ghost use Rattle.ninja_write.specs.Escaped.{lead, value_text};
+ghost use Rattle.ninja_write.specs.Meaning.{piece_text, lead_of, pieces_text, binding_line, variable_line};
+ghost use Rattle.ninja_write.specs.Meaning.{spaced_path, marked, ins_text, build_line, rule_line, rule_lines};
+ghost use Rattle.ninja_write.specs.Meaning.{statement_lines, default_lines, head_line, ended, joined};
+ghost use Rattle.ninja_write.specs.Meaning.{text_of};
+
+use crate::escaped::put_escaped;
+use crate::output::{Output, WriteError, Written, put_all};
+use bp_faults::{Seq, Text};
+use ninja_file::{Escape, NinjaFile, NinjaRule, Piece, Statement};
+use std::alloc::Global;
+
+impl Written for Piece {
+    ghost text = { piece_text };
+
+    fn put(&self, output: &mut Output) -> Result<(), WriteError> {
+        match self {
+            Piece::Lit(text) => put_escaped(output, Escape::Value, text.as_str()),
+            Piece::Var(name) => {
+                output.put("${")?;
+                output.put(name.as_str())?;
+                output.put("}")
+            }
+        }
+    }
+}
+
+/// A path, behind a space.
+impl Written for Text {
+    ghost text = { spaced_path };
+
+    fn put(&self, output: &mut Output) -> Result<(), WriteError> {
+        output.put(" ")?;
+        put_escaped(output, Escape::Path, self.as_str())
+    }
+}
+
+// The dollar before a space that begins a value.
+fn put_lead(output: &mut Output, value: &str) -> Result<(), WriteError>
+    ensures { Puts (lead value.now) output.old output.new result }
+{
+    match value.as_bytes() {
+        [b' ', ..] => output.put("$"),
+        _ => Ok(()),
+    }
+}
+
+fn put_lead_of(output: &mut Output, pieces: &[Piece]) -> Result<(), WriteError>
+    ensures { Puts (lead_of pieces.now) output.old output.new result }
+{
+    match pieces {
+        [Piece::Lit(text), ..] => put_lead(output, text.as_str()),
+        _ => Ok(()),
+    }
+}
+
+fn put_value(output: &mut Output, value: &str) -> Result<(), WriteError>
+    ensures { Puts (value_text value.now) output.old output.new result }
+{
+    put_lead(output, value)?;
+    put_escaped(output, Escape::Value, value)
+}
+
+fn put_pieces(output: &mut Output, pieces: &[Piece]) -> Result<(), WriteError>
+    ensures { Puts (pieces_text pieces.now) output.old output.new result }
+{
+    put_lead_of(output, pieces)?;
+    put_all(output, pieces)
+}
+
+/// A binding of a rule, as a line.
+impl Written for (Text, Seq<Piece>) {
+    ghost text = { λ binding. ended (binding_line binding) };
+
+    fn put(&self, output: &mut Output) -> Result<(), WriteError> {
+        output.put("  ")?;
+        output.put(self.0.as_str())?;
+        output.put(" = ")?;
+        put_pieces(output, self.1.as_slice())?;
+        output.put("\n")
+    }
+}
+
+/// A variable of a statement, as a line.
+impl Written for (Text, Text) {
+    ghost text = { λ variable. ended (variable_line variable) };
+
+    fn put(&self, output: &mut Output) -> Result<(), WriteError> {
+        output.put("  ")?;
+        output.put(self.0.as_str())?;
+        output.put(" = ")?;
+        put_value(output, self.1.as_str())?;
+        output.put("\n")
+    }
+}
+
+fn put_bindings(output: &mut Output, bindings: &[(Text, Seq<Piece>)]) -> Result<(), WriteError>
+    ensures { Puts (joined (map binding_line bindings.now)) output.old output.new result }
+{
+    put_all(output, bindings)
+}
+
+fn put_rule_line(output: &mut Output, rule: &NinjaRule) -> Result<(), WriteError>
+    ensures { Puts (ended (rule_line rule.now)) output.old output.new result }
+{
+    output.put("rule ")?;
+    output.put(rule.name.as_str())?;
+    output.put("\n")
+}
+
+impl Written for NinjaRule {
+    ghost text = { λ rule. joined (rule_lines rule) };
+
+    fn put(&self, output: &mut Output) -> Result<(), WriteError> {
+        put_rule_line(output, self)?;
+        put_bindings(output, self.bindings.as_slice())
+    }
+}
+
+// Paths behind a mark, where there are any.
+fn put_marked(output: &mut Output, mark: &str, paths: &[Text]) -> Result<(), WriteError>
+    ensures { Puts (marked mark.now paths.now) output.old output.new result }
+{
+    if paths.is_empty() {
+        return Ok(());
+    }
+    output.put(mark)?;
+    put_all(output, paths)
+}
+
+fn put_ins(output: &mut Output, statement: &Statement) -> Result<(), WriteError>
+    ensures { Puts (ins_text statement.now) output.old output.new result }
+{
+    put_all(output, statement.ins.as_slice())?;
+    put_marked(output, " |", statement.implicit.as_slice())?;
+    put_marked(output, " ||", statement.order_only.as_slice())
+}
+
+fn put_variables(output: &mut Output, variables: &[(Text, Text)]) -> Result<(), WriteError>
+    ensures { Puts (joined (map variable_line variables.now)) output.old output.new result }
+{
+    put_all(output, variables)
+}
+
+fn put_build_line(output: &mut Output, statement: &Statement) -> Result<(), WriteError>
+    ensures { Puts (ended (build_line statement.now)) output.old output.new result }
+{
+    output.put("build")?;
+    put_all(output, statement.outs.as_slice())?;
+    output.put(": ")?;
+    output.put(statement.rule.as_str())?;
+    put_ins(output, statement)?;
+    output.put("\n")
+}
+
+impl Written for Statement {
+    ghost text = { λ statement. joined (statement_lines statement) };
+
+    fn put(&self, output: &mut Output) -> Result<(), WriteError> {
+        put_build_line(output, self)?;
+        put_variables(output, self.vars.as_slice())
+    }
+}
+
+#[tactic(auto, unfolding(crate::specs::Meaning::head_line))]
+fn put_head(output: &mut Output) -> Result<(), WriteError>
+    ensures { Puts (ended head_line) output.old output.new result }
+{
+    output.put("# build.ninja written by bpgen\n")
+}
+
+fn put_defaults(output: &mut Output, paths: &[Text]) -> Result<(), WriteError>
+    ensures { Puts (joined (default_lines paths.now)) output.old output.new result }
+{
+    if paths.is_empty() {
+        return Ok(());
+    }
+    output.put("default")?;
+    put_all(output, paths)?;
+    output.put("\n")
+}
+
+fn put_file(output: &mut Output, file: &NinjaFile) -> Result<(), WriteError>
+    ensures { Puts (text_of file.now) output.old output.new result }
+{
+    put_head(output)?;
+    put_all(output, file.rules.as_slice())?;
+    put_all(output, file.statements.as_slice())?;
+    put_defaults(output, file.defaults.as_slice())
+}
+
+/// The text of a file. Any file has one; Ninja reads back only that of a well-formed file as it was meant.
+pub fn write(alloc: Global, f: &NinjaFile) -> Result<Vec<u8>, WriteError>
+    ensures text { IfOk result (λ text. text.items ≡ text_of f.now) }
+    ensures fits { IfOk result (λ text. length text.items ≤ 2 ^ 29) }
+    ensures utf8 { IfOk result (λ text. IsUtf8 text.items) }
+    ensures too_large { IsErrOf result WriteError.TooLarge → 2 ^ 29 < length (text_of f.now) }
+{
+    let mut output = Output::new(alloc);
+    put_file(&mut output, f)?;
+    Ok(output.into_bytes())
+}

@@ -1,0 +1,12 @@
+pub mod Views
+pub mod Sums
+pub mod Edges
+pub mod Meaning
+pub mod Answers
+pub mod Ends
+pub mod Receipts
+pub mod Seen
+pub mod Inside
+pub mod Shows
+pub mod Laws
+pub mod Examples

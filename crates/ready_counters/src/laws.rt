@@ -1,0 +1,22 @@
+//! What a board shows: each law is the contract of a function that only calls the laws it rests on.
+
+ghost use Rattle.ready_counters.specs.Laws.{NewBoardShowsBeginning, StepsAreCoreSteps, DoneBoardShowsFinished};
+
+use pass_core::laws::results_meet_their_equation;
+
+/// A new board shows a core of which nothing is done.
+pub fn new_board_shows_beginning<O>()
+    ensures { NewBoardShowsBeginning O }
+{}
+
+/// Each step of a seat is the core step of its kind, or leaves the core as it was.
+pub fn steps_are_core_steps<O>()
+    ensures { StepsAreCoreSteps O }
+{
+    results_meet_their_equation::<O>();
+}
+
+/// A board on which a whole seat has done all shows a finished core.
+pub fn done_board_shows_finished<O>()
+    ensures { DoneBoardShowsFinished O }
+{}

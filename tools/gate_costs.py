@@ -1,0 +1,96 @@
+#!/usr/bin/env python3
+"""Runs a command of `rt` and prints what each crate cost: `tools/gate_costs.py rt ci --anew`. It is no part of the gate.
+
+It looks at the processes below the command twice a second, and prints the table of docs/CONTRIBUTING.md, in minutes of
+processor time: the proof of each crate, the proof of its tests, and its must-fail edits. What runs for less than half a
+second between two looks is missed, so the sums are a little low. It ends with the status of the command.
+"""
+import collections
+import os
+import re
+import subprocess
+import sys
+import time
+
+TICKS = os.sysconf("SC_CLK_TCK")
+KINDS = ["proof", "tests", "edits"]
+
+
+def read(path):
+    """The bytes of a file of /proc, or none where the process is gone."""
+    try:
+        with open(path, "rb") as file:
+            return file.read()
+    except OSError:
+        return b""
+
+
+def processes():
+    """Each process by its number: its parent's number, when it started, and its processor time in ticks."""
+    found = {}
+    for name in os.listdir("/proc"):
+        if name.isdigit():
+            fields = read(f"/proc/{name}/stat").rpartition(b")")[2].split()
+            if len(fields) > 19:
+                found[int(name)] = (int(fields[1]), int(fields[19]), int(fields[11]) + int(fields[12]))
+    return found
+
+
+def below(top, found):
+    """The processes below one, itself among them."""
+    children = collections.defaultdict(list)
+    for number, (parent, _, _) in found.items():
+        children[parent].append(number)
+    reached, todo = set(), [top]
+    while todo:
+        number = todo.pop()
+        if number not in reached:
+            reached.add(number)
+            todo += children[number]
+    return reached
+
+
+def kind_of(number):
+    """The crate that a process works for, and what it does for it; or nothing, where it is no check of a crate."""
+    words = read(f"/proc/{number}/cmdline").split(b"\0")
+    if b"--crate-name" not in words[:-1]:
+        return None
+    crate = words[words.index(b"--crate-name") + 1].decode()
+    try:
+        place = os.readlink(f"/proc/{number}/cwd")
+    except OSError:
+        place = ""
+    if re.search(r"/rt-edits?-", place + b" ".join(words).decode(errors="replace")):
+        return crate, "edits"
+    return crate, "tests" if b"--test" in words else "proof"
+
+
+def main():
+    command = subprocess.Popen(sys.argv[1:])
+    began = time.monotonic()
+    used, kinds = {}, {}
+    while command.poll() is None:
+        found = processes()
+        for number in below(command.pid, found):
+            if number in found:
+                key = (number, found[number][1])
+                used[key] = found[number][2]
+                if kinds.get(key) is None:
+                    kinds[key] = kind_of(number)
+        time.sleep(0.5)
+    table = collections.Counter()
+    for key, ticks in used.items():
+        table[kinds[key] or ("all else", "proof")] += ticks
+    minutes = (time.monotonic() - began) / 60
+    print("\n| Crate | Proof | Its tests | Edits | In all |\n|---|---|---|---|---|")
+    for crate in sorted({crate for crate, _ in table}):
+        row = [table[crate, kind] / TICKS / 60 for kind in KINDS]
+        print(f"| {crate} | " + " | ".join(f"{it:.1f}" for it in row + [sum(row)]) + " |")
+    sums = [sum(n for (_, kind), n in table.items() if kind == it) / TICKS / 60 for it in KINDS]
+    print("| all | " + " | ".join(f"{it:.1f}" for it in sums + [sum(sums)]) + " |")
+    print(f"\n{minutes:.1f} minutes by the clock")
+    return command.returncode
+
+
+if __name__ == "__main__":
+    sys.exit(main())

@@ -1,0 +1,139 @@
+#!/bin/sh
+# Measures `build` on the worst inputs within its limits: `measure_worst.sh [PROGRAM [CASE ..]]`, by default the program that
+# ./bpgen builds and all cases. For each it prints a row of docs/PERFORMANCE.md: the case, bytes in and out, the exit status, and
+# the least processor time and the greatest memory of RUNS runs (3). It needs GNU time and awk, and is no part of the gate.
+set -eu
+
+top=$(cd "$(dirname "$0")/.." && pwd)
+program=${1:-$top/crates/bpgen/out/bpgen}
+[ $# -eq 0 ] || shift
+cases=${*:-references maps long_paths link_lines chain cycle wide modules empty_lines components tokens}
+runs=${RUNS:-3}
+if [ ! -x "$program" ]; then
+    echo "measure_worst: there is no program $program; ./bpgen builds it"
+    exit 1
+fi
+program=$(cd "$(dirname "$program")" && pwd)/$(basename "$program")
+work=$(mktemp -d)
+trap 'rm -rf "$work"' EXIT
+
+# A file of one directory.
+alone() {
+    echo Android.bp > list
+    cat > Android.bp
+}
+
+# Libraries in files of 5,000: `libraries COUNT LENGTH CLOSED`, in chains of LENGTH, each closed to a cycle where CLOSED is 1.
+libraries() {
+    awk -v count="$1" -v length_="$2" -v closed="$3" 'BEGIN {
+        for (n = 0; n < count; n++) {
+            file = "d" int(n / 5000) "/Android.bp"
+            if (n % 5000 == 0) {
+                print file > "list"
+                system("mkdir -p d" int(n / 5000))
+            }
+            last = n % length_ == length_ - 1 || n == count - 1
+            next_ = last ? (closed ? "\"m" n - n % length_ "\"" : "") : "\"m" n + 1 "\""
+            print "cc_library_static{name:\"m" n "\",static_libs:[" next_ "]}" > file
+        }
+    }'
+}
+
+# A chain of directories: `chain_of COUNT`, each of whose files sets a variable of its own.
+chain_of() {
+    awk -v count="$1" 'BEGIN {
+        path = ""
+        for (n = 0; n < count; n++) { print path "Android.bp"; path = path "a/" }
+    }' > list
+    mkdir -p "$(tail -n 1 list | sed 's,/Android.bp$,,')"
+    awk '{ print "v" NR " = \"x\"" > $0; close($0) }' list
+}
+
+# What each case is, and its tree.
+tree_of() {
+    case $1 in
+        references)
+            echo "references to the variable of the nearest file, below a chain of 2,000 directories that set one each"
+            chain_of 2000
+            awk 'BEGIN {
+                print "z = \"x\""
+                for (list = 0; list < 8; list++) {
+                    printf "l%d = [", list
+                    for (n = 0; n < 64990; n++) printf "z,"
+                    print "]"
+                }
+            }' > "$(tail -n 1 list)" ;;
+        maps)
+            echo "a sum of 20,000 maps with one entry each"
+            awk 'BEGIN { printf "x = {a:1}"; for (n = 1; n < 20000; n++) printf "+{a%d:1}", n; print "" }' | alone ;;
+        long_paths)
+            echo "100,000 modules in a chain of 1,000 directories, whose paths have 1,000 bytes on average"
+            chain_of 1000
+            awk '{
+                for (n = 0; n < 100; n++) print "cc_library_static{name:\"m" NR "_" n "\",srcs:[\"a.c\"]}" > $0
+                close($0)
+            }' list ;;
+        link_lines)
+            echo "100,000 libraries in chains of 1,000: 50 million entries in all link lines"
+            libraries 100000 1000 0 ;;
+        chain)
+            echo "100,000 libraries in one chain: *link line is too long*"
+            libraries 100000 100000 0 ;;
+        cycle)
+            echo "100,000 libraries in one cycle, and its line"
+            libraries 100000 100000 1 ;;
+        wide)
+            echo "380 libraries over 380, each over all: 144,400 items"
+            awk 'BEGIN {
+                for (n = 0; n < 380; n++) print "cc_library_static{name:\"b" n "\"}"
+                for (n = 0; n < 380; n++) {
+                    printf "cc_library_static{name:\"a%d\",static_libs:[", n
+                    for (k = 0; k < 380; k++) printf "\"b%d\",", k
+                    print "]}"
+                }
+            }' | alone ;;
+        modules)
+            echo "131,072 libraries without sources"
+            libraries 131072 1 0 ;;
+        empty_lines)
+            echo "a list of 4,194,304 empty lines"
+            head -c 4194304 /dev/zero | tr '\0' '\n' > list ;;
+        components)
+            echo "a list of one path of 2,097,146 components, which is too long to open"
+            awk 'BEGIN { for (n = 0; n < 2097145; n++) printf "a/"; print "Android.bp" }' > list ;;
+        tokens)
+            echo "a file of 1 MiB of commas: *unexpected token*"
+            head -c 1048576 /dev/zero | tr '\0' ',' | alone ;;
+        *)
+            echo "measure_worst: no case $1" >&2
+            exit 1 ;;
+    esac
+}
+
+echo "| Case | In | Out | Status | Processor time | Memory |"
+echo "|---|---|---|---|---|---|"
+for case in $cases; do
+    mkdir "$work/tree"
+    cd "$work/tree"
+    what=$(tree_of "$case")
+    : > "$work/times"
+    rm -f "$work/out"
+    n=0
+    while [ "$n" -lt "$runs" ]; do
+        status=0
+        /usr/bin/time -q -a -o "$work/times" -f "%U %S %M" \
+            "$program" build -l list -o "$work/out" -t android_arm64 2> /dev/null || status=$?
+        n=$((n + 1))
+    done
+    in=$(find . -type f -exec cat {} + | wc -c)
+    out=$(cat "$work/out" 2> /dev/null | wc -c)
+    awk '{ print $1 + $2, $3 }' "$work/times" | sort -n |
+        awk -v what="$what" -v in_="$in" -v out="$out" -v status="$status" '
+            { if (NR == 1) used = $1; if ($2 > memory) memory = $2 }
+            END {
+                printf "| %s | %.1f MB | %.1f MB | %d | %.2f s | %d MB |\n", what, in_ / 1e6, out / 1e6, status, used,
+                    memory / 1000
+            }'
+    cd "$work"
+    rm -rf tree
+done
