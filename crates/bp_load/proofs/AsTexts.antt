@@ -4,6 +4,9 @@ use Rattle.std.specs.Prelude.{Result, Ok, Err}
 use Rattle.std.specs.Str.{is_utf8}
 use Rattle.std.proofs.lemmas.Str.{IsUtf8-from_is_utf8, is_utf8-from_IsUtf8}
 use Rattle.bp_faults.specs.declared.fault.Fault.{Fault}
+use Rattle.bp_faults.specs.declared.refusal.Refusal.{Refusal}
+use Rattle.bp_faults.specs.declared.refusal.Refusal.TheVariants.{Bad, OutOfMemory}
+use Rattle.bp_faults.specs.Answers.{Answers, Tells}
 use Rattle.bp_faults.specs.Phases.{IsOnce, HasOutcome, GoesOn, Then}
 use Rattle.bp_load.specs.Texts.{AsText, not_utf8}
 
@@ -34,3 +37,11 @@ then_value {A} {B} First Next value means = by means.0 means.1 means.2
         → (first : A) × First (Ok first) × Next first (Ok value)
     by (Ok first) is next = (first, is, next)
     by (Err fault) is same = absurd (cc)
+
+-- What answers a function of a first value tells the two meanings, one after the other.
+pub answers_then : {T A B : Type 0} (view : T → B) (First : Result A Fault → Type 0) (next : A → Result B Fault)
+    (value : A) → First (Ok value) → (r : Result T Refusal) → Answers view r (next value)
+    → Tells view (Then First (λ v outcome. next v ≡ outcome)) r
+answers_then view First next value is (Ok made) h = (Ok value, is, h)
+answers_then view First next value is (Err (Bad fault)) h = (Ok value, is, h)
+answers_then view First next value is (Err OutOfMemory) h = tt

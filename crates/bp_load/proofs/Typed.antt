@@ -7,7 +7,7 @@ use Rattle.bp_faults.specs.declared.fault.Fault.{Fault}
 use Rattle.bp_faults.specs.Answers.{then_do}
 use Rattle.bp_props.specs.declared.module.Module.{Module}
 use Rattle.bp_values.specs.Meaning.{Raw}
-use Rattle.property_tables.specs.Typing.{typed}
+use Rattle.property_tables.specs.Meaning.{typed}
 use Rattle.bp_load.specs.Loaded.{all_typed}
 
 abbrev behind : List Module → Result (List Module) Fault → Result (List Module) Fault

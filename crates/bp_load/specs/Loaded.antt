@@ -11,7 +11,7 @@ use Rattle.bp_names.specs.Meaning.{knows}
 use Rattle.bp_props.specs.declared.given.Given.{Given}
 use Rattle.bp_props.specs.declared.module.Module.{Module}
 use Rattle.bp_values.specs.Meaning.{Raw}
-use Rattle.property_tables.specs.Typing.{typed}
+use Rattle.property_tables.specs.Meaning.{typed}
 use Rattle.bp_faults.specs.Phases.{Then}
 use Rattle.bp_load.specs.Trees.{Source}
 use Rattle.bp_load.specs.Inherited.{RawMean}
