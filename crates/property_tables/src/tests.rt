@@ -275,11 +275,23 @@ const ROWS: [(&str, &str, &str, Given, Option<(FaultKind, &str)>); 37] = [
     ),
 ];
 
-/// Whether a fault is the one that is wanted.
-fn is_wanted(want: Option<(FaultKind, &str)>, fault: &Fault) -> bool {
+/// The fault that a module is refused for, if it is.
+fn fault_of(typed: Result<Option<Module>, LoadError>) -> Result<Option<Fault>, OutOfMemory> {
+    match typed {
+        Ok(_) => Ok(None),
+        Err(LoadError::Bad(fault)) => Ok(Some(fault)),
+        Err(LoadError::OutOfMemory) => Err(OutOfMemory),
+    }
+}
+
+/// Whether the fault is the one that is wanted, if any.
+fn is_wanted(want: Option<(FaultKind, &str)>, fault: Option<&Fault>) -> bool {
     match want {
-        Some((kind, subject)) => kind == fault.kind && subject == fault.subject.as_str(),
-        None => false,
+        Some((kind, subject)) => match fault {
+            Some(fault) => kind == fault.kind && subject == fault.subject.as_str(),
+            None => false,
+        },
+        None => fault.is_none(),
     }
 }
 
@@ -287,11 +299,8 @@ fn is_wanted(want: Option<(FaultKind, &str)>, fault: &Fault) -> bool {
 fn modules_are_typed_or_refused(rt: HostRuntime) -> Result<(), Fail> {
     let alloc = rt.alloc();
     for (kind, name, path, given, want) in ROWS {
-        match typed_in(alloc, kind, name, path, given) {
-            Ok(_) => assert!(rt; want.is_none()),
-            Err(LoadError::Bad(fault)) => assert!(rt; is_wanted(want, &fault)),
-            Err(LoadError::OutOfMemory) => assert!(rt; false),
-        }
+        let fault = fault_of(typed_in(alloc, kind, name, path, given))?;
+        assert!(rt; is_wanted(want, fault.as_ref()));
     }
     Ok(())
 }
