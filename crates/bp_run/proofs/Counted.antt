@@ -1,6 +1,6 @@
 -- A tree that loads has at most 2^17 modules.
 use Rattle.std.proofs.Common.{◌≡◌, ◌≤◌, ◌<◌, ◌^◌, ◌+◌, ℕ, List, [], ◌∷◌, ◌++◌, length, Bool, true, false, Result, Ok}
-use Rattle.std.proofs.Common.{Err, refl, sym, subst, arith}
+use Rattle.std.proofs.Common.{Err, refl, subst, arith}
 use Rattle.std.specs.Prelude.{nat_le, if◌then◌else◌, codes}
 use Rattle.bp_faults.specs.declared.kind.FaultKind.TheVariants.{DuplicateName, TooMany}
 use Rattle.bp_faults.specs.Faults.{fault_on}
@@ -57,4 +57,5 @@ few_named (Ok made) ms h = by (names_tested [] made) refl h
         subst (λ ms. length ms ≤ 2 ^ 17) same (omega (arith, few))
 
 pub few_modules : (files : List (List ℕ × List ℕ)) (ms : List Module) → LoadMeans files (Ok ms) → length ms ≤ 2 ^ 17
-few_modules files ms (raws, means, is) = few_named (all_typed raws) ms (sym is)
+few_modules files ms (Ok raws, means, is) = few_named (all_typed raws) ms is
+few_modules files ms (Err fault, means, is) = absurd (cc)
