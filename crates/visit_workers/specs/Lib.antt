@@ -1,0 +1,5 @@
+pub mod Links
+pub mod Settled
+pub mod Making
+pub mod Passes
+pub mod Runs
