@@ -15,7 +15,8 @@ chain_end = 4294967295
 -- From a number on, along a table of what is next, stand these numbers and no more. Each is below the one that is next.
 abbrev pub IsChain : List ℕ → ℕ → List ℕ → Type 0
 IsChain next at [] = at ≡ chain_end
-IsChain next at (e ∷ es) = (at ≡ e) × (e < length next) × (e < slice_index next e) × IsChain next (slice_index next e) es
+IsChain next at (e ∷ es) = (at ≡ e) × (e < length next) × (e < slice_index next e)
+    × IsChain next (slice_index next e) es
 
 -- There is a chain for each node, of the numbers of the edges out of it.
 pub record AreOuts (count : ℕ) (edges : List PlanEdge) (outs : Outs) : Type 0 where

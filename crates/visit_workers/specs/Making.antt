@@ -1,5 +1,5 @@
 -- What a worker has made, beside what its seat has done.
-use Rattle.std.specs.Prelude.{◌≡◌, ◌<◌, ℕ, List, map, Result, Ok, Err}
+use Rattle.std.specs.Prelude.{◌≡◌, ◌<◌, ℕ, List, map, slice_get, Some, Result, Ok, Err}
 use Rattle.std.specs.List.{AllByRecursion}
 use Rattle.std.specs.Arc.{arc_value}
 use Rattle.bp_faults.specs.declared.fault.Fault.{Fault}
@@ -24,15 +24,22 @@ module _ {O : Type 0} where
     pub below : m.ticket < count
     pub value : shown (arc_value m.value) ≡ results m.node.0
 
+  -- An order has each node that was made once at the number on its ticket.
+  abbrev pub StandByTicket : List (Made O) → List ℕ → Type 0
+  StandByTicket made order =
+      (n : ℕ) → tickets_for n (pairs made) ≡ 1 → slice_get order (number_for n (pairs made)) ≡ Some n
+
   -- What was made is right, and its tickets are those of the seat.
-  pub record IsMadeBy (count : ℕ) (results : ℕ → NodeResult O) (tickets : List (ℕ × ℕ)) (made : List (Made O)) : Type 0 where
+  pub record IsMadeBy (count : ℕ) (results : ℕ → NodeResult O) (tickets : List (ℕ × ℕ))
+      (made : List (Made O)) : Type 0 where
     pub right : AllByRecursion (IsRight count results) made
     pub drawn : (n : ℕ) → tickets_for n tickets ≡ tickets_for n (pairs made)
     pub numbered : (n : ℕ) → number_for n tickets ≡ number_for n (pairs made)
     pub used : (k : ℕ) → tickets_with k tickets ≡ tickets_with k (pairs made)
 
   -- Between two nodes a worker's seat is settled, and all that it visited stands in what it made.
-  pub record IsWorking (mean : ℕ → List O → Result O Fault) (plan : Plan) (v : View) (made : List (Made O)) : Type 0 where
+  pub record IsWorking (mean : ℕ → List O → Result O Fault) (plan : Plan) (v : View)
+      (made : List (Made O)) : Type 0 where
     pub settled : IsSettled plan.edges v
     pub made_by : IsMadeBy plan.count (node_result mean plan) v.tickets made
 

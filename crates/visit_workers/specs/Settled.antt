@@ -45,10 +45,12 @@ outcomes xs = map (λ a. shown (arc_value a)) xs
 abbrev pub JustClaimed : List PlanEdge → ℕ → View → Type 0
 JustClaimed edges n w = (v : View) × IsSettled edges v × (w ≡ with_claim v n) × (times n v.claimed ≡ 0)
 
--- Nothing claimed is lost; and the node is claimed now, if the seat is whole and had claimed all sources of the edges into it.
+-- Nothing claimed is lost; and the node is claimed now, if the seat is whole and had claimed all sources of the edges
+-- into it.
 abbrev pub Reaches : List PlanEdge → ℕ → View → View → Type 0
 Reaches edges n v w = ((m : ℕ) → times m v.claimed ≤ times m w.claimed)
-    × (v.weight ≡ whole → ((e : ℕ) → e < length edges → to_of edges e ≡ n → 1 ≤ times (from_of edges e) v.claimed) → 1 ≤ times n w.claimed)
+    × (v.weight ≡ whole → ((e : ℕ) → e < length edges → to_of edges e ≡ n → 1 ≤ times (from_of edges e) v.claimed)
+    → 1 ≤ times n w.claimed)
 
 -- None of the edges into a node is fetched.
 abbrev pub HasNotFetched : List PlanEdge → ℕ → View → Type 0

@@ -1,8 +1,6 @@
 ghost use Rattle.std.specs.Prelude.{◌≡◌, ◌<◌, ◌∷◌, IfOk, OnOk};
-ghost use Rattle.pass_core.specs.Results.{node_result};
 ghost use Rattle.ready_counters.specs.Seen.{view_of, IsSeatOf};
-ghost use Rattle.visit_workers.specs.Making.{IsRight, IsWorking};
-ghost use Rattle.visit_workers.specs.Passes.{IsPass};
+ghost use Rattle.visit_workers.specs.Passes.{IsPass, IsMadeRight, Works};
 ghost use Rattle.visit_workers.specs.Settled.{IsSettled, JustClaimed, Reaches};
 
 use crate::judge::judge;
@@ -34,7 +32,7 @@ fn visit_claimed<V: Visit, G: Gate>(
     ensures claimed { OnOk result ((view_of seat.new).claimed ≡ (view_of seat.old).claimed) }
     ensures tickets { IfOk result (λ m. (view_of seat.new).tickets ≡ (n.0, m.ticket) ∷ (view_of seat.old).tickets) }
     ensures made { IfOk result (λ m. m.node ≡ n) }
-    ensures right { IfOk result (λ m. IsRight pass.now.plan.now.count (node_result (V.meaning pass.now.visitor.now) pass.now.plan.now) m) }
+    ensures right { IfOk result (λ m. IsMadeRight (V.meaning pass.now.visitor.now) pass.now m) }
 {
     in_edges_are_together();
     places_of_edges_rise();
@@ -61,10 +59,10 @@ pub fn attempt<V: Visit, G: Gate>(
     requires pass { IsPass (V.takes pass.now.visitor.now) pass.now }
     requires seat { IsSeatOf pass.now.board.now seat.old }
     requires inside { n.0 < pass.now.plan.now.count }
-    requires working { IsWorking (V.meaning pass.now.visitor.now) pass.now.plan.now (view_of seat.old) made.old.items }
+    requires working { Works (V.meaning pass.now.visitor.now) pass.now seat.old made.old.items }
     ensures seat { IsSeatOf pass.now.board.now seat.new }
     ensures weight { (view_of seat.new).weight ≡ (view_of seat.old).weight }
-    ensures working { OnOk result (IsWorking (V.meaning pass.now.visitor.now) pass.now.plan.now (view_of seat.new) made.new.items) }
+    ensures working { OnOk result (Works (V.meaning pass.now.visitor.now) pass.now seat.new made.new.items) }
     ensures reaches { OnOk result (Reaches pass.now.plan.now.edges n.0 (view_of seat.old) (view_of seat.new)) }
 {
     match pass.board.claim(seat, n) {

@@ -1,8 +1,8 @@
 ghost use Rattle.std.specs.Prelude.{◌≡◌, ◌<◌, ◌≤◌, ◌+◌, All, [], length, IfOk};
 ghost use Rattle.ready_counters.specs.Seen.{view_of, IsSeatOf};
 ghost use Rattle.ready_counters.specs.Views.{whole, all_of_it};
-ghost use Rattle.visit_workers.specs.Making.{IsWorking};
-ghost use Rattle.visit_workers.specs.Passes.{IsPass};
+ghost use Rattle.visit_workers.specs.Passes.{IsPass, Works};
+ghost use Rattle.visit_workers.specs.Tasks.{IsAtWork};
 
 use crate::pass::Pass;
 use crate::task::Task;
@@ -64,10 +64,10 @@ pub fn tasks_of<V: Visit, G: Gate>(
     ensures seat { IsSeatOf pass.now.board.now seat.new }
     ensures many { IfOk result (λ tasks. length tasks.items ≡ length deques.items) }
     ensures weight { IfOk result (λ tasks. (view_of seat.new).weight + length tasks.items ≡ whole) }
-    ensures working { IsWorking (V.meaning pass.now.visitor.now) pass.now.plan.now (view_of seat.new) [] }
+    ensures working { Works (V.meaning pass.now.visitor.now) pass.now seat.new [] }
     ensures seats { IfOk result (λ tasks. All (λ t. IsSeatOf pass.now.board.now t.seat) tasks.items) }
     ensures light { IfOk result (λ tasks. All (λ t. (view_of t.seat).weight ≡ 1) tasks.items) }
-    ensures works { IfOk result (λ tasks. All (λ t. IsWorking (V.meaning pass.now.visitor.now) pass.now.plan.now (view_of t.seat) t.made.items) tasks.items) }
+    ensures works { IfOk result (λ tasks. All (λ t. IsAtWork (V.meaning pass.now.visitor.now) pass.now t) tasks.items) }
 {
     let mut tasks = Vec::with_capacity(pass.alloc, deques.len())?;
     for hints in deques {

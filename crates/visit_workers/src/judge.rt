@@ -1,10 +1,10 @@
-ghost use Rattle.std.specs.Prelude.{◌≡◌, ◌<◌, ℕ, map, IfOk};
+ghost use Rattle.std.specs.Prelude.{◌≡◌, ◌<◌, map, IfOk};
 ghost use Rattle.std.specs.Option.{option_map};
 ghost use Rattle.std.specs.Arc.{arc_value};
 ghost use Rattle.pass_core.specs.Plans.{predecessors};
-ghost use Rattle.pass_core.specs.Results.{node_result, outs_of};
+ghost use Rattle.pass_core.specs.Results.{outs_of};
 ghost use Rattle.pass_core.specs.Shown.{shown};
-ghost use Rattle.visit_workers.specs.Passes.{IsPass};
+ghost use Rattle.visit_workers.specs.Passes.{IsPass, result_of, AreInsOf};
 ghost use Rattle.visit_workers.specs.Settled.{outcomes};
 
 use crate::pass::Pass;
@@ -40,8 +40,8 @@ pub fn judge<V: Visit, G: Gate>(
 ) -> Result<Published<V::Out>, OutOfMemory>
     requires pass { IsPass (V.takes pass.now.visitor.now) pass.now }
     requires inside { n.0 < pass.now.plan.now.count }
-    requires values { outcomes ins.now ≡ map (node_result (V.meaning pass.now.visitor.now) pass.now.plan.now) (predecessors pass.now.plan.now.edges n.0) }
-    ensures { IfOk result (λ p. shown p ≡ node_result (V.meaning pass.now.visitor.now) pass.now.plan.now n.0) }
+    requires values { AreInsOf (V.meaning pass.now.visitor.now) pass.now n.0 ins.now }
+    ensures { IfOk result (λ p. shown p ≡ result_of (V.meaning pass.now.visitor.now) pass.now n.0) }
 {
     results_meet_their_equation::<V::Out>();
     let Some(outs) = all_done(pass.alloc, ins)? else {

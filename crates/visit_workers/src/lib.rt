@@ -19,3 +19,6 @@ mod task;
 mod work;
 
 pub use pass_run::{PassRun, visit_all};
+
+#[cfg(test)]
+mod tests;

@@ -1,14 +1,11 @@
-ghost use Rattle.std.specs.Prelude.{◌≡◌, ◌<◌, ◌≤◌, ◌+◌, ℕ, [], ◌∷◌, length, map, slice_index, IfOk, OnOk};
+ghost use Rattle.std.specs.Prelude.{◌≡◌, ◌<◌, ◌≤◌, ◌+◌, [], length, IfOk, OnOk};
 ghost use Rattle.std.specs.Arc.{arc_value};
-ghost use Rattle.pass_core.specs.Plans.{predecessors};
-ghost use Rattle.pass_core.specs.Results.{node_result};
 ghost use Rattle.pass_core.specs.Shown.{shown};
 ghost use Rattle.ready_counters.specs.Edges.{from_of};
 ghost use Rattle.ready_counters.specs.Seen.{view_of, IsSeatOf};
 ghost use Rattle.ready_counters.specs.Views.{times, tickets_for, with_filled, with_subtract};
-ghost use Rattle.visit_workers.specs.Links.{numbers_from};
-ghost use Rattle.visit_workers.specs.Passes.{IsPass};
-ghost use Rattle.visit_workers.specs.Settled.{HasNotFetched, HasNotSpread, IsGathering, IsSpreading, outcomes};
+ghost use Rattle.visit_workers.specs.Passes.{IsPass, result_of, AreInsOf, HasGathered, HasSpread};
+ghost use Rattle.visit_workers.specs.Settled.{HasNotFetched, HasNotSpread};
 
 use crate::links::END;
 use crate::pass::Pass;
@@ -33,8 +30,8 @@ pub fn gather<V: Visit, G: Gate>(
     requires fresh { HasNotFetched pass.now.plan.now.edges n.0 (view_of seat.old) }
     ensures seat { IsSeatOf pass.now.board.now seat.new }
     ensures weight { (view_of seat.new).weight ≡ (view_of seat.old).weight }
-    ensures gathered { OnOk result (IsGathering (slice_index pass.now.starts.now n.0) (slice_index pass.now.starts.now (n.0 + 1)) (view_of seat.old) (view_of seat.new)) }
-    ensures values { IfOk result (λ ins. outcomes ins.items ≡ map (node_result (V.meaning pass.now.visitor.now) pass.now.plan.now) (predecessors pass.now.plan.now.edges n.0)) }
+    ensures gathered { OnOk result (HasGathered pass.now n.0 (view_of seat.old) (view_of seat.new)) }
+    ensures values { IfOk result (λ ins. AreInsOf (V.meaning pass.now.visitor.now) pass.now n.0 ins.items) }
 {
     in_edges_are_together();
     places_of_edges_rise();
@@ -65,7 +62,7 @@ fn spread_to<V: Visit, G: Gate>(
     requires source { from_of pass.now.plan.now.edges e ≡ n.0 }
     requires ticket { 1 ≤ tickets_for n.0 (view_of seat.old).tickets }
     requires fresh { (times e (view_of seat.old).filled ≡ 0) × (times e (view_of seat.old).subtracted ≡ 0) }
-    requires value { shown (arc_value value.now) ≡ node_result (V.meaning pass.now.visitor.now) pass.now.plan.now n.0 }
+    requires value { shown (arc_value value.now) ≡ result_of (V.meaning pass.now.visitor.now) pass.now n.0 }
     ensures seat { IsSeatOf pass.now.board.now seat.new }
     ensures weight { (view_of seat.new).weight ≡ (view_of seat.old).weight }
     ensures went { OnOk result (view_of seat.new ≡ with_subtract (with_filled (view_of seat.old) e) e) }
@@ -91,10 +88,10 @@ pub fn spread<V: Visit, G: Gate>(
     requires seat { IsSeatOf pass.now.board.now seat.old }
     requires ticket { 1 ≤ tickets_for n.0 (view_of seat.old).tickets }
     requires fresh { HasNotSpread pass.now.plan.now.edges n.0 (view_of seat.old) }
-    requires value { shown (arc_value value.now) ≡ node_result (V.meaning pass.now.visitor.now) pass.now.plan.now n.0 }
+    requires value { shown (arc_value value.now) ≡ result_of (V.meaning pass.now.visitor.now) pass.now n.0 }
     ensures seat { IsSeatOf pass.now.board.now seat.new }
     ensures weight { (view_of seat.new).weight ≡ (view_of seat.old).weight }
-    ensures spread { OnOk result (IsSpreading (numbers_from 0 pass.now.plan.now.edges n.0) (view_of seat.old) (view_of seat.new)) }
+    ensures spread { OnOk result (HasSpread pass.now n.0 (view_of seat.old) (view_of seat.new)) }
 {
     let mut e = pass.outs.first[n.0 as usize];
     while e != END {

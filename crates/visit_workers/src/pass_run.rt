@@ -1,12 +1,10 @@
 ghost use Rattle.std.specs.Prelude.{◌≡◌, ◌<◌, ◌≤◌, ℕ, IfOk, OnOk};
-ghost use Rattle.pass_core.specs.InEdges.{AreStarts};
-ghost use Rattle.pass_core.specs.Orders.{IsLegal, IsSerial, numbers};
+ghost use Rattle.pass_core.specs.Orders.{IsLegal, numbers};
 ghost use Rattle.pass_core.specs.Outcomes.{TakesPlan};
 ghost use Rattle.pass_core.specs.Plans.{IsPlan, HasNoCycle};
-ghost use Rattle.ready_counters.specs.Seen.{plan_of, visitor_of, view_of, IsSeatOf};
+ghost use Rattle.ready_counters.specs.Seen.{view_of, IsSeatOf};
 ghost use Rattle.ready_counters.specs.Views.{whole, times, all_of_it};
-ghost use Rattle.visit_workers.specs.Making.{IsWorking};
-ghost use Rattle.visit_workers.specs.Passes.{IsPass};
+ghost use Rattle.visit_workers.specs.Passes.{IsPass, Works};
 ghost use Rattle.visit_workers.specs.Runs.{AnswersRun};
 
 use crate::crew::{join_all, run_tasks};
@@ -56,7 +54,7 @@ fn run_crew<R: Threads + Sync, V: Visit<Out: Send + Sync> + Sync, G: Gate + Sync
     requires first { view_of seat.old ≡ all_of_it }
     ensures seat { OnOk result (IsSeatOf pass.now.board.now seat.new) }
     ensures weight { OnOk result ((view_of seat.new).weight ≡ whole) }
-    ensures working { IfOk result (λ made. IsWorking (V.meaning pass.now.visitor.now) pass.now.plan.now (view_of seat.new) made.items) }
+    ensures working { IfOk result (λ made. Works (V.meaning pass.now.visitor.now) pass.now seat.new made.items) }
 {
     let mut hints = deques(pass.alloc, workers)?;
     let others = stealers(pass.alloc, &hints)?;
@@ -81,7 +79,7 @@ fn visit_each<R: Threads + Sync, V: Visit<Out: Send + Sync> + Sync, G: Gate + Sy
     requires first { view_of seat.old ≡ all_of_it }
     ensures seat { OnOk result (IsSeatOf pass.now.board.now seat.new) }
     ensures weight { OnOk result ((view_of seat.new).weight ≡ whole) }
-    ensures working { IfOk result (λ made. IsWorking (V.meaning pass.now.visitor.now) pass.now.plan.now (view_of seat.new) made.items) }
+    ensures working { IfOk result (λ made. Works (V.meaning pass.now.visitor.now) pass.now seat.new made.items) }
     ensures each { OnOk result ((n : ℕ) → n < pass.now.plan.now.count → 1 ≤ times n (view_of seat.new).claimed) }
 {
     let mut made = run_crew(rt, pass, seat, workers)?;

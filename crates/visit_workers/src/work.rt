@@ -2,8 +2,7 @@ ghost use Rattle.std.specs.Prelude.{◌≡◌, ◌<◌, ◌≤◌, ℕ, OnOk};
 ghost use Rattle.pass_core.specs.Orders.{IsLegal, numbers};
 ghost use Rattle.ready_counters.specs.Seen.{view_of, IsSeatOf};
 ghost use Rattle.ready_counters.specs.Views.{whole, times};
-ghost use Rattle.visit_workers.specs.Making.{IsWorking};
-ghost use Rattle.visit_workers.specs.Passes.{IsPass};
+ghost use Rattle.visit_workers.specs.Passes.{IsPass, Works};
 
 use crate::attempt::attempt;
 use crate::made::Made;
@@ -55,10 +54,10 @@ pub fn work<V: Visit, G: Gate>(
 ) -> Result<(), OutOfMemory>
     requires pass { IsPass (V.takes pass.now.visitor.now) pass.now }
     requires seat { IsSeatOf pass.now.board.now seat.old }
-    requires working { IsWorking (V.meaning pass.now.visitor.now) pass.now.plan.now (view_of seat.old) made.old.items }
+    requires working { Works (V.meaning pass.now.visitor.now) pass.now seat.old made.old.items }
     ensures seat { IsSeatOf pass.now.board.now seat.new }
     ensures weight { (view_of seat.new).weight ≡ (view_of seat.old).weight }
-    ensures working { OnOk result (IsWorking (V.meaning pass.now.visitor.now) pass.now.plan.now (view_of seat.new) made.new.items) }
+    ensures working { OnOk result (Works (V.meaning pass.now.visitor.now) pass.now seat.new made.new.items) }
 {
     for _turn in 0..u64::MAX {
         let Some(n) = next_hint(hints, others) else {
@@ -82,11 +81,11 @@ pub fn sweep<V: Visit, G: Gate>(
     requires pass { IsPass (V.takes pass.now.visitor.now) pass.now }
     requires seat { IsSeatOf pass.now.board.now seat.old }
     requires all { (view_of seat.old).weight ≡ whole }
-    requires working { IsWorking (V.meaning pass.now.visitor.now) pass.now.plan.now (view_of seat.old) made.old.items }
+    requires working { Works (V.meaning pass.now.visitor.now) pass.now seat.old made.old.items }
     requires legal { IsLegal pass.now.plan.now (numbers order.now) }
     ensures seat { IsSeatOf pass.now.board.now seat.new }
     ensures weight { (view_of seat.new).weight ≡ (view_of seat.old).weight }
-    ensures working { OnOk result (IsWorking (V.meaning pass.now.visitor.now) pass.now.plan.now (view_of seat.new) made.new.items) }
+    ensures working { OnOk result (Works (V.meaning pass.now.visitor.now) pass.now seat.new made.new.items) }
     ensures claimed { OnOk result ((n : ℕ) → n < pass.now.plan.now.count → 1 ≤ times n (view_of seat.new).claimed) }
 {
     for n in order {

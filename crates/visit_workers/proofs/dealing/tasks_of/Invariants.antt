@@ -13,5 +13,6 @@ invariant-loop-hints g l = record {
   working : IsWorking (g.V.Visit.meaning l.pass.visitor.now) l.pass.plan.now (view_of l.seat) [];
   seats : All (λ t. IsSeatOf l.pass.board.now t.seat) l.tasks.items;
   light : All (λ t. (view_of t.seat).weight ≡ 1) l.tasks.items;
-  works : All (λ t. IsWorking (g.V.Visit.meaning l.pass.visitor.now) l.pass.plan.now (view_of t.seat) t.made.items) l.tasks.items;
+  works : All (λ t. IsWorking (g.V.Visit.meaning l.pass.visitor.now) l.pass.plan.now (view_of t.seat) t.made.items)
+      l.tasks.items;
 }

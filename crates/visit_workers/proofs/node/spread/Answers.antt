@@ -19,8 +19,9 @@ loop-e-smaller g c =
     let h = c.loop-e.invariant in
     let go = chain_goes c.args.pass.now.outs.now.next.items c.loop-e.e h.1 h.3 c.loop-e-test.true in
     let is = get_or_read c.args.pass.now.outs.now.next.items c.loop-e.e c.index-e-in-loop-e.result.now go.2
-        c.index-e-in-loop-e.ensures 0 in
-    let more = go.3 in let inside = go.2 in let few = c.requires.pass.is_plan.few in let all = c.requires.pass.outs.all in
+    c.index-e-in-loop-e.ensures 0 in
+    let more = go.3 in let inside = go.2 in let few = c.requires.pass.is_plan.few in
+    let all = c.requires.pass.outs.all in
     omega arith
 
 pub loop-e-preserved : goal.loop-e-preserved
@@ -28,8 +29,7 @@ loop-e-preserved g c =
     let h = c.loop-e.invariant in
     let go = chain_goes c.args.pass.now.outs.now.next.items c.loop-e.e h.1 h.3 c.loop-e-test.true in
     let is = get_or_read c.args.pass.now.outs.now.next.items c.loop-e.e c.index-e-in-loop-e.result.now go.2
-        c.index-e-in-loop-e.ensures 0 in
-    (
+    c.index-e-in-loop-e.ensures 0 in (
       h.0 ++ c.loop-e.e ∷ [],
       go.0,
       append_assoc h.0 (c.loop-e.e ∷ []) go.0 ∙ ap (λ rest. h.0 ++ rest) (sym go.1) ∙ h.2,
@@ -58,8 +58,9 @@ spread_to-requires-clause-fresh g c =
     let h = c.loop-e.invariant in
     let go = chain_goes c.args.pass.now.outs.now.next.items c.loop-e.e h.1 h.3 c.loop-e-test.true in
     let all = ap (λ rest. h.0 ++ rest) (sym go.1) ∙ h.2 in
-    let old = c.requires.fresh c.loop-e.e (entry_inside c.args.pass.now.plan.now.edges c.args.n.0 c.loop-e.e h.0 go.0 all)
-        (entry_source c.args.pass.now.plan.now.edges c.args.n.0 c.loop-e.e h.0 go.0 all) in
+    let old = c.requires.fresh c.loop-e.e
+    (entry_inside c.args.pass.now.plan.now.edges c.args.n.0 c.loop-e.e h.0 go.0 all)
+    (entry_source c.args.pass.now.plan.now.edges c.args.n.0 c.loop-e.e h.0 go.0 all) in
     let none = entry_fresh c.args.pass.now.plan.now.edges c.args.n.0 c.loop-e.e h.0 go.0 all in
     let filled = h.5.filled c.loop-e.e in let subtracted = h.5.subtracted c.loop-e.e in
     let before = old.0 in let after = old.1 in (omega arith, omega arith)
@@ -68,6 +69,6 @@ pub returns-clause-spread : goal.returns-clause-spread
 returns-clause-spread g c =
     let h = c.loop-e.invariant in
     let none = chain_ends c.args.pass.now.outs.now.next.items c.loop-e.e h.1 h.3 c.loop-e-test.false
-        (let few = c.requires.pass.is_plan.few in let all = c.requires.pass.outs.all in omega arith) in
+    (let few = c.requires.pass.is_plan.few in let all = c.requires.pass.outs.all in omega arith) in
     subst (λ done. IsSpreading done (view_of c.args.seat.now) (view_of c.loop-e.seat))
     (sym (append-nil h.0) ∙ ap (λ rest. h.0 ++ rest) (sym none) ∙ h.2) h.5

@@ -11,5 +11,6 @@ invariant-loop-n g l = record {
   seat : IsSeatOf l.pass.board.now l.seat;
   weight : (view_of l.seat).weight ≡ (view_of l.fn.seat).weight;
   working : IsWorking (g.V.Visit.meaning l.pass.visitor.now) l.pass.plan.now (view_of l.seat) l.made.items;
-  claimed : (i : ℕ) → i < l.n-index → i < length (numbers l.order) → 1 ≤ times (slice_index (numbers l.order) i) (view_of l.seat).claimed;
+  claimed : (i : ℕ) → i < l.n-index → i < length (numbers l.order)
+      → 1 ≤ times (slice_index (numbers l.order) i) (view_of l.seat).claimed;
 }
