@@ -1,0 +1,9 @@
+pub mod Counting
+pub mod Listing
+pub mod Gathered
+pub mod Settling
+pub mod Judging
+pub mod Sweeping
+pub mod Making
+pub mod Placing
+pub mod Finishing

@@ -1,0 +1,49 @@
+use Rattle.std.proofs.Common.{◌≡◌, ◌∙◌, ap, sym, subst, map, length, Some, None, Ok, Err}
+use Rattle.std.specs.Arc.{arc_value}
+use Rattle.std.proofs.lemmas.List.{length-map}
+use Rattle.pass_core.specs.Results.{outs_of}
+use Rattle.pass_core.specs.Results.NodeResult.{Done, Bad}
+use Rattle.visit_workers.specs.Settled.{outcomes}
+use Rattle.visit_workers.proofs.Judging.{poisoned, visited, as_many, mapped_none, mapped_some}
+use Rattle.visit_workers.proofs.judge.judge.Goals as goal
+
+pub returns-in_default : goal.returns-in_default
+returns-in_default g c =
+    sym (poisoned c.results_meet_their_equation.ensures (g.V.Visit.meaning c.args.pass.now.visitor.now)
+    c.args.pass.now.plan.now c.requires.pass.is_plan c.requires.pass.free c.args.n.0 c.requires.inside c.args.ins.now
+    c.requires.values (mapped_none (λ outs. map arc_value outs.items) c.in_ok-outs.field-0 c.in_default.is
+    (outs_of (outcomes c.args.ins.now)) c.in_ok-outs.ensures))
+
+pub visit-requires : goal.visit-requires
+visit-requires g c =
+    let many = as_many c.results_meet_their_equation.ensures (g.V.Visit.meaning c.args.pass.now.visitor.now)
+    c.args.pass.now.plan.now c.requires.pass.is_plan c.requires.pass.free c.args.n.0 c.requires.inside
+    c.args.ins.now c.requires.values (map arc_value c.in-Some.outs.items)
+    (mapped_some (λ outs. map arc_value outs.items) c.in_ok-outs.field-0 c.in-Some.outs c.in-Some.is
+    (outs_of (outcomes c.args.ins.now)) c.in_ok-outs.ensures) in
+    subst (λ k. g.V.Visit.takes c.args.pass.now.visitor.now c.args.n.0 k)
+    (sym many ∙ length-map c.in-Some.outs.items arc_value ∙ ap length (sym c.deref.ensures.value))
+    (c.requires.pass.takes_plan c.args.n.0 c.requires.inside)
+
+pub returns-in-Ok : goal.returns-in-Ok
+returns-in-Ok g c =
+    ap Done c.in_ok-new-in-Ok.ensures.ok
+    ∙ sym (visited c.results_meet_their_equation.ensures (g.V.Visit.meaning c.args.pass.now.visitor.now)
+    c.args.pass.now.plan.now c.requires.pass.is_plan c.requires.pass.free c.args.n.0 c.requires.inside
+    c.args.ins.now c.requires.values (map arc_value c.in-Some.outs.items)
+    (mapped_some (λ outs. map arc_value outs.items) c.in_ok-outs.field-0 c.in-Some.outs c.in-Some.is
+    (outs_of (outcomes c.args.ins.now)) c.in_ok-outs.ensures) (Ok c.in-Ok.out)
+    (ap (λ l. g.V.Visit.meaning c.args.pass.now.visitor.now c.args.n.0 (map arc_value l))
+    (sym c.deref.ensures.value) ∙ c.in-Ok.ensures))
+
+pub returns-in-Err-Bad : goal.returns-in-Err-Bad
+returns-in-Err-Bad g c =
+    let told = rw c.in-Err-Bad.field-0-is at c.in-Err-Bad.ensures in
+    ap Bad c.in-Err-Bad.fault-is
+    ∙ sym (visited c.results_meet_their_equation.ensures (g.V.Visit.meaning c.args.pass.now.visitor.now)
+    c.args.pass.now.plan.now c.requires.pass.is_plan c.requires.pass.free c.args.n.0 c.requires.inside
+    c.args.ins.now c.requires.values (map arc_value c.in-Some.outs.items)
+    (mapped_some (λ outs. map arc_value outs.items) c.in_ok-outs.field-0 c.in-Some.outs c.in-Some.is
+    (outs_of (outcomes c.args.ins.now)) c.in_ok-outs.ensures) (Err c.in-Err-Bad.fault)
+    (ap (λ l. g.V.Visit.meaning c.args.pass.now.visitor.now c.args.n.0 (map arc_value l))
+    (sym c.deref.ensures.value) ∙ told))

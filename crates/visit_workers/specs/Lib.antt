@@ -1,0 +1,7 @@
+pub mod Links
+pub mod Settled
+pub mod Making
+pub mod Passes
+pub mod Tasks
+pub mod Runs
+pub mod Examples

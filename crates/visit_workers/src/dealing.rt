@@ -1,0 +1,82 @@
+ghost use Rattle.std.specs.Prelude.{◌≡◌, ◌<◌, ◌≤◌, ◌+◌, All, [], length, IfOk};
+ghost use Rattle.ready_counters.specs.Seen.{view_of, IsSeatOf};
+ghost use Rattle.ready_counters.specs.Views.{whole, all_of_it};
+ghost use Rattle.visit_workers.specs.Passes.{IsPass, Works};
+ghost use Rattle.visit_workers.specs.Tasks.{IsAtWork};
+
+use crate::pass::Pass;
+use crate::task::Task;
+use bp_faults::{NodeId, OutOfMemory};
+use bp_ports::Gate;
+use crossbeam_deque::{Stealer, Worker};
+use pass_core::Visit;
+use ready_counters::Seat;
+use std::alloc::Global;
+
+/// A deque of hints for each worker.
+pub fn deques(alloc: Global, workers: u32) -> Result<Vec<Worker<NodeId>>, OutOfMemory>
+    ensures { IfOk result (λ ds. length ds.items ≡ workers) }
+{
+    let mut deques = Vec::with_capacity(alloc, workers as usize)?;
+    for _worker in 0..workers {
+        deques.push(Worker::new_lifo(alloc, 64)?)?;
+    }
+    Ok(deques)
+}
+
+/// What steals from each of the deques.
+pub fn stealers(
+    alloc: Global,
+    deques: &[Worker<NodeId>],
+) -> Result<Vec<Stealer<NodeId>>, OutOfMemory> {
+    let mut stealers = Vec::with_capacity(alloc, deques.len())?;
+    for deque in deques {
+        stealers.push(deque.stealer()?)?;
+    }
+    Ok(stealers)
+}
+
+/// Deals the nodes without predecessors to the deques in turn.
+pub fn deal<V: Visit, G: Gate>(pass: &Pass<V, G>, deques: &mut [Worker<NodeId>])
+    requires pass { IsPass (V.takes pass.now.visitor.now) pass.now }
+    requires some { 0 < length deques.old }
+    ensures { length deques.new ≡ length deques.old }
+{
+    let many = deques.len();
+    let mut turn = 0;
+    for n in 0..pass.plan.count {
+        if pass.starts[n as usize] == pass.starts[n as usize + 1] {
+            let _ = deques[turn].push(NodeId(n));
+            turn = (turn + 1) % many;
+        }
+    }
+}
+
+/// A task for each deque, with a seat that is split off.
+pub fn tasks_of<V: Visit, G: Gate>(
+    pass: &Pass<V, G>,
+    seat: &mut Seat<V>,
+    deques: Vec<Worker<NodeId>>,
+) -> Result<Vec<Task<V>>, OutOfMemory>
+    requires seat { IsSeatOf pass.now.board.now seat.old }
+    requires first { view_of seat.old ≡ all_of_it }
+    requires few { length deques.items ≤ 64 }
+    ensures seat { IsSeatOf pass.now.board.now seat.new }
+    ensures many { IfOk result (λ tasks. length tasks.items ≡ length deques.items) }
+    ensures weight { IfOk result (λ tasks. (view_of seat.new).weight + length tasks.items ≡ whole) }
+    ensures working { Works (V.meaning pass.now.visitor.now) pass.now seat.new [] }
+    ensures seats { IfOk result (λ tasks. All (λ t. IsSeatOf pass.now.board.now t.seat) tasks.items) }
+    ensures light { IfOk result (λ tasks. All (λ t. (view_of t.seat).weight ≡ 1) tasks.items) }
+    ensures works { IfOk result (λ tasks. All (λ t. IsAtWork (V.meaning pass.now.visitor.now) pass.now t) tasks.items) }
+{
+    let mut tasks = Vec::with_capacity(pass.alloc, deques.len())?;
+    for hints in deques {
+        tasks.push(Task {
+            seat: pass.board.split(seat),
+            hints,
+            made: Vec::new(pass.alloc),
+            failed: false,
+        })?;
+    }
+    Ok(tasks)
+}

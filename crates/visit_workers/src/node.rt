@@ -1,0 +1,102 @@
+ghost use Rattle.std.specs.Prelude.{◌≡◌, ◌<◌, ◌≤◌, ◌+◌, [], length, IfOk, OnOk};
+ghost use Rattle.std.specs.Arc.{arc_value};
+ghost use Rattle.pass_core.specs.Shown.{shown};
+ghost use Rattle.ready_counters.specs.Edges.{from_of};
+ghost use Rattle.ready_counters.specs.Seen.{view_of, IsSeatOf};
+ghost use Rattle.ready_counters.specs.Views.{times, tickets_for, with_filled, with_subtract};
+ghost use Rattle.visit_workers.specs.Passes.{IsPass, result_of, AreInsOf, HasGathered, HasSpread};
+ghost use Rattle.visit_workers.specs.Settled.{HasNotFetched, HasNotSpread};
+
+use crate::links::END;
+use crate::pass::Pass;
+use bp_faults::{NodeId, OutOfMemory};
+use bp_ports::Gate;
+use crossbeam_deque::Worker;
+use pass_core::laws::{in_edges_are_together, places_of_edges_rise, places_tell_targets};
+use pass_core::{Published, Visit, edges_into};
+use ready_counters::Seat;
+use std::sync::Arc;
+
+/// Fetches all edges into a node.
+pub fn gather<V: Visit, G: Gate>(
+    pass: &Pass<V, G>,
+    seat: &mut Seat<V>,
+    n: NodeId,
+) -> Result<Vec<Arc<Published<V::Out>>>, OutOfMemory>
+    requires pass { IsPass (V.takes pass.now.visitor.now) pass.now }
+    requires inside { n.0 < pass.now.plan.now.count }
+    requires seat { IsSeatOf pass.now.board.now seat.old }
+    requires claimed { 1 ≤ times n.0 (view_of seat.old).claimed }
+    requires fresh { HasNotFetched pass.now.plan.now.edges n.0 (view_of seat.old) }
+    ensures seat { IsSeatOf pass.now.board.now seat.new }
+    ensures weight { (view_of seat.new).weight ≡ (view_of seat.old).weight }
+    ensures gathered { OnOk result (HasGathered pass.now n.0 (view_of seat.old) (view_of seat.new)) }
+    ensures values { IfOk result (λ ins. AreInsOf (V.meaning pass.now.visitor.now) pass.now n.0 ins.items) }
+{
+    in_edges_are_together();
+    places_of_edges_rise();
+    places_tell_targets();
+    let edges = edges_into(pass.plan, pass.starts, n);
+    let mut ins = Vec::with_capacity(pass.alloc, edges.len())?;
+    let mut e = pass.starts[n.0 as usize];
+    for _edge in edges {
+        let shared = pass.board.fetch(seat, e);
+        ins.push(shared)?;
+        e += 1;
+    }
+    Ok(ins)
+}
+
+/// Fills and subtracts an edge out of a node. A target that got ready becomes a hint.
+fn spread_to<V: Visit, G: Gate>(
+    pass: &Pass<V, G>,
+    seat: &mut Seat<V>,
+    e: u32,
+    n: NodeId,
+    value: &Arc<Published<V::Out>>,
+    hints: &mut Worker<NodeId>,
+) -> Result<(), OutOfMemory>
+    requires pass { IsPass (V.takes pass.now.visitor.now) pass.now }
+    requires seat { IsSeatOf pass.now.board.now seat.old }
+    requires edge { e < length pass.now.plan.now.edges }
+    requires source { from_of pass.now.plan.now.edges e ≡ n.0 }
+    requires ticket { 1 ≤ tickets_for n.0 (view_of seat.old).tickets }
+    requires fresh { (times e (view_of seat.old).filled ≡ 0) × (times e (view_of seat.old).subtracted ≡ 0) }
+    requires value { shown (arc_value value.now) ≡ result_of (V.meaning pass.now.visitor.now) pass.now n.0 }
+    ensures seat { IsSeatOf pass.now.board.now seat.new }
+    ensures weight { (view_of seat.new).weight ≡ (view_of seat.old).weight }
+    ensures went { OnOk result (view_of seat.new ≡ with_subtract (with_filled (view_of seat.old) e) e) }
+{
+    let shared = Arc::try_clone(value)?;
+    pass.board.fill(seat, e, shared);
+    if pass.board.subtract(seat, e) {
+        let _ = hints.push(pass.plan.edges.as_slice()[e as usize].to);
+    }
+    Ok(())
+}
+
+/// Fills and subtracts all edges out of a node.
+pub fn spread<V: Visit, G: Gate>(
+    pass: &Pass<V, G>,
+    seat: &mut Seat<V>,
+    n: NodeId,
+    value: &Arc<Published<V::Out>>,
+    hints: &mut Worker<NodeId>,
+) -> Result<(), OutOfMemory>
+    requires pass { IsPass (V.takes pass.now.visitor.now) pass.now }
+    requires inside { n.0 < pass.now.plan.now.count }
+    requires seat { IsSeatOf pass.now.board.now seat.old }
+    requires ticket { 1 ≤ tickets_for n.0 (view_of seat.old).tickets }
+    requires fresh { HasNotSpread pass.now.plan.now.edges n.0 (view_of seat.old) }
+    requires value { shown (arc_value value.now) ≡ result_of (V.meaning pass.now.visitor.now) pass.now n.0 }
+    ensures seat { IsSeatOf pass.now.board.now seat.new }
+    ensures weight { (view_of seat.new).weight ≡ (view_of seat.old).weight }
+    ensures spread { OnOk result (HasSpread pass.now n.0 (view_of seat.old) (view_of seat.new)) }
+{
+    let mut e = pass.outs.first[n.0 as usize];
+    while e != END {
+        spread_to(pass, seat, e, n, value, hints)?;
+        e = pass.outs.next[e as usize];
+    }
+    Ok(())
+}
