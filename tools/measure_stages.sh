@@ -13,7 +13,7 @@ set -eu
 top=$(cd "$(dirname "$0")/.." && pwd)
 program=${1:-$top/crates/bpgen/out/bpgen}
 first=${MODULES:-2500}
-stages=${STAGES:-"reading the files=bpgen::.*::read_file
+stages=${STAGES:-"reading the files=bp_run::.*::read_file
 the list=bp_load::.*::file_list
 tokens=bp_lexer::.*::tokens
 trees=bp_parser::.*::(parse|map_at)
