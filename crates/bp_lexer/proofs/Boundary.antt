@@ -9,7 +9,7 @@ use Rattle.std.proofs.lemmas.List.{take_more, take-take, drop-drop, drop-take}
 use Rattle.std.proofs.lemmas.List.Folds.{list_all-append}
 use Rattle.std.proofs.lemmas.Str.{IsCharBoundary-after_ascii, IsCharBoundary-before_ascii, IsCharBoundary-end, IsCharBoundary-start}
 use Rattle.bp_lexer.specs.declared.token.Punct.{Punct}
-use Rattle.bp_lexer.specs.declared.token.Punct.TheVariants.{OpenBrace, CloseBrace, OpenBracket, CloseBracket, OpenParen, CloseParen, Colon, Comma, Equals, PlusEquals, Plus}
+use Rattle.bp_lexer.specs.declared.token.Punct.TheVariants.{OpenBrace, CloseBrace, OpenBracket, CloseBracket, OpenParen, CloseParen, Colon, Comma, Equal, PlusEqual, Plus}
 use Rattle.bp_lexer.specs.declared.token.Token.{Token}
 use Rattle.bp_lexer.specs.declared.token.TokenKind.{TokenKind}
 use Rattle.bp_lexer.specs.declared.token.TokenKind.TheVariants.{Ident, Int, Quoted, Raw, Punct as Mark, LineComment, BlockComment}
@@ -47,8 +47,8 @@ mark_first OpenParen = omega arith
 mark_first CloseParen = omega arith
 mark_first Colon = omega arith
 mark_first Comma = omega arith
-mark_first Equals = omega arith
-mark_first PlusEquals = omega arith
+mark_first Equal = omega arith
+mark_first PlusEqual = omega arith
 mark_first Plus = omega arith
 
 -- the first byte of a token is of ASCII
@@ -72,8 +72,8 @@ mark_last OpenParen n len = let e : n ≡ 0 = omega arith in rw e (omega arith)
 mark_last CloseParen n len = let e : n ≡ 0 = omega arith in rw e (omega arith)
 mark_last Colon n len = let e : n ≡ 0 = omega arith in rw e (omega arith)
 mark_last Comma n len = let e : n ≡ 0 = omega arith in rw e (omega arith)
-mark_last Equals n len = let e : n ≡ 0 = omega arith in rw e (omega arith)
-mark_last PlusEquals n len = let e : n ≡ 1 = omega arith in rw e (omega arith)
+mark_last Equal n len = let e : n ≡ 0 = omega arith in rw e (omega arith)
+mark_last PlusEqual n len = let e : n ≡ 1 = omega arith in rw e (omega arith)
 mark_last Plus n len = let e : n ≡ 0 = omega arith in rw e (omega arith)
 
 int_last : (b : ℕ) (w : List ℕ) → list_all is_digit w ≡ true → ((b ≡ 45) × (0 < length w)) ⊎ (is_digit b ≡ true) → is_digit (get_or (b ∷ w) (length w) 0) ≡ true

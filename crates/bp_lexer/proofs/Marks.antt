@@ -3,7 +3,7 @@ use Rattle.std.proofs.Common.{◌≡◌, ℕ, ◌<◌, ◌≤◌, false, List, [
 use Rattle.std.specs.Prelude.{◌==◌}
 use Rattle.std.proofs.lemmas.Bool.{cases_Bool, cond-true, cond-false, false≢true, ne_eqb}
 use Rattle.bp_lexer.specs.declared.token.Punct.{Punct}
-use Rattle.bp_lexer.specs.declared.token.Punct.TheVariants.{OpenBrace, CloseBrace, OpenBracket, CloseBracket, OpenParen, CloseParen, Colon, Comma, Equals, PlusEquals, Plus}
+use Rattle.bp_lexer.specs.declared.token.Punct.TheVariants.{OpenBrace, CloseBrace, OpenBracket, CloseBracket, OpenParen, CloseParen, Colon, Comma, Equal, PlusEqual, Plus}
 use Rattle.bp_lexer.specs.declared.token.TokenKind.{TokenKind}
 use Rattle.bp_lexer.specs.declared.token.TokenKind.TheVariants.{Ident, Int, Quoted, Raw, Punct as Mark, LineComment, BlockComment}
 use Rattle.bp_lexer.specs.Classes.{is_letter, is_digit}
@@ -23,8 +23,8 @@ mark_alone OpenParen w b is apart = let e : b ≡ 40 = sym (ap (λ l. get_or l 0
 mark_alone CloseParen w b is apart = let e : b ≡ 41 = sym (ap (λ l. get_or l 0 0) is) in rw e refl
 mark_alone Colon w b is apart = let e : b ≡ 58 = sym (ap (λ l. get_or l 0 0) is) in rw e refl
 mark_alone Comma w b is apart = let e : b ≡ 44 = sym (ap (λ l. get_or l 0 0) is) in rw e refl
-mark_alone Equals w b is apart = let e : b ≡ 61 = sym (ap (λ l. get_or l 0 0) is) in rw e refl
-mark_alone PlusEquals w b is apart = absurd (omega (arith, ap length is))
+mark_alone Equal w b is apart = let e : b ≡ 61 = sym (ap (λ l. get_or l 0 0) is) in rw e refl
+mark_alone PlusEqual w b is apart = absurd (omega (arith, ap length is))
 mark_alone Plus w b is apart = let e : b ≡ 43 = sym (ap (λ l. get_or l 0 0) is) in rw e (cond-false (get_or w 0 0 == 61) _ _ (ne_eqb (get_or w 0 0) 61 (apart e)))
 
 -- what stands second in a word stands second in the text
@@ -46,11 +46,11 @@ mark_longest (b ∷ bs) p some is apart = record {
 plus_only : (k : TokenKind) (word w : List ℕ) → k ≡ kind_of (43 ∷ w) → IsForm k word → length word ≤ 2
 plus_only k word w kind form =
     ⊎_elim
-    (λ equals. let f = form_as (Mark PlusEquals) k word (kind ∙ cond-true (get_or w 0 0 == 61) _ _ equals) form in omega (arith, ap length f))
+    (λ equals. let f = form_as (Mark PlusEqual) k word (kind ∙ cond-true (get_or w 0 0 == 61) _ _ equals) form in omega (arith, ap length f))
     (λ other. let f = form_as (Mark Plus) k word (kind ∙ cond-false (get_or w 0 0 == 61) _ _ other) form in omega (arith, ap length f))
     (cases_Bool (get_or w 0 0 == 61))
 
-pub plus_equals_longest : (text : List ℕ) → get_or text 0 0 ≡ 43 → get_or text 1 0 ≡ 61 → IsLongest text (Mark PlusEquals) 2
+pub plus_equals_longest : (text : List ℕ) → get_or text 0 0 ≡ 43 → get_or text 1 0 ≡ 61 → IsLongest text (Mark PlusEqual) 2
 plus_equals_longest [] first second = absurd (omega arith)
 plus_equals_longest (a ∷ []) first second = absurd (omega arith)
 plus_equals_longest (a ∷ b ∷ bs) first second = record {
@@ -89,8 +89,8 @@ no_begin (Mark OpenParen) b w form none = none.mark OpenParen (let e : b ≡ 40 
 no_begin (Mark CloseParen) b w form none = none.mark CloseParen (let e : b ≡ 41 = cc in rw e refl)
 no_begin (Mark Colon) b w form none = none.mark Colon (let e : b ≡ 58 = cc in rw e refl)
 no_begin (Mark Comma) b w form none = none.mark Comma (let e : b ≡ 44 = cc in rw e refl)
-no_begin (Mark Equals) b w form none = none.mark Equals (let e : b ≡ 61 = cc in rw e refl)
-no_begin (Mark PlusEquals) b w form none = none.mark Plus (let e : b ≡ 43 = cc in rw e refl)
+no_begin (Mark Equal) b w form none = none.mark Equal (let e : b ≡ 61 = cc in rw e refl)
+no_begin (Mark PlusEqual) b w form none = none.mark Plus (let e : b ≡ 43 = cc in rw e refl)
 no_begin (Mark Plus) b w form none = none.mark Plus (let e : b ≡ 43 = cc in rw e refl)
 no_begin LineComment b w form none = none.slash cc
 no_begin BlockComment b w form none = none.slash cc

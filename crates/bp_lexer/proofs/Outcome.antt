@@ -9,7 +9,7 @@ use Rattle.bp_faults.specs.declared.fault.Fault.{Fault}
 use Rattle.bp_lexer.specs.declared.flaw.Flaw.{Flaw}
 use Rattle.bp_lexer.specs.declared.flaw.Flaw.TheVariants.{BadChar, OpenString, OpenComment, BadEscape, BadNumber}
 use Rattle.bp_lexer.specs.declared.token.Punct.{Punct}
-use Rattle.bp_lexer.specs.declared.token.Punct.TheVariants.{PlusEquals}
+use Rattle.bp_lexer.specs.declared.token.Punct.TheVariants.{PlusEqual}
 use Rattle.bp_lexer.specs.declared.token.Token.{Token}
 use Rattle.bp_lexer.specs.declared.token.TokenKind.{TokenKind}
 use Rattle.bp_lexer.specs.declared.token.TokenKind.TheVariants.{Ident, Int, Quoted, Raw, Punct as Mark, LineComment, BlockComment}
@@ -152,7 +152,7 @@ mark_front : (text : List ℕ) → 0 < length text → ((p : Punct) × (punct_te
 mark_front text some mark =
     ⊎_elim
     (λ plus. ⊎_elim
-    (λ equals. inl (Mark PlusEquals, 2, plus_equals_longest text plus equals))
+    (λ equals. inl (Mark PlusEqual, 2, plus_equals_longest text plus equals))
     (λ other. inl (Mark mark.0, 1, mark_longest text mark.0 some mark.1 (λ e. other)))
     (cases_eq (get_or text 1 0) 61))
     (λ other. inl (Mark mark.0, 1, mark_longest text mark.0 some mark.1 (λ e f. other e)))

@@ -6,7 +6,8 @@ use Rattle.std.proofs.lemmas.List.{reverse-append, take_more, length-reverse}
 use Rattle.std.proofs.lemmas.List.Sums.{sum_by_push, take_while-cons, count_by-le-length}
 use Rattle.std.proofs.lemmas.Bool.{cases_Bool, cond-true, cond-false}
 use Rattle.bp_faults.specs.declared.place.Place.{Place}
-use Rattle.bp_lexer.specs.Places.{begins_char, last_line, place_at, place_after}
+use Rattle.bp_lexer.specs.Places.{begins_char, last_line, place_at}
+use Rattle.bp_lexer.specs.Search.{place_after}
 
 turn_cond : (t : Bool) (b : ℕ) (xs : List ℕ) → reverse (cond (not t) (b ∷ xs) []) ≡ cond t [] (reverse xs ++ b ∷ [])
 turn_cond true b xs = refl

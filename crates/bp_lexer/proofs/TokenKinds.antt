@@ -4,7 +4,7 @@ use Rattle.std.specs.Prelude.{◌==◌, ◌||◌, ◌⊎◌}
 use Rattle.std.specs.List.{list_all}
 use Rattle.std.proofs.lemmas.Bool.{or_left, and_parts, cond-true, cond-false}
 use Rattle.std.proofs.lemmas.Bool.Decides.{nat_tests}
-use Rattle.bp_lexer.specs.declared.token.Punct.TheVariants.{OpenBrace, CloseBrace, OpenBracket, CloseBracket, OpenParen, CloseParen, Colon, Comma, Equals, PlusEquals, Plus}
+use Rattle.bp_lexer.specs.declared.token.Punct.TheVariants.{OpenBrace, CloseBrace, OpenBracket, CloseBracket, OpenParen, CloseParen, Colon, Comma, Equal, PlusEqual, Plus}
 use Rattle.bp_lexer.specs.declared.token.TokenKind.{TokenKind}
 use Rattle.bp_lexer.specs.declared.token.TokenKind.TheVariants.{Ident, Int, Quoted, Raw, Punct as Mark, LineComment, BlockComment}
 use Rattle.bp_lexer.specs.Classes.{is_white, is_letter, is_digit}
@@ -53,8 +53,8 @@ form_first (Mark OpenParen) word form = rw form (omega arith, refl)
 form_first (Mark CloseParen) word form = rw form (omega arith, refl)
 form_first (Mark Colon) word form = rw form (omega arith, refl)
 form_first (Mark Comma) word form = rw form (omega arith, refl)
-form_first (Mark Equals) word form = rw form (omega arith, refl)
-form_first (Mark PlusEquals) word form = rw form (omega arith, refl)
+form_first (Mark Equal) word form = rw form (omega arith, refl)
+form_first (Mark PlusEqual) word form = rw form (omega arith, refl)
 form_first (Mark Plus) word form = rw form (omega arith, refl)
 form_first LineComment word form = rw form.1 (omega arith, refl)
 form_first BlockComment word form = rw form.2 (omega arith, refl)
@@ -64,8 +64,8 @@ abbrev mark_of : ℕ → List ℕ → TokenKind
 mark_of b w =
     cond (b == 123) (Mark OpenBrace) (cond (b == 125) (Mark CloseBrace) (cond (b == 91) (Mark OpenBracket)
     (cond (b == 93) (Mark CloseBracket) (cond (b == 40) (Mark OpenParen) (cond (b == 41) (Mark CloseParen)
-    (cond (b == 58) (Mark Colon) (cond (b == 44) (Mark Comma) (cond (b == 61) (Mark Equals)
-    (cond (get_or w 0 0 == 61) (Mark PlusEquals) (Mark Plus))))))))))
+    (cond (b == 58) (Mark Colon) (cond (b == 44) (Mark Comma) (cond (b == 61) (Mark Equal)
+    (cond (get_or w 0 0 == 61) (Mark PlusEqual) (Mark Plus))))))))))
 
 -- the kind of a token that begins so
 abbrev pub kind_of : List ℕ → TokenKind
@@ -93,8 +93,8 @@ form_kind (Mark OpenParen) word form = rw form refl
 form_kind (Mark CloseParen) word form = rw form refl
 form_kind (Mark Colon) word form = rw form refl
 form_kind (Mark Comma) word form = rw form refl
-form_kind (Mark Equals) word form = rw form refl
-form_kind (Mark PlusEquals) word form = rw form refl
+form_kind (Mark Equal) word form = rw form refl
+form_kind (Mark PlusEqual) word form = rw form refl
 form_kind (Mark Plus) word form = rw form refl
 form_kind LineComment word form = rw form.1 refl
 form_kind BlockComment word form = rw form.2 refl

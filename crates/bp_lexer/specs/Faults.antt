@@ -38,7 +38,7 @@ IsFlaw text OpenComment = HasNoForm text × (take 2 text ≡ codes "/*")
 IsFlaw text (BadEscape k) = HasNoForm text × HasBadEscape text k
 IsFlaw text (BadNumber n) = IsLongest text Int n × (IsInRange (take n text) → ⊥)
 
--- the character that a text begins with, in UTF-8
+-- The character that a text begins with, in UTF-8.
 abbrev pub first_char : List ℕ → List ℕ
 first_char text = encode_utf8_all (take 1 (chars text))
 

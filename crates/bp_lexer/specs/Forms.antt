@@ -2,13 +2,13 @@
 use Rattle.std.specs.Prelude.{◌≡◌, ℕ, ◌+◌, ◌<◌, ◌≤◌, false, List, [], ◌∷◌, ◌++◌, ◌⊎◌, length, take, slice_index, codes, IsTrue}
 use Rattle.std.specs.List.{list_all}
 use Rattle.bp_lexer.specs.declared.token.Punct.{Punct}
-use Rattle.bp_lexer.specs.declared.token.Punct.TheVariants.{OpenBrace, CloseBrace, OpenBracket, CloseBracket, OpenParen, CloseParen, Colon, Comma, Equals, PlusEquals, Plus}
+use Rattle.bp_lexer.specs.declared.token.Punct.TheVariants.{OpenBrace, CloseBrace, OpenBracket, CloseBracket, OpenParen, CloseParen, Colon, Comma, Equal, PlusEqual, Plus}
 use Rattle.bp_lexer.specs.declared.token.TokenKind.{TokenKind}
 use Rattle.bp_lexer.specs.declared.token.TokenKind.TheVariants.{Ident, Int, Quoted, Raw, Punct as Mark, LineComment, BlockComment}
 use Rattle.bp_lexer.specs.Classes.{is_letter, is_word, is_digit, in_line, in_raw}
 use Rattle.bp_lexer.specs.Strings.{is_escape, is_body}
 
--- how each punctuation mark is written
+-- How each punctuation mark is written.
 abbrev pub punct_text : Punct → List ℕ
 punct_text OpenBrace = codes "{"
 punct_text CloseBrace = codes "}"
@@ -18,8 +18,8 @@ punct_text OpenParen = codes "("
 punct_text CloseParen = codes ")"
 punct_text Colon = codes ":"
 punct_text Comma = codes ","
-punct_text Equals = codes "="
-punct_text PlusEquals = codes "+="
+punct_text Equal = codes "="
+punct_text PlusEqual = codes "+="
 punct_text Plus = codes "+"
 
 -- `*/` stands at n.

@@ -5,3 +5,4 @@ pub mod Places
 pub mod Faults
 pub mod Search
 pub mod Meaning
+pub mod Laws

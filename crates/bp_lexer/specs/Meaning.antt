@@ -16,7 +16,7 @@ use Rattle.bp_lexer.specs.Places.{place_at}
 abbrev pub IsBlank : List ℕ → ℕ → ℕ → Type 0
 IsBlank text i j = (i ≤ j) × ((k : ℕ) → i ≤ k → k < j → is_white (slice_index text k) ≡ true)
 
--- the bytes of a token
+-- The bytes of a token.
 abbrev pub word_of : List ℕ → Token → List ℕ
 word_of text t = take (t.end - t.start) (drop t.start text)
 
@@ -32,7 +32,7 @@ abbrev pub Covers : ℕ → List ℕ → ℕ → ℕ → List Token → Type 0
 Covers file text i j [] = IsBlank text i j
 Covers file text i j (t ∷ ts) = IsBlank text i t.start × IsToken file text t × Covers file text t.end j ts
 
--- the tokens of the whole text
+-- The tokens of the whole text.
 abbrev pub IsTokenList : ℕ → List ℕ → List Token → Type 0
 IsTokenList file text ts = Covers file text 0 (length text) ts
 
@@ -54,7 +54,7 @@ abbrev pub LexMeans : ℕ → List ℕ → Result (List Token) Fault → Type 0
 LexMeans file text (Ok ts) = IsTokenList file text ts
 LexMeans file text (Err fault) = IsFirstFault file text fault
 
--- what stands between the quotes or backquotes
+-- What stands between the quotes or backquotes.
 abbrev pub inner_of : List ℕ → List ℕ
 inner_of word = take (length word - 2) (drop 1 word)
 

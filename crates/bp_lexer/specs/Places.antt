@@ -1,5 +1,5 @@
 -- Lines and columns.
-use Rattle.std.specs.Prelude.{ℕ, ◌+◌, Bool, not, ◌||◌, nat_lt, nat_le, ◌==◌, if◌then◌else◌, List, take, reverse}
+use Rattle.std.specs.Prelude.{ℕ, ◌+◌, Bool, not, ◌||◌, nat_lt, nat_le, ◌==◌, List, take, reverse}
 use Rattle.std.specs.List.{count_by, take_while}
 use Rattle.bp_faults.specs.declared.place.Place.{Place}
 
@@ -7,7 +7,7 @@ use Rattle.bp_faults.specs.declared.place.Place.{Place}
 abbrev pub begins_char : ℕ → Bool
 begins_char b = nat_lt b 128 || nat_le 192 b
 
--- what stands after the last end of a line
+-- What stands after the last end of a line.
 abbrev pub last_line : List ℕ → List ℕ
 last_line bytes = reverse (take_while (λ b. not (b == 10)) (reverse bytes))
 
@@ -18,10 +18,3 @@ place_at file text i = record {
   line = 1 + count_by (λ b. b == 10) (take i text);
   col = 1 + count_by begins_char (last_line (take i text));
 }
-
--- the place behind a byte
-abbrev pub place_after : Place → ℕ → Place
-place_after p b =
-    if b == 10 then record { file = p.file; line = p.line + 1; col = 1 }
-    else (if begins_char b then record { file = p.file; line = p.line; col = p.col + 1 }
-    else p)

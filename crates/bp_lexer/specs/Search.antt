@@ -1,10 +1,12 @@
 -- What the searches inside the lexer find. No public contract speaks of it.
-use Rattle.std.specs.Prelude.{◌≡◌, ℕ, true, false, List, take, Option, Some, None, Result, Ok, Err}
+use Rattle.std.specs.Prelude.{◌≡◌, ◌+◌, ◌==◌, if◌then◌else◌, ℕ, true, false, List, take, Option, Some, None, Result, Ok, Err}
 use Rattle.bp_lexer.specs.declared.flaw.Flaw.{Flaw}
 use Rattle.bp_lexer.specs.declared.flaw.Flaw.TheVariants.{OpenString, BadEscape}
 use Rattle.bp_lexer.specs.declared.token.TokenKind.{TokenKind}
 use Rattle.bp_lexer.specs.declared.token.TokenKind.TheVariants.{Int}
+use Rattle.bp_faults.specs.declared.place.Place.{Place}
 use Rattle.bp_lexer.specs.Classes.{in_line}
+use Rattle.bp_lexer.specs.Places.{begins_char}
 use Rattle.bp_lexer.specs.Strings.{is_escape, is_body, IsClosedAt, IsOpen, IsBadEscapeAt}
 use Rattle.bp_lexer.specs.Forms.{IsLongest}
 use Rattle.bp_lexer.specs.Faults.{IsInRange, IsFlaw}
@@ -29,3 +31,10 @@ Finds text (Err flaw) = IsFlaw text flaw
 abbrev pub FindsToken : List ℕ → Result (TokenKind × ℕ) Flaw → Type 0
 FindsToken text (Ok found) = IsLongest text found.0 found.1 × (found.0 ≡ Int → IsInRange (take found.1 text))
 FindsToken text (Err flaw) = IsFlaw text flaw
+
+-- The place behind a byte.
+abbrev pub place_after : Place → ℕ → Place
+place_after p b =
+    if b == 10 then record { file = p.file; line = p.line + 1; col = 1 }
+    else (if begins_char b then record { file = p.file; line = p.line; col = p.col + 1 }
+    else p)

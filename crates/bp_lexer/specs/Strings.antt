@@ -9,11 +9,11 @@ escape_of c =
     else if c == 110 then Some 10 else if c == 114 then Some 13 else if c == 116 then Some 9
     else if c == 118 then Some 11 else if c == 92 then Some 92 else if c == 34 then Some 34 else None
 
--- what may stand behind a backslash
+-- What may stand behind a backslash.
 abbrev pub is_escape : ℕ → Bool
 is_escape c = is_some (escape_of c)
 
--- what stands for itself: anything but the quote and LF, where it is no backslash
+-- What stands for itself: anything but the quote and LF, where it is no backslash.
 abbrev pub is_plain : ℕ → Bool
 is_plain b = not (b == 34) && not (b == 10)
 

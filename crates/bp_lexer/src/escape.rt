@@ -25,7 +25,7 @@ pub fn escape_of(c: char) -> Option<char>
 pub fn unescaped(alloc: Global, inner: &str) -> Result<String, OutOfMemory>
     ensures { IfOk result (λ text. string_bytes text ≡ encode_utf8_all (unescaped false (chars inner.now))) }
 {
-    let mut text = String::new(alloc);
+    let mut text = String::with_capacity(alloc, inner.len())?;
     let mut slash = false;
     for c in inner.chars() {
         if slash {

@@ -1,6 +1,6 @@
 //! The lexer: cuts the text of a file into its tokens.
 //!
-//! In flow the text and the file's number, out flow the tokens with their places, or the first fault.
+//! It takes the text of a file and its number; it gives the tokens with their places, or the first fault.
 //! It is measured by `specs/Meaning.antt`: a token list covers the whole text but for white space,
 //! and each token is the longest form that begins at its place.
 #![tactic(auto)]
@@ -11,7 +11,7 @@ mod comment;
 mod escape;
 mod flaw;
 mod form;
-mod law;
+pub mod laws;
 mod lex;
 mod place;
 mod punct;
@@ -22,7 +22,6 @@ mod token;
 mod value;
 
 pub use bp_faults::Refusal as LexError;
-pub use law::{columns_count_characters, list_or_fault, one_fault, one_meaning, one_token_list};
 pub use lex::tokens;
 pub use span::{place_in, place_of_end};
 pub use token::{Punct, Token, TokenKind};

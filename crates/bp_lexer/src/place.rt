@@ -1,5 +1,6 @@
 ghost use Rattle.std.specs.Prelude.{◌≡◌, ◌<◌, ◌≤◌, ◌^◌, length};
-ghost use Rattle.bp_lexer.specs.Places.{place_at, place_after};
+ghost use Rattle.bp_lexer.specs.Places.{place_at};
+ghost use Rattle.bp_lexer.specs.Search.{place_after};
 
 use bp_faults::Place;
 

@@ -17,7 +17,7 @@ fn punct_of(byte: u8) -> Option<Punct>
         b')' => Some(Punct::CloseParen),
         b':' => Some(Punct::Colon),
         b',' => Some(Punct::Comma),
-        b'=' => Some(Punct::Equals),
+        b'=' => Some(Punct::Equal),
         b'+' => Some(Punct::Plus),
         _ => None,
     }
@@ -30,7 +30,7 @@ pub fn punct_form(text: &[u8]) -> Option<(Punct, usize)>
         (λ found. IsLongest text.now (Mark found.0) found.1) }
 {
     if text[0] == b'+' && second(text) == b'=' {
-        return Some((Punct::PlusEquals, 2));
+        return Some((Punct::PlusEqual, 2));
     }
     let punct = punct_of(text[0])?;
     Some((punct, 1))

@@ -18,7 +18,8 @@ impl Token {
     }
 }
 
-/// The place of a byte, or of the end, of a file that has at most 2^22 bytes. Up to there it is UTF-8.
+/// The place of a byte, or of the end, of a file that has at most 2^22 bytes. Columns count the bytes
+/// that begin characters, whatever the others are.
 pub fn place_in(bytes: &[u8], at: usize, file: u32) -> Place
     requires within { at ≤ length bytes.now }
     requires short { length bytes.now ≤ 2 ^ 22 }

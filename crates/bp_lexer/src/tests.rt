@@ -49,7 +49,7 @@ fn texts_are_cut_as_the_language_says(rt: HostRuntime) -> Result<(), Fail> {
         ),
         (
             "+= + =[(",
-            "Punct(PlusEquals) 0..2 1:1; Punct(Plus) 3..4 1:4; Punct(Equals) 5..6 1:6; Punct(OpenBracket) 6..7 1:7; Punct(OpenParen) 7..8 1:8; ",
+            "Punct(PlusEqual) 0..2 1:1; Punct(Plus) 3..4 1:4; Punct(Equal) 5..6 1:6; Punct(OpenBracket) 6..7 1:7; Punct(OpenParen) 7..8 1:8; ",
         ),
         ("a1 //", "Ident 0..2 1:1; LineComment 3..5 1:4; "),
         (
@@ -82,7 +82,7 @@ fn texts_are_cut_as_the_language_says(rt: HostRuntime) -> Result<(), Fail> {
 }
 
 #[test]
-fn the_first_fault_is_told(rt: HostRuntime) -> Result<(), Fail> {
+fn the_first_fault_is_reported(rt: HostRuntime) -> Result<(), Fail> {
     let alloc = rt.alloc();
     for (text, want) in [
         ("\"é漢😀\" é", ":1:7: error 2: unexpected character: é\n"),
@@ -108,10 +108,24 @@ fn the_first_fault_is_told(rt: HostRuntime) -> Result<(), Fail> {
             "-9223372036854775809 \"",
             ":1:1: error 6: number out of range: -9223372036854775809\n",
         ),
+        (
+            "[1000000000000000000000000000000000000",
+            ":1:2: error 6: number out of range: 1000000000000000000000000000000000000\n",
+        ),
     ] {
         assert!(rt; text.len() <= 1 << 20);
         assert_eq!(rt; shown(alloc, text)?.as_str(), want);
     }
+    let mut long = String::new(alloc);
+    for _ in 0..70000 {
+        long.push(' ')?;
+    }
+    long.push('?')?;
+    assert!(rt; long.len() <= 1 << 20);
+    assert_eq!(rt;
+        shown(alloc, long.as_str())?.as_str(),
+        ":1:70001: error 2: unexpected character: ?\n"
+    );
     Ok(())
 }
 

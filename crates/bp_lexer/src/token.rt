@@ -11,8 +11,8 @@ pub enum Punct {
     CloseParen,
     Colon,
     Comma,
-    Equals,
-    PlusEquals,
+    Equal,
+    PlusEqual,
     Plus,
 }
 

@@ -4,8 +4,10 @@ use Rattle.std.specs.Prelude.{Result, Ok}
 use Rattle.bp_faults.specs.declared.fault.Fault.{Fault}
 use Rattle.std.proofs.lemmas.Simd.{map-map}
 use Rattle.bp_load.specs.Directories.{directories}
-use Rattle.bp_load.specs.Phases.{Each}
-use Rattle.bp_load.specs.Trees.{Source, Placed, placed, FileMeans}
+use Rattle.bp_faults.specs.Phases.{Each}
+use Rattle.bp_load.specs.Texts.{AsText}
+use Rattle.bp_load.specs.Trees.{Source, Placed, placed, TextMeans, FileMeans}
+use Rattle.bp_load.proofs.AsTexts.{then_value}
 
 -- one more at the end
 pub each_push : {A B : Type 0} (Means : ℕ → A → Result B Fault → Type 0) (n : ℕ) (xs : List A) (ys : List B) (x : A) (y : B) → Each Means n xs ys → Means (n + length xs) x (Ok y) → Each Means n (xs ++ x ∷ []) (ys ++ y ∷ [])
@@ -31,7 +33,11 @@ each_same Means f g same n (u ∷ xs) (v ∷ ys) each =
     cc
 
 same_directory : (n : ℕ) (file : Source) (p : Placed) → FileMeans n file (Ok p) → p.directory ≡ directories file.0
-same_directory n file p means = let is : p ≡ placed file.0 means.0 = cc in ap (λ (q : Placed). q.directory) is
+same_directory n file p means =
+    let found = then_value (AsText n file.1 (TextMeans n file.1)) (λ tree o. Ok (placed file.0 tree) ≡ o) p means in
+    let same = found.2 in
+    let is : p ≡ placed file.0 found.0 = cc in
+    ap (λ (q : Placed). q.directory) is
 
 -- files as they are parsed stand in the directories of their paths
 pub each_directories : (files : List Source) (ps : List Placed) → Each FileMeans 1 files ps → map (λ p. p.directory) ps ≡ map directories (map (λ f. f.0) files)

@@ -1,4 +1,3 @@
-pub mod Told
 pub mod Cut
 pub mod Eachs
 pub mod Above
@@ -9,10 +8,9 @@ pub mod Members
 pub mod Listing
 pub mod Typed
 pub mod OneOrder
-pub mod OnePhase
+pub mod AsTexts
 pub mod OneList
 pub mod OneLoad
-pub mod SomePhase
 pub mod SomeList
 pub mod SomeLoad
 pub mod Sound

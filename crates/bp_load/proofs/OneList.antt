@@ -10,7 +10,7 @@ use Rattle.bp_faults.specs.Faults.{fault_on}
 use Rattle.bp_faults.specs.declared.kind.FaultKind.TheVariants.{BadList, TooMany}
 use Rattle.bp_load.specs.Directories.{directories, directory_cmp}
 use Rattle.std.specs.Str.Lines.{lines}
-use Rattle.bp_load.proofs.OnePhase.{as_text_once}
+use Rattle.bp_load.proofs.AsTexts.{as_text_once}
 use Rattle.bp_load.specs.ListFile.{is_sound, named, line_place, AreListed, AreFiles, IsWrongAt, IsFirstFault, LinesMean}
 use Rattle.bp_load.proofs.Orders.{directories_total}
 use Rattle.bp_load.proofs.Members.{Has, has_contained, contained_had}

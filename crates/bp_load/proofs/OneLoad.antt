@@ -9,7 +9,9 @@ use Rattle.bp_load.specs.Trees.{Source, placed, TextMeans, FileMeans, TreesMean}
 use Rattle.bp_load.specs.Inherited.{RawMean, all_evaluated}
 use Rattle.bp_load.specs.Loaded.{all_named}
 use Rattle.bp_load.specs.Laws.{OneRaw, OneLoad}
-use Rattle.bp_load.proofs.OnePhase.{IsOnce, as_text_once, then_once, value_once, phase_once}
+use Rattle.bp_faults.specs.Phases.{IsOnce}
+use Rattle.bp_faults.proofs.Phases.{then_once, value_once, phase_once}
+use Rattle.bp_load.proofs.AsTexts.{as_text_once}
 
 module _ (lexed : (file : ℕ) (text : List ℕ) → IsOnce (LexMeans file text)) (parsed : (text : List ℕ) (ts : List Token) → IsOnce (ParseMeans text ts)) where
   text_once : (file : ℕ) (text : List ℕ) → IsOnce (TextMeans file text)
@@ -19,7 +21,7 @@ module _ (lexed : (file : ℕ) (text : List ℕ) → IsOnce (LexMeans file text)
   file_once file source =
       then_once
       (AsText file source.1 (TextMeans file source.1))
-      (λ tree o. o ≡ Ok (placed source.0 tree))
+      (λ tree o. Ok (placed source.0 tree) ≡ o)
       (as_text_once file source.1 (TextMeans file source.1) (text_once file source.1))
       (λ tree. value_once (Ok (placed source.0 tree)))
 
@@ -27,9 +29,9 @@ module _ (lexed : (file : ℕ) (text : List ℕ) → IsOnce (LexMeans file text)
   raw_once files =
       then_once
       (TreesMean files)
-      (λ trees o. o ≡ all_evaluated [] trees)
+      (λ trees o. all_evaluated [] trees ≡ o)
       (phase_once FileMeans file_once 1 files)
       (λ trees. value_once (all_evaluated [] trees))
 
 pub load_once : OneRaw → OneLoad
-load_once raw files = then_once (RawMean files) (λ raws o. o ≡ all_named raws) (raw files) (λ raws. value_once (all_named raws))
+load_once raw files = then_once (RawMean files) (λ raws o. all_named raws ≡ o) (raw files) (λ raws. value_once (all_named raws))

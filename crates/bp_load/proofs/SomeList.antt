@@ -8,7 +8,8 @@ use Rattle.bp_load.specs.ListFile.{IsFirstFault, LinesMean}
 use Rattle.bp_load.specs.Listing.{Entries, with_line}
 use Rattle.bp_load.specs.Laws.{SomeList}
 use Rattle.bp_load.proofs.Listing.{Holds, holds_none, holds_more, files_held, first_fault}
-use Rattle.bp_load.proofs.SomePhase.{HasOutcome, some_text}
+use Rattle.bp_faults.specs.Phases.{HasOutcome}
+use Rattle.bp_load.proofs.AsTexts.{some_text}
 use Rattle.std.specs.Map.{values_of}
 
 abbrev Taken : List (List ℕ) → ℕ → Type 0

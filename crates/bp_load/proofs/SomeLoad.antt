@@ -12,7 +12,9 @@ use Rattle.bp_load.specs.Trees.{Source, placed, TextMeans, FileMeans, TreesMean}
 use Rattle.bp_load.specs.Inherited.{RawMean, all_evaluated}
 use Rattle.bp_load.specs.Loaded.{all_named}
 use Rattle.bp_load.specs.Laws.{SomeRaw, SomeLoad}
-use Rattle.bp_load.proofs.SomePhase.{HasOutcome, some_text, some_then, some_phase}
+use Rattle.bp_faults.specs.Phases.{HasOutcome}
+use Rattle.bp_faults.proofs.Phases.{then_some, phase_some}
+use Rattle.bp_load.proofs.AsTexts.{some_text}
 
 module _
     (list_or_fault : (file : ℕ) (text : List ℕ) → ((ts : List Token) × lexer.IsTokenList file text ts) ⊎ ((fault : Fault) × lexer.IsFirstFault file text fault))
@@ -26,19 +28,19 @@ module _
 
     some_file : (file : ℕ) (source : Source) → HasOutcome (FileMeans file source)
     some_file file source =
-        some_then
+        then_some
         (AsText file source.1 (TextMeans file source.1))
-        (λ tree o. o ≡ Ok (placed source.0 tree))
-        (some_text file source.1 (TextMeans file source.1) (some_then (lexer.LexMeans file source.1) (parser.ParseMeans source.1) (lexed file source.1) (parsed source.1)))
+        (λ tree o. Ok (placed source.0 tree) ≡ o)
+        (some_text file source.1 (TextMeans file source.1) (then_some (lexer.LexMeans file source.1) (parser.ParseMeans source.1) (lexed file source.1) (parsed source.1)))
         (λ tree. (Ok (placed source.0 tree), refl))
 
     pub some_raw : SomeRaw
     some_raw files =
-        some_then
+        then_some
         (TreesMean files)
-        (λ trees o. o ≡ all_evaluated [] trees)
-        (some_phase FileMeans some_file 1 files)
+        (λ trees o. all_evaluated [] trees ≡ o)
+        (phase_some FileMeans some_file 1 files)
         (λ trees. (all_evaluated [] trees, refl))
 
 pub some_load : SomeRaw → SomeLoad
-some_load raw files = some_then (RawMean files) (λ raws o. o ≡ all_named raws) (raw files) (λ raws. (all_named raws, refl))
+some_load raw files = then_some (RawMean files) (λ raws o. all_named raws ≡ o) (raw files) (λ raws. (all_named raws, refl))

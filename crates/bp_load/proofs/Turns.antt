@@ -11,7 +11,7 @@ use Rattle.std.proofs.lemmas.List.Kept.{IsStrictlySortedBy-filter}
 use Rattle.bp_faults.specs.declared.fault.Fault.{Fault}
 use Rattle.bp_faults.specs.Answers.{then_do}
 use Rattle.bp_values.specs.Scopes.{Pairs}
-use Rattle.bp_values.specs.Files.{Raw, evaluated}
+use Rattle.bp_values.specs.Meaning.{Raw, evaluated}
 use Rattle.bp_load.specs.Directories.{is_above, directory_cmp}
 use Rattle.bp_load.specs.Trees.{Placed}
 use Rattle.bp_load.specs.Inherited.{Finished, nearer, scope_of, inherited, in_directory, all_evaluated}

@@ -6,8 +6,8 @@ use Rattle.std.proofs.Math.Seq.{drop-cons}
 use Rattle.bp_faults.specs.declared.fault.Fault.{Fault}
 use Rattle.bp_faults.specs.Answers.{then_do}
 use Rattle.bp_props.specs.declared.module.Module.{Module}
-use Rattle.bp_values.specs.Files.{Raw}
-use Rattle.property_tables.specs.Typing.{typed}
+use Rattle.bp_values.specs.Meaning.{Raw}
+use Rattle.property_tables.specs.Meaning.{typed}
 use Rattle.bp_load.specs.Loaded.{all_typed}
 
 abbrev behind : List Module → Result (List Module) Fault → Result (List Module) Fault

@@ -6,9 +6,9 @@ use Rattle.bp_faults.specs.declared.fault.Fault.{Fault}
 use Rattle.bp_faults.specs.Answers.{then_do}
 use Rattle.bp_values.specs.declared.file.RawModule.{RawModule}
 use Rattle.bp_values.specs.Scopes.{Pairs}
-use Rattle.bp_values.specs.Files.{Raw, raw_of, evaluated}
+use Rattle.bp_values.specs.Meaning.{Raw, raw_of, evaluated}
 use Rattle.bp_load.specs.Directories.{is_above}
-use Rattle.bp_load.specs.Phases.{Then}
+use Rattle.bp_faults.specs.Phases.{Then}
 use Rattle.bp_load.specs.Trees.{Source, Placed, TreesMean}
 
 -- a file that is evaluated: its directory and its final scope
@@ -51,4 +51,4 @@ placed_raw m = (m.0, raw_of m.1)
 
 -- What files mean as raw modules: first every file is parsed, and then every file is evaluated.
 abbrev pub RawMean : List Source → Result (List (List ℕ × Raw)) Fault → Type 0
-RawMean files outcome = Then (TreesMean files) (λ parsed o. o ≡ all_evaluated [] parsed) outcome
+RawMean files outcome = Then (TreesMean files) (λ parsed o. all_evaluated [] parsed ≡ o) outcome

@@ -4,7 +4,7 @@ use Rattle.std.specs.List.{All}
 use Rattle.std.specs.declared.cmp.Ordering.TheVariants.{Less}
 use Rattle.bp_faults.specs.declared.fault.Fault.{Fault}
 use Rattle.bp_props.specs.declared.module.Module.{Module}
-use Rattle.bp_values.specs.Files.{Raw}
+use Rattle.bp_values.specs.Meaning.{Raw}
 use Rattle.bp_load.specs.Directories.{is_above, directory_cmp}
 use Rattle.bp_load.specs.ListFile.{is_listed, ListMeans}
 use Rattle.bp_load.specs.Trees.{Source}

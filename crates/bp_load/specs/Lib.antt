@@ -2,10 +2,8 @@ pub mod Directories
 pub mod Texts
 pub mod ListFile
 pub mod Listing
-pub mod Phases
 pub mod Trees
 pub mod Inherited
 pub mod Opened
 pub mod Loaded
-pub mod Known
 pub mod Laws

@@ -1,14 +1,16 @@
 -- The list file: which paths it lists, or its first fault.
-use Rattle.std.specs.Prelude.{◌≡◌, ◌↔◌, ◌⊎◌, ℕ, ◌+◌, ◌-◌, ◌^◌, ◌<◌, ◌≤◌, Bool, false, List, [], ◌∷◌, length, take, not, ◌&&◌, ◌||◌, ◌==◌, codes, if◌then◌else◌, Option, Some, None, IsTrue, Result, Ok, Err, slice_index_or}
+use Rattle.std.specs.Prelude.{◌≡◌, ◌↔◌, ◌⊎◌, ℕ, ◌+◌, ◌-◌, ◌<◌, ◌≤◌, Bool, false, List, [], ◌∷◌, length, take, not, ◌&&◌, ◌||◌, ◌==◌, codes, if◌then◌else◌, Option, Some, None, IsTrue, Result, Ok, Err, slice_index_or}
 use Rattle.std.specs.List.{All, Contains, filter_map, list_all, list_any}
 use Rattle.std.specs.Str.{bytes_eq}
 use Rattle.std.specs.Str.Lines.{lines}
 use Rattle.bp_faults.specs.declared.place.Place.{Place}
 use Rattle.bp_faults.specs.declared.fault.Fault.{Fault}
 use Rattle.bp_faults.specs.declared.kind.FaultKind.TheVariants.{BadList, TooMany}
+use Rattle.bp_faults.specs.declared.limits.TheConstants.{MOST_FILES}
+use Rattle.bp_faults.specs.Characters.{is_barred_in_paths}
 use Rattle.bp_faults.specs.Faults.{fault_on}
 use Rattle.bp_faults.specs.Paths.{is_normal}
-use Rattle.property_tables.specs.Paths.{is_control, parts}
+use Rattle.property_tables.specs.Paths.{parts}
 use Rattle.bp_load.specs.Directories.{AreInFileOrder}
 use Rattle.bp_load.specs.Texts.{AsText}
 
@@ -22,23 +24,19 @@ undotted [] = []
 undotted (a ∷ []) = a ∷ []
 undotted (a ∷ b ∷ rest) = if (a == 46) && (b == 47) then undotted rest else a ∷ b ∷ rest
 
--- what no listed path holds: a control character or `|`
-abbrev pub is_unlisted : ℕ → Bool
-is_unlisted c = is_control c || (c == 124)
-
--- the last component of a path
+-- The last component of a path.
 abbrev pub file_name : List ℕ → List ℕ
 file_name path = slice_index_or (parts path) (length (parts path) - 1) []
 
 -- What may be listed: a path in normal form whose last component is `Android.bp`.
 abbrev pub is_listed : List ℕ → Bool
-is_listed path = is_normal path && (not (list_any is_unlisted path) && bytes_eq (file_name path) (codes "Android.bp"))
+is_listed path = is_normal path && (not (list_any is_barred_in_paths path) && bytes_eq (file_name path) (codes "Android.bp"))
 
 -- A line is sound where it is blank, or what it names may be listed.
 abbrev pub is_sound : List ℕ → Bool
 is_sound line = is_blank line || is_listed (undotted line)
 
--- what a line names
+-- What a line names.
 abbrev pub named : List ℕ → Option (List ℕ)
 named line = if is_blank line then None else Some (undotted line)
 
@@ -48,7 +46,7 @@ pub record AreListed (lines paths : List (List ℕ)) : Type 0 where
   pub order : AreInFileOrder paths
   pub members : (path : List ℕ) → Contains paths path ↔ Contains (filter_map named lines) path
 
--- where the line at an index stands
+-- The place of the line at an index, which is its start.
 abbrev pub line_place : ℕ → Place
 line_place at = record { file = 0; line = at + 1; col = 1 }
 
@@ -56,12 +54,12 @@ line_place at = record { file = 0; line = at + 1; col = 1 }
 abbrev pub IsWrongAt : List (List ℕ) → ℕ → Fault → Type 0
 IsWrongAt lines at fault =
     ((is_sound (slice_index_or lines at []) ≡ false) × (fault ≡ fault_on BadList (line_place at) (slice_index_or lines at [])))
-    ⊎ ((paths : List (List ℕ)) × AreListed (take (at + 1) lines) paths × (2 ^ 14 < length paths) × (fault ≡ fault_on TooMany (line_place at) (codes "files")))
+    ⊎ ((paths : List (List ℕ)) × AreListed (take (at + 1) lines) paths × (MOST_FILES < length paths) × (fault ≡ fault_on TooMany (line_place at) (codes "files")))
 
 -- These are the paths of the list: all lines are sound, and the paths are no more than 16,384.
 pub record AreFiles (lines paths : List (List ℕ)) : Type 0 where
   pub listed : AreListed lines paths
-  pub few : length paths ≤ 2 ^ 14
+  pub few : length paths ≤ MOST_FILES
 
 -- The first fault: the lines before it list files, and its line is wrong.
 pub record IsFirstFault (lines : List (List ℕ)) (fault : Fault) : Type 0 where

@@ -9,7 +9,7 @@ use Rattle.bp_parser.specs.Meaning.{ParseMeans}
 use Rattle.bp_load.specs.declared.parsed.Parsed.{Parsed}
 use Rattle.bp_load.specs.Directories.{directories, directory_of}
 use Rattle.bp_load.specs.Texts.{AsText}
-use Rattle.bp_load.specs.Phases.{Then, Phase}
+use Rattle.bp_faults.specs.Phases.{Then, Phase}
 
 -- a file: its path and its bytes
 abbrev pub Source : Type 0
@@ -37,7 +37,7 @@ TextMeans file text outcome = Then (LexMeans file text) (ParseMeans text) outcom
 
 -- What a file means, by its number.
 abbrev pub FileMeans : ℕ → Source → Result Placed Fault → Type 0
-FileMeans file source outcome = Then (AsText file source.1 (TextMeans file source.1)) (λ tree o. o ≡ Ok (placed source.0 tree)) outcome
+FileMeans file source outcome = Then (AsText file source.1 (TextMeans file source.1)) (λ tree o. Ok (placed source.0 tree) ≡ o) outcome
 
 -- What all files mean. The first has the number 1.
 abbrev pub TreesMean : List Source → Result (List Placed) Fault → Type 0

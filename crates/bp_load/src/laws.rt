@@ -23,10 +23,10 @@ pub fn one_raw()
     ensures some { SomeRaw }
     ensures one { OneRaw }
 {
-    bp_lexer::list_or_fault();
-    bp_lexer::one_meaning();
-    bp_parser::tree_or_fault();
-    bp_parser::one_meaning();
+    bp_lexer::laws::list_or_fault();
+    bp_lexer::laws::one_meaning();
+    bp_parser::laws::tree_or_fault();
+    bp_parser::laws::one_meaning();
 }
 
 /// Files load as their modules or a first fault, and that alone.

@@ -1,4 +1,8 @@
 //! The loading of a tree: the list file, and all files of the tree phase by phase.
+//!
+//! The bytes of the list file flow in, and its paths flow out; then the bytes of all files, and the typed
+//! modules flow out, or the first fault. It is measured by `ListMeans` in `specs/ListFile.antt`, `RawMean`
+//! in `specs/Inherited.antt` and `LoadMeans` in `specs/Loaded.antt`.
 #![tactic(auto)]
 
 mod directory;

@@ -1,25 +1,24 @@
-ghost use Rattle.std.specs.Prelude.{◌≡◌, ◌≤◌, ◌<◌, ◌^◌, ◌==◌, ◌||◌, not, length, codes, IfOk, OnOk, Some, None, if◌then◌else◌};
+ghost use Rattle.std.specs.Prelude.{◌≡◌, ◌≤◌, ◌<◌, ◌^◌, ◌==◌, not, length, codes, IfOk, OnOk, Some, None, if◌then◌else◌};
 ghost use Rattle.std.specs.BTreeMap.{IsOrdered, values};
 ghost use Rattle.std.specs.List.{list_all, list_any};
 ghost use Rattle.std.specs.Str.{bytes_eq};
 ghost use Rattle.std.specs.Str.Lines.{lines};
 ghost use Rattle.bp_faults.specs.Answers.{Tells, Leaves};
+ghost use Rattle.bp_faults.specs.Characters.{is_barred_in_paths};
 ghost use Rattle.bp_faults.specs.Faults.{fault_on};
 ghost use Rattle.bp_faults.specs.declared.kind.FaultKind.TheVariants.{BadList as BadListAs};
 ghost use Rattle.property_tables.specs.Paths.{parts};
 ghost use Rattle.bp_load.specs.Directories.{directory_cmp};
-ghost use Rattle.bp_load.specs.ListFile.{is_blank as blank, undotted as without_dots, is_unlisted, file_name, is_listed, line_place, LinesMean, ListMeans};
+ghost use Rattle.bp_load.specs.ListFile.{is_blank as blank, undotted as without_dots, file_name, is_listed, line_place, LinesMean, ListMeans};
 ghost use Rattle.bp_load.specs.Listing.{with_line, with_path, counted};
 
 use crate::LoadError;
 use crate::directory::Directory;
 use crate::not_utf8::not_utf8;
-use bp_faults::{Fault, FaultKind, OutOfMemory, Path, Place, Text};
+use bp_faults::limits::MOST_FILES;
+use bp_faults::{Fault, FaultKind, OutOfMemory, Path, Place, Text, is_barred_in_paths};
 use std::alloc::Global;
 use std::collections::BTreeMap;
-
-/// How many files a list may name.
-const MOST_FILES: usize = 16_384;
 
 fn is_blank(line: &str) -> bool
     ensures { result ≡ blank line.now }
@@ -39,12 +38,12 @@ fn undotted(line: &str) -> &str
     path
 }
 
-fn has_unlisted(path: &str) -> bool
-    ensures { result ≡ list_any is_unlisted path.now }
+fn has_barred(path: &str) -> bool
+    ensures { result ≡ list_any is_barred_in_paths path.now }
 {
     path.as_bytes()
         .iter()
-        .any(|byte| *byte < 32 || *byte == 127 || *byte == b'|')
+        .any(|byte| is_barred_in_paths(char::from(*byte)))
 }
 
 fn file_name(path: &str) -> &str
@@ -61,7 +60,7 @@ fn file_name(path: &str) -> &str
 fn listed_path(alloc: Global, path: &str) -> Result<Option<Path>, OutOfMemory>
     ensures { IfOk result (λ listed. listed ≡ (if is_listed path.now then Some path.now else None)) }
 {
-    if has_unlisted(path) || file_name(path) != "Android.bp" {
+    if has_barred(path) || file_name(path) != "Android.bp" {
         return Ok(None);
     }
     Ok(Path::new(Text::from_str(alloc, path)?))

@@ -1,18 +1,16 @@
-ghost use Rattle.std.specs.Prelude.{◌≡◌, ℕ, List, [], not, true, cond, IfOk, OnOk};
-ghost use Rattle.std.specs.Str.{bytes_eq};
+ghost use Rattle.std.specs.Prelude.{◌≡◌, [], IfOk, OnOk};
 ghost use Rattle.bp_faults.specs.Answers.{Answers};
 ghost use Rattle.bp_faults.specs.Faults.{fault_on};
 ghost use Rattle.bp_load.specs.Loaded.{name_place as place_of_name, tested, names_tested};
-ghost use Rattle.bp_load.specs.Known.{knows};
+ghost use Rattle.bp_names.specs.Meaning.{knows, Learns};
 
 use crate::LoadError;
+use bp_faults::limits::MOST_MODULES;
 use bp_faults::{Fault, FaultKind, OutOfMemory, Place, Text};
+use bp_names::NameSet;
+use bp_names::laws::sets_grow_with_lists;
 use bp_props::Module;
 use std::alloc::Global;
-use std::collections::BTreeSet;
-
-/// How many modules a tree may have.
-const MOST_MODULES: usize = 131_072;
 
 fn name_place(module: &Module) -> Place
     ensures { result ≡ place_of_name module.now.at module.now.props.name }
@@ -21,14 +19,6 @@ fn name_place(module: &Module) -> Place
         Some(name) => name.at,
         None => module.at,
     }
-}
-
-/// Adds a name to those that are known. Whether it is new.
-fn learn<'a>(known: &mut BTreeSet<&'a str>, name: &'a str) -> Result<bool, OutOfMemory>
-    ensures new { IfOk result (λ new. new ≡ not (knows known.old name.now)) }
-    ensures grown { OnOk result ((q : List ℕ) → knows known.new q ≡ cond (bytes_eq name.now q) true (knows known.old q)) }
-{
-    Ok(known.insert(name)?)
 }
 
 fn fault_of(alloc: Global, kind: FaultKind, at: Place, subject: &str) -> Result<Fault, OutOfMemory>
@@ -40,18 +30,18 @@ fn fault_of(alloc: Global, kind: FaultKind, at: Place, subject: &str) -> Result<
 /// Counts a module behind so many others, and compares its name with those that are known.
 fn test_name<'a>(
     alloc: Global,
-    known: &mut BTreeSet<&'a str>,
+    known: &mut NameSet<'a>,
     count: usize,
     module: &'a Module,
 ) -> Result<(), LoadError>
     ensures tested { Answers (λ done. done) result (tested count (knows known.old module.now.name) module.now) }
-    ensures grown { OnOk result ((q : List ℕ) → knows known.new q ≡ cond (bytes_eq module.now.name q) true (knows known.old q)) }
+    ensures learned { OnOk result (Learns known.old module.now.name known.new) }
 {
     if count >= MOST_MODULES {
         let fault = fault_of(alloc, FaultKind::TooMany, module.at, "modules")?;
         return Err(LoadError::Bad(fault));
     }
-    if !learn(known, module.name.as_str())? {
+    if !known.learn(module.name.as_str())? {
         let name = module.name.as_str();
         let fault = fault_of(alloc, FaultKind::DuplicateName, name_place(module), name)?;
         return Err(LoadError::Bad(fault));
@@ -63,7 +53,8 @@ fn test_name<'a>(
 pub fn test_names(alloc: Global, modules: &[Module]) -> Result<(), LoadError>
     ensures { Answers (λ done. done) result (names_tested [] modules.now) }
 {
-    let mut known = BTreeSet::new(alloc);
+    sets_grow_with_lists();
+    let mut known = NameSet::new(alloc);
     let mut count = 0;
     'modules: for module in modules {
         test_name(alloc, &mut known, count, module)?;

@@ -2,7 +2,7 @@ ghost use Rattle.std.specs.Prelude.{◌≡◌, [], ◌++◌, List, map, reverse,
 ghost use Rattle.std.specs.List.Sorted.{IsStrictlySortedBy};
 ghost use Rattle.bp_faults.specs.Answers.{Answers, Leaves};
 ghost use Rattle.bp_values.specs.Scopes.{pairs_of};
-ghost use Rattle.bp_values.specs.Files.{raw_of};
+ghost use Rattle.bp_values.specs.Meaning.{raw_of};
 ghost use Rattle.bp_load.specs.Directories.{directory_cmp};
 ghost use Rattle.bp_load.specs.Trees.{placed_of};
 ghost use Rattle.bp_load.specs.Inherited.{scope_of, in_directory, placed_raw, all_evaluated};

@@ -1,8 +1,8 @@
 ghost use Rattle.std.specs.Prelude.{◌≡◌, ◌++◌, Ok, map};
 ghost use Rattle.std.specs.Option.{option_to_list};
 ghost use Rattle.bp_faults.specs.Answers.{Answers, Leaves, then_do};
-ghost use Rattle.bp_values.specs.Files.{raw_of};
-ghost use Rattle.property_tables.specs.Typing.{typed as typed_as};
+ghost use Rattle.bp_values.specs.Meaning.{raw_of};
+ghost use Rattle.property_tables.specs.Meaning.{typed as typed_as};
 ghost use Rattle.bp_load.specs.Inherited.{placed_raw};
 ghost use Rattle.bp_load.specs.Loaded.{all_typed};
 

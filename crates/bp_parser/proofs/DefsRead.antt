@@ -5,7 +5,7 @@ use Rattle.std.proofs.lemmas.List.{length-map}
 use Rattle.std.proofs.lemmas.List.Elements.{All-filter}
 use Rattle.bp_faults.specs.declared.place.Place.{Place}
 use Rattle.bp_lexer.specs.declared.token.Punct.{Punct}
-use Rattle.bp_lexer.specs.declared.token.Punct.TheVariants.{OpenBrace, Equals, PlusEquals}
+use Rattle.bp_lexer.specs.declared.token.Punct.TheVariants.{OpenBrace, Equal, PlusEqual}
 use Rattle.bp_lexer.specs.declared.token.Token.{Token}
 use Rattle.bp_lexer.specs.declared.token.TokenKind.TheVariants.{Ident}
 use Rattle.bp_lexer.specs.Meaning.{IsToken}
@@ -39,18 +39,18 @@ to_body ws at p n name brace =
 pub mark_behind_name : (mark : Punct) (ws : List Word) (at : ℕ) → IsMark mark (drop (at + 1) ws) (drop (at + 1 + 1) ws) → IsMark mark (drop (at + 1) ws) (drop (at + 2) ws)
 mark_behind_name mark ws at s = let two : at + 1 + 1 ≡ at + 2 = omega arith in subst (λ i. IsMark mark (drop (at + 1) ws) (drop i ws)) two s
 
-pub to_assigned : (ws : List Word) (at : ℕ) (p : Place) (n : List ℕ) → IsDefName n p (drop at ws) (drop (at + 1) ws) → IsMark Equals (drop (at + 1) ws) (drop (at + 1 + 1) ws) → stuck (drop at ws) at [] ≡ stuck (drop (at + 2) ws) (at + 2) (an_expr ∷ [])
+pub to_assigned : (ws : List Word) (at : ℕ) (p : Place) (n : List ℕ) → IsDefName n p (drop at ws) (drop (at + 1) ws) → IsMark Equal (drop (at + 1) ws) (drop (at + 1 + 1) ws) → stuck (drop at ws) at [] ≡ stuck (drop (at + 2) ws) (at + 2) (an_expr ∷ [])
 to_assigned ws at p n name equals =
     let two : at + 1 + 1 ≡ at + 2 = omega arith in
     to_value_of ws at p n name ∙
-    pass_mark Equals (drop (at + 1) ws) (drop (at + 1 + 1) ws) (at + 1) (a_value ∷ []) (an_expr ∷ []) equals (λ m. refl) (λ m. refl) ∙
+    pass_mark Equal (drop (at + 1) ws) (drop (at + 1 + 1) ws) (at + 1) (a_value ∷ []) (an_expr ∷ []) equals (λ m. refl) (λ m. refl) ∙
     ap (λ i. stuck (drop i ws) i (an_expr ∷ [])) two
 
-pub to_extended : (ws : List Word) (at : ℕ) (p : Place) (n : List ℕ) → IsDefName n p (drop at ws) (drop (at + 1) ws) → IsMark PlusEquals (drop (at + 1) ws) (drop (at + 1 + 1) ws) → stuck (drop at ws) at [] ≡ stuck (drop (at + 2) ws) (at + 2) (an_expr ∷ [])
+pub to_extended : (ws : List Word) (at : ℕ) (p : Place) (n : List ℕ) → IsDefName n p (drop at ws) (drop (at + 1) ws) → IsMark PlusEqual (drop (at + 1) ws) (drop (at + 1 + 1) ws) → stuck (drop at ws) at [] ≡ stuck (drop (at + 2) ws) (at + 2) (an_expr ∷ [])
 to_extended ws at p n name equals =
     let two : at + 1 + 1 ≡ at + 2 = omega arith in
     to_value_of ws at p n name ∙
-    pass_mark PlusEquals (drop (at + 1) ws) (drop (at + 1 + 1) ws) (at + 1) (a_value ∷ []) (an_expr ∷ []) equals (λ m. refl) (λ m. refl) ∙
+    pass_mark PlusEqual (drop (at + 1) ws) (drop (at + 1 + 1) ws) (at + 1) (a_value ∷ []) (an_expr ∷ []) equals (λ m. refl) (λ m. refl) ∙
     ap (λ i. stuck (drop i ws) i (an_expr ∷ [])) two
 
 -- where definitions stop

@@ -12,7 +12,8 @@ use Rattle.bp_parser.specs.declared.flaw.Flaw.TheVariants.{Unexpected, TooNested
 use Rattle.bp_parser.specs.Trees.{Definition}
 use Rattle.bp_parser.specs.Words.{Word}
 use Rattle.bp_parser.specs.Grammar.{SpellsFile}
-use Rattle.bp_parser.specs.Flaws.{BeginsAFile, IsUnexpected, IsTooNested, IsRepeated, IsDuplicate, IsFlaw, IsFirstFlaw, index_of, names_of, opens}
+use Rattle.bp_parser.specs.Flaws.{BeginsAFile, IsUnexpected, IsTooNested, IsRepeated, IsDuplicate, IsFlaw, IsFirstFlaw, index_of, opens}
+use Rattle.bp_parser.specs.Names.{names_of}
 use Rattle.bp_parser.specs.Machine.{Part, an_expr, more_terms, items, more_items, a_colon, entries, more_entries, a_value, behind_all, go_behind, stuck, flaw_at, name_flaw, bracket_flaw, has_name, depth_of, IsKnown}
 use Rattle.bp_parser.proofs.Firsts.{same_head, none_some, some_same}
 use Rattle.bp_parser.proofs.Language.{Lang, sound_all, CompletesAll, complete_all, spelling_all, ends}

@@ -5,7 +5,7 @@ use Rattle.std.proofs.lemmas.Bool.{cond-true, cond-false}
 use Rattle.bp_faults.specs.Faults.{file_start}
 use Rattle.bp_faults.specs.declared.place.Place.{Place}
 use Rattle.bp_lexer.specs.declared.token.Punct.{Punct}
-use Rattle.bp_lexer.specs.declared.token.Punct.TheVariants.{OpenBrace, CloseBrace, OpenBracket, CloseBracket, Colon, Comma, Equals, PlusEquals, Plus}
+use Rattle.bp_lexer.specs.declared.token.Punct.TheVariants.{OpenBrace, CloseBrace, OpenBracket, CloseBracket, Colon, Comma, Equal, PlusEqual, Plus}
 use Rattle.bp_lexer.specs.declared.token.TokenKind.{TokenKind}
 use Rattle.bp_lexer.specs.declared.token.TokenKind.TheVariants.{Ident, Int, Quoted, Raw, Punct as Mark}
 use Rattle.bp_lexer.specs.Meaning.{string_of}
@@ -28,8 +28,8 @@ SpelledExpr ts rest = (x : Tree) × (mid : List Word) × IsPrim x × Spells x ts
 -- what stands behind the name of a definition
 abbrev pub SpelledValue : List Word → List Word → Type 0
 SpelledValue ts rest =
-    ((next : List Word) × IsMark Equals ts next × SpelledExpr next rest)
-    ⊎ (((next : List Word) × IsMark PlusEquals ts next × SpelledExpr next rest)
+    ((next : List Word) × IsMark Equal ts next × SpelledExpr next rest)
+    ⊎ (((next : List Word) × IsMark PlusEqual ts next × SpelledExpr next rest)
     ⊎ ((at : Place) × (es : Entries) × Spells (Body at es) ts rest))
 
 -- ts is a spelling of the part, and rest behind it
@@ -188,8 +188,8 @@ sound_more_entries names (entry_and n at x es) w ts rest s =
     sound_mark (more_entries names) Comma (entries names ∷ []) w ts s.0 rest (λ n. refl) s.4 (rest, (entry_and n at x es, (s.1, s.2, s.3, s.5, s.6, s.7, s.8)), refl)
 
 sound_value : (w : Word) (ts rest : List Word) → SpelledValue (w ∷ ts) rest → Sound a_value w ts rest
-sound_value w ts rest (inl s) = sound_mark a_value Equals (an_expr ∷ []) w ts s.0 rest (λ n. refl) s.1 (rest, s.2, refl)
-sound_value w ts rest (inr (inl s)) = sound_mark a_value PlusEquals (an_expr ∷ []) w ts s.0 rest (λ n. refl) s.1 (rest, s.2, refl)
+sound_value w ts rest (inl s) = sound_mark a_value Equal (an_expr ∷ []) w ts s.0 rest (λ n. refl) s.1 (rest, s.2, refl)
+sound_value w ts rest (inr (inl s)) = sound_mark a_value PlusEqual (an_expr ∷ []) w ts s.0 rest (λ n. refl) s.1 (rest, s.2, refl)
 sound_value w ts rest (inr (inr s)) = sound_mark a_value OpenBrace (entries [] ∷ []) w ts s.2.0 rest (λ n. refl) (s.0, s.2.1) (rest, (s.1, s.2.2), refl)
 
 abbrev IsTerms : Part → Type 0
@@ -338,8 +338,8 @@ complete (entries names) _ at n ts rest = tt
 complete (more_entries names) (Mark CloseBrace) at n ts rest = λ chain. (no_entry, inl (at, (n, ap (λ l. record { kind = Mark CloseBrace; at = at; text = n } ∷ l) chain)))
 complete (more_entries names) (Mark Comma) at n ts rest = λ chain. let s = last (entries names) ts rest chain in (s.0, after_comma_entries s.0 _ ts rest (at, (n, refl)) s.1)
 complete (more_entries names) _ at n ts rest = tt
-complete a_value (Mark Equals) at n ts rest = λ chain. inl (ts, (at, (n, refl)), last an_expr ts rest chain)
-complete a_value (Mark PlusEquals) at n ts rest = λ chain. inr (inl (ts, (at, (n, refl)), last an_expr ts rest chain))
+complete a_value (Mark Equal) at n ts rest = λ chain. inl (ts, (at, (n, refl)), last an_expr ts rest chain)
+complete a_value (Mark PlusEqual) at n ts rest = λ chain. inr (inl (ts, (at, (n, refl)), last an_expr ts rest chain))
 complete a_value (Mark OpenBrace) at n ts rest = λ chain. let s = last (entries []) ts rest chain in inr (inr (at, s.0, (ts, (n, refl), s.1)))
 complete a_value _ at n ts rest = tt
 

@@ -9,5 +9,6 @@ mod Steps
 mod PartsRead
 mod DefsRead
 mod Tracks
+mod Distinct
 mod SomeMeaning
 mod Integers

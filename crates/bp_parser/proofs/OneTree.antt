@@ -3,7 +3,7 @@ use Rattle.std.specs.Prelude.{◌⊎◌}
 use Rattle.std.proofs.Common.{◌≡◌, ℕ, List, [], ◌∷◌, Some, sym, refl, ap, ◌∙◌, subst, inl, inr}
 use Rattle.bp_faults.specs.declared.place.Place.{Place}
 use Rattle.bp_lexer.specs.declared.token.Punct.{Punct}
-use Rattle.bp_lexer.specs.declared.token.Punct.TheVariants.{OpenBrace, CloseBrace, OpenBracket, CloseBracket, Colon, Comma, Equals, PlusEquals, Plus}
+use Rattle.bp_lexer.specs.declared.token.Punct.TheVariants.{OpenBrace, CloseBrace, OpenBracket, CloseBracket, Colon, Comma, Equal, PlusEqual, Plus}
 use Rattle.bp_lexer.specs.declared.token.TokenKind.{TokenKind}
 use Rattle.bp_lexer.specs.declared.token.TokenKind.TheVariants.{Ident, Punct as Mark}
 use Rattle.bp_parser.specs.Trees.{Atom, Tree, Leaf, Items, Body, Sum, Trees, no_tree, tree_and, Terms, no_term, term_and, Entries, no_entry, entry_and, Definition, Assigns, Extends, Declares}
@@ -191,17 +191,17 @@ other_mark j k m n p q ts ma mb na nb apart s0 s1 t0 t1 =
 
 one_def : (d e : Definition) (ts a b : List Word) → SpellsDef d ts a → SpellsDef e ts b → StartsNot (Mark Plus) a → StartsNot (Mark Plus) b → (d ≡ e) × (a ≡ b)
 one_def (Assigns m p x) (Assigns n q y) ts a b s t na nb =
-    let f = one_value Equals m n p q x y ts a b s.0 t.0 s.1 t.1 s.2.0 s.3 s.4 t.2.0 t.3 t.4 na nb in
+    let f = one_value Equal m n p q x y ts a b s.0 t.0 s.1 t.1 s.2.0 s.3 s.4 t.2.0 t.3 t.4 na nb in
     ((λ i. Assigns (f.1 i) (f.0 i) (f.2 i)), f.3)
-one_def (Assigns m p x) (Extends n q y) ts a b s t na nb = other_mark Equals PlusEquals m n p q ts s.0 t.0 s.1 t.1 (λ e. cc) s.2.0 s.3 t.2.0 t.3
-one_def (Assigns m p x) (Declares n q y) ts a b s t na nb = other_mark Equals OpenBrace m n p q ts s.0 t.0 s.1 t.2.0 (λ e. cc) s.2.0 s.3 t.1.0 (y.at, t.2.1)
-one_def (Extends m p x) (Assigns n q y) ts a b s t na nb = other_mark PlusEquals Equals m n p q ts s.0 t.0 s.1 t.1 (λ e. cc) s.2.0 s.3 t.2.0 t.3
+one_def (Assigns m p x) (Extends n q y) ts a b s t na nb = other_mark Equal PlusEqual m n p q ts s.0 t.0 s.1 t.1 (λ e. cc) s.2.0 s.3 t.2.0 t.3
+one_def (Assigns m p x) (Declares n q y) ts a b s t na nb = other_mark Equal OpenBrace m n p q ts s.0 t.0 s.1 t.2.0 (λ e. cc) s.2.0 s.3 t.1.0 (y.at, t.2.1)
+one_def (Extends m p x) (Assigns n q y) ts a b s t na nb = other_mark PlusEqual Equal m n p q ts s.0 t.0 s.1 t.1 (λ e. cc) s.2.0 s.3 t.2.0 t.3
 one_def (Extends m p x) (Extends n q y) ts a b s t na nb =
-    let f = one_value PlusEquals m n p q x y ts a b s.0 t.0 s.1 t.1 s.2.0 s.3 s.4 t.2.0 t.3 t.4 na nb in
+    let f = one_value PlusEqual m n p q x y ts a b s.0 t.0 s.1 t.1 s.2.0 s.3 s.4 t.2.0 t.3 t.4 na nb in
     ((λ i. Extends (f.1 i) (f.0 i) (f.2 i)), f.3)
-one_def (Extends m p x) (Declares n q y) ts a b s t na nb = other_mark PlusEquals OpenBrace m n p q ts s.0 t.0 s.1 t.2.0 (λ e. cc) s.2.0 s.3 t.1.0 (y.at, t.2.1)
-one_def (Declares m p x) (Assigns n q y) ts a b s t na nb = other_mark OpenBrace Equals m n p q ts s.0 t.0 s.2.0 t.1 (λ e. cc) s.1.0 (x.at, s.2.1) t.2.0 t.3
-one_def (Declares m p x) (Extends n q y) ts a b s t na nb = other_mark OpenBrace PlusEquals m n p q ts s.0 t.0 s.2.0 t.1 (λ e. cc) s.1.0 (x.at, s.2.1) t.2.0 t.3
+one_def (Extends m p x) (Declares n q y) ts a b s t na nb = other_mark PlusEqual OpenBrace m n p q ts s.0 t.0 s.1 t.2.0 (λ e. cc) s.2.0 s.3 t.1.0 (y.at, t.2.1)
+one_def (Declares m p x) (Assigns n q y) ts a b s t na nb = other_mark OpenBrace Equal m n p q ts s.0 t.0 s.2.0 t.1 (λ e. cc) s.1.0 (x.at, s.2.1) t.2.0 t.3
+one_def (Declares m p x) (Extends n q y) ts a b s t na nb = other_mark OpenBrace PlusEqual m n p q ts s.0 t.0 s.2.0 t.1 (λ e. cc) s.1.0 (x.at, s.2.1) t.2.0 t.3
 one_def (Declares m p x) (Declares n q y) ts a b s t na nb =
     let w = one_word Ident Ident p q m n ts s.0 t.0 s.1.0 t.1.0 in
     let brace = one_mark OpenBrace OpenBrace t.0 s.2.0 t.2.0 (x.at, subst (λ l. IsMarkAt OpenBrace x.at l s.2.0) w.rest s.2.1) (y.at, t.2.1) in

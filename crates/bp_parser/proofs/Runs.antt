@@ -4,13 +4,14 @@ use Rattle.std.specs.List.{count_by}
 use Rattle.std.proofs.Common.{◌≡◌, ℕ, ◌+◌, ◌≤◌, length, take, drop, arith, List, [], ◌∷◌, ◌++◌, Bool, true, false, Option, Some, None, sym, refl, ap, ◌∙◌, subst, inl, inr, append-nil, append_assoc}
 use Rattle.std.proofs.lemmas.List.Sums.{sum_by-cons, sum_by-take-drop}
 use Rattle.bp_lexer.specs.declared.token.Punct.{Punct}
-use Rattle.bp_lexer.specs.declared.token.Punct.TheVariants.{OpenBrace, CloseBrace, OpenBracket, CloseBracket, Colon, Comma, Equals, PlusEquals, Plus}
+use Rattle.bp_lexer.specs.declared.token.Punct.TheVariants.{OpenBrace, CloseBrace, OpenBracket, CloseBracket, Colon, Comma, Equal, PlusEqual, Plus}
 use Rattle.bp_lexer.specs.declared.token.TokenKind.{TokenKind}
 use Rattle.bp_lexer.specs.declared.token.TokenKind.TheVariants.{Ident, Int, Quoted, Raw, Punct as Mark}
 use Rattle.bp_parser.specs.Trees.{Tree, Leaf, Items, Body, Sum, Trees, no_tree, tree_and, Terms, no_term, term_and, Entries, no_entry, entry_and}
 use Rattle.bp_parser.specs.Words.{Word, is_truth}
 use Rattle.bp_parser.specs.Grammar.{IsMark, Spells, SpellsTerms, SpellsItems, SpellsMoreItems, SpellsEntries, SpellsMoreEntries}
-use Rattle.bp_parser.specs.Flaws.{SpellsFirst, names_of, opens, closes}
+use Rattle.bp_parser.specs.Names.{names_of}
+use Rattle.bp_parser.specs.Flaws.{SpellsFirst, opens, closes}
 use Rattle.bp_parser.specs.Machine.{Part, an_expr, more_terms, items, more_items, a_colon, entries, more_entries, a_value, with_rest, begin_def, behind_all, depth_of}
 use Rattle.bp_parser.proofs.Firsts.{none_some, some_same}
 use Rattle.bp_parser.proofs.Language.{atom_alone}
@@ -172,8 +173,8 @@ deep (entries names ∷ ps) _ n = tt
 deep (more_entries names ∷ ps) (Mark CloseBrace) n = omega arith
 deep (more_entries names ∷ ps) (Mark Comma) n = refl
 deep (more_entries names ∷ ps) _ n = tt
-deep (a_value ∷ ps) (Mark Equals) n = refl
-deep (a_value ∷ ps) (Mark PlusEquals) n = refl
+deep (a_value ∷ ps) (Mark Equal) n = refl
+deep (a_value ∷ ps) (Mark PlusEqual) n = refl
 deep (a_value ∷ ps) (Mark OpenBrace) n = omega arith
 deep (a_value ∷ ps) _ n = tt
 

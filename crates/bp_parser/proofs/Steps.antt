@@ -8,7 +8,7 @@ use Rattle.std.proofs.lemmas.Bool.Decides.{nat_tests}
 use Rattle.std.proofs.lemmas.List.Folds.{list_any-append}
 use Rattle.bp_faults.specs.declared.place.Place.{Place}
 use Rattle.bp_lexer.specs.declared.token.Punct.{Punct}
-use Rattle.bp_lexer.specs.declared.token.Punct.TheVariants.{OpenBrace, CloseBrace, OpenBracket, CloseBracket, Colon, Comma, Equals, PlusEquals, Plus}
+use Rattle.bp_lexer.specs.declared.token.Punct.TheVariants.{OpenBrace, CloseBrace, OpenBracket, CloseBracket, Colon, Comma, Equal, PlusEqual, Plus}
 use Rattle.bp_lexer.specs.declared.token.TokenKind.{TokenKind}
 use Rattle.bp_lexer.specs.declared.token.TokenKind.TheVariants.{Ident, Int, Quoted, Raw, Punct as Mark}
 use Rattle.bp_parser.specs.declared.flaw.Flaw.{Flaw}
@@ -24,7 +24,7 @@ use Rattle.bp_parser.specs.declared.tree.Expr.TheFolds.{fold-roll-MapExpr, fold-
 use Rattle.bp_parser.specs.Trees.{Tree, Sum, Trees, no_tree, tree_and, Terms, no_term, term_and, Entries, no_entry, entry_and, Entry, Map, tree_of, term_of, entry_of, map_of, expr_step, entry_step, map_step, trees_then, terms_then, entries_then}
 use Rattle.bp_parser.specs.Words.{Word, is_truth}
 use Rattle.bp_parser.specs.Grammar.{IsWord, IsMark, SpellsItems, SpellsMoreItems, SpellsEntries, SpellsMoreEntries}
-use Rattle.bp_parser.specs.Flaws.{names_of}
+use Rattle.bp_parser.specs.Names.{names_of}
 use Rattle.bp_parser.specs.Machine.{Part, an_expr, more_terms, items, more_items, a_colon, entries, more_entries, a_value, begin_def, behind_all, flaw_at, bracket_flaw, has_name, at_end, go_behind, stuck, depth_of, StartsNot, StopsWith}
 use Rattle.bp_parser.specs.Reading.{sum_of}
 use Rattle.bp_parser.proofs.Firsts.{no_mark, starts_not, true_false}
@@ -145,13 +145,13 @@ colon_none _ n parts other = refl
 pub colon_stop : (ts : List Word) (at : ℕ) (parts : List Part) → StartsNot (Mark Colon) ts → stuck ts at (a_colon ∷ parts) ≡ Some (Unexpected at)
 colon_stop ts at parts other = refuse ts at (a_colon ∷ parts) refl (λ w rest is. colon_none w.kind w.text parts (other w rest is))
 
-value_none : (k : TokenKind) (n : List ℕ) (parts : List Part) → (k ≡ Mark OpenBrace → ⊥) → (k ≡ Mark Equals → ⊥) → (k ≡ Mark PlusEquals → ⊥) → behind_all (a_value ∷ parts) k n ≡ None
+value_none : (k : TokenKind) (n : List ℕ) (parts : List Part) → (k ≡ Mark OpenBrace → ⊥) → (k ≡ Mark Equal → ⊥) → (k ≡ Mark PlusEqual → ⊥) → behind_all (a_value ∷ parts) k n ≡ None
 value_none (Mark OpenBrace) n parts brace equals plus = absurd (brace refl)
-value_none (Mark Equals) n parts brace equals plus = absurd (equals refl)
-value_none (Mark PlusEquals) n parts brace equals plus = absurd (plus refl)
+value_none (Mark Equal) n parts brace equals plus = absurd (equals refl)
+value_none (Mark PlusEqual) n parts brace equals plus = absurd (plus refl)
 value_none _ n parts brace equals plus = refl
 
-pub value_stop : (ts : List Word) (at : ℕ) (parts : List Part) → StartsNot (Mark OpenBrace) ts → StartsNot (Mark Equals) ts → StartsNot (Mark PlusEquals) ts → stuck ts at (a_value ∷ parts) ≡ Some (Unexpected at)
+pub value_stop : (ts : List Word) (at : ℕ) (parts : List Part) → StartsNot (Mark OpenBrace) ts → StartsNot (Mark Equal) ts → StartsNot (Mark PlusEqual) ts → stuck ts at (a_value ∷ parts) ≡ Some (Unexpected at)
 value_stop ts at parts brace equals plus = refuse ts at (a_value ∷ parts) refl (λ w rest is. value_none w.kind w.text parts (brace w rest is) (equals w rest is) (plus w rest is))
 
 def_none : (k : TokenKind) (n : List ℕ) → (k ≡ Ident → is_truth n ≡ true) → begin_def k n ≡ None

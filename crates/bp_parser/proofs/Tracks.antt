@@ -5,7 +5,7 @@ use Rattle.std.proofs.Common.{◌≡◌, ℕ, ◌+◌, drop, arith, List, [], �
 use Rattle.std.proofs.lemmas.List.{drop-drop}
 use Rattle.std.proofs.lemmas.Map.Views.{Contains-from_any}
 use Rattle.bp_faults.specs.declared.place.Place.{Place}
-use Rattle.bp_lexer.specs.declared.token.Punct.TheVariants.{OpenBrace, CloseBrace, OpenBracket, CloseBracket, Colon, Comma, Equals, PlusEquals, Plus}
+use Rattle.bp_lexer.specs.declared.token.Punct.TheVariants.{OpenBrace, CloseBrace, OpenBracket, CloseBracket, Colon, Comma, Equal, PlusEqual, Plus}
 use Rattle.bp_lexer.specs.declared.token.TokenKind.{TokenKind}
 use Rattle.bp_lexer.specs.declared.token.TokenKind.TheVariants.{Ident, Int, Quoted, Raw, Punct as Mark}
 use Rattle.bp_parser.specs.declared.flaw.Flaw.{Flaw}
@@ -13,7 +13,8 @@ use Rattle.bp_parser.specs.declared.flaw.Flaw.TheVariants.{Unexpected, TooNested
 use Rattle.bp_parser.specs.Trees.{Tree, no_tree, no_term, term_and, Entries, no_entry, entry_and}
 use Rattle.bp_parser.specs.Words.{Word, is_truth}
 use Rattle.bp_parser.specs.Grammar.{IsWord, IsMarkAt, IsMark, Spells}
-use Rattle.bp_parser.specs.Flaws.{SpellsFirst, names_of, IsRepeated}
+use Rattle.bp_parser.specs.Names.{names_of}
+use Rattle.bp_parser.specs.Flaws.{SpellsFirst, IsRepeated}
 use Rattle.bp_parser.specs.Machine.{Part, an_expr, more_terms, items, more_items, a_colon, entries, more_entries, a_value, is_plus, begin_def, behind_all, at_end, go_behind, stuck, flaw_at, name_flaw, depth_of, has_name}
 use Rattle.bp_parser.proofs.Firsts.{none_some, some_same, starts_not, true_false}
 use Rattle.bp_parser.proofs.Language.{Spelled, SpelledExpr, leaf_expr, list_expr, map_expr, item, after_comma_items, after_comma_entries, join_expr, plus_kind}
@@ -42,15 +43,15 @@ Tracks (Some new) whole here = Track new whole here
 
 -- one more entry
 
-abbrev and_then : Entries → List ℕ → Place → Tree → Entries
+abbrev pub and_then : Entries → List ℕ → Place → Tree → Entries
 and_then no_entry n at x = entry_and n at x no_entry
 and_then (entry_and m p y es) n at x = entry_and m p y (and_then es n at x)
 
-names_and_then : (es : Entries) (n : List ℕ) (at : Place) (x : Tree) → names_of (and_then es n at x) ≡ names_of es ++ n ∷ []
+pub names_and_then : (es : Entries) (n : List ℕ) (at : Place) (x : Tree) → names_of (and_then es n at x) ≡ names_of es ++ n ∷ []
 names_and_then no_entry n at x = refl
 names_and_then (entry_and m p y es) n at x = ap (λ l. m ∷ l) (names_and_then es n at x)
 
-first_and_then : (es : Entries) (n : List ℕ) (at : Place) (x : Tree) (inner here colon next comma mid : List Word) → SpellsFirst es inner here → IsWord Ident at n here colon → IsMark Colon colon next → Spells x next comma → IsMark Comma comma mid → SpellsFirst (and_then es n at x) inner mid
+pub first_and_then : (es : Entries) (n : List ℕ) (at : Place) (x : Tree) (inner here colon next comma mid : List Word) → SpellsFirst es inner here → IsWord Ident at n here colon → IsMark Colon colon next → Spells x next comma → IsMark Comma comma mid → SpellsFirst (and_then es n at x) inner mid
 first_and_then no_entry n at x inner here colon next comma mid s name c value m = (colon, next, comma, mid, s ∙ name, c, value, m, refl)
 first_and_then (entry_and o p y es) n at x inner here colon next comma mid s name c value m =
     (s.0, s.1, s.2, s.3, s.4, s.5, s.6, s.7, first_and_then es n at x s.3 here colon next comma mid s.8 name c value m)
@@ -125,8 +126,8 @@ track_all (entries names ∷ ps) whole _ at n ws i here track = tt
 track_all (more_entries names ∷ ps) whole (Mark CloseBrace) at n ws i here track = track.1 ws (no_entry, inl (at, (n, refl)))
 track_all (more_entries names ∷ ps) whole (Mark Comma) at n ws i here track = (track.0 ws (at, (n, refl)), λ rest s. track.1 rest (s.0, after_comma_entries s.0 _ ws rest (at, (n, refl)) s.1))
 track_all (more_entries names ∷ ps) whole _ at n ws i here track = tt
-track_all (a_value ∷ ps) whole (Mark Equals) at n ws i here track = λ rest s. track rest (inl (ws, (at, (n, refl)), s))
-track_all (a_value ∷ ps) whole (Mark PlusEquals) at n ws i here track = λ rest s. track rest (inr (inl (ws, (at, (n, refl)), s)))
+track_all (a_value ∷ ps) whole (Mark Equal) at n ws i here track = λ rest s. track rest (inl (ws, (at, (n, refl)), s))
+track_all (a_value ∷ ps) whole (Mark PlusEqual) at n ws i here track = λ rest s. track rest (inr (inl (ws, (at, (n, refl)), s)))
 track_all (a_value ∷ ps) whole (Mark OpenBrace) at n ws i here track = (opened_map whole i at n ws here, λ rest s. track rest (inr (inr (at, s.0, (ws, (n, refl), s.1)))))
 track_all (a_value ∷ ps) whole _ at n ws i here track = tt
 

@@ -8,10 +8,11 @@ use Rattle.bp_lexer.specs.declared.token.TokenKind.TheVariants.{Ident, Punct as 
 use Rattle.bp_parser.specs.declared.flaw.Flaw.{Flaw}
 use Rattle.bp_parser.specs.declared.flaw.Flaw.TheVariants.{Unexpected, TooNested, Duplicate}
 use Rattle.bp_parser.specs.Trees.{Entries, no_entry, entry_and, Definition}
+use Rattle.bp_parser.specs.Names.{names_of}
 use Rattle.bp_parser.specs.Words.{Word}
 use Rattle.bp_parser.specs.Grammar.{IsWord, IsMark, Spells, SpellsFile}
 
--- some file's words begin so
+-- Some file's words begin so.
 abbrev pub BeginsAFile : List Word → Type 0
 BeginsAFile front = (rest : List Word) × (ds : List Definition) × SpellsFile ds (front ++ rest)
 
@@ -23,12 +24,13 @@ pub record IsUnexpected (ws : List Word) (k : ℕ) : Type 0 where
   pub word : k < length ws → BeginsAFile (take (k + 1) ws) → ⊥
   pub end : k ≡ length ws → (ds : List Definition) → SpellsFile ds ws → ⊥
 
--- a bracket that opens, and one that closes
+-- A bracket that opens, and one that closes.
 abbrev pub opens : TokenKind → Bool
 opens (Mark OpenBrace) = true
 opens (Mark OpenBracket) = true
 opens _ = false
 
+-- A bracket that closes.
 abbrev pub closes : TokenKind → Bool
 closes (Mark CloseBrace) = true
 closes (Mark CloseBracket) = true
@@ -42,14 +44,10 @@ pub record IsTooNested (ws : List Word) (k : ℕ) : Type 0 where
   pub open_before : count_by (λ w. opens w.kind) (take k ws) ≡ count_by (λ w. closes w.kind) (take k ws) + 64
   pub expected : BeginsAFile (take (k + 1) ws)
 
--- entries, each with a comma behind it, and then rest
+-- Entries, each with a comma behind it, and then rest.
 abbrev pub SpellsFirst : Entries → List Word → List Word → Type 0
 SpellsFirst no_entry ts rest = ts ≡ rest
 SpellsFirst (entry_and name at x es) ts rest = (colon next comma mid : List Word) × IsWord Ident at name ts colon × IsMark Colon colon next × Spells x next comma × IsMark Comma comma mid × SpellsFirst es mid rest
-
-abbrev pub names_of : Entries → List (List ℕ)
-names_of no_entry = []
-names_of (entry_and name at x es) = name ∷ names_of es
 
 -- A name that its map already has: behind the map's brace stand entries, each with a comma behind it, one of
 -- them with the name, and then the name.
@@ -69,18 +67,18 @@ pub record IsDuplicate (ws : List Word) (k : ℕ) : Type 0 where
   pub repeated : IsRepeated ws k
   pub expected : BeginsAFile (take (k + 1) ws)
 
--- there is such a flaw
+-- There is such a flaw.
 abbrev pub IsFlaw : List Word → Flaw → Type 0
 IsFlaw ws (Unexpected k) = IsUnexpected ws k
 IsFlaw ws (TooNested k) = IsTooNested ws k
 IsFlaw ws (Duplicate k) = IsDuplicate ws k
 
--- at which word a flaw is
+-- At which word a flaw is.
 abbrev pub index_of : Flaw → ℕ
 index_of (Unexpected k) = k
 index_of (TooNested k) = k
 index_of (Duplicate k) = k
 
--- there is such a flaw, and none before it
+-- There is such a flaw, and none before it.
 abbrev pub IsFirstFlaw : List Word → Flaw → Type 0
 IsFirstFlaw ws flaw = IsFlaw ws flaw × ((other : Flaw) → index_of other < index_of flaw → IsFlaw ws other → ⊥)

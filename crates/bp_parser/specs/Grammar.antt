@@ -3,7 +3,7 @@
 use Rattle.std.specs.Prelude.{◌≡◌, ℕ, ◌⊎◌, ⊤, false, List, [], ◌∷◌, Some}
 use Rattle.bp_faults.specs.declared.place.Place.{Place}
 use Rattle.bp_lexer.specs.declared.token.Punct.{Punct}
-use Rattle.bp_lexer.specs.declared.token.Punct.TheVariants.{OpenBrace, CloseBrace, OpenBracket, CloseBracket, Colon, Comma, Equals, PlusEquals, Plus}
+use Rattle.bp_lexer.specs.declared.token.Punct.TheVariants.{OpenBrace, CloseBrace, OpenBracket, CloseBracket, Colon, Comma, Equal, PlusEqual, Plus}
 use Rattle.bp_lexer.specs.declared.token.TokenKind.{TokenKind}
 use Rattle.bp_lexer.specs.declared.token.TokenKind.TheVariants.{Ident, Punct as Mark}
 use Rattle.bp_parser.specs.Trees.{Tree, Leaf, Items, Body, Sum, Trees, no_tree, tree_and, Terms, no_term, term_and, Entries, no_entry, entry_and, Definition, Assigns, Extends, Declares}
@@ -11,24 +11,26 @@ use Rattle.bp_parser.specs.Words.{Word, is_truth, atom_of}
 
 -- Each of these says what ts begins with, and that rest stands behind it.
 
--- a word of a kind, at a place
+-- A word of a kind, at a place.
 abbrev pub IsWord : TokenKind → Place → List ℕ → List Word → List Word → Type 0
 IsWord kind at text ts rest = ts ≡ record { kind = kind; at = at; text = text } ∷ rest
 
--- a punctuation mark at a place, and one anywhere
+-- A punctuation mark at a place, and one anywhere.
 abbrev pub IsMarkAt : Punct → Place → List Word → List Word → Type 0
 IsMarkAt mark at ts rest = (text : List ℕ) × IsWord (Mark mark) at text ts rest
 
+-- A punctuation mark, at any place.
 abbrev pub IsMark : Punct → List Word → List Word → Type 0
 IsMark mark ts rest = (at : Place) × IsMarkAt mark at ts rest
 
--- the expression is no sum
+-- The expression is no sum.
 abbrev pub IsPrim : Tree → Type 0
 IsPrim (Leaf at atom) = ⊤
 IsPrim (Items at xs) = ⊤
 IsPrim (Body at es) = ⊤
 IsPrim (Sum x terms) = ⊥
 
+-- There is a term.
 abbrev pub HasTerm : Terms → Type 0
 HasTerm no_term = ⊥
 HasTerm (term_and at x terms) = ⊤
@@ -66,14 +68,14 @@ abbrev mutual
   SpellsMoreEntries no_entry ts rest = IsMark CloseBrace ts rest ⊎ ((next : List Word) × IsMark Comma ts next × IsMark CloseBrace next rest)
   SpellsMoreEntries (entry_and name at x es) ts rest = (first colon next mid : List Word) × IsMark Comma ts first × IsWord Ident at name first colon × IsMark Colon colon next × Spells x next mid × SpellsMoreEntries es mid rest
 
--- the identifier that begins a definition is no boolean
+-- The identifier that begins a definition is no boolean.
 abbrev pub IsDefName : List ℕ → Place → List Word → List Word → Type 0
 IsDefName name at ts rest = IsWord Ident at name ts rest × (is_truth name ≡ false)
 
 -- Def = Ident "=" Expr | Ident "+=" Expr | Ident Map
 abbrev pub SpellsDef : Definition → List Word → List Word → Type 0
-SpellsDef (Assigns name at x) ts rest = (mark next : List Word) × IsDefName name at ts mark × IsMark Equals mark next × Spells x next rest
-SpellsDef (Extends name at x) ts rest = (mark next : List Word) × IsDefName name at ts mark × IsMark PlusEquals mark next × Spells x next rest
+SpellsDef (Assigns name at x) ts rest = (mark next : List Word) × IsDefName name at ts mark × IsMark Equal mark next × Spells x next rest
+SpellsDef (Extends name at x) ts rest = (mark next : List Word) × IsDefName name at ts mark × IsMark PlusEqual mark next × Spells x next rest
 SpellsDef (Declares kind at m) ts rest = (next : List Word) × IsDefName kind at ts next × Spells (Body m.at m.entries) next rest
 
 -- File = { Def }, and nothing follows

@@ -1,7 +1,9 @@
 pub mod Trees
 pub mod Words
+pub mod Names
 pub mod Grammar
 pub mod Flaws
 pub mod Meaning
+pub mod Laws
 pub mod Machine
 pub mod Reading

@@ -3,7 +3,7 @@
 use Rattle.std.specs.Prelude.{◌≡◌, ℕ, suc, ◌+◌, ◌==◌, Bool, true, false, List, [], ◌∷◌, ◌++◌, Option, Some, None, ⊤, drop, if◌then◌else◌}
 use Rattle.std.specs.List.{list_any}
 use Rattle.std.specs.Str.{bytes_eq}
-use Rattle.bp_lexer.specs.declared.token.Punct.TheVariants.{OpenBrace, CloseBrace, OpenBracket, CloseBracket, Colon, Comma, Equals, PlusEquals, Plus}
+use Rattle.bp_lexer.specs.declared.token.Punct.TheVariants.{OpenBrace, CloseBrace, OpenBracket, CloseBracket, Colon, Comma, Equal, PlusEqual, Plus}
 use Rattle.bp_lexer.specs.declared.token.TokenKind.{TokenKind}
 use Rattle.bp_lexer.specs.declared.token.TokenKind.TheVariants.{Ident, Int, Quoted, Raw, Punct as Mark}
 use Rattle.bp_parser.specs.declared.flaw.Flaw.{Flaw}
@@ -13,7 +13,7 @@ use Rattle.bp_parser.specs.declared.stop.Stop.TheVariants.{Bad, OutOfMemory}
 use Rattle.bp_parser.specs.Words.{Word, is_truth}
 use Rattle.bp_parser.specs.Flaws.{IsRepeated}
 
--- what is expected; a map knows the names that it has
+-- What is expected; a map knows the names that it has.
 pub data Part : Type 0 where
   an_expr : Part
   more_terms : Part
@@ -24,7 +24,7 @@ pub data Part : Type 0 where
   more_entries : List (List ℕ) → Part
   a_value : Part
 
--- what is expected behind a word, or none if the word is unexpected
+-- What is expected behind a word, or none if the word is unexpected.
 abbrev pub behind : Part → TokenKind → List ℕ → Option (List Part)
 behind an_expr Ident n = Some (more_terms ∷ [])
 behind an_expr Int n = Some (more_terms ∷ [])
@@ -53,31 +53,33 @@ behind (entries names) _ n = None
 behind (more_entries names) (Mark CloseBrace) n = Some []
 behind (more_entries names) (Mark Comma) n = Some (entries names ∷ [])
 behind (more_entries names) _ n = None
-behind a_value (Mark Equals) n = Some (an_expr ∷ [])
-behind a_value (Mark PlusEquals) n = Some (an_expr ∷ [])
+behind a_value (Mark Equal) n = Some (an_expr ∷ [])
+behind a_value (Mark PlusEqual) n = Some (an_expr ∷ [])
 behind a_value (Mark OpenBrace) n = Some (entries [] ∷ [])
 behind a_value _ n = None
 
--- the same of all that is expected, in order, and definitions behind it
+-- The same of all that is expected, in order, and definitions behind it.
 abbrev pub with_rest : Option (List Part) → List Part → Option (List Part)
 with_rest None parts = None
 with_rest (Some new) parts = Some (new ++ parts)
 
+-- The word is a plus.
 abbrev pub is_plus : TokenKind → Bool
 is_plus (Mark Plus) = true
 is_plus _ = false
 
+-- What is expected behind the word that begins a definition.
 abbrev pub begin_def : TokenKind → List ℕ → Option (List Part)
 begin_def Ident n = if is_truth n then None else Some (a_value ∷ [])
 begin_def _ n = None
 
--- without a plus a sum ends, and what stands behind it is expected
+-- Without a plus a sum ends, and what stands behind it is expected.
 abbrev pub behind_all : List Part → TokenKind → List ℕ → Option (List Part)
 behind_all [] k n = begin_def k n
 behind_all (more_terms ∷ parts) k n = if is_plus k then Some (an_expr ∷ parts) else behind_all parts k n
 behind_all (p ∷ parts) k n = with_rest (behind p k n) parts
 
--- how many brackets are open
+-- How many brackets are open.
 abbrev pub opened : Part → ℕ → ℕ
 opened items n = suc n
 opened more_items n = suc n
@@ -85,46 +87,50 @@ opened (entries names) n = suc n
 opened (more_entries names) n = suc n
 opened _ n = n
 
+-- How many brackets are open in all that is expected.
 abbrev pub depth_of : List Part → ℕ
 depth_of [] = 0
 depth_of (p ∷ parts) = opened p (depth_of parts)
 
--- what is wrong with a word that is expected
+-- What is wrong with a word that is expected.
 abbrev pub has_name : List ℕ → List (List ℕ) → Bool
 has_name n names = list_any (bytes_eq n) names
 
+-- A name that its map has is a duplicate.
 abbrev pub name_flaw : List Part → List ℕ → ℕ → Option Flaw
 name_flaw (more_terms ∷ parts) n at = name_flaw parts n at
 name_flaw (entries names ∷ parts) n at = if has_name n names then Some (Duplicate at) else None
 name_flaw _ n at = None
 
+-- A bracket where 64 are open is nested too deeply.
 abbrev pub bracket_flaw : List Part → ℕ → Option Flaw
 bracket_flaw parts at = if depth_of parts == 64 then Some (TooNested at) else None
 
+-- What is wrong with a word that is expected, by its kind.
 abbrev pub flaw_at : List Part → TokenKind → List ℕ → ℕ → Option Flaw
 flaw_at parts Ident n at = name_flaw parts n at
 flaw_at parts (Mark OpenBrace) n at = bracket_flaw parts at
 flaw_at parts (Mark OpenBracket) n at = bracket_flaw parts at
 flaw_at parts _ n at = None
 
--- whether the words may end here
+-- Whether the words may end here.
 abbrev pub at_end : List Part → ℕ → Option Flaw
 at_end [] at = None
 at_end (more_terms ∷ parts) at = at_end parts at
 at_end (p ∷ parts) at = Some (Unexpected at)
 
--- goes on with what is expected behind a word, and stops at it if it is unexpected or has a flaw
+-- Goes on with what is expected behind a word, and stops at it if it is unexpected or has a flaw.
 abbrev pub go_behind : Option (List Part) → Option Flaw → ℕ → (List Part → Option Flaw) → Option Flaw
 go_behind None wrong at go = Some (Unexpected at)
 go_behind (Some new) (Some e) at go = Some e
 go_behind (Some new) None at go = go new
 
--- where the words, the first of which is number `at`, leave what is expected, if they do
+-- Where the words, the first of which is number `at`, leave what is expected, if they do.
 abbrev pub stuck : List Word → ℕ → List Part → Option Flaw
 stuck [] at parts = at_end parts at
 stuck (w ∷ ws) at parts = go_behind (behind_all parts w.kind w.text) (flaw_at parts w.kind w.text at) at (λ new. stuck ws (at + 1) new)
 
--- the words do not begin with one of the kind
+-- The words do not begin with one of the kind.
 abbrev pub StartsNot : TokenKind → List Word → Type 0
 StartsNot kind ws = (w : Word) (rest : List Word) → ws ≡ w ∷ rest → w.kind ≡ kind → ⊥
 
@@ -132,24 +138,25 @@ StartsNot kind ws = (w : Word) (rest : List Word) → ws ≡ w ∷ rest → w.ki
 abbrev pub GoesOn : List Part → List Part → List Word → ℕ → ℕ → ℕ → Type 0
 GoesOn ps qs ws depth at next = (parts : List Part) → depth_of parts ≡ depth → stuck (drop at ws) at (ps ++ parts) ≡ stuck (drop next ws) next (qs ++ parts)
 
--- from `at` on, there is this flaw
+-- From `at` on, there is this flaw.
 abbrev pub StopsAt : List Part → List Word → ℕ → ℕ → Flaw → Type 0
 StopsAt ps ws at depth flaw = (parts : List Part) → depth_of parts ≡ depth → stuck (drop at ws) at (ps ++ parts) ≡ Some flaw
 
--- what is known of a flaw beside where it is
+-- What is known of a flaw beside where it is.
 abbrev pub IsKnown : List Word → Flaw → Type 0
 IsKnown ws (Duplicate k) = IsRepeated ws k
 IsKnown ws _ = ⊤
 
--- why the reading of words stops, which from `at` on are to be these parts
+-- Why the reading of words stops, which from `at` on are to be these parts.
 abbrev pub StopsWith : List Part → List Word → ℕ → ℕ → Stop → Type 0
 StopsWith ps ws at depth (Bad flaw) = StopsAt ps ws at depth flaw × IsKnown ws flaw
 StopsWith ps ws at depth OutOfMemory = ⊤
 
--- the same where definitions are expected, and nothing else
+-- The same where definitions are expected, and nothing else.
 abbrev pub DefsGoOn : List Word → ℕ → ℕ → Type 0
 DefsGoOn ws at next = stuck (drop at ws) at [] ≡ stuck (drop next ws) next []
 
+-- Why the reading of definitions stops.
 abbrev pub DefsStopWith : List Word → ℕ → Stop → Type 0
 DefsStopWith ws at (Bad flaw) = (stuck (drop at ws) at [] ≡ Some flaw) × IsKnown ws flaw
 DefsStopWith ws at OutOfMemory = ⊤

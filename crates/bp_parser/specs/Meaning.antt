@@ -14,11 +14,11 @@ use Rattle.bp_parser.specs.Words.{Word, words_of}
 use Rattle.bp_parser.specs.Grammar.{SpellsFile}
 use Rattle.bp_parser.specs.Flaws.{IsFlaw, IsFirstFlaw}
 
--- the tokens are those of the text, as a file
+-- The tokens are those of the text, as a file.
 abbrev pub AreTokensOf : List ℕ → List Token → Type 0
 AreTokensOf text ts = (file : ℕ) × IsTokenList file text ts
 
--- the file of the first word, and 0 where there is none
+-- The file of the first word, and 0 where there is none.
 abbrev pub file_of : List Word → ℕ
 file_of [] = 0
 file_of (w ∷ ws) = w.at.file
@@ -29,15 +29,15 @@ pub record IsTree (ws : List Word) (tree : File) : Type 0 where
   pub spelled : SpellsFile tree.defs ws
   pub sound : (flaw : Flaw) → IsFlaw ws flaw → ⊥
 
--- where a word stands; the end is where the text ends
+-- Where a word stands; the end is where the text ends.
 abbrev pub place_of : List ℕ → List Word → ℕ → Place
 place_of text ws k = slice_index_or (map (λ w. w.at) ws) k (place_at (file_of ws) text (length text))
 
--- the text of a word, and what the end is called
+-- The text of a word, and what the end is called.
 abbrev pub subject_of : List Word → ℕ → List ℕ
 subject_of ws k = slice_index_or (map (λ w. w.text) ws) k (codes "end of file")
 
--- the fault that a flaw is
+-- The fault that a flaw is.
 abbrev pub fault_of : List ℕ → List Word → Flaw → Fault
 fault_of text ws (Unexpected k) = fault_on fault.Expected (place_of text ws k) (subject_of ws k)
 fault_of text ws (TooNested k) = fault_at fault.TooNested (place_of text ws k)

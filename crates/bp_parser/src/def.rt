@@ -59,7 +59,7 @@ pub fn def_at(alloc: Global, text: &str, words: &[Token], at: usize) -> Result<(
             next,
         ));
     }
-    if is_mark(words, at + 1, Punct::Equals) {
+    if is_mark(words, at + 1, Punct::Equal) {
         let (value, next) = expr_at(alloc, text, words, at + 2, 0)?;
         return Ok((
             Def::Assign {
@@ -70,7 +70,7 @@ pub fn def_at(alloc: Global, text: &str, words: &[Token], at: usize) -> Result<(
             next,
         ));
     }
-    if is_mark(words, at + 1, Punct::PlusEquals) {
+    if is_mark(words, at + 1, Punct::PlusEqual) {
         let (value, next) = expr_at(alloc, text, words, at + 2, 0)?;
         return Ok((
             Def::Extend {

@@ -10,14 +10,13 @@ ghost use Rattle.bp_parser.specs.Reading.{AreTokens, HasMark, sum_of};
 
 use crate::atom::atom;
 use crate::flaw::Flaw;
-use crate::names::learn;
 use crate::stop::Stop;
 use crate::tree::{EntryExpr, Expr, MapExpr};
 use crate::words::{after_part, expect, is_mark, name_at, word_at};
 use bp_faults::{OutOfMemory, Place, Text};
 use bp_lexer::{Punct, Token};
+use bp_names::NameSet;
 use std::alloc::Global;
-use std::collections::BTreeSet;
 
 /// How many brackets may be open.
 const MAX_OPEN: usize = 64;
@@ -195,12 +194,12 @@ pub fn map_at(
     ensures goes_on { IfOk result (λ x. GoesOn (entries [] ∷ []) [] (all_words text.now words.now) depth (at + 1) x.1) }
     ensures stops { IfErr result (StopsWith (entries [] ∷ []) (all_words text.now words.now) (at + 1) depth) }
 {
-    let mut known = BTreeSet::new(alloc);
+    let mut known = NameSet::new(alloc);
     let mut entries = Vec::new(alloc);
     let mut next = at + 1;
     'reading: while !is_mark(words, next, Punct::CloseBrace) {
         let name = name_at(text, words, next)?;
-        if !learn(&mut known, name.text(text))? {
+        if !known.learn(name.text(text))? {
             return Err(Stop::Bad(Flaw::Duplicate(next)));
         }
         expect(words, next + 1, Punct::Colon)?;

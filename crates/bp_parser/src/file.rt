@@ -89,6 +89,7 @@ fn defs(alloc: Global, text: &str, words: &[Token]) -> Result<Vec<Def>, Stop>
 /// The tree of a text with its tokens, comments among them.
 ///
 /// Where there is none, the first fault is *unexpected token*, *nested too deeply* or *duplicate property*.
+/// The length is that which `tokens` requires, so whoever has its tokens has it.
 pub fn parse(alloc: Global, text: &str, tokens: &[Token]) -> Result<FileTree, ParseError>
     requires tokens { AreTokensOf text.now tokens.now }
     requires short { length text.now ≤ 2 ^ 20 }

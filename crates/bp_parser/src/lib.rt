@@ -1,8 +1,8 @@
 //! The parser: reads the tokens of a file as its tree.
 //!
-//! In flow the text and its tokens, comments among them; out flows the tree, or the first fault.
+//! It takes a text and its tokens, comments among them; it gives the tree, or the first fault.
 //! It is measured by `specs/Meaning.antt`: the tokens that are no comments spell the tree by the
-//! grammar, and where they spell none, the earliest of three kinds of fault is told.
+//! grammar, and where they spell none, the earliest of three kinds of fault is reported.
 #![tactic(auto)]
 
 mod atom;
@@ -10,8 +10,7 @@ mod def;
 mod expr;
 mod file;
 mod flaw;
-mod law;
-mod names;
+pub mod laws;
 mod stop;
 #[cfg(test)]
 mod tests;
@@ -20,5 +19,4 @@ mod words;
 
 pub use bp_faults::Refusal as ParseError;
 pub use file::parse;
-pub use law::{one_fault, one_meaning, one_tree, tree_or_fault};
 pub use tree::{Def, EntryExpr, Expr, FileTree, MapExpr};

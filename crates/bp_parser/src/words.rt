@@ -20,7 +20,7 @@ fn is_comment(kind: TokenKind) -> bool
 pub fn without_comments(alloc: Global, tokens: &[Token]) -> Result<Vec<Token>, OutOfMemory>
     ensures { IfOk result (λ words. words.items ≡ without_comments tokens.now) }
 {
-    let mut words = Vec::new(alloc);
+    let mut words = Vec::with_capacity(alloc, tokens.len())?;
     for token in tokens {
         if !is_comment(token.kind) {
             words.push(*token)?;

@@ -7,4 +7,6 @@ pub mod MemSink
 pub mod FreeStore
 pub mod FreeSink
 pub mod FsStore
+pub mod FailedReads
+pub mod NewFiles
 pub mod StdSink

@@ -1,5 +1,6 @@
 ghost use Rattle.std.specs.Prelude.{◌≡◌, ◌≤◌, Some, None, IfOk, IfSome, length};
 ghost use Rattle.bp_ports.specs.Files.{ReadGives};
+ghost use Rattle.bp_ports.specs.FailedReads.{read_failure, open_failure};
 
 use crate::replace::replace;
 use crate::{Failed, ReadError, Store};
@@ -7,10 +8,30 @@ use bp_faults::Text;
 use std::alloc::Global;
 use std::fs;
 use std::io::{ErrorKind, Read};
-use std::rt::Files;
+use std::rt::{Clock, Files};
 
-// What a reader has left, where that is at most so many bytes.
-fn contents<F: Read + Drop>(alloc: Global, reader: F, limit: u64) -> Result<Vec<u8>, ReadError>
+// Why an open file isn't read, by the kind of the system's error.
+fn read_error(kind: ErrorKind) -> ReadError
+    ensures { result ≡ read_failure kind }
+{
+    match kind {
+        ErrorKind::OutOfMemory => ReadError::OutOfMemory,
+        _ => ReadError::Failed,
+    }
+}
+
+// Why a file isn't opened, by the kind of the system's error.
+fn open_error(kind: ErrorKind) -> ReadError
+    ensures { result ≡ open_failure kind }
+{
+    match kind {
+        ErrorKind::NotFound => ReadError::Absent,
+        _ => read_error(kind),
+    }
+}
+
+/// What a reader has left, where that is at most so many bytes.
+pub fn contents<F: Read + Drop>(alloc: Global, reader: F, limit: u64) -> Result<Vec<u8>, ReadError>
     ensures gives { IfSome (F.remaining reader) (λ held. ReadGives (Some held) limit result) }
     ensures bound { IfOk result (λ bytes. length bytes.items ≤ limit) }
 {
@@ -18,8 +39,7 @@ fn contents<F: Read + Drop>(alloc: Global, reader: F, limit: u64) -> Result<Vec<
     match reader.take(limit.saturating_add(1)).read_to_end(&mut bytes) {
         Ok(_) if bytes.len() as u64 > limit => Err(ReadError::TooLarge),
         Ok(_) => Ok(bytes),
-        Err(error) if error.kind() == ErrorKind::OutOfMemory => Err(ReadError::OutOfMemory),
-        Err(_) => Err(ReadError::Failed),
+        Err(error) => Err(read_error(error.kind())),
     }
 }
 
@@ -31,7 +51,7 @@ pub struct FsStore<R> {
     write_faults: u64,
 }
 
-impl<R: Files + Drop> FsStore<R> {
+impl<R: Files + Clock + Drop> FsStore<R> {
     ghost use Rattle.bp_ports.specs.FsStore.{failed_reads, failed_writes};
 
     /// A store over the files of this runtime.
@@ -52,13 +72,12 @@ impl<R: Files + Drop> FsStore<R> {
     {
         match fs::open(&self.rt, path) {
             Ok(file) => contents(alloc, file, limit),
-            Err(error) if error.kind() == ErrorKind::NotFound => Err(ReadError::Absent),
-            Err(_) => Err(ReadError::Failed),
+            Err(error) => Err(open_error(error.kind())),
         }
     }
 }
 
-impl<R: Files + Drop> Store for FsStore<R> {
+impl<R: Files + Clock + Drop> Store for FsStore<R> {
     ghost use Rattle.bp_ports.specs.Causes.{HasCause, HasCauseAt, count_after, read_count_after};
     ghost use Rattle.bp_ports.specs.FsStore.{failed_reads, failed_writes};
 

@@ -22,6 +22,7 @@ mod sink;
 mod std_sink;
 mod store;
 mod writes;
+mod writing;
 
 pub use failed::Failed;
 pub use free_sink::FreeSink;

@@ -1,59 +1,112 @@
-ghost use Rattle.std.specs.Prelude.{◌≡◌, ◌++◌, IfSome};
+ghost use Rattle.std.specs.Prelude.{◌≡◌, ◌<◌, length, IfSome, IfNone, OnOk};
+ghost use Rattle.std.specs.Io.KnownBytes.{Appends};
+ghost use Rattle.bp_ports.specs.NewFiles.{suffix_of, new_path};
 
+use crate::writing::write_through;
 use arrayvec::ArrayString;
-use std::fs::OpenOptions;
 use std::io::{Error, ErrorKind, Write};
-use std::rt::Files;
+use std::rt::{Clock, Files};
 use std::{fs, io};
 
 /// The system takes no longer path.
 const LONGEST: usize = 4096;
 
-/// What the path of a new file ends with until the file has its place, in the order of trying: the
-/// next serves where there is a file already.
-const SUFFIXES: [&str; 3] = [".bpgen-new", ".bpgen-new-2", ".bpgen-new-3"];
+/// How many new files there may be beside one file.
+const NEW_FILES: usize = 3;
+
+/// After so many seconds without a write, a new file is left over by a run that was stopped.
+const LEFT_OVER_AFTER: u64 = 600;
+
+fn suffix(number: usize) -> &'static str
+    requires { number < 3 }
+    ensures { result.now ≡ suffix_of number }
+{
+    match number {
+        0 => ".bpgen-new",
+        1 => ".bpgen-new-2",
+        _ => ".bpgen-new-3",
+    }
+}
 
 // The path of a new file beside the one at this path, made where no memory is taken.
-fn path_beside(path: &str, suffix: &str) -> Option<ArrayString<LONGEST>>
-    ensures { IfSome result (λ beside. beside.bytes ≡ path.now ++ suffix.now) }
+fn path_beside(path: &str, number: usize) -> Option<ArrayString<LONGEST>>
+    requires { number < 3 }
+    ensures path { IfSome result (λ beside. beside.bytes ≡ new_path path.now number) }
+    ensures long { IfNone result (4096 < length (new_path path.now number)) }
 {
     let mut beside = ArrayString::from(path).ok()?;
-    beside.try_push_str(suffix).ok()?;
+    beside.try_push_str(suffix(number)).ok()?;
     Some(beside)
 }
 
-// Writes a new file and gives it its place. Where that fails, no new file is left.
+// Writes all the bytes to a new file, and then gives it its place.
+fn fill<W: Write, P: FnOnce() -> io::Result<()> + Drop>(
+    file: &mut W,
+    bytes: &[u8],
+    place: P,
+) -> io::Result<()>
+    requires { P.pre place }
+    ensures filled { OnOk result (Appends (W.contents file.old) (W.contents file.new) bytes.now) }
+    ensures placed { OnOk result (P.post place result) }
+{
+    write_through(file, bytes)?;
+    place()
+}
+
+// Makes a new file that takes the place of the old one. Where that fails, no new file is left.
 fn write_beside<R: Files>(rt: &R, beside: &str, path: &str, bytes: &[u8]) -> io::Result<()> {
-    let mut file = OpenOptions::new()
-        .write(true)
-        .create_new(true)
-        .open(rt, beside)?;
-    let done = file
-        .write_all(bytes)
-        .and_then(|()| fs::rename(rt, beside, path));
+    let mut file = fs::File::create_new(rt, beside)?;
+    let done = fill(&mut file, bytes, || fs::rename(rt, beside, path));
     if done.is_err() {
         let _ = fs::remove_file(rt, beside);
     }
     done
 }
 
-/// Puts a file with these bytes in the place of what the path holds. Who opens the path meanwhile
-/// finds the old file or the new one, whole. What is no regular file, as a device or a symbolic link,
-/// is written where it stands.
-pub fn replace<R: Files>(rt: &R, path: &str, bytes: &[u8]) -> io::Result<()> {
-    if let Ok(found) = fs::symlink_metadata(rt, path) {
-        if !found.is_file() {
-            return fs::write(rt, path, bytes);
-        }
+// Removes a regular file that nobody has written to lately.
+fn remove_left_over<R: Files + Clock>(rt: &R, path: &str) -> io::Result<()> {
+    let found = fs::symlink_metadata(rt, path)?;
+    let age = found.modified()?.elapsed(rt)?;
+    if found.is_file() && age.as_secs() >= LEFT_OVER_AFTER {
+        fs::remove_file(rt, path)?;
     }
-    for suffix in SUFFIXES {
-        let Some(beside) = path_beside(path, suffix) else {
+    Ok(())
+}
+
+// Writes the first new file whose path is free. What stopped runs left at the paths can be removed first.
+fn write_new<R: Files + Clock>(rt: &R, path: &str, bytes: &[u8], removes: bool) -> io::Result<()> {
+    for number in 0..NEW_FILES {
+        let Some(beside) = path_beside(path, number) else {
             return Err(Error::from(ErrorKind::InvalidFilename));
         };
+        if removes {
+            let _ = remove_left_over(rt, beside.as_str());
+        }
         match write_beside(rt, beside.as_str(), path, bytes) {
             Err(error) if error.kind() == ErrorKind::AlreadyExists => {}
             done => return done,
         }
     }
     Err(Error::from(ErrorKind::AlreadyExists))
+}
+
+// Whether the path holds what is no regular file, as a device or a symbolic link.
+fn is_special<R: Files>(rt: &R, path: &str) -> bool {
+    matches!(fs::symlink_metadata(rt, path), Ok(found) if !found.is_file())
+}
+
+/// Puts a file with these bytes in the place of what the path holds. Who opens the path meanwhile
+/// finds the old file or the new one, whole. What is no regular file is written where it is. Files
+/// beside it are kept; only where all paths of new files are taken, those that stopped runs left
+/// are removed.
+pub fn replace<R: Files + Clock>(rt: &R, path: &str, bytes: &[u8]) -> io::Result<()> {
+    if is_special(rt, path) {
+        return fs::write(rt, path, bytes);
+    }
+    match write_new(rt, path, bytes, false) {
+        Err(error) if error.kind() == ErrorKind::AlreadyExists => {
+            write_new(rt, path, bytes, true)
+        }
+        done => done,
+    }
 }

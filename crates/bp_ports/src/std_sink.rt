@@ -1,8 +1,8 @@
 ghost use Rattle.std.specs.Prelude.{◌≡◌, None, OnOk};
 ghost use Rattle.std.specs.Io.KnownBytes.{Appends};
 
+use crate::writing::write_through;
 use crate::{Failed, Sink};
-use std::io;
 use std::io::Write;
 use std::rt::{Stderr, Stdout};
 
@@ -39,14 +39,6 @@ impl StdSink<Stderr> {
             faults: 0,
         }
     }
-}
-
-// Writes the bytes through to the system.
-fn write_through<W: Write>(stream: &mut W, bytes: &[u8]) -> io::Result<()>
-    ensures { OnOk result (Appends (W.contents stream.old) (W.contents stream.new) bytes.now) }
-{
-    stream.write_all(bytes)?;
-    stream.flush()
 }
 
 impl<W: Write + Drop> Sink for StdSink<W> {

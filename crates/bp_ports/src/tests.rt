@@ -1,18 +1,11 @@
+mod real_files;
+
 use crate::{
-    Failed, FreeSink, FreeStore, FsStore, Gate, MemSink, MemStore, OpenGate, ReadError, Sink,
-    StdSink, Store,
+    Failed, FreeSink, FreeStore, Gate, MemSink, MemStore, OpenGate, ReadError, Sink, StdSink, Store,
 };
 use bp_faults::{NodeId, OutOfMemory, Text};
 use std::alloc::Global;
-use std::fs;
-use std::os::unix::fs::symlink;
 use std::test::Fail;
-
-const FOLDER: &str = "bp_ports_test";
-
-const OUT: &str = "bp_ports_test/out";
-
-const LINKS: &str = "bp_ports_links";
 
 fn text(alloc: Global, word: &str) -> Result<Text, OutOfMemory> {
     Text::from_str(alloc, word)
@@ -121,78 +114,6 @@ fn a_put_that_fails_appends_half(rt: HostRuntime) -> Result<(), Fail> {
     assert!(rt; free.tells());
     assert_eq!(rt; puts(&mut free, b"d"), Ok(()));
     assert!(rt; !free.tells());
-    Ok(())
-}
-
-#[test]
-fn real_files_are_read_and_replaced(rt: HostRuntime) -> Result<(), Fail> {
-    let alloc = rt.alloc();
-    let _ = fs::remove_dir_all(&rt, FOLDER);
-    fs::create_dir(&rt, FOLDER)?;
-    let out = text(alloc, OUT)?;
-    let mut store = FsStore::new(rt);
-    assert_eq!(rt;
-        reads(alloc, &mut store, OUT, 9).err(),
-        Some(ReadError::Absent)
-    );
-    assert_eq!(rt; writes(&mut store, &out, b"old"), Ok(()));
-    assert_eq!(rt; writes(&mut store, &out, b"newer"), Ok(()));
-    assert_eq!(rt;
-        reads(alloc, &mut store, OUT, 5)?.as_slice(),
-        b"newer".as_slice()
-    );
-    assert_eq!(rt;
-        reads(alloc, &mut store, OUT, 4).err(),
-        Some(ReadError::TooLarge)
-    );
-    assert_eq!(rt;
-        reads(alloc, &mut store, FOLDER, 9).err(),
-        Some(ReadError::Failed)
-    );
-    assert_eq!(rt;
-        writes(&mut store, &text(alloc, FOLDER)?, b"x"),
-        Err(Failed)
-    );
-    assert_eq!(rt; fs::read_dir(&rt, FOLDER)?.count(), 1);
-    let bare = text(alloc, "bp_ports_test_out")?;
-    assert_eq!(rt; writes(&mut store, &bare, b"x"), Ok(()));
-    fs::remove_file(&rt, "bp_ports_test_out")?;
-    fs::remove_dir_all(&rt, FOLDER)?;
-    Ok(())
-}
-
-#[test]
-fn files_beside_a_real_one_are_kept(rt: HostRuntime) -> Result<(), Fail> {
-    let alloc = rt.alloc();
-    let _ = fs::remove_dir_all(&rt, LINKS);
-    fs::create_dir(&rt, LINKS)?;
-    fs::write(&rt, "bp_ports_links/link.bpgen-new", b"kept".as_slice())?;
-    symlink(&rt, "file", "bp_ports_links/link")?;
-    let mut store = FsStore::new(rt);
-    assert_eq!(rt;
-        writes(&mut store, &text(alloc, "bp_ports_links/link")?, b"through"),
-        Ok(())
-    );
-    assert_eq!(rt;
-        writes(&mut store, &text(alloc, "bp_ports_links/other")?, b"x"),
-        Ok(())
-    );
-    fs::remove_file(&rt, "bp_ports_links/link")?;
-    assert_eq!(rt;
-        writes(&mut store, &text(alloc, "bp_ports_links/link")?, b"direct"),
-        Ok(())
-    );
-    let cases = [
-        ("file", "through"),
-        ("link", "direct"),
-        ("link.bpgen-new", "kept"),
-    ];
-    for (name, held) in cases {
-        let path = format!(in alloc; "{LINKS}/{name}")?;
-        assert_eq!(rt; fs::read_to_string(&rt, path.as_str())?.as_str(), held);
-    }
-    assert_eq!(rt; fs::read_dir(&rt, LINKS)?.count(), 4);
-    fs::remove_dir_all(&rt, LINKS)?;
     Ok(())
 }
 

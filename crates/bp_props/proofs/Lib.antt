@@ -1,2 +1,3 @@
-pub mod Next
 pub mod Each
+pub mod Ids
+pub mod Places

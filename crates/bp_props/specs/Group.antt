@@ -1,13 +1,13 @@
 -- The properties of a group: what sets nothing, what merging makes of two, and what restriction leaves.
 use Rattle.std.specs.Prelude.{None}
-use Rattle.bp_props.specs.Merge.{scalar_merged, list_merged, list_empty, kept_scalar, kept_list}
+use Rattle.bp_props.specs.Meaning.{scalar_merged, list_merged, list_empty, kept_scalar, kept_list}
 use Rattle.bp_props.specs.Kinds.{has_field}
 use Rattle.bp_props.specs.declared.kind.ModuleKind.{ModuleKind}
 use Rattle.bp_props.specs.declared.field.Field.TheVariants as F
 use Rattle.bp_props.specs.declared.merge.Winner.{Winner}
 use Rattle.bp_props.specs.declared.group.GroupProps.{GroupProps}
 
--- a group that sets nothing
+-- A group may set nothing.
 abbrev pub group_empty : GroupProps
 group_empty = record {
   enabled = None;
@@ -29,7 +29,7 @@ group_empty = record {
   export_header_lib_headers = list_empty;
 }
 
--- the first group, with each list of the second behind its own
+-- Each list of the second group is put behind that of the first.
 abbrev pub lists_merged : GroupProps → GroupProps → GroupProps
 lists_merged a b = record {
   enabled = a.enabled;
@@ -51,11 +51,11 @@ lists_merged a b = record {
   export_header_lib_headers = list_merged a.export_header_lib_headers b.export_header_lib_headers;
 }
 
--- Two groups, field by field: each list merged, and each scalar.
+-- Two groups are merged field by field: each list, and each scalar.
 abbrev pub group_merged : Winner → GroupProps → GroupProps → GroupProps
 group_merged winner a b = record (lists_merged a b) { enabled = scalar_merged winner a.enabled b.enabled }
 
--- A group, field by field: what the kind's table has stays, and the rest isn't set.
+-- What the kind's table has stays in a group, and the rest isn't set.
 abbrev pub group_restricted : ModuleKind → GroupProps → GroupProps
 group_restricted kind g = record {
   enabled = kept_scalar (has_field kind F.Enabled) g.enabled;

@@ -10,41 +10,43 @@ use Rattle.bp_props.specs.declared.group.GroupProps.{GroupProps}
 use Rattle.bp_props.specs.declared.merge.Winner.{Winner}
 use Rattle.bp_props.specs.Group.{group_merged}
 
--- the order of the ids, which is that of their list
+-- Ids are compared by their order, which is that of their list.
 abbrev pub by_id : GroupId → GroupId → Ordering
 by_id = (order.ghosts).cmp
 
--- the ids ascend, so none comes twice
+-- The ids ascend, so none comes twice.
 abbrev pub Ascends : List (GroupId × GroupProps) → Type 0
 Ascends groups = IsStrictlySortedBy by_id (keys_of groups)
 
--- the group of an id, where there is one
+-- An id has its group, where there is one.
 abbrev pub group_of : List (GroupId × GroupProps) → GroupId → Option GroupProps
 group_of groups id = lookup (is_at (by_id id)) groups
 
--- the groups with this one under its id
+-- A group is put under its id, in place of the one that is there.
 abbrev pub groups_with : List (GroupId × GroupProps) → GroupId → GroupProps → List (GroupId × GroupProps)
 groups_with groups id group = insert_entry by_id groups id group
 
--- a group and the one that a record may have already
+-- A group is merged into the one that a record may have already.
 abbrev pub put_behind : Winner → Option GroupProps → GroupProps → GroupProps
 put_behind winner (Some old) group = group_merged winner old group
 put_behind winner None group = group
 
--- a group merged into the one of its id, in the id's place
+-- A group is merged into the one of its id, which keeps its place.
 abbrev pub group_put : Winner → List (GroupId × GroupProps) → GroupId → GroupProps → List (GroupId × GroupProps)
 group_put winner groups id group = groups_with groups id (put_behind winner (group_of groups id) group)
 
--- Two records' groups: each of the second's is merged into the first's of its id.
-abbrev pub groups_merged : Winner → List (GroupId × GroupProps) → List (GroupId × GroupProps) → List (GroupId × GroupProps)
+-- Of two records' groups each of the second's is merged into the first's of its id.
+abbrev pub groups_merged : Winner → List (GroupId × GroupProps) → List (GroupId × GroupProps)
+    → List (GroupId × GroupProps)
 groups_merged winner groups [] = groups
 groups_merged winner groups (e ∷ others) = groups_merged winner (group_put winner groups e.0 e.1) others
 
--- What two records have under one id: both groups merged, or the one that is there.
+-- Two records have under one id both groups merged, or the one that is there.
 abbrev pub either_merged : Winner → Option GroupProps → Option GroupProps → Option GroupProps
 either_merged winner a None = a
 either_merged winner a (Some b) = Some (put_behind winner a b)
 
 -- Under each id the third record has what the first two have under it.
 abbrev pub EachMerged : Winner → (a b merged : List (GroupId × GroupProps)) → Type 0
-EachMerged winner a b merged = (id : GroupId) → group_of merged id ≡ either_merged winner (group_of a id) (group_of b id)
+EachMerged winner a b merged = (id : GroupId)
+    → group_of merged id ≡ either_merged winner (group_of a id) (group_of b id)

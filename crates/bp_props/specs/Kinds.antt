@@ -6,31 +6,31 @@ use Rattle.bp_props.specs.declared.field.Field.{Field}
 use Rattle.bp_props.specs.declared.field.Field.TheVariants as F
 use Rattle.bp_props.specs.declared.group_id.GroupId.TheVariants as G
 
--- every kind but `filegroup` is built from C or C++
+-- Every kind but `filegroup` is built from C or C++.
 abbrev pub is_cc : ModuleKind → Bool
 is_cc Filegroup = false
 is_cc kind = true
 
--- the kinds that are built both static and shared
+-- Some kinds are built both static and shared.
 abbrev pub has_both_links : ModuleKind → Bool
 has_both_links Library = true
 has_both_links Defaults = true
 has_both_links kind = false
 
--- the kinds that may be a plugin of another
+-- Some kinds may be a plugin of another.
 abbrev pub may_plug_in : ModuleKind → Bool
 may_plug_in Library = true
 may_plug_in LibraryShared = true
 may_plug_in Defaults = true
 may_plug_in kind = false
 
--- the kinds that have what tests alone have
+-- Some kinds have what tests alone have.
 abbrev pub has_tests : ModuleKind → Bool
 has_tests Test = true
 has_tests Defaults = true
 has_tests kind = false
 
--- the table
+-- The table says which kind has which field.
 abbrev pub has_field : ModuleKind → Field → Bool
 has_field kind F.Name = true
 has_field kind F.Enabled = true

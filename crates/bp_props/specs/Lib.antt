@@ -1,6 +1,8 @@
-pub mod Merge
+pub mod Meaning
 pub mod Kinds
 pub mod Group
 pub mod Groups
 pub mod Records
 pub mod Undo
+pub mod Inside
+pub mod Laws

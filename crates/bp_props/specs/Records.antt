@@ -1,6 +1,6 @@
 -- The record of a module: what sets nothing, what the three merging calls make of two, and what restriction leaves.
 use Rattle.std.specs.Prelude.{None, [], false, filter}
-use Rattle.bp_props.specs.Merge.{scalar_merged, list_merged, list_empty, kept_scalar, kept_list}
+use Rattle.bp_props.specs.Meaning.{scalar_merged, list_merged, list_empty, kept_scalar, kept_list}
 use Rattle.bp_props.specs.Group.{group_empty, group_merged, group_restricted}
 use Rattle.bp_props.specs.Groups.{groups_merged, EachMerged}
 use Rattle.bp_props.specs.Kinds.{has_field}
@@ -11,7 +11,7 @@ use Rattle.bp_props.specs.declared.merge.Winner.TheVariants.{Receiver, Argument}
 use Rattle.bp_props.specs.declared.group.GroupProps.{GroupProps}
 use Rattle.bp_props.specs.declared.props.Props.{Props}
 
--- a record with nothing set, and with what the mutators compute at its start
+-- An empty record has nothing set, and what the mutators compute is at its start.
 abbrev pub props_empty : Props
 props_empty = record {
   base = group_empty;
@@ -39,7 +39,7 @@ props_empty = record {
   slibs = [];
 }
 
--- Two records, field by field: each scalar merged, each list, and the groups. `name`, `defaults` and what the
+-- Two records are merged field by field: each scalar, each list, and the groups. `name`, `defaults` and what the
 -- mutators compute are the receiver's.
 abbrev pub props_merged : Winner → Props → Props → Props
 props_merged winner a b = record a {
@@ -60,26 +60,27 @@ props_merged winner a b = record a {
   groups = groups_merged winner a.groups b.groups;
 }
 
--- `append`: a group into the fields that a group may hold, and its scalars win
+-- `append` merges a group into the fields that a group may hold, and its scalars win.
 abbrev pub props_appended : Props → GroupProps → Props
 props_appended a g = record a { base = group_merged Argument a.base g }
 
--- `follow`: the receiver's scalars win
+-- `follow` merges two records, and the receiver's scalars win.
 abbrev pub props_followed : Props → Props → Props
 props_followed a b = props_merged Receiver a b
 
--- `over`: the argument's scalars win, and its `name` and `defaults` stand
+-- `over` merges two records; the argument's scalars win, and its `name` and `defaults` are taken.
 abbrev pub props_over : Props → Props → Props
 props_over a b = record (props_merged Argument a b) { name = b.name; defaults = b.defaults }
 
--- `follow` and `over`, group by group: each id has what the two records have under it, by the same rules.
+-- After `follow` each id has what the two records have under it, merged by the same rules.
 abbrev pub GroupsFollowed : (a b new : Props) → Type 0
 GroupsFollowed a b new = EachMerged Receiver a.groups b.groups new.groups
 
+-- After `over` each id has what the two records have under it, merged by the same rules.
 abbrev pub GroupsOver : (a b new : Props) → Type 0
 GroupsOver a b new = EachMerged Argument a.groups b.groups new.groups
 
--- A record, field by field: what the kind's table has stays, and the rest isn't set. What the mutators compute stays.
+-- What the kind's table has stays in a record, and the rest isn't set. What the mutators compute stays.
 abbrev pub props_restricted : ModuleKind → Props → Props
 props_restricted kind p = record p {
   base = group_restricted kind p.base;

@@ -1,5 +1,5 @@
 ghost use Rattle.std.specs.Prelude.{◌≡◌, IfOk};
-ghost use Rattle.bp_props.specs.Merge.{kept_scalar};
+ghost use Rattle.bp_props.specs.Meaning.{kept_scalar};
 
 use bp_faults::{OutOfMemory, Place, Text};
 use std::alloc::Global;

@@ -1,14 +1,17 @@
 ghost use Rattle.std.specs.Prelude.{◌≡◌, OnOk, OnErr};
 ghost use Rattle.bp_props.specs.Group.{lists_merged, group_merged, group_empty, group_restricted};
-ghost use Rattle.bp_props.specs.Undo.{GroupBegins};
+ghost use Rattle.bp_props.specs.Undo.{GroupBegins, group_mark, group_cut};
 
 use crate::given::keep_scalar;
+use crate::mark::GroupMark;
 use crate::merge::Winner;
 use crate::table::{
-    copy_scalars, extend_lists, group_lists, group_scalars, keep_lists, keep_scalars,
-    merge_scalars, or_cut,
+    copy_scalars, cut_lists, extend_lists, group_lists, keep_lists, keep_scalars, merge_scalars,
 };
-use crate::{Field, Given, Listed, ModuleKind, Source};
+use crate::{
+    Field, Given, Listed, ModuleKind, Source, group_dirs, group_flags, group_names, group_sources,
+    group_truths,
+};
 use bp_faults::{Item, OutOfMemory, Path, Payload, Text};
 use std::alloc::Global;
 
@@ -58,11 +61,51 @@ impl Drop for GroupProps {
     }
 }
 
+macro_rules! with_truths {
+    ([$make:ident $record:expr, $($lists:tt)*] $($truths:tt)*) => {
+        $make!($record, [$($truths)*] [$($lists)*])
+    };
+}
+
+macro_rules! with_names {
+    ([$make:ident $record:expr, $($before:tt)*] $($names:tt)*) => {
+        group_truths!(with_truths $make $record, $($before)* $($names)*)
+    };
+}
+
+macro_rules! with_dirs {
+    ([$make:ident $record:expr, $($before:tt)*] $($dirs:tt)*) => {
+        group_names!(with_names $make $record, $($before)* $($dirs)*)
+    };
+}
+
+macro_rules! with_flags {
+    ([$make:ident $record:expr, $($before:tt)*] $($flags:tt)*) => {
+        group_dirs!(with_dirs $make $record, $($before)* $($flags)*)
+    };
+}
+
+/// A struct with all fields of a group, written by a macro from its scalars and its lists.
+macro_rules! all_fields {
+    ([$make:ident $record:expr] $($sources:tt)*) => {
+        group_flags!(with_flags $make $record, $($sources)*)
+    };
+}
+
 macro_rules! empty_group {
-    ([$alloc:expr] $(($name:ident $field:ident))*) => {
+    ($alloc:expr, [$(($set:ident $a:ident))*] [$(($list:ident $b:ident))*]) => {
         GroupProps {
-            enabled: None,
-            $($name: Listed::empty($alloc),)*
+            $($set: None,)*
+            $($list: Listed::empty($alloc),)*
+        }
+    };
+}
+
+macro_rules! mark_group {
+    ($group:expr, [$(($set:ident $a:ident))*] [$(($list:ident $b:ident))*]) => {
+        GroupMark {
+            $($set: $group.$set,)*
+            $($list: $group.$list.mark(),)*
         }
     };
 }
@@ -72,8 +115,24 @@ impl GroupProps {
     pub fn empty(alloc: Global) -> GroupProps
         ensures { result ≡ group_empty }
     {
-        let empty = group_lists!(empty_group alloc);
+        let empty = group_sources!(all_fields empty_group alloc);
         empty
+    }
+
+    /// What the group is now, to come back to.
+    pub(crate) fn mark(&self) -> GroupMark
+        ensures { result ≡ group_mark self.now }
+    {
+        let mark = group_sources!(all_fields mark_group self);
+        mark
+    }
+
+    /// Takes back what was merged into the group since the mark. It takes no memory.
+    pub(crate) fn cut(&mut self, mark: GroupMark)
+        ensures { self.new ≡ group_cut mark self.old }
+    {
+        group_lists!(cut_lists self, mark);
+        group_truths!(copy_scalars self, mark);
     }
 
     /// Puts the lists of a group behind. After want of memory a part of them may stand there.
@@ -93,10 +152,10 @@ impl GroupProps {
         winner: Winner,
     ) -> Result<(), OutOfMemory>
         ensures ok { OnOk result (self.new ≡ group_merged winner self.old other.now) }
-        ensures begins { OnErr result (GroupBegins self.old self.new) }
+        ensures begins { GroupBegins self.old self.new }
     {
         self.extend(alloc, other)?;
-        group_scalars!(merge_scalars self, other, winner);
+        group_truths!(merge_scalars self, other, winner);
         Ok(())
     }
 
@@ -108,16 +167,22 @@ impl GroupProps {
         winner: Winner,
     ) -> Result<(), OutOfMemory>
         ensures ok { OnOk result (self.new ≡ group_merged winner self.old other.now) }
+        ensures begins { OnOk result (GroupBegins self.old self.new) }
         ensures err { OnErr result (self.new ≡ self.old) }
     {
-        group_lists!(or_cut self, self.extend_all(alloc, other, winner))
+        let mark = self.mark();
+        let merged = self.extend_all(alloc, other, winner);
+        if merged.is_err() {
+            self.cut(mark);
+        }
+        merged
     }
 
     /// Drops the fields that the kind's table lacks. It takes no memory.
     pub(crate) fn restrict(&mut self, kind: ModuleKind)
         ensures { self.new ≡ group_restricted kind self.old }
     {
-        group_scalars!(keep_scalars self, kind);
+        group_truths!(keep_scalars self, kind);
         group_lists!(keep_lists self, kind);
     }
 }
@@ -126,7 +191,7 @@ impl Payload for GroupProps {
     fn copy(&self, alloc: Global) -> Result<Self, OutOfMemory> {
         let mut copy = GroupProps::empty(alloc);
         copy.extend(alloc, self)?;
-        group_scalars!(copy_scalars copy, self);
+        group_truths!(copy_scalars copy, self);
         Ok(copy)
     }
 }

@@ -2,7 +2,7 @@
 //! module has which of them.
 //!
 //! Typing makes the records, the mutators merge and change them, and the build actions read them. The
-//! layer is measured by `specs/Merge.antt`, which says what merging makes of a scalar and of a list,
+//! layer is measured by `specs/Meaning.antt`, which says what merging makes of a scalar and of a list,
 //! and by `specs/Kinds.antt`, the table of the kinds.
 #![tactic(auto)]
 
@@ -12,11 +12,13 @@ mod group;
 mod group_id;
 mod groups;
 mod kind;
+pub mod laws;
 mod listed;
 mod mark;
 mod merge;
 mod module;
 mod multi;
+mod pairs;
 mod props;
 mod source;
 mod table;

@@ -1,5 +1,5 @@
 ghost use Rattle.std.specs.Prelude.{◌≡◌, OnOk, ◌++◌, length, take};
-ghost use Rattle.bp_props.specs.Merge.{list_merged, list_empty, kept_list};
+ghost use Rattle.bp_props.specs.Meaning.{list_merged, list_empty, kept_list};
 ghost use Rattle.bp_props.specs.Undo.{mark_of, list_cut, ListBegins};
 
 use crate::mark::Mark;

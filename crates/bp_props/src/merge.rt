@@ -1,5 +1,5 @@
 ghost use Rattle.std.specs.Prelude.{◌≡◌};
-ghost use Rattle.bp_props.specs.Merge.{scalar_merged};
+ghost use Rattle.bp_props.specs.Meaning.{scalar_merged};
 
 use crate::Given;
 

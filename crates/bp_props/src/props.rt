@@ -1,15 +1,19 @@
 ghost use Rattle.std.specs.Prelude.{◌≡◌, OnOk, OnErr, option_copied};
 ghost use Rattle.bp_props.specs.Groups.{group_of, EachMerged};
-ghost use Rattle.bp_props.specs.Records.{props_empty, props_merged, props_appended, props_followed, props_over, props_restricted, GroupsFollowed, GroupsOver};
+ghost use Rattle.bp_props.specs.Records.{props_empty, props_merged, props_appended, props_followed, props_over};
+ghost use Rattle.bp_props.specs.Records.{props_restricted, GroupsFollowed, GroupsOver};
 ghost use Rattle.bp_props.specs.Undo.{PropsBegins, BaseBegins};
 
 use crate::given::{copy_name, keep_scalar};
 use crate::merge::Winner;
 use crate::table::{
-    copy_lists, copy_scalars, extend_lists, group_lists, group_scalars, keep_lists, keep_scalars,
-    lists, merge_scalars, or_cut, scalars,
+    copy_lists, copy_scalars, extend_lists, keep_lists, keep_scalars, merge_scalars,
+    module_scalars, or_cut,
 };
-use crate::{Field, Given, GroupId, GroupProps, Groups, Listed, ModuleKind, Multi};
+use crate::{
+    Field, Given, GroupId, GroupProps, Groups, Listed, ModuleKind, Multi, group_truths,
+    module_names, module_truths,
+};
 use bp_faults::{Item, NodeId, OutOfMemory, Path, Payload, Seq, Text};
 use std::alloc::Global;
 
@@ -77,13 +81,15 @@ impl Drop for Props {
     }
 }
 
-macro_rules! empty_lists {
-    ([$alloc:expr, $($set:ident),*] $(($name:ident $field:ident))*) => {
+macro_rules! with_names {
+    ([$alloc:expr, $($truth:ident)*] $(($name:ident $field:ident))*) => {
         Props {
             base: GroupProps::empty($alloc),
             name: None,
             defaults: Listed::empty($alloc),
-            $($set: None,)*
+            compile_multilib: None,
+            $($truth: None,)*
+            min_sdk_version: None,
             $($name: Listed::empty($alloc),)*
             groups: Groups::empty($alloc),
             asan: false,
@@ -98,7 +104,7 @@ macro_rules! empty_lists {
 
 macro_rules! empty_props {
     ([$alloc:expr] $(($name:ident $field:ident))*) => {
-        lists!(empty_lists $alloc, $($name),*)
+        module_names!(with_names $alloc, $($name)*)
     };
 }
 
@@ -107,7 +113,7 @@ impl Props {
     pub fn empty(alloc: Global) -> Props
         ensures { result ≡ props_empty }
     {
-        let empty = scalars!(empty_props alloc);
+        let empty = module_truths!(empty_props alloc);
         empty
     }
 
@@ -125,8 +131,8 @@ impl Props {
         self.base = other.base.copy(alloc)?;
         self.name = copy_name(alloc, &other.name)?;
         self.defaults = other.defaults.copy(alloc)?;
-        lists!(copy_lists self, alloc, other);
-        scalars!(copy_scalars self, other);
+        module_names!(copy_lists self, alloc, other);
+        module_scalars!(copy_scalars self, other);
         self.groups = other.groups.copy(alloc)?;
         self.asan = other.asan;
         self.level = other.level;
@@ -144,10 +150,10 @@ impl Props {
         ensures begins { OnErr result (PropsBegins self.old self.new) }
     {
         self.base.extend(alloc, &other.base)?;
-        lists!(extend_lists self, alloc, other);
+        module_names!(extend_lists self, alloc, other);
         self.groups.merge(alloc, &other.groups, winner)?;
-        group_scalars!(merge_scalars self.base, other.base, winner);
-        scalars!(merge_scalars self, other, winner);
+        group_truths!(merge_scalars self.base, other.base, winner);
+        module_scalars!(merge_scalars self, other, winner);
         Ok(())
     }
 
@@ -162,7 +168,7 @@ impl Props {
         ensures groups { OnOk result (EachMerged winner self.old.groups other.now.groups self.new.groups) }
         ensures begins { OnErr result (BaseBegins self.old self.new) }
     {
-        lists!(or_cut self, self.extend(alloc, other, winner))
+        module_names!(or_cut self, self.extend(alloc, other, winner))
     }
 
     // Merges a record into this one, but for `name` and `defaults`.
@@ -171,7 +177,12 @@ impl Props {
         ensures groups { OnOk result (EachMerged winner self.old.groups other.now.groups self.new.groups) }
         ensures err { OnErr result (self.new ≡ self.old) }
     {
-        group_lists!(or_cut self.base, self.extend_base(alloc, other, winner))
+        let mark = self.base.mark();
+        let merged = self.extend_base(alloc, other, winner);
+        if merged.is_err() {
+            self.base.cut(mark);
+        }
+        merged
     }
 
     /// Appends a group: its lists go behind, and each scalar that it sets replaces.
@@ -215,8 +226,8 @@ impl Props {
         self.base.restrict(kind);
         keep_scalar(&mut self.name, kind.has(Field::Name));
         self.defaults.keep_if(kind.has(Field::Defaults));
-        scalars!(keep_scalars self, kind);
-        lists!(keep_lists self, kind);
+        module_scalars!(keep_scalars self, kind);
+        module_names!(keep_lists self, kind);
         self.groups.restrict(kind);
     }
 }

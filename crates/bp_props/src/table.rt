@@ -1,22 +1,59 @@
-//! The table of the fields: each field of a record is named here once, with its name in [`Field`](crate::Field).
+//! The table of the fields: each field that a file sets is named here once, by what it holds, with its name in
+//! [`Field`](crate::Field).
 //!
 //! A table calls the macro that it is given with the arguments in brackets, and then its fields. Bodies
-//! that go over all fields are written by the macros below it.
+//! that go over all fields are written by the macros below it. Other crates use the tables too.
 
-/// The lists that a group may hold.
-macro_rules! group_lists {
+/// The truths that a group may hold.
+#[macro_export]
+macro_rules! group_truths {
+    ($then:ident $($args:tt)*) => {
+        $then!([$($args)*] (enabled Enabled))
+    };
+}
+
+/// The lists of sources that a group may hold.
+#[macro_export]
+macro_rules! group_sources {
+    ($then:ident $($args:tt)*) => {
+        $then!([$($args)*] (srcs Srcs))
+    };
+}
+
+/// The lists of flags that a group may hold.
+#[macro_export]
+macro_rules! group_flags {
     ($then:ident $($args:tt)*) => {
         $then!(
             [$($args)*]
-            (srcs Srcs)
             (cflags Cflags)
             (conlyflags Conlyflags)
             (cppflags Cppflags)
             (asflags Asflags)
             (ldflags Ldflags)
+        )
+    };
+}
+
+/// The lists of directories that a group may hold.
+#[macro_export]
+macro_rules! group_dirs {
+    ($then:ident $($args:tt)*) => {
+        $then!(
+            [$($args)*]
             (local_include_dirs LocalIncludeDirs)
             (include_dirs IncludeDirs)
             (export_include_dirs ExportIncludeDirs)
+        )
+    };
+}
+
+/// The lists of modules' names that a group may hold.
+#[macro_export]
+macro_rules! group_names {
+    ($then:ident $($args:tt)*) => {
+        $then!(
+            [$($args)*]
             (whole_static_libs WholeStaticLibs)
             (static_libs StaticLibs)
             (shared_libs SharedLibs)
@@ -28,38 +65,52 @@ macro_rules! group_lists {
     };
 }
 
-/// The scalars that a group may hold.
-macro_rules! group_scalars {
-    ($then:ident $($args:tt)*) => {
-        $then!([$($args)*] (enabled Enabled))
-    };
-}
-
-/// The lists that stand in a module's record alone and are merged.
-macro_rules! lists {
-    ($then:ident $($args:tt)*) => {
-        $then!([$($args)*] (plugin_of PluginOf) (data_bins DataBins))
-    };
-}
-
-/// The scalars that stand in a module's record alone and are merged.
-macro_rules! scalars {
+/// The truths that a module's record alone has.
+#[macro_export]
+macro_rules! module_truths {
     ($then:ident $($args:tt)*) => {
         $then!(
             [$($args)*]
-            (compile_multilib CompileMultilib)
             (host_supported HostSupported)
             (device_supported DeviceSupported)
             (vendor Vendor)
             (vendor_available VendorAvailable)
             (recovery Recovery)
             (recovery_available RecoveryAvailable)
-            (min_sdk_version MinSdkVersion)
             (address Address)
             (never Never)
             (test_per_src TestPerSrc)
         )
     };
+}
+
+/// The lists of modules' names that a module's record alone has and that are merged. The third such list is
+/// `defaults`, which isn't.
+#[macro_export]
+macro_rules! module_names {
+    ($then:ident $($args:tt)*) => {
+        $then!([$($args)*] (plugin_of PluginOf) (data_bins DataBins))
+    };
+}
+
+/// The lists that a group may hold, one after the other.
+macro_rules! group_lists {
+    ($then:ident $($args:tt)*) => {{
+        $crate::group_sources!($then $($args)*);
+        $crate::group_flags!($then $($args)*);
+        $crate::group_dirs!($then $($args)*);
+        $crate::group_names!($then $($args)*);
+    }};
+}
+
+/// The scalars that a module's record alone has and that are merged, one after the other. The one that isn't
+/// is `name`.
+macro_rules! module_scalars {
+    ($then:ident $($args:tt)*) => {{
+        $then!([$($args)*] (compile_multilib CompileMultilib));
+        $crate::module_truths!($then $($args)*);
+        $then!([$($args)*] (min_sdk_version MinSdkVersion));
+    }};
 }
 
 macro_rules! extend_lists {
@@ -94,6 +145,13 @@ macro_rules! or_cut {
     }};
 }
 
+/// Takes back what was put behind the lists since their marks.
+macro_rules! cut_lists {
+    ([$record:expr, $mark:expr] $(($name:ident $field:ident))*) => {{
+        $($record.$name.cut($mark.$name);)*
+    }};
+}
+
 macro_rules! merge_scalars {
     ([$record:expr, $other:expr, $winner:expr] $(($name:ident $field:ident))*) => {{
         $($record.$name = $winner.of(&$record.$name, &$other.$name);)*
@@ -114,12 +172,11 @@ macro_rules! keep_scalars {
 
 pub(crate) use copy_lists;
 pub(crate) use copy_scalars;
+pub(crate) use cut_lists;
 pub(crate) use extend_lists;
 pub(crate) use group_lists;
-pub(crate) use group_scalars;
 pub(crate) use keep_lists;
 pub(crate) use keep_scalars;
-pub(crate) use lists;
 pub(crate) use merge_scalars;
+pub(crate) use module_scalars;
 pub(crate) use or_cut;
-pub(crate) use scalars;

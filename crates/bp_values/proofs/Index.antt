@@ -6,9 +6,11 @@ use Rattle.std.specs.Str.{bytes_eq}
 use Rattle.std.specs.Cmp.Lexicographic.{nat_list_eq_equiv}
 use Rattle.std.proofs.lemmas.Slice.Eq.{bytes_eq-Decides}
 use Rattle.bp_values.proofs.Steps.{map_take_more}
+use Rattle.bp_names.specs.Meaning.{first_number, first_number_from}
 use Rattle.bp_values.specs.Values.{Field, field_of}
 use Rattle.bp_values.specs.declared.value.Entry.{Entry}
-use Rattle.bp_values.specs.Sums.{value_at, place_of, has_name}
+use Rattle.bp_values.specs.Sums.{value_at, has_name}
+use Rattle.bp_values.specs.Inside.{place_of}
 
 pub has_place : (name : List ℕ) (fs : List Field) → has_name fs name ≡ is_some (place_of name fs)
 has_place name [] = refl
@@ -46,48 +48,23 @@ value_there name (x ∷ es) i d e = by (bytes_eq name (field_of x).name) (place_
     by false None p e = cc
     by false (Some j) p e = let h : i ≡ suc j = cc in rw h (p j refl)
 
-pub place_push : (name : List ℕ) (fs : List Field) (f : Field) → place_of name (fs ++ f ∷ []) ≡ option_or (place_of name fs) (cond (bytes_eq name f.name) (Some (length fs)) None)
-place_push name [] f = by (bytes_eq name f.name)
+-- the first place among the names, counted from n on
+first_from : (n : ℕ) (es : List Entry) (q : List ℕ) → first_number_from n (map (λ e. (field_of e).name) es) q ≡ option_map (λ i. n + i) (place_of q (map field_of es))
+first_from n [] q = refl
+first_from n (e ∷ es) q = by (bytes_eq q (field_of e).name) (first_from (n + 1) es q)
   where
-    by : (b : Bool) → cond {A = Option ℕ} b (Some 0) None ≡ option_or None (cond b (Some 0) None)
-    by true = refl
-    by false = refl
-place_push name (g ∷ fs) f = rw (place_push name fs f) (by (bytes_eq name g.name) (bytes_eq name f.name) (place_of name fs))
-  where
-    by : (a b : Bool) (r : Option ℕ) → cond {A = Option ℕ} a (Some 0) (option_map suc (option_or r (cond b (Some (length fs)) None))) ≡ option_or (cond a (Some 0) (option_map suc r)) (cond b (Some (suc (length fs))) None)
-    by true b r = refl
-    by false b (Some i) = refl
-    by false true None = refl
-    by false false None = refl
+    more : (r : Option ℕ) → option_map (λ i. n + 1 + i) r ≡ option_map (λ i. n + i) (option_map suc r)
+    more None = refl
+    more (Some i) = let next : n + 1 + i ≡ n + suc i = omega arith in ap Some next
 
-pub index_push : (old new : List ℕ → Option ℕ) (fs : List Field) (f : Field) (q : List ℕ) → ((k : List ℕ) → old k ≡ place_of k fs)
-    → new q ≡ cond (bytes_eq f.name q) (Some (unwrap_or (old f.name) (length fs))) (old q) → new q ≡ place_of q (fs ++ f ∷ [])
-index_push old new fs f q known noted = noted ∙ by (bytes_eq f.name q) refl (place_of q fs) refl ∙ sym (place_push q fs f)
-  where
-    by : (b : Bool) → bytes_eq f.name q ≡ b → (r : Option ℕ) → place_of q fs ≡ r
-        → cond b (Some (unwrap_or (old f.name) (length fs))) (old q) ≡ option_or (place_of q fs) (cond (bytes_eq q f.name) (Some (length fs)) None)
-    by true e r p =
-        let same : f.name ≡ q = (bytes_eq-Decides f.name q).0 e in
-        let back : bytes_eq q f.name ≡ true = nat_list_eq_equiv.symm q f.name ∙ e in
-        let there : old f.name ≡ r = ap old same ∙ known q ∙ p in
-        rw (there, p, back) (either r)
-      where
-        either : (r : Option ℕ) → Some (unwrap_or r (length fs)) ≡ option_or r (Some (length fs))
-        either None = refl
-        either (Some i) = refl
-    by false e r p =
-        let back : bytes_eq q f.name ≡ false = nat_list_eq_equiv.symm q f.name ∙ e in
-        rw (known q, p, back) (either r)
-      where
-        either : (r : Option ℕ) → r ≡ option_or r None
-        either None = refl
-        either (Some i) = refl
+    by : (b : Bool) → first_number_from (n + 1) (map (λ x. (field_of x).name) es) q ≡ option_map (λ i. n + 1 + i) (place_of q (map field_of es))
+        → (if b then Some n else first_number_from (n + 1) (map (λ x. (field_of x).name) es) q) ≡ option_map (λ i. n + i) (if b then Some 0 else option_map suc (place_of q (map field_of es)))
+    by true rest = let here : n ≡ n + 0 = omega arith in ap Some here
+    by false rest = rest ∙ more (place_of q (map field_of es))
 
--- the step of the loop that makes an index
-pub index_step : (old new : List ℕ → Option ℕ) (es : List Entry) (i place : ℕ) (e : Entry) (name q : List ℕ)
-    → ((k : List ℕ) → old k ≡ place_of k (map field_of (take i es))) → i < length es → e ≡ get_or es i e → name ≡ (field_of e).name → place ≡ i
-    → new q ≡ cond (bytes_eq name q) (Some (unwrap_or (old name) place)) (old q) → new q ≡ place_of q (map field_of (take (i + 1) es))
-index_step old new es i place e name q known within item named here noted =
-    let long : length (map field_of (take i es)) ≡ place = length-map (take i es) field_of ∙ length-take-le i es (omega arith) ∙ sym here in
-    index_push old new (map field_of (take i es)) (field_of e) q known (rw (long, ← named) noted)
-    ∙ ap (place_of q) (sym (map_take_more field_of es i e within ∙ ap (λ x. map field_of (take i es) ++ field_of x ∷ []) (sym item)))
+pub first_place : (es : List Entry) (q : List ℕ) → first_number (map (λ e. (field_of e).name) es) q ≡ place_of q (map field_of es)
+first_place es q = first_from 0 es q ∙ from_none (place_of q (map field_of es))
+  where
+    from_none : (r : Option ℕ) → option_map (λ i. 0 + i) r ≡ r
+    from_none None = refl
+    from_none (Some i) = let same : 0 + i ≡ i = omega arith in ap Some same

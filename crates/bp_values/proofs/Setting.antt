@@ -1,20 +1,22 @@
 -- A name that is set or extended is new, or the file's own: what is inherited stays before it.
-use Rattle.std.proofs.Common.{◌≡◌, ℕ, false, List, ◌++◌, Option, None, Some, Result, Ok, Err, option_map, is_some, unwrap_or, ap, refl, sym, subst, ◌∙◌}
+use Rattle.std.proofs.Common.{◌≡◌, ℕ, Bool, true, false, ◌||◌, cond, [], ◌∷◌, if◌then◌else◌, List, ◌++◌, Option, None, Some, Result, Ok, Err, option_map, is_some, unwrap_or, ap, refl, sym, subst, ◌∙◌}
 use Rattle.std.specs.List.{list_any}
 use Rattle.std.specs.Str.{bytes_eq}
 use Rattle.indexmap.specs.IndexMap.{insert_entry}
 use Rattle.bp_faults.specs.Answers.{then_do, Leaves, Refuses}
+use Rattle.bp_faults.specs.Faults.{fault_on}
+use Rattle.bp_faults.specs.declared.kind.FaultKind.TheVariants.{AfterUse}
 use Rattle.bp_faults.specs.declared.fault.Fault.{Fault}
 use Rattle.bp_faults.specs.declared.place.Place.{Place}
 use Rattle.bp_faults.specs.declared.refusal.Refusal.{Refusal}
 use Rattle.bp_faults.specs.declared.refusal.Refusal.TheVariants.{Bad, OutOfMemory}
-use Rattle.bp_parser.specs.Trees.{Tree}
-use Rattle.bp_values.specs.Values.{Meaning, Truth}
+use Rattle.bp_parser.specs.Trees.{Tree, Map}
+use Rattle.bp_values.specs.Values.{Meaning, Truth, Field}
 use Rattle.bp_values.specs.Sums.{sum}
 use Rattle.bp_values.specs.Scopes.{Pairs, value_in}
-use Rattle.bp_values.specs.Expressions.{val}
-use Rattle.bp_values.specs.Marks.{marks}
-use Rattle.bp_values.specs.Files.{Raw, Known, assigned, extended}
+use Rattle.bp_values.specs.Expressions.{val, val_map}
+use Rattle.bp_values.specs.References.{is_in, is_in_entries}
+use Rattle.bp_values.specs.Meaning.{Raw, Known, with_new, with_other, uses_with, known_with, with_module, after_assignment, after_extension, after_module}
 use Rattle.bp_values.proofs.Pairs.{insert_behind, absent_first, value_behind}
 
 -- what is not there has no value
@@ -22,30 +24,77 @@ pub is_absent : {A B : Type 0} (f : A → B) (r : Option A) (value : Option B) �
 is_absent f None value lacks is = sym is
 is_absent f (Some x) value lacks is = cc
 
-abbrev pub known : Pairs → Pairs → List (List ℕ) → List Raw → Known
-known inherited own used modules = record { scope = inherited ++ own; used = used; modules = modules }
+abbrev pub known : Pairs → Pairs → (List ℕ → Bool) → List Raw → Known
+known inherited own is_used modules = record { scope = inherited ++ own; is_used = is_used; modules = modules }
 
-pub is_assigned : (inherited own now : Pairs) (used later : List (List ℕ)) (modules : List Raw) (name : List ℕ) (at : Place) (e : Tree) (v : Meaning)
-    → value_in (inherited ++ own) name ≡ None → val (inherited ++ own) e ≡ Ok v → later ≡ marks used e → now ≡ insert_entry bytes_eq own name v
-    → assigned (known inherited own used modules) name at e ≡ Ok (known inherited now later modules)
-is_assigned inherited own now used later modules name at e v none value marked put =
-    rw (none, value, marked, put) (ap (λ scope. Ok (record { scope = scope; used = marks used e; modules = modules })) (insert_behind name v inherited own (absent_first name inherited own none)))
+-- a name that a scope lacks goes behind
+insert_new : (name : List ℕ) (v : Meaning) (ps : Pairs) → value_in ps name ≡ None → insert_entry bytes_eq ps name v ≡ with_new ps name v
+insert_new name v [] none = refl
+insert_new name v (p ∷ ps) none = by (bytes_eq name p.0) none (insert_new name v ps)
+  where
+    by : (b : Bool) → cond b (Some p.1) (value_in ps name) ≡ None → (value_in ps name ≡ None → insert_entry bytes_eq ps name v ≡ with_new ps name v)
+        → cond b ((p.0, v) ∷ ps) (p ∷ insert_entry bytes_eq ps name v) ≡ p ∷ with_new ps name v
+    by true none rest = cc
+    by false none rest = ap (λ l. p ∷ l) (rest none)
+
+-- a name that a scope has gets the value in its place
+insert_other : (name : List ℕ) (v w : Meaning) (ps : Pairs) → value_in ps name ≡ Some w → insert_entry bytes_eq ps name v ≡ with_other ps name v
+insert_other name v w [] has = cc
+insert_other name v w (p ∷ ps) has = by (bytes_eq name p.0) has (insert_other name v w ps)
+  where
+    by : (b : Bool) → cond b (Some p.1) (value_in ps name) ≡ Some w → (value_in ps name ≡ Some w → insert_entry bytes_eq ps name v ≡ with_other ps name v)
+        → cond b ((p.0, v) ∷ ps) (p ∷ insert_entry bytes_eq ps name v) ≡ cond b ((p.0, v) ∷ ps) (p ∷ with_other ps name v)
+    by true has rest = refl
+    by false has rest = ap (λ l. p ∷ l) (rest has)
+
+-- the names that are noted, once those of an expression are
+noted_with : (later used : List ℕ → Bool) (e : Tree) → ((q : List ℕ) → later q ≡ (used q || is_in q e)) → uses_with used e ≡ later
+noted_with later used e noted = λ i q. sym (noted q) i
+
+pub is_assigned : (inherited own now : Pairs) (used later : List ℕ → Bool) (modules : List Raw) (name : List ℕ) (at : Place) (e : Tree) (v : Meaning)
+    → value_in (inherited ++ own) name ≡ None → val (inherited ++ own) e ≡ Ok v → ((q : List ℕ) → later q ≡ (used q || is_in q e)) → now ≡ insert_entry bytes_eq own name v
+    → after_assignment (known inherited own used modules) name at e (value_in (inherited ++ own) name) ≡ Ok (known inherited now later modules)
+is_assigned inherited own now used later modules name at e v none value noted put =
+    let scope : with_new (inherited ++ own) name v ≡ inherited ++ now =
+    sym (insert_new name v (inherited ++ own) none) ∙ insert_behind name v inherited own (absent_first name inherited own none) ∙ ap (λ l. inherited ++ l) (sym put) in
+    ap (after_assignment (known inherited own used modules) name at e) none
+    ∙ ap (λ r. then_do r (λ v. Ok (known_with (known inherited own used modules) (with_new (inherited ++ own) name v) e))) value
+    ∙ (λ i. Ok (record { scope = scope i; is_used = noted_with later used e noted i; modules = modules }))
+
+-- what follows of an extension
+abbrev summed : Known → List ℕ → Place → Tree → Meaning → Result Meaning Fault → Result Known Fault
+summed k name at e old r = then_do (then_do r (λ v. sum at old v)) (λ v. Ok (known_with k (with_other k.scope name v) e))
 
 -- a name of the file's own gets the sum
-pub is_extended : (inherited own : Pairs) (used : List (List ℕ)) (modules : List Raw) (name : List ℕ) (at : Place) (e : Tree) (old first w : Meaning)
-    → value_in inherited name ≡ None → value_in (inherited ++ own) name ≡ Some old → list_any (bytes_eq name) used ≡ false → val (inherited ++ own) e ≡ Ok w
-    → first ≡ unwrap_or (value_in own name) (Truth false)
-    → extended (known inherited own used modules) name at e (value_in (inherited ++ own) name)
-    ≡ then_do (sum at first w) (λ v. Ok (known inherited (insert_entry bytes_eq own name v) (marks used e) modules))
-is_extended inherited own used modules name at e old first w none has unused value taken =
+pub is_extended : (inherited own : Pairs) (used later : List ℕ → Bool) (modules : List Raw) (name : List ℕ) (at : Place) (e : Tree) (old first w : Meaning)
+    → value_in inherited name ≡ None → value_in (inherited ++ own) name ≡ Some old → used name ≡ false → val (inherited ++ own) e ≡ Ok w
+    → ((q : List ℕ) → later q ≡ (used q || is_in q e)) → first ≡ unwrap_or (value_in own name) (Truth false)
+    → after_extension (known inherited own used modules) name at e (value_in (inherited ++ own) name)
+    ≡ then_do (sum at first w) (λ v. Ok (known inherited (insert_entry bytes_eq own name v) later modules))
+is_extended inherited own used later modules name at e old first w none has unused value noted taken =
     let same : first ≡ old = taken ∙ ap (λ r. unwrap_or r (Truth false)) (sym (value_behind name inherited own none) ∙ has) in
-    rw (has, unused, value, same) (by (sum at old w))
+    ap (after_extension (known inherited own used modules) name at e) has
+    ∙ ap (λ b. if b then Err (fault_on AfterUse at name) else summed (known inherited own used modules) name at e old (val (inherited ++ own) e)) unused
+    ∙ ap (summed (known inherited own used modules) name at e old) value ∙ ap (λ m. summed (known inherited own used modules) name at e m (Ok w)) (sym same) ∙ by (sum at first w)
   where
     by : (r : Result Meaning Fault)
-        → then_do r (λ v. Ok (record { scope = insert_entry bytes_eq (inherited ++ own) name v; used = marks used e; modules = modules }))
-        ≡ then_do r (λ v. Ok (known inherited (insert_entry bytes_eq own name v) (marks used e) modules))
-    by (Ok v) = ap (λ scope. Ok (record { scope = scope; used = marks used e; modules = modules })) (insert_behind name v inherited own none)
+        → then_do r (λ v. Ok (known_with (known inherited own used modules) (with_other (inherited ++ own) name v) e))
+        ≡ then_do r (λ v. Ok (known inherited (insert_entry bytes_eq own name v) later modules))
+    by (Ok v) = λ i. Ok (record {
+      scope = (sym (insert_other name v old (inherited ++ own) has) ∙ insert_behind name v inherited own none) i;
+      is_used = noted_with later used e noted i;
+      modules = modules;
+    })
     by (Err fault) = refl
+
+-- a module is kept behind the others
+pub is_declared : (inherited own : Pairs) (used later : List ℕ → Bool) (modules now : List Raw) (kind : List ℕ) (at : Place) (m : Map) (fs : List Field)
+    → val_map (inherited ++ own) m.at m.entries ≡ Ok fs → ((q : List ℕ) → later q ≡ (used q || is_in_entries q m.entries))
+    → now ≡ modules ++ (record { kind = kind; at = at; entries = fs }) ∷ []
+    → after_module (known inherited own used modules) kind at m ≡ Ok (known inherited own later now)
+is_declared inherited own used later modules now kind at m fs value noted kept =
+    ap (λ r. then_do r (λ gs. Ok (with_module (known inherited own used modules) kind at m gs))) value
+    ∙ (λ i. Ok (record { scope = inherited ++ own; is_used = λ q. sym (noted q) i; modules = sym kept i }))
 
 -- a refusal of the first is the answer
 pub leaves : {Y T V : Type 0} (view : T → V) (new : T) (r : Result Unit Refusal) (e : Refusal) (meant : Result V Fault) (first : Result Y Fault) (next : Y → Result V Fault)

@@ -4,37 +4,15 @@ use Rattle.std.specs.Str.{bytes_eq}
 use Rattle.std.specs.List.{list_any}
 use Rattle.std.specs.Cmp.Lexicographic.{nat_list_eq_equiv}
 use Rattle.std.proofs.lemmas.Slice.Eq.{bytes_eq-Decides}
-use Rattle.indexmap.specs.IndexMap.{IndexMap}
-use Rattle.indexmap.specs.IndexSet.{insert_key}
+use Rattle.bp_names.specs.Meaning.{number_of}
 use Rattle.bp_values.specs.Values.{Field}
-use Rattle.bp_values.specs.Sums.{has_name, others, not_among, IsIndex, HasMet}
+use Rattle.bp_values.specs.Sums.{has_name, others}
+use Rattle.bp_values.specs.Inside.{not_among, IsIndex, HasMet}
 use Rattle.bp_values.proofs.Index.{has_place}
-
-or_last : (b c : Bool) → (b || (c || false)) ≡ (c || b)
-or_last true true = refl
-or_last true false = refl
-or_last false true = refl
-or_last false false = refl
 
 or_more : (a b c : Bool) → (a || (b || c)) ≡ ((a || b) || c)
 or_more true b c = refl
 or_more false b c = refl
-
-any_push : (test : List ℕ → Bool) (ks : List (List ℕ)) (k : List ℕ) → list_any test (ks ++ k ∷ []) ≡ (list_any test ks || (test k || false))
-any_push test [] k = refl
-any_push test (x ∷ ks) k = ap (λ b. test x || b) (any_push test ks k) ∙ or_more (test x) (list_any test ks) (test k || false)
-
--- a name that is added is among the keys, and the others are as before
-pub among_added : (q k : List ℕ) (ks : List (List ℕ)) → list_any (bytes_eq q) (insert_key bytes_eq ks k) ≡ (bytes_eq q k || list_any (bytes_eq q) ks)
-among_added q k ks = by (list_any (bytes_eq k) ks) refl
-  where
-    old : (b : Bool) → bytes_eq q k ≡ b → list_any (bytes_eq k) ks ≡ true → list_any (bytes_eq q) ks ≡ (b || list_any (bytes_eq q) ks)
-    old true same there = ap (λ n. list_any (bytes_eq n) ks) ((bytes_eq-Decides q k).0 same) ∙ there
-    old false apart there = refl
-
-    by : (b : Bool) → list_any (bytes_eq k) ks ≡ b → list_any (bytes_eq q) (cond b ks (ks ++ k ∷ [])) ≡ (bytes_eq q k || list_any (bytes_eq q) ks)
-    by true there = old (bytes_eq q k) refl there
-    by false there = any_push (bytes_eq q) ks k ∙ or_last (list_any (bytes_eq q) ks) (bytes_eq q k)
 
 pub has_push : (fs : List Field) (f : Field) (q : List ℕ) → has_name (fs ++ f ∷ []) q ≡ (has_name fs q || bytes_eq q f.name)
 has_push [] f q = by (bytes_eq q f.name)
@@ -82,6 +60,10 @@ kept_more keys f fs done now whole before after = by (list_any (bytes_eq f.name)
     by false before after = before ∙ sym (ap (λ l. l ++ not_among keys fs) after ∙ append_assoc done (f ∷ []) (not_among keys fs))
 
 -- The same, by the index of the second list.
-pub others_of : {S : Type 0} (m : IndexMap (List ℕ) ℕ S) (keys : List (List ℕ)) (first second : List Field) → IsIndex m second → HasMet keys m first → not_among keys second ≡ others second first
-others_of m keys first second index met =
+pub others_of : (table : List (List ℕ × ℕ)) (keys : List (List ℕ)) (first second : List Field) → IsIndex table second → HasMet keys table first → not_among keys second ≡ others second first
+others_of table keys first second index met =
     others_left keys first second second (λ q. met.met q ∙ ap (λ b. has_name first q && b) (ap is_some (index.places q) ∙ sym (has_place q second))) (λ q has. has)
+
+-- names that one list has met, another with the same names has met
+pub met_alike : (table : List (List ℕ × ℕ)) (keys : List (List ℕ)) (fs gs : List Field) → ((q : List ℕ) → has_name fs q ≡ has_name gs q) → HasMet keys table fs → HasMet keys table gs
+met_alike table keys fs gs alike met = record { met = λ q. met.met q ∙ ap (λ b. b && is_some (number_of table q)) (alike q) }

@@ -1,5 +1,6 @@
 -- The step of the loop that unites two maps.
-use Rattle.std.proofs.Common.{◌≡◌, ℕ, List, [], ◌∷◌, ◌++◌, map, refl, sym, ap, ◌∙◌, Result, Ok, Err, append_assoc, subst}
+use Rattle.std.specs.Str.{bytes_eq}
+use Rattle.std.proofs.Common.{◌≡◌, ℕ, ◌||◌, List, [], ◌∷◌, ◌++◌, map, refl, sym, ap, ◌∙◌, Result, Ok, Err, append_assoc, subst}
 use Rattle.bp_faults.specs.declared.place.Place.{Place}
 use Rattle.bp_faults.specs.declared.fault.Fault.{Fault}
 use Rattle.bp_values.specs.declared.value.Entry.{Entry, out-Entry}
@@ -8,7 +9,7 @@ use Rattle.bp_faults.specs.declared.refusal.Refusal.{Refusal}
 use Rattle.bp_faults.specs.declared.refusal.Refusal.TheVariants.{Bad, OutOfMemory}
 use Rattle.bp_values.specs.Values.{field_of, meaning, Meaning, no_field, Field, fields_then, fields_of, body}
 use Rattle.bp_faults.specs.Answers.{then_do, Answers, Refuses}
-use Rattle.bp_values.specs.Sums.{field_then, met, sum, sum_fields, value_at, others}
+use Rattle.bp_values.specs.Sums.{field_then, met, sum, sum_fields, value_at, has_name, others}
 
 -- the entries done, and then what comes
 abbrev pub prefixed : List Field → Result (List Field) Fault → Result (List Field) Fault
@@ -32,6 +33,21 @@ stops done name at f r more e = rw e refl
 -- the sum of two maps, by their lists
 pub sum_bodies : (at : Place) (fs gs : List Field) → sum at (body fs) (body gs) ≡ then_do (sum_fields at (fields_then fs no_field) gs) (λ hs. Ok (body (hs ++ others gs fs)))
 sum_bodies at fs gs = rw (fields_back gs, fields_back fs) refl
+
+-- the sums have the names of the first map
+pub summed_names : (at : Place) (q : List ℕ) (first second fs : List Field) → sum_fields at (fields_then first no_field) second ≡ Ok fs → has_name fs q ≡ has_name first q
+summed_names at q [] second fs is =
+    let same : [] ≡ fs = cc in
+    ap (λ l. has_name l q) (sym same)
+summed_names at q (f ∷ first) second fs is =
+    by (met f.value (sum at f.value) (value_at f.name second)) (sum_fields at (fields_then first no_field) second) (summed_names at q first second) is
+  where
+    by : (r : Result Meaning Fault) (s : Result (List Field) Fault) → ((gs : List Field) → s ≡ Ok gs → has_name gs q ≡ has_name first q) → field_then f.name f.at r s ≡ Ok fs → has_name fs q ≡ has_name (f ∷ first) q
+    by (Err e) s rest is = cc
+    by (Ok v) (Err e) rest is = cc
+    by (Ok v) (Ok gs) rest is =
+        let same : (record { name = f.name; at = f.at; value = v }) ∷ gs ≡ fs = cc in
+        ap (λ l. has_name l q) (sym same) ∙ ap (λ b. bytes_eq q f.name || b) (rest gs refl)
 
 -- the step of the loop over the first map's entries
 pub each_step : (left rest : List Entry) (e : Entry) (at : Place) (gs done now : List Field) (whole : Result (List Field) Fault) (v : Meaning) → left ≡ e ∷ rest

@@ -14,23 +14,24 @@ use Rattle.bp_values.specs.Depths.{nested}
 use Rattle.bp_values.specs.Scopes.{Pairs, value_in}
 use Rattle.bp_values.specs.Sums.{sum, limited}
 
--- the value of a name, where it has one
+-- The value of a name, where it has one.
 abbrev pub known : Place → List ℕ → Option Meaning → Result Meaning Fault
 known at name None = Err (fault_on UnknownVariable at name)
 known at name (Some value) = Ok value
 
--- an item of a list must be a string
+-- An item of a list must be a string.
 abbrev pub item_of : Place → Meaning → Result Item Fault
 item_of at (Str text) = Ok (record { text = text; at = at })
 item_of at value = Err (fault_on WrongType at (codes "list item"))
 
--- the place of an expression's first token
+-- The place of an expression's first token.
 abbrev pub first_place : Tree → Place
 first_place (tree.Leaf at atom) = at
 first_place (tree.Items at items) = at
 first_place (tree.Body at entries) = at
 first_place (tree.Sum first terms) = first_place first
 
+-- The value of an atom.
 abbrev pub val_atom : Pairs → Place → Atom → Result Meaning Fault
 val_atom scope at (tree.Truth b) = Ok (Truth b)
 val_atom scope at (tree.Number n) = Ok (Number n)
@@ -60,6 +61,6 @@ abbrev mutual
   val_entries scope no_entry = Ok []
   val_entries scope (entry_and name at value more) = then_do (val scope value) (λ v. then_do (val_entries scope more) (λ fs. Ok ((record { name = name; at = at; value = v }) ∷ fs)))
 
--- the fields of a map literal
+-- The fields of a map literal.
 abbrev pub val_map : Pairs → Place → Entries → Result (List Field) Fault
 val_map scope at entries = then_do (val_entries scope entries) (λ fs. nested at fs)

@@ -3,5 +3,8 @@ pub mod Depths
 pub mod Sums
 pub mod Scopes
 pub mod Expressions
-pub mod Marks
-pub mod Files
+pub mod References
+pub mod Meaning
+pub mod Names
+pub mod Laws
+pub mod Inside

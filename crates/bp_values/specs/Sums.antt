@@ -1,9 +1,8 @@
 -- The sum of two values, by their types.
 -- Source: Soong reference, "Android.bp file format", operators.
-use Rattle.std.specs.Prelude.{◌≡◌, ℕ, ℤ, ◌+ℤ◌, ◌^◌, ◌-◌, Bool, not, List, [], ◌∷◌, ◌++◌, length, filter, suc, option_map, codes, Option, None, Some, Result, Ok, Err, if◌then◌else◌, nat_le, int_le, ◌&&◌, pos, negsuc, is_some}
+use Rattle.std.specs.Prelude.{◌≡◌, ℕ, ℤ, ◌+ℤ◌, ◌^◌, ◌-◌, Bool, not, List, [], ◌∷◌, ◌++◌, length, filter, codes, Option, None, Some, Result, Ok, Err, if◌then◌else◌, nat_le, int_le, ◌&&◌, pos, negsuc}
 use Rattle.std.specs.Str.{bytes_eq}
 use Rattle.std.specs.List.{list_any}
-use Rattle.indexmap.specs.IndexMap.{IndexMap, get}
 use Rattle.bp_faults.specs.declared.place.Place.{Place}
 use Rattle.bp_faults.specs.declared.place.Item.{Item}
 use Rattle.bp_faults.specs.declared.fault.Fault.{Fault}
@@ -12,7 +11,7 @@ use Rattle.bp_faults.specs.Answers.{then_do}
 use Rattle.bp_faults.specs.Faults.{fault_on}
 use Rattle.bp_values.specs.Values.{Meaning, Truth, Number, Str, Items, Body, Fields, no_field, field_and, Field, fields_of, body}
 
--- the word for a value's type
+-- The word for a value's type.
 abbrev pub word : Meaning → List ℕ
 word (Truth b) = codes "bool"
 word (Number n) = codes "integer"
@@ -20,83 +19,73 @@ word (Str text) = codes "string"
 word (Items items) = codes "list"
 word (Body fields) = codes "map"
 
--- two values that have no sum
+-- Two values that have no sum.
 unfoldable pub cannot_add : Place → Meaning → Meaning → Fault
 cannot_add at a b = fault_on BadSum at (word a ++ (codes " + " ++ word b))
 
--- an integer of 64 bits
+-- An integer of 64 bits.
 abbrev pub fits : ℤ → Bool
 fits n = int_le (negsuc (2 ^ 63 - 1)) n && int_le n (pos (2 ^ 63 - 1))
 
--- a list, or a fault where it is longer than the limit
+-- A list, or a fault where it is longer than the limit.
 abbrev pub limited : {X : Type 0} → ℕ → List ℕ → Place → List X → Result (List X) Fault
 limited limit what at xs = if nat_le (length xs) limit then Ok xs else Err (fault_on TooMany at what)
 
--- the two joined, within the limit
+-- The two joined, within the limit.
 abbrev pub sum_texts : Place → List ℕ → List ℕ → Result Meaning Fault
 sum_texts at a b = then_do (limited (2 ^ 20) (codes "string") at (a ++ b)) (λ c. Ok (Str c))
 
+-- Two lists joined, within the limit.
 abbrev pub sum_items : Place → List Item → List Item → Result Meaning Fault
 sum_items at a b = then_do (limited (2 ^ 16) (codes "list") at (a ++ b)) (λ c. Ok (Items c))
 
+-- The sum of two integers, where it is one of 64 bits.
 abbrev pub sum_numbers : Place → ℤ → ℤ → Result Meaning Fault
 sum_numbers at a b = if fits (a +ℤ b) then Ok (Number (a +ℤ b)) else Err (cannot_add at (Number a) (Number b))
 
--- the value of the first entry of that name
+-- The value of the first entry of that name.
 abbrev pub value_at : List ℕ → List Field → Option Meaning
 value_at name [] = None
 value_at name (f ∷ fs) = if bytes_eq name f.name then Some f.value else value_at name fs
 
--- where the first entry of that name stands
-abbrev pub place_of : List ℕ → List Field → Option ℕ
-place_of name [] = None
-place_of name (f ∷ fs) = if bytes_eq name f.name then Some 0 else option_map suc (place_of name fs)
-
--- the map gives each name's first place in the list
-pub record IsIndex {S : Type 0} (m : IndexMap (List ℕ) ℕ S) (fs : List Field) : Type 0 where
-  pub places : (name : List ℕ) → get bytes_eq m name ≡ place_of name fs
-
+-- One of the entries has the name.
 abbrev pub has_name : List Field → List ℕ → Bool
 has_name fs name = list_any (λ f. bytes_eq name f.name) fs
 
--- the keys are those names of the list that have a place
-pub record HasMet {S : Type 0} (keys : List (List ℕ)) (m : IndexMap (List ℕ) ℕ S) (fs : List Field) : Type 0 where
-  pub met : (name : List ℕ) → list_any (bytes_eq name) keys ≡ (has_name fs name && is_some (get bytes_eq m name))
-
--- the entries whose names are not among these
-abbrev pub not_among : List (List ℕ) → List Field → List Field
-not_among names fs = filter (λ f. not (list_any (bytes_eq f.name) names)) fs
-
--- the entries whose names the others lack
+-- The entries whose names the others lack.
 abbrev pub others : List Field → List Field → List Field
 others fs ofs = filter (λ f. not (has_name ofs f.name)) fs
 
--- a value alone, or met with another
+-- A value alone, or met with another.
 abbrev pub met : Meaning → (Meaning → Result Meaning Fault) → Option Meaning → Result Meaning Fault
 met value add None = Ok value
 met value add (Some other) = add other
 
--- a field, and the fields behind it, if each has a value
+-- A field, and the fields behind it, if each has a value.
 abbrev pub field_then : List ℕ → Place → Result Meaning Fault → Result (List Field) Fault → Result (List Field) Fault
 field_then name at value more = then_do value (λ v. then_do more (λ fs. Ok ((record { name = name; at = at; value = v }) ∷ fs)))
 
+-- An integer and another value.
 abbrev pub sum_number : Place → ℤ → Meaning → Result Meaning Fault
 sum_number at a (Number b) = sum_numbers at a b
 sum_number at a b = Err (cannot_add at (Number a) b)
 
+-- A string and another value.
 abbrev pub sum_text : Place → List ℕ → Meaning → Result Meaning Fault
 sum_text at a (Str b) = sum_texts at a b
 sum_text at a b = Err (cannot_add at (Str a) b)
 
+-- A list and another value.
 abbrev pub sum_item : Place → List Item → Meaning → Result Meaning Fault
 sum_item at a (Items b) = sum_items at a b
 sum_item at a b = Err (cannot_add at (Items a) b)
 
--- the first map's entries, each with its sum, then the second's others
+-- The first map's entries, each with its sum, then the second's others.
 abbrev pub sum_body : Place → Fields → (List Field → Result (List Field) Fault) → Meaning → Result Meaning Fault
 sum_body at a each (Body b) = then_do (each (fields_of b)) (λ fs. Ok (body (fs ++ others (fields_of b) (fields_of a))))
 sum_body at a each b = Err (cannot_add at (Body a) b)
 
+-- The sum of two values, the first of which decides by its type.
 abbrev mutual
   pub sum : Place → Meaning → Meaning → Result Meaning Fault
   sum at (Truth a) b = Err (cannot_add at (Truth a) b)

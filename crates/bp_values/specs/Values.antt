@@ -21,27 +21,27 @@ mutual
     no_field : Fields
     field_and : List ℕ → Place → Meaning → Fields → Fields
 
--- one field of a map: its name, the name's place, and its value
+-- One field of a map: its name, the name's place, and its value.
 pub record Field : Type 0 where
   pub name : List ℕ
   pub at : Place
   pub value : Meaning
 
--- these fields, and then others
+-- These fields, and then others.
 abbrev pub fields_then : List Field → Fields → Fields
 fields_then [] more = more
 fields_then (f ∷ fs) more = field_and f.name f.at f.value (fields_then fs more)
 
--- the fields as a list
+-- The fields as a list.
 abbrev pub fields_of : Fields → List Field
 fields_of no_field = []
 fields_of (field_and name at value more) = (record { name = name; at = at; value = value }) ∷ fields_of more
 
--- the map of these fields
+-- The map of these fields.
 abbrev pub body : List Field → Meaning
 body fs = Body (fields_then fs no_field)
 
--- one layer of a value of the code, with what each part means in its place
+-- One layer of a value of the code, with what each part means in its place.
 abbrev pub value_step : Value-F Meaning Field → Meaning
 value_step (layer.Bool b) = Truth b
 value_step (layer.Int n) = Number n
@@ -49,13 +49,14 @@ value_step (layer.Str text) = Str text
 value_step (layer.Strs items) = Items items.items
 value_step (layer.Map entries) = Body (fields_then entries.items no_field)
 
+-- One layer of an entry of the code.
 abbrev pub entry_step : Entry-F Meaning Field → Field
 entry_step e = record { name = e.name; at = e.at; value = e.value }
 
--- what a value of the code means
+-- What a value of the code means.
 abbrev pub meaning : Value → Meaning
 meaning = fold-Value Meaning Field value_step entry_step
 
--- what an entry of the code means
+-- What an entry of the code means.
 abbrev pub field_of : Entry → Field
 field_of = fold-Entry Meaning Field value_step entry_step

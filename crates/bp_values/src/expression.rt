@@ -3,7 +3,8 @@ ghost use Rattle.bp_parser.specs.Trees.{tree_of, map_of, entry_of, term_of, tree
 ghost use Rattle.bp_values.specs.Values.{meaning, field_of, Items};
 ghost use Rattle.bp_faults.specs.Answers.{Answers, then_do};
 ghost use Rattle.bp_values.specs.Sums.{limited, sum as sum_of};
-ghost use Rattle.bp_values.specs.Scopes.{value_in, visible};
+ghost use Rattle.bp_values.specs.Scopes.{value_in};
+ghost use Rattle.bp_values.specs.Inside.{visible};
 ghost use Rattle.bp_values.specs.Expressions.{val, val_items, val_terms, val_entries, val_map, item_of, first_place as place_of, known as known_as};
 
 use crate::depth::within_depth;
@@ -113,7 +114,7 @@ fn list_value(alloc: Global, at: Place, items: Vec<Item>) -> Result<Value, EvalE
 fn items_of(alloc: Global, scope: &Names<'_>, items: &[Expr]) -> Result<Vec<Item>, EvalError>
     ensures { Answers (λ v. v.items) result (val_items (visible scope.now) (trees_then (map tree_of items.now) no_tree)) }
 {
-    let mut list = Vec::new(alloc);
+    let mut list = Vec::with_capacity(alloc, items.len())?;
     'items: for expr in items {
         list.push(item_value(alloc, scope, expr)?)?;
     }
@@ -184,7 +185,7 @@ fn all_entries(
 ) -> Result<Vec<Entry>, EvalError>
     ensures { Answers (λ es. map field_of es.items) result (val_entries (visible scope.now) (entries_then (map entry_of entries.now) no_entry)) }
 {
-    let mut list = Vec::new(alloc);
+    let mut list = Vec::with_capacity(alloc, entries.len())?;
     'entries: for entry in entries {
         let value = value_of(alloc, scope, &entry.value)?;
         list.push(make_entry(entry.name.copy(alloc)?, entry.at, value))?;

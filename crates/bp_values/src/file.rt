@@ -3,7 +3,8 @@ ghost use Rattle.bp_parser.specs.Trees.{tree_of, map_of, definition_of, Assigns,
 ghost use Rattle.bp_values.specs.Values.{meaning};
 ghost use Rattle.bp_faults.specs.Answers.{Answers, Refuses, Leaves};
 ghost use Rattle.bp_values.specs.Scopes.{pairs_of, value_in};
-ghost use Rattle.bp_values.specs.Files.{raw_of, known_of, assigned, extended, declared as declared_by, defined, all_defined, evaluated};
+ghost use Rattle.bp_values.specs.Inside.{known_of};
+ghost use Rattle.bp_values.specs.Meaning.{raw_of, after_assignment, after_extension, after_module, after_definition, after_definitions, evaluated};
 
 use crate::expression::{entries_of, value_of};
 use crate::marks::{mark, mark_entries};
@@ -11,8 +12,8 @@ use crate::scope::{Layer, Names};
 use crate::sums::add;
 use crate::{Entry, EvalError, Scope};
 use bp_faults::{Fault, FaultKind, Place, Text};
+use bp_names::NameSet;
 use bp_parser::{Def, Expr, FileTree, MapExpr};
-use indexmap::IndexSet;
 use std::alloc::Global;
 
 /// A module as it is written, with its values.
@@ -23,25 +24,25 @@ pub struct RawModule {
     pub entries: Vec<Entry>,
 }
 
-/// What a file has after some definitions, beside what it inherits: the names that it set, those that
-/// it referenced, and its modules.
+/// What a file has after some definitions, beside what it inherits: the names that it set, those to
+/// which it referred, and its modules.
 #[derive(Drop)]
-pub struct State {
+pub struct State<'a> {
     own: Layer,
-    used: IndexSet<Text>,
+    used: NameSet<'a>,
     modules: Vec<RawModule>,
 }
 
 /// `name = value`
-fn assign(
+fn assign<'a>(
     alloc: Global,
     inherited: &Scope,
-    state: &mut State,
+    state: &mut State<'a>,
     name: &Text,
     at: Place,
-    value: &Expr,
+    value: &'a Expr,
 ) -> Result<(), EvalError>
-    ensures { Leaves (known_of (pairs_of inherited.now)) state.new result (assigned (known_of (pairs_of inherited.now) state.old) name.now at (tree_of value.now)) }
+    ensures { Leaves (known_of (pairs_of inherited.now)) state.new result (after_assignment (known_of (pairs_of inherited.now) state.old) name.now at (tree_of value.now) (value_in (known_of (pairs_of inherited.now) state.old).scope name.now)) }
 {
     let names = Names {
         inherited,
@@ -51,22 +52,22 @@ fn assign(
         return Err(EvalError::Bad(Fault::on(alloc, FaultKind::VariableSet, at, name.copy(alloc)?)));
     }
     let new = value_of(alloc, &names, value)?;
-    mark(alloc, &mut state.used, value)?;
+    mark(&mut state.used, value)?;
     state.own.put(name.copy(alloc)?, new)?;
     Ok(())
 }
 
 /// `name += value`, where the name isn't inherited.
-fn extend(
+fn extend<'a>(
     alloc: Global,
     inherited: &Scope,
-    state: &mut State,
+    state: &mut State<'a>,
     name: &Text,
     at: Place,
-    value: &Expr,
+    value: &'a Expr,
 ) -> Result<(), EvalError>
     requires { value_in (pairs_of inherited.now) name.now ≡ None }
-    ensures { Leaves (known_of (pairs_of inherited.now)) state.new result (extended (known_of (pairs_of inherited.now) state.old) name.now at (tree_of value.now) (value_in (known_of (pairs_of inherited.now) state.old).scope name.now)) }
+    ensures { Leaves (known_of (pairs_of inherited.now)) state.new result (after_extension (known_of (pairs_of inherited.now) state.old) name.now at (tree_of value.now) (value_in (known_of (pairs_of inherited.now) state.old).scope name.now)) }
 {
     let names = Names {
         inherited,
@@ -74,7 +75,7 @@ fn extend(
     };
     match names.get(name) {
         Some(_) => {
-            if state.used.contains(name) {
+            if state.used.knows(name.as_str()) {
                 return Err(EvalError::Bad(Fault::on(
                     alloc,
                     FaultKind::AfterUse,
@@ -83,7 +84,7 @@ fn extend(
                 )));
             }
             let other = value_of(alloc, &names, value)?;
-            mark(alloc, &mut state.used, value)?;
+            mark(&mut state.used, value)?;
             let old = state.own.take(name.copy(alloc)?)?;
             let new = add(alloc, old, other, at)?;
             state.own.put(name.copy(alloc)?, new)?;
@@ -99,22 +100,22 @@ fn extend(
 }
 
 /// `kind { .. }`
-fn declare(
+fn declare<'a>(
     alloc: Global,
     inherited: &Scope,
-    state: &mut State,
+    state: &mut State<'a>,
     kind: &Text,
     at: Place,
-    body: &MapExpr,
+    body: &'a MapExpr,
 ) -> Result<(), EvalError>
-    ensures { Leaves (known_of (pairs_of inherited.now)) state.new result (declared_by (known_of (pairs_of inherited.now) state.old) kind.now at (map_of body.now)) }
+    ensures { Leaves (known_of (pairs_of inherited.now)) state.new result (after_module (known_of (pairs_of inherited.now) state.old) kind.now at (map_of body.now)) }
 {
     let names = Names {
         inherited,
         own: &state.own,
     };
     let entries = entries_of(alloc, &names, body)?;
-    mark_entries(alloc, &mut state.used, body.entries.as_slice())?;
+    mark_entries(&mut state.used, body.entries.as_slice())?;
     state.modules.push(RawModule {
         kind: kind.copy(alloc)?,
         at,
@@ -124,8 +125,13 @@ fn declare(
 }
 
 /// One definition.
-fn define(alloc: Global, inherited: &Scope, state: &mut State, def: &Def) -> Result<(), EvalError>
-    ensures { Leaves (known_of (pairs_of inherited.now)) state.new result (defined (pairs_of inherited.now) (known_of (pairs_of inherited.now) state.old) (definition_of def.now)) }
+fn define<'a>(
+    alloc: Global,
+    inherited: &Scope,
+    state: &mut State<'a>,
+    def: &'a Def,
+) -> Result<(), EvalError>
+    ensures { Leaves (known_of (pairs_of inherited.now)) state.new result (after_definition (pairs_of inherited.now) (known_of (pairs_of inherited.now) state.old) (definition_of def.now)) }
 {
     match def {
         Def::Assign { name, at, value } => assign(alloc, inherited, state, name, *at, value),
@@ -145,13 +151,13 @@ fn define(alloc: Global, inherited: &Scope, state: &mut State, def: &Def) -> Res
 }
 
 /// The definitions in turn.
-fn define_all(
+fn define_all<'a>(
     alloc: Global,
     inherited: &Scope,
-    state: &mut State,
-    defs: &[Def],
+    state: &mut State<'a>,
+    defs: &'a [Def],
 ) -> Result<(), EvalError>
-    ensures { Leaves (known_of (pairs_of inherited.now)) state.new result (all_defined (pairs_of inherited.now) (known_of (pairs_of inherited.now) state.old) (map definition_of defs.now)) }
+    ensures { Leaves (known_of (pairs_of inherited.now)) state.new result (after_definitions (pairs_of inherited.now) (known_of (pairs_of inherited.now) state.old) (map definition_of defs.now)) }
 {
     'defs: for def in defs {
         define(alloc, inherited, state, def)?;
@@ -161,7 +167,7 @@ fn define_all(
 
 /// The modules of a file and its final scope.
 ///
-/// Where there are none, the first fault in the order of evaluation is told: *nested too deeply*,
+/// Where there are none, the first fault in the order of evaluation is reported: *nested too deeply*,
 /// *unknown variable*, *variable is already set*, *variable is inherited*, *variable was already used*,
 /// *cannot add*, *wrong type* or *too many*.
 pub fn evaluate(
@@ -173,7 +179,7 @@ pub fn evaluate(
 {
     let mut state = State {
         own: Layer::new(alloc),
-        used: IndexSet::new(alloc),
+        used: NameSet::new(alloc),
         modules: Vec::new(alloc),
     };
     define_all(alloc, inherited, &mut state, tree.defs.as_slice())?;

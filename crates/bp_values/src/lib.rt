@@ -1,15 +1,15 @@
 //! The values: what the expressions of a file are worth, and what its definitions give.
 //!
-//! In flow the tree of a file and the scope that it inherits; out flow its modules with their values
+//! It takes the tree of a file and the scope that it inherits; it gives its modules with their values
 //! and the scope that the directories below inherit, or the first fault in the order of evaluation.
-//! It is measured by `specs/Files.antt`: what a file means is a function of its definitions and of
+//! It is measured by `specs/Meaning.antt`: what a file means is a function of its definitions and of
 //! the pairs of the inherited scope.
 #![tactic(auto)]
 
 mod depth;
 mod expression;
 mod file;
-mod law;
+pub mod laws;
 mod marks;
 mod scope;
 mod sums;
@@ -19,7 +19,6 @@ mod value;
 
 pub use bp_faults::Refusal as EvalError;
 pub use file::{RawModule, evaluate};
-pub use law::{inherited_stay, pairs_decide, values_or_fault};
 pub use scope::Scope;
 pub use sums::sum;
 pub use value::{Entry, Value};

@@ -2,7 +2,8 @@ ghost use Rattle.std.specs.Prelude.{◌≡◌, ◌++◌, [], option_map, IfOk, O
 ghost use Rattle.std.specs.Str.{bytes_eq};
 ghost use Rattle.indexmap.specs.IndexMap.{insert_entry};
 ghost use Rattle.bp_values.specs.Values.{Meaning, meaning, Truth};
-ghost use Rattle.bp_values.specs.Scopes.{value_in, pairs_of, pairs_in, layer_pairs, visible};
+ghost use Rattle.bp_values.specs.Inside.{visible};
+ghost use Rattle.bp_values.specs.Scopes.{value_in, pairs_of, pairs_in, layer_pairs};
 
 use crate::Value;
 use bp_faults::{OutOfMemory, Text};

@@ -1,16 +1,16 @@
 ghost use Rattle.std.specs.Prelude.{◌≡◌, ℤ, ◌+ℤ◌, List, ℕ, map, IfOk, length, position, [], ◌∷◌, OnOk, unwrap_or, option_map, ◌++◌, Some, None, if◌then◌else◌, ◌||◌, ◌&&◌, is_some};
-ghost use Rattle.std.specs.List.{list_any};
 ghost use Rattle.std.specs.Str.{bytes_eq};
-ghost use Rattle.indexmap.specs.IndexMap.{get, Updates};
+ghost use Rattle.bp_names.specs.Meaning.{knows, number_of};
 ghost use Rattle.bp_values.specs.Values.{meaning, field_of, fields_then, no_field, Field, fields_of, Truth, Number, Str, Items, Body, body};
 ghost use Rattle.bp_faults.specs.Answers.{Answers};
 ghost use Rattle.bp_faults.specs.Faults.{fault_on};
-ghost use Rattle.bp_values.specs.Sums.{sum as sum_of, sum_fields, sum_number, sum_text, sum_item, sum_texts, sum_items, sum_numbers, cannot_add as cannot_be_added, word as word_of, fits, met, value_at, place_of, IsIndex, HasMet, not_among};
+ghost use Rattle.bp_values.specs.Sums.{sum as sum_of, sum_fields, sum_number, sum_text, sum_item, sum_texts, sum_items, sum_numbers, cannot_add as cannot_be_added, word as word_of, fits, met, value_at};
+ghost use Rattle.bp_values.specs.Inside.{IsIndex, HasMet, not_among};
 
 use crate::value::{copy_entry, copy_value, make_entry, map_value};
 use crate::{Entry, EvalError, Value};
 use bp_faults::{Fault, FaultKind, Item, OutOfMemory, Payload, Place, Text, copy_all};
-use indexmap::{IndexMap, IndexSet};
+use bp_names::{NameSet, NameTable};
 use std::alloc::Global;
 
 /// The word for a value's type.
@@ -81,34 +81,24 @@ fn added(a: i64, b: i64) -> Option<i64>
     }
 }
 
-/// Notes a name's place, where the map has none.
-fn note(places: &mut IndexMap<Text, usize>, name: Text, place: usize) -> Result<(), OutOfMemory>
-    ensures { OnOk result (Updates bytes_eq places.old places.new name (Some (unwrap_or (get bytes_eq places.old name) place))) }
-{
-    places.entry(name)?.or_insert(place);
-    Ok(())
-}
-
 /// The first place of each name.
-fn index(alloc: Global, entries: &[Entry]) -> Result<IndexMap<Text, usize>, OutOfMemory>
-    ensures { IfOk result (λ m. IsIndex m (map field_of entries.now)) }
+fn index<'a>(alloc: Global, entries: &'a [Entry]) -> Result<NameTable<'a>, OutOfMemory>
+    ensures { IfOk result (λ table. IsIndex table (map field_of entries.now)) }
 {
-    let mut places = IndexMap::new(alloc);
-    let mut place = 0;
-    for entry in entries {
-        note(&mut places, entry.name.copy(alloc)?, place)?;
-        place += 1;
+    if entries.len() >= 1 << 32 {
+        return Err(OutOfMemory);
     }
-    Ok(places)
+    let table = NameTable::of(alloc, entries)?;
+    Ok(table)
 }
 
 /// The entry of a name.
-fn find<'a>(places: &IndexMap<Text, usize>, entries: &'a [Entry], name: &Text) -> Option<&'a Entry>
+fn find<'a>(places: &NameTable<'_>, entries: &'a [Entry], name: &Text) -> Option<&'a Entry>
     requires { IsIndex places.now (map field_of entries.now) }
     ensures { option_map (λ e. (field_of e.now).value) result ≡ value_at name.now (map field_of entries.now) }
 {
-    match places.get(name).copied() {
-        Some(place) => Some(&entries[place]),
+    match places.number_of(name.as_str()) {
+        Some(place) => Some(&entries[place as usize]),
         None => None,
     }
 }
@@ -164,9 +154,11 @@ fn unite_copy(
     ensures { Answers meaning result (sum_of at (body (map field_of first.items)) (body (map field_of second.now))) }
 {
     let places = index(alloc, second)?;
-    let met = names_met(alloc, first.as_slice(), &places)?;
     let mut entries = sum_each(alloc, at, first, second, &places)?;
-    copy_others(alloc, &mut entries, second, &met)?;
+    let met = names_met(alloc, entries.as_slice(), &places)?;
+    let mut others = copy_others(alloc, second, &met)?;
+    drop(met);
+    entries.append(&mut others)?;
     Ok(map_value(entries))
 }
 
@@ -180,9 +172,12 @@ fn unite(
     ensures { Answers meaning result (sum_of at (body (map field_of first.items)) (body (map field_of second.items))) }
 {
     let places = index(alloc, second.as_slice())?;
-    let met = names_met(alloc, first.as_slice(), &places)?;
     let mut entries = sum_each(alloc, at, first, second.as_slice(), &places)?;
-    move_others(&mut entries, second, &met)?;
+    let met = names_met(alloc, entries.as_slice(), &places)?;
+    drop(places);
+    let mut others = move_others(alloc, second, &met)?;
+    drop(met);
+    entries.append(&mut others)?;
     Ok(map_value(entries))
 }
 
@@ -193,12 +188,12 @@ fn sum_each(
     at: Place,
     first: Vec<Entry>,
     second: &[Entry],
-    places: &IndexMap<Text, usize>,
+    places: &NameTable<'_>,
 ) -> Result<Vec<Entry>, EvalError>
     requires { IsIndex places.now (map field_of second.now) }
     ensures { Answers (λ es. map field_of es.items) result (sum_fields at (fields_then (map field_of first.items) no_field) (map field_of second.now)) }
 {
-    let mut entries = Vec::new(alloc);
+    let mut entries = Vec::with_capacity(alloc, first.len())?;
     for entry in first {
         let value = meet(alloc, entry.value, find(places, second, &entry.name), at)?;
         entries.push(make_entry(entry.name, entry.at, value))?;
@@ -218,47 +213,47 @@ fn meet(alloc: Global, value: Value, other: Option<&Entry>, at: Place) -> Result
 }
 
 /// Notes a name where it has a place.
-fn meet_name(
-    alloc: Global,
-    met: &mut IndexSet<Text>,
-    name: &Text,
-    places: &IndexMap<Text, usize>,
+fn meet_name<'a>(
+    met: &mut NameSet<'a>,
+    name: &'a Text,
+    places: &NameTable<'_>,
 ) -> Result<(), OutOfMemory>
-    ensures { OnOk result ((q : List ℕ) → list_any (bytes_eq q) met.new.keys ≡ (list_any (bytes_eq q) met.old.keys || (bytes_eq q name.now && is_some (get bytes_eq places.now q)))) }
+    ensures { OnOk result ((q : List ℕ) → knows met.new q ≡ (knows met.old q || (bytes_eq q name.now && is_some (number_of places.now q)))) }
 {
-    if places.contains_key(name) {
-        met.insert(name.copy(alloc)?)?;
+    if places.number_of(name.as_str()).is_some() {
+        met.learn(name.as_str())?;
     }
     Ok(())
 }
 
-/// The names of `entries` that have a place.
-fn names_met(
+/// The names of the entries that have a place.
+fn names_met<'a>(
     alloc: Global,
-    entries: &[Entry],
-    places: &IndexMap<Text, usize>,
-) -> Result<IndexSet<Text>, OutOfMemory>
-    ensures { IfOk result (λ met. HasMet met.keys places.now (map field_of entries.now)) }
+    entries: &'a [Entry],
+    places: &NameTable<'_>,
+) -> Result<NameSet<'a>, OutOfMemory>
+    ensures { IfOk result (λ met. HasMet met places.now (map field_of entries.now)) }
 {
-    let mut met = IndexSet::new(alloc);
+    let mut met = NameSet::new(alloc);
     for entry in entries {
-        meet_name(alloc, &mut met, &entry.name, places)?;
+        meet_name(&mut met, &entry.name, places)?;
     }
     Ok(met)
 }
 
-/// Puts the entries behind whose names weren't met.
+/// The entries whose names weren't met.
 fn move_others(
-    entries: &mut Vec<Entry>,
+    alloc: Global,
     others: Vec<Entry>,
-    met: &IndexSet<Text>,
-) -> Result<(), OutOfMemory>
-    ensures { OnOk result (map field_of entries.new.items ≡ map field_of entries.old.items ++ not_among met.now.keys (map field_of others.items)) }
+    met: &NameSet<'_>,
+) -> Result<Vec<Entry>, OutOfMemory>
+    ensures { IfOk result (λ left. map field_of left.items ≡ not_among met.now (map field_of others.items)) }
 {
+    let mut left = Vec::new(alloc);
     for entry in others {
-        push_unless(entries, met.contains(&entry.name), entry)?;
+        push_unless(&mut left, met.knows(entry.name.as_str()), entry)?;
     }
-    Ok(())
+    Ok(left)
 }
 
 fn push_unless(entries: &mut Vec<Entry>, met: bool, entry: Entry) -> Result<(), OutOfMemory>
@@ -270,19 +265,19 @@ fn push_unless(entries: &mut Vec<Entry>, met: bool, entry: Entry) -> Result<(), 
     Ok(())
 }
 
-/// Puts a copy of the entries behind whose names weren't met.
+/// A copy of the entries whose names weren't met.
 fn copy_others(
     alloc: Global,
-    entries: &mut Vec<Entry>,
     others: &[Entry],
-    met: &IndexSet<Text>,
-) -> Result<(), OutOfMemory>
-    ensures { OnOk result (map field_of entries.new.items ≡ map field_of entries.old.items ++ not_among met.now.keys (map field_of others.now)) }
+    met: &NameSet<'_>,
+) -> Result<Vec<Entry>, OutOfMemory>
+    ensures { IfOk result (λ left. map field_of left.items ≡ not_among met.now (map field_of others.now)) }
 {
+    let mut left = Vec::new(alloc);
     for entry in others {
-        copy_unless(alloc, entries, met.contains(&entry.name), entry)?;
+        copy_unless(alloc, &mut left, met.knows(entry.name.as_str()), entry)?;
     }
-    Ok(())
+    Ok(left)
 }
 
 fn copy_unless(
@@ -293,8 +288,8 @@ fn copy_unless(
 ) -> Result<(), OutOfMemory>
     ensures { OnOk result (map field_of entries.new.items ≡ map field_of entries.old.items ++ (if met then [] else (field_of entry.now ∷ []))) }
 {
-    if met {
-        return Ok(());
+    if !met {
+        entries.push(copy_entry(alloc, entry)?)?;
     }
-    push_unless(entries, met, copy_entry(alloc, entry)?)
+    Ok(())
 }

@@ -43,8 +43,21 @@ fn maps(alloc: Global, count: usize) -> Result<String, OutOfMemory> {
     Ok(text)
 }
 
+// A variable that is doubled that many times, and once more its first value.
+fn doubled(alloc: Global, value: &str, times: usize) -> Result<String, OutOfMemory> {
+    let mut text = format!(in alloc; "v0 = {value}\n")?;
+    for i in 0..times {
+        let next = i + 1;
+        let line = format!(in alloc; "v{next} = v{i} + v{i}\n")?;
+        text.push_str(line.as_str())?;
+    }
+    let line = format!(in alloc; "w = v{times} + v0")?;
+    text.push_str(line.as_str())?;
+    Ok(text)
+}
+
 #[test]
-fn the_first_fault_is_told(rt: HostRuntime) -> Result<(), Fail> {
+fn the_first_fault_is_reported(rt: HostRuntime) -> Result<(), Fail> {
     let alloc = rt.alloc();
     let nothing = Scope::empty(alloc)?;
     for (text, want) in [
@@ -62,14 +75,14 @@ fn the_first_fault_is_told(rt: HostRuntime) -> Result<(), Fail> {
             ":1:25: error 14: cannot add: integer + integer\n",
         ),
         ("b = -9223372036854775808", ""),
-        (
-            "b = 9223372036854775808",
-            ":1:5: error 6: number out of range: 9223372036854775808\n",
-        ),
         ("x = [1]", ":1:6: error 17: wrong type: list item\n"),
         (
             "x = 1 + \"a\" + y",
             ":1:7: error 14: cannot add: integer + string\n",
+        ),
+        (
+            "x = {a: 1, b: 2} + {b: \"s\", a: [\"t\"]}",
+            ":1:18: error 14: cannot add: integer + list\n",
         ),
         ("x += [y]", ":1:1: error 10: unknown variable: x\n"),
         (
@@ -80,28 +93,66 @@ fn the_first_fault_is_told(rt: HostRuntime) -> Result<(), Fail> {
         assert!(rt; text.len() <= 1 << 20);
         assert_eq!(rt; fault_in(alloc, text, &nothing)?.as_str(), want);
     }
+    for (value, times, want) in [
+        ("\"x\"", 20, ":22:9: error 30: too many: string\n"),
+        ("[\"x\"]", 16, ":18:9: error 30: too many: list\n"),
+    ] {
+        let text = doubled(alloc, value, times)?;
+        assert!(rt; text.len() <= 1 << 20);
+        assert_eq!(rt; fault_in(alloc, text.as_str(), &nothing)?.as_str(), want);
+    }
     Ok(())
 }
 
 #[test]
-fn maps_stand_in_maps_up_to_the_limit(rt: HostRuntime) -> Result<(), Fail> {
+fn maps_nest_up_to_the_limit(rt: HostRuntime) -> Result<(), Fail> {
     let alloc = rt.alloc();
     let nothing = Scope::empty(alloc)?;
-    let mut text = maps(alloc, 64)?;
-    assert!(rt; text.len() <= 1 << 20);
-    assert_eq!(rt; fault_in(alloc, text.as_str(), &nothing)?.as_str(), "");
-    text.push_str("\ny = {a: x}")?;
-    assert!(rt; text.len() <= 1 << 20);
-    assert_eq!(rt;
-        fault_in(alloc, text.as_str(), &nothing)?.as_str(),
-        ":2:5: error 8: nested too deeply\n"
-    );
-    let text = maps(alloc, 65)?;
-    assert!(rt; text.len() <= 1 << 20);
-    assert_eq!(rt;
-        fault_in(alloc, text.as_str(), &nothing)?.as_str(),
-        ":1:197: error 8: nested too deeply\n"
-    );
+    for (count, more, want) in [
+        (64, "", ""),
+        (64, "\ny = {a: x}", ":2:5: error 8: nested too deeply\n"),
+        (65, "", ":1:197: error 8: nested too deeply\n"),
+    ] {
+        let mut text = maps(alloc, count)?;
+        text.push_str(more)?;
+        assert!(rt; text.len() <= 1 << 20);
+        assert_eq!(rt; fault_in(alloc, text.as_str(), &nothing)?.as_str(), want);
+    }
+    Ok(())
+}
+
+#[test]
+fn sums_are_the_values_written_out(rt: HostRuntime) -> Result<(), Fail> {
+    let alloc = rt.alloc();
+    let nothing = Scope::empty(alloc)?;
+    let x = Text::from_str(alloc, "x")?;
+    for (text, plain) in [
+        (
+            "x = {a: 1, b: \"s\"} + {b: \"t\", c: true}",
+            "x = {a: 1, b: \"st\",           c: true}",
+        ),
+        (
+            "m = {b: 1}\nx = {a: 2, b: 3} + m",
+            "m = 1 + 3 \nx = {a: 2, b: m}",
+        ),
+        (
+            "x = {a: {b: \"p\"}} + {a: {b: \"q\",\n c: 1}}",
+            "x = {a: {b: \"pq\",\n c: 1}}",
+        ),
+        (
+            "x = {a: \"p\"}\nx += {a: \"q\", b: false}",
+            "x = {a: \"pq\",\n              b: false}",
+        ),
+    ] {
+        assert!(rt; text.len() <= 1 << 20 && plain.len() <= 1 << 20);
+        let scope = evaluated(alloc, text, &nothing)?.1;
+        let other = evaluated(alloc, plain, &nothing)?.1;
+        let same = match (scope.get(&x), other.get(&x)) {
+            (Some(sum), Some(value)) => sum == value,
+            _ => false,
+        };
+        assert!(rt; same);
+    }
     Ok(())
 }
 
@@ -119,12 +170,6 @@ fn a_file_sees_the_scope_above(rt: HostRuntime) -> Result<(), Fail> {
     assert_eq!(rt; modules.len(), 1);
     assert!(rt; scope.get(&Text::from_str(alloc, "flags")?).is_some());
     assert!(rt; nothing.get(&Text::from_str(alloc, "flags")?).is_none());
-    Ok(())
-}
-
-#[test]
-fn two_integers_have_a_sum(rt: HostRuntime) -> Result<(), Fail> {
-    let alloc = rt.alloc();
     let at = Place {
         file: 1,
         line: 1,

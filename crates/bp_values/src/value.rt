@@ -2,6 +2,7 @@ ghost use Rattle.std.specs.Prelude.{◌≡◌, List, ℕ, map, IfOk, IsTrue, ◌
 ghost use Rattle.bp_values.specs.Values.{meaning, field_of, fields_then, no_field, body, Field};
 
 use bp_faults::{Item, OutOfMemory, Place, Text, copy_all};
+use bp_names::Named;
 use std::alloc::Global;
 
 /// What an expression stands for.
@@ -24,6 +25,17 @@ pub struct Entry {
     pub value: Value,
 }
 
+impl Named for Entry {
+    ghost use Rattle.bp_values.specs.Values.{field_of};
+
+    ghost name = { λ entry. (field_of entry).name };
+
+    #[tactic(auto, using(crate::proofs::Views::name_out))]
+    fn name(&self) -> &str {
+        self.name.as_str()
+    }
+}
+
 #[cycle(copies)]
 pub fn copy_value(alloc: Global, value: &Value) -> Result<Value, OutOfMemory>
     ensures { IfOk result (λ copy. meaning copy ≡ meaning value.now) }
@@ -41,7 +53,7 @@ pub fn copy_value(alloc: Global, value: &Value) -> Result<Value, OutOfMemory>
 pub fn copy_entries(alloc: Global, entries: &[Entry]) -> Result<Vec<Entry>, OutOfMemory>
     ensures { IfOk result (λ copy. map field_of copy.items ≡ map field_of entries.now) }
 {
-    let mut copy = Vec::new(alloc);
+    let mut copy = Vec::with_capacity(alloc, entries.len())?;
     for entry in entries {
         copy.push(copy_entry(alloc, entry)?)?;
     }

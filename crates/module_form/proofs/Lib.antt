@@ -1,5 +1,5 @@
 pub mod Lexed
 pub mod Words
-pub mod Taken
 pub mod OneKnown
 pub mod AsMany
+pub mod SomeKnown

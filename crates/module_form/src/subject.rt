@@ -8,7 +8,8 @@ ghost use Rattle.module_form.specs.Subjects.{word_at, text_at, IsWordAt, IsNotBu
 ghost use Rattle.module_form.specs.Lexed.{HasTokens, AreLexed};
 
 use bp_faults::{Fault, FaultKind, Path, Place, Refusal, Text};
-use bp_lexer::{Token, list_or_fault, tokens};
+use bp_lexer::laws::list_or_fault;
+use bp_lexer::{Token, tokens};
 use std::alloc::Global;
 
 fn word_at<'a>(text: &'a str, tokens: &[Token], place: Place) -> &'a str

@@ -2,17 +2,25 @@ ghost use Rattle.std.specs.Prelude.{◌≡◌, ◌++◌, map, filter, nat_eq};
 ghost use Rattle.std.specs.List.{fold, flat_map, list_any, ends_with};
 ghost use Rattle.std.specs.Option.{option_to_list};
 ghost use Rattle.module_form.specs.Unknown.{given_at, listed_at, other_suffixes, is_other, sources_at, group_at, own_at, whole_group_at, unknown_at};
-ghost use Rattle.module_form.specs.Forms.{first_of, first_place};
+ghost use Rattle.module_form.specs.Forms.{earlier, first_of, first_place};
 
 use bp_faults::Place;
+use bp_faults::laws::places_are_ordered;
 use bp_props::{Given, GroupProps, Groups, Listed, Props, Source};
+
+fn earlier(first: Place, second: Place) -> Place
+    ensures { result ≡ earlier first second }
+{
+    places_are_ordered();
+    first.min(second)
+}
 
 // Keeps the earlier of a place and the first so far.
 fn note_place(first: &mut Option<Place>, at: Place)
     ensures { first.new ≡ first_of first.old at }
 {
     *first = match *first {
-        Some(best) => Some(best.min(at)),
+        Some(best) => Some(earlier(best, at)),
         None => Some(at),
     };
 }
@@ -122,7 +130,7 @@ fn note_group(first: &mut Option<Place>, group: &GroupProps)
 fn note_groups(first: &mut Option<Place>, groups: &Groups)
     ensures { first.new ≡ fold first_of first.old (flat_map whole_group_at groups.now) }
 {
-    for (_, group) in groups.iter() {
+    for (_, group) in groups.as_slice() {
         note_group(first, group);
     }
 }

@@ -5,24 +5,41 @@ use Rattle.bp_faults.specs.Answers.{Answers, Refuses, then_do}
 use Rattle.bp_faults.specs.declared.refusal.Refusal.{Refusal}
 use Rattle.bp_faults.specs.declared.refusal.Refusal.TheVariants.{Bad, OutOfMemory}
 use Rattle.bp_values.specs.declared.value.Entry.{Entry}
-use Rattle.bp_values.specs.Values.{Field, field_of, fields_then, no_field}
-use Rattle.bp_values.proofs.Steps.{map_drop_cons}
-use Rattle.property_tables.specs.Typing.{each_entry}
+use Rattle.bp_values.specs.Values.{Field, Meaning, field_of, fields_then, no_field, value_step, entry_step}
+use Rattle.bp_values.specs.declared.value.Entry.{out-Entry}
+use Rattle.bp_values.specs.declared.value.Value.TheFolds.{fold_out-Entry}
+use Rattle.bp_faults.proofs.Lists.{drop-here}
+use Rattle.property_tables.specs.Entries.{each_entry}
 
-module _ {A : Type 0} (step : A → Field → Result A Fault) (es : List Entry) (i : ℕ) (e : Entry) (made : A) (within : i < length es) (item : e ≡ get_or es i e) where
-  rest_after : each_entry step made (fields_then (map field_of (drop i es)) no_field) ≡ then_do (step made (field_of e)) (λ next. each_entry step next (fields_then (map field_of (drop (i + 1) es)) no_field))
+-- an entry has the name of its view
+pub name_of : (e : Entry) → (field_of e).name ≡ (out-Entry e).name
+name_of e = ap (λ f. f.name) (fold_out-Entry Meaning Field value_step entry_step e)
+
+module _ {A : Type 0} (step : A → Field → Result A Fault) (es : List Entry) (i : ℕ) (e : Entry) (made : A)
+    (within : i < length es) (item : e ≡ get_or es i e) where
+  rest_after : each_entry step made (fields_then (map field_of (drop i es)) no_field) ≡ then_do
+      (step made (field_of e)) (λ next. each_entry step next (fields_then (map field_of (drop (i + 1) es)) no_field))
   rest_after =
-      ap (λ fs. each_entry step made (fields_then fs no_field)) (map_drop_cons field_of es i e within ∙ ap (λ x. field_of x ∷ map field_of (drop (i + 1) es)) (sym item))
+      ap (λ fs. each_entry step made (fields_then fs no_field)) (ap (map field_of) (drop-here es i e within item))
 
   -- the entry is put into what was made
-  pub entry_put : (whole : Result A Fault) (next : A) → whole ≡ each_entry step made (fields_then (map field_of (drop i es)) no_field) → step made (field_of e) ≡ Ok next → whole ≡ each_entry step next (fields_then (map field_of (drop (i + 1) es)) no_field)
-  entry_put whole next before put = before ∙ rest_after ∙ ap (λ r. then_do r (λ made. each_entry step made (fields_then (map field_of (drop (i + 1) es)) no_field))) put
+  pub entry_put : (whole : Result A Fault) (next : A)
+      → whole ≡ each_entry step made (fields_then (map field_of (drop i es)) no_field)
+      → step made (field_of e) ≡ Ok next
+      → whole ≡ each_entry step next (fields_then (map field_of (drop (i + 1) es)) no_field)
+  entry_put whole next before put = before ∙ rest_after
+      ∙ ap (λ r. then_do r (λ made. each_entry step made (fields_then (map field_of (drop (i + 1) es)) no_field))) put
 
   -- a refusal at the entry is one of the whole
-  pub entry_refused : (whole : Result A Fault) (refusal : Refusal) → whole ≡ each_entry step made (fields_then (map field_of (drop i es)) no_field) → Refuses refusal (step made (field_of e)) → Refuses refusal whole
-  entry_refused whole (Bad fault) before refused = before ∙ rest_after ∙ ap (λ r. then_do r (λ made. each_entry step made (fields_then (map field_of (drop (i + 1) es)) no_field))) refused
+  pub entry_refused : (whole : Result A Fault) (refusal : Refusal)
+      → whole ≡ each_entry step made (fields_then (map field_of (drop i es)) no_field)
+      → Refuses refusal (step made (field_of e)) → Refuses refusal whole
+  entry_refused whole (Bad fault) before refused = before ∙ rest_after
+      ∙ ap (λ r. then_do r
+      (λ made. each_entry step made (fields_then (map field_of (drop (i + 1) es)) no_field))) refused
   entry_refused whole OutOfMemory before refused = tt
 
 -- a refusal that is handed on
-pub handed_on : {A : Type 0} (result : Result A Refusal) (refusal : Refusal) (meant : Result A Fault) → result ≡ Err refusal → Refuses refusal meant → Answers (λ a. a) result meant
+pub handed_on : {A : Type 0} (result : Result A Refusal) (refusal : Refusal) (meant : Result A Fault)
+    → result ≡ Err refusal → Refuses refusal meant → Answers (λ a. a) result meant
 handed_on result refusal meant is refused = rw is refused

@@ -20,7 +20,8 @@ beyond : (n : ℕ) → (n < 2 ^ 32 → ⊥) → in_levels n ≡ None
 beyond n large = let past : 9999 < n = omega (arith, large) in grind (arith, nat_tests)
 
 -- a number that `parse` refuses is past every level
-pub unparsed : {E : Type 0} (word : List ℕ) (r : Result ℕ E) (e : E) → IsTrue (is_number word) → ParsesUnsigned 32 10 word r → r ≡ Err e → None ≡ in_levels (digits_value 10 word)
+pub unparsed : {E : Type 0} (word : List ℕ) (r : Result ℕ E) (e : E) → IsTrue (is_number word)
+    → ParsesUnsigned 32 10 word r → r ≡ Err e → None ≡ in_levels (digits_value 10 word)
 unparsed word r e is parses failed =
     let parts = number_parts word is in
     let refused = parse_digits own 32 word r parses parts.1 in

@@ -4,4 +4,4 @@ pub mod Sources
 pub mod Levels
 pub mod Rows
 pub mod Entries
-pub mod Laws
+pub mod Consequences

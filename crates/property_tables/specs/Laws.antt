@@ -10,14 +10,17 @@ use Rattle.bp_props.specs.declared.kind.ModuleKind.{ModuleKind}
 use Rattle.bp_props.specs.Kinds.{has_field}
 use Rattle.bp_props.specs.Records.{props_empty}
 use Rattle.bp_values.specs.Values.{fields_then, no_field}
-use Rattle.bp_values.specs.Files.{Raw}
+use Rattle.bp_values.specs.Meaning.{Raw}
 use Rattle.property_tables.specs.Tables.{properties}
 use Rattle.property_tables.specs.Paths.{components, placed}
-use Rattle.property_tables.specs.Typing.{each_entry, module_entry, is_dropped, types, typed}
+use Rattle.property_tables.specs.Entries.{each_entry, module_entry}
+use Rattle.property_tables.specs.Types.{is_dropped, types}
+use Rattle.property_tables.specs.Meaning.{typed}
 
 -- A property stands in the table of a kind exactly where the kind has the field that it sets.
 abbrev pub TablesHaveFields : Type 0
-TablesHaveFields = (kind : ModuleKind) → AllByRecursion (λ o. IfSome o.property.effect (λ field. o.kinds kind ≡ has_field kind field)) properties
+TablesHaveFields = (kind : ModuleKind)
+    → AllByRecursion (λ o. IfSome o.property.effect (λ field. o.kinds kind ≡ has_field kind field)) properties
 
 -- Exactly the modules of the types `package` and `license` are dropped.
 abbrev pub DropsExactly : Type 0
@@ -25,8 +28,10 @@ DropsExactly = (raw : Raw) (dir : List ℕ) → (typed raw dir ≡ Ok None) ↔ 
 
 -- The first fault of a module's entries is the module's, whatever its name.
 abbrev pub EntriesComeFirst : Type 0
-EntriesComeFirst = (raw : Raw) (dir : List ℕ) (kind : ModuleKind) (fault : Fault) → lookup (bytes_eq raw.kind) types ≡ Some kind
-    → each_entry (module_entry dir kind) props_empty (fields_then raw.entries no_field) ≡ Err fault → typed raw dir ≡ Err fault
+EntriesComeFirst = (raw : Raw) (dir : List ℕ) (kind : ModuleKind) (fault : Fault)
+    → lookup (bytes_eq raw.kind) types ≡ Some kind
+    → each_entry (module_entry dir kind) props_empty (fields_then raw.entries no_field) ≡ Err fault
+    → typed raw dir ≡ Err fault
 
 -- The path of an item is in normal form, and its components are those of the directory and then those of the item.
 pub record StaysBelow (dir item : List ℕ) : Type 0 where

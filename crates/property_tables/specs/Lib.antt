@@ -1,6 +1,10 @@
+pub mod Meaning
+pub mod Types
+pub mod Names
+pub mod Entries
 pub mod Tables
-pub mod Paths
 pub mod Fits
+pub mod Paths
 pub mod Records
-pub mod Typing
 pub mod Laws
+pub mod Inside

@@ -1,44 +1,33 @@
 -- Path items: which are refused, and what path an item stands for below a directory.
 -- Source: Blueprint package documentation, paths are relative to the module's directory; this project's profile.
-use Rattle.std.specs.Prelude.{ℕ, Bool, false, List, [], ◌∷◌, ◌++◌, ◌||◌, ◌==◌, nat_lt, codes, filter, if◌then◌else◌}
+use Rattle.std.specs.Prelude.{ℕ, Bool, false, List, [], ◌∷◌, ◌++◌, ◌||◌, ◌==◌, codes, filter, if◌then◌else◌}
 use Rattle.std.specs.Str.{bytes_eq}
 use Rattle.std.specs.List.{list_any, slice_split, join_with_byte}
+use Rattle.bp_faults.specs.Characters.{is_barred_in_paths}
 use Rattle.bp_faults.specs.Paths.{is_component}
 
--- a control character, below U+0020 or U+007F
-abbrev pub is_control : ℕ → Bool
-is_control c = nat_lt c 32 || (c == 127)
-
--- what no path may hold: a control character, `*` or `|`
+-- No path item holds a control character, `|` or `*`.
 abbrev pub is_barred : ℕ → Bool
-is_barred c = is_control c || (c == 42 || c == 124)
+is_barred c = is_barred_in_paths c || (c == 42)
 
--- what stands between the slashes
+-- The parts of a text are what is between its slashes.
 abbrev pub parts : List ℕ → List (List ℕ)
 parts text = slice_split (λ c. c == 47) text
 
--- the text begins at the root of the file system
+-- An absolute path begins at the root of the file system.
 abbrev pub is_absolute : List ℕ → Bool
 is_absolute [] = false
 is_absolute (c ∷ text) = c == 47
 
 -- A path item is refused where it begins with `/`, has a part `..`, or holds what no path may hold.
 abbrev pub is_refused : List ℕ → Bool
-is_refused text = is_absolute text || (list_any (λ part. bytes_eq part (codes "..")) (parts text) || list_any is_barred text)
+is_refused text =
+    is_absolute text || (list_any (λ part. bytes_eq part (codes "..")) (parts text) || list_any is_barred text)
 
--- the components of a path item: its parts, but for `.` and the empty ones
+-- The components of a path item are its parts, but for `.` and the empty ones.
 abbrev pub components : List ℕ → List (List ℕ)
 components text = filter is_component (parts text)
 
--- the path of an item below a directory: the components of both, joined
+-- The path of an item below a directory has the components of both.
 abbrev pub placed : List ℕ → List ℕ → List ℕ
 placed dir text = join_with_byte 47 (components dir ++ components text)
-
--- a component behind a path
-abbrev pub behind : List ℕ → List ℕ → List ℕ
-behind [] component = component
-behind (c ∷ path) component = (c ∷ path) ++ 47 ∷ component
-
--- a path and one more part of an item
-abbrev pub path_and : List ℕ → List ℕ → List ℕ
-path_and path part = if is_component part then behind path part else path

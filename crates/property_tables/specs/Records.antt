@@ -13,20 +13,20 @@ use Rattle.bp_props.specs.declared.props.Props.{Props}
 use Rattle.property_tables.specs.declared.fit.Fit.{Fit}
 use Rattle.property_tables.specs.declared.fit.Fit.TheVariants as fit
 
--- a scalar that is set at an entry
+-- A scalar is set at an entry.
 abbrev pub given : {A : Type 0} → Place → A → Option (Given A)
 given at value = Some (record { value = value; at = at })
 
--- a list that is set at an entry
+-- A list is set at an entry.
 abbrev pub listed : {A : Type 0} → Place → List A → Listed A
 listed at items = record { items = items; at = Some at }
 
--- the fields of a group, by what they hold
-
+-- A truth of a group is set.
 abbrev pub group_truth : Field → Option (Given Bool) → GroupProps → GroupProps
 group_truth F.Enabled truth g = record g { enabled = truth }
 group_truth field truth g = g
 
+-- A list of flags of a group is set.
 abbrev pub group_flags : Field → Listed (List ℕ) → GroupProps → GroupProps
 group_flags F.Cflags flags g = record g { cflags = flags }
 group_flags F.Conlyflags flags g = record g { conlyflags = flags }
@@ -35,6 +35,7 @@ group_flags F.Asflags flags g = record g { asflags = flags }
 group_flags F.Ldflags flags g = record g { ldflags = flags }
 group_flags field flags g = g
 
+-- A list of names of a group is set.
 abbrev pub group_names : Field → Listed Item → GroupProps → GroupProps
 group_names F.WholeStaticLibs names g = record g { whole_static_libs = names }
 group_names F.StaticLibs names g = record g { static_libs = names }
@@ -45,17 +46,19 @@ group_names F.ExportSharedLibHeaders names g = record g { export_shared_lib_head
 group_names F.ExportHeaderLibHeaders names g = record g { export_header_lib_headers = names }
 group_names field names g = g
 
+-- The sources of a group are set.
 abbrev pub group_sources : Field → Listed Source → GroupProps → GroupProps
 group_sources F.Srcs sources g = record g { srcs = sources }
 group_sources field sources g = g
 
+-- A list of directories of a group is set.
 abbrev pub group_dirs : Field → Listed (List ℕ) → GroupProps → GroupProps
 group_dirs F.LocalIncludeDirs dirs g = record g { local_include_dirs = dirs }
 group_dirs F.IncludeDirs dirs g = record g { include_dirs = dirs }
 group_dirs F.ExportIncludeDirs dirs g = record g { export_include_dirs = dirs }
 group_dirs field dirs g = g
 
--- A group with a field set.
+-- A field of a group is set, by what it holds.
 abbrev pub group_set : Field → Place → Fit → GroupProps → GroupProps
 group_set field at (fit.Truth truth) g = group_truth field (given at truth) g
 group_set field at (fit.Flags flags) g = group_flags field (listed at flags) g
@@ -64,8 +67,7 @@ group_set field at (fit.Sources sources) g = group_sources field (listed at sour
 group_set field at (fit.Dirs dirs) g = group_dirs field (listed at dirs) g
 group_set field at other g = g
 
--- the fields that a module's record alone has, and for every other field those of its own group
-
+-- A truth of a record is set: its own, or that of its own group.
 abbrev pub props_truth : Field → Option (Given Bool) → Props → Props
 props_truth F.HostSupported truth p = record p { host_supported = truth }
 props_truth F.DeviceSupported truth p = record p { device_supported = truth }
@@ -78,25 +80,29 @@ props_truth F.Never truth p = record p { never = truth }
 props_truth F.TestPerSrc truth p = record p { test_per_src = truth }
 props_truth field truth p = record p { base = group_truth field truth p.base }
 
+-- A list of names of a record is set: its own, or that of its own group.
 abbrev pub props_names : Field → Listed Item → Props → Props
 props_names F.Defaults names p = record p { defaults = names }
 props_names F.PluginOf names p = record p { plugin_of = names }
 props_names F.DataBins names p = record p { data_bins = names }
 props_names field names p = record p { base = group_names field names p.base }
 
+-- The name of a record is set.
 abbrev pub props_word : Field → Option (Given (List ℕ)) → Props → Props
 props_word F.Name word p = record p { name = word }
 props_word field word p = p
 
+-- The choice of targets of a record is set.
 abbrev pub props_multi : Field → Option (Given Multi) → Props → Props
 props_multi F.CompileMultilib multi p = record p { compile_multilib = multi }
 props_multi field multi p = p
 
+-- The level of a record is set.
 abbrev pub props_level : Field → Option (Given ℕ) → Props → Props
 props_level F.MinSdkVersion level p = record p { min_sdk_version = level }
 props_level field level p = p
 
--- A record with a field set.
+-- A field of a record is set, by what it holds.
 abbrev pub props_set : Field → Place → Fit → Props → Props
 props_set field at (fit.Truth truth) p = props_truth field (given at truth) p
 props_set field at (fit.Word word) p = props_word field (given at word) p

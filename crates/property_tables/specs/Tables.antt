@@ -15,42 +15,42 @@ use Rattle.property_tables.specs.declared.row.Row.{Row}
 use Rattle.property_tables.specs.declared.row.PropKind.{PropKind}
 use Rattle.property_tables.specs.declared.row.PropKind.TheVariants as K
 
--- a property: its name, what its value may be, and the field that it sets, if any
+-- A property has a name, a kind of value, and the field that it sets, if any.
 pub record Property : Type 0 where
   pub name : List ℕ
   pub kind : PropKind
   pub effect : Option Field
 
--- a property, and the kinds of module that have it
+-- A property is offered to some kinds of module.
 pub record Offered : Type 0 where
   pub property : Property
   pub kinds : ModuleKind → Bool
 
--- every kind of module has it
+-- Every kind of module has it.
 abbrev pub every : ModuleKind → Bool
 every kind = true
 
--- `filegroup` alone has it
+-- `filegroup` alone has it.
 abbrev pub is_filegroup : ModuleKind → Bool
 is_filegroup kind = not (is_cc kind)
 
--- a property that sets a field
+-- A property may set a field.
 abbrev pub field : List ℕ → PropKind → Field → Property
 field name kind effect = record { name = name; kind = kind; effect = Some effect }
 
--- a group of the file
+-- A property may be a group.
 abbrev pub group : List ℕ → GroupId → Property
 group name id = field name K.Group (F.Group id)
 
--- a property of these kinds of module
+-- A property of these kinds of module sets a field.
 abbrev pub sets : List ℕ → PropKind → Field → (ModuleKind → Bool) → Offered
 sets name kind effect kinds = record { property = field name kind effect; kinds = kinds }
 
--- the same, without effect
+-- A property of these kinds of module has no effect.
 abbrev pub inert : List ℕ → PropKind → (ModuleKind → Bool) → Offered
 inert name kind kinds = record { property = record { name = name; kind = kind; effect = None }; kinds = kinds }
 
--- The properties of modules, by name.
+-- Modules have these properties, by name.
 abbrev pub properties : List Offered
 properties =
     inert (codes "apex_available") K.Words is_cc ∷
@@ -113,11 +113,11 @@ properties =
     sets (codes "whole_static_libs") K.Names F.WholeStaticLibs is_cc ∷
     []
 
--- the property table of a kind of module
+-- The property table of a kind of module has what is offered to it.
 abbrev pub table_of : ModuleKind → List Property
 table_of kind = map (λ o. o.property) (filter (λ o. o.kinds kind) properties)
 
--- what every group but `sanitize` may hold
+-- Every group but `sanitize` may hold these.
 abbrev pub group_table : List Property
 group_table =
     field (codes "asflags") K.Flags F.Asflags ∷
@@ -139,14 +139,14 @@ group_table =
     field (codes "whole_static_libs") K.Names F.WholeStaticLibs ∷
     []
 
--- what `sanitize` holds
+-- `sanitize` may hold these.
 abbrev pub sanitize_table : List Property
 sanitize_table =
     field (codes "address") K.Bool F.Address ∷
     field (codes "never") K.Bool F.Never ∷
     []
 
--- the groups of `arch`
+-- `arch` may hold these groups.
 abbrev pub arch_table : List Property
 arch_table =
     group (codes "arm") G.ArchArm ∷
@@ -156,14 +156,14 @@ arch_table =
     group (codes "x86_64") G.ArchX86_64 ∷
     []
 
--- the groups of `multilib`
+-- `multilib` may hold these groups.
 abbrev pub multilib_table : List Property
 multilib_table =
     group (codes "lib32") G.Lib32 ∷
     group (codes "lib64") G.Lib64 ∷
     []
 
--- the groups of `target`
+-- `target` may hold these groups.
 abbrev pub target_table : List Property
 target_table =
     group (codes "android") G.Android ∷
@@ -183,15 +183,15 @@ target_table =
     group (codes "windows") G.Windows ∷
     []
 
--- what a row of the code stands for
+-- A row of the code is a property.
 abbrev pub property_of : Row → Property
 property_of row = record { name = row.name.now; kind = row.kind; effect = row.effect }
 
--- the property of a name, where the table has one
+-- A name has its property, where the table has one.
 abbrev pub named : List Property → List ℕ → Option Property
 named table name = find (λ p. bytes_eq p.name name) table
 
--- each name is below the next
+-- Each name is below the next.
 abbrev pub names_ascend : List Property → Bool
 names_ascend [] = true
 names_ascend (p ∷ []) = true

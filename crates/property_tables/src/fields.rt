@@ -1,80 +1,16 @@
-//! The table of the fields that a file sets: each is named here once, by what it holds.
-//!
-//! A table calls the macro that it is given with the arguments in brackets, and then its fields.
+//! The fields of a group and of a record are set here, each under its own name.
+ghost use Rattle.std.specs.Prelude.{◌≡◌};
+ghost use Rattle.property_tables.specs.Records.{group_truth, group_flags, group_names, group_sources, group_dirs};
+ghost use Rattle.property_tables.specs.Records.{group_set, given as given_at, listed as listed_at};
+ghost use Rattle.property_tables.specs.Records.{props_truth, props_names, props_word, props_multi, props_level};
+ghost use Rattle.property_tables.specs.Records.{props_set};
 
-macro_rules! group_truths {
-    ($then:ident $($args:tt)*) => {
-        $then!([$($args)*] (enabled Enabled))
-    };
-}
-
-macro_rules! group_flags {
-    ($then:ident $($args:tt)*) => {
-        $then!(
-            [$($args)*]
-            (cflags Cflags)
-            (conlyflags Conlyflags)
-            (cppflags Cppflags)
-            (asflags Asflags)
-            (ldflags Ldflags)
-        )
-    };
-}
-
-macro_rules! group_names {
-    ($then:ident $($args:tt)*) => {
-        $then!(
-            [$($args)*]
-            (whole_static_libs WholeStaticLibs)
-            (static_libs StaticLibs)
-            (shared_libs SharedLibs)
-            (header_libs HeaderLibs)
-            (export_static_lib_headers ExportStaticLibHeaders)
-            (export_shared_lib_headers ExportSharedLibHeaders)
-            (export_header_lib_headers ExportHeaderLibHeaders)
-        )
-    };
-}
-
-macro_rules! group_sources {
-    ($then:ident $($args:tt)*) => {
-        $then!([$($args)*] (srcs Srcs))
-    };
-}
-
-macro_rules! group_dirs {
-    ($then:ident $($args:tt)*) => {
-        $then!(
-            [$($args)*]
-            (local_include_dirs LocalIncludeDirs)
-            (include_dirs IncludeDirs)
-            (export_include_dirs ExportIncludeDirs)
-        )
-    };
-}
-
-macro_rules! props_truths {
-    ($then:ident $($args:tt)*) => {
-        $then!(
-            [$($args)*]
-            (host_supported HostSupported)
-            (device_supported DeviceSupported)
-            (vendor Vendor)
-            (vendor_available VendorAvailable)
-            (recovery Recovery)
-            (recovery_available RecoveryAvailable)
-            (address Address)
-            (never Never)
-            (test_per_src TestPerSrc)
-        )
-    };
-}
-
-macro_rules! props_names {
-    ($then:ident $($args:tt)*) => {
-        $then!([$($args)*] (defaults Defaults) (plugin_of PluginOf) (data_bins DataBins))
-    };
-}
+use crate::fit::Fit;
+use bp_faults::{Item, Path, Place, Seq, Text};
+use bp_props::{
+    Field, Given, GroupProps, Listed, Multi, Props, Source, group_dirs, group_flags, group_names,
+    group_sources, group_truths, module_names, module_truths,
+};
 
 /// Sets the field that is meant, or does what is left to do where it isn't in the table.
 macro_rules! set {
@@ -86,11 +22,117 @@ macro_rules! set {
     };
 }
 
-pub(crate) use group_dirs;
-pub(crate) use group_flags;
-pub(crate) use group_names;
-pub(crate) use group_sources;
-pub(crate) use group_truths;
-pub(crate) use props_names;
-pub(crate) use props_truths;
-pub(crate) use set;
+/// A scalar that is set at an entry.
+fn given<T>(at: Place, value: T) -> Option<Given<T>>
+    ensures { result ≡ given_at at value }
+{
+    Some(Given { value, at })
+}
+
+/// A list that is set at an entry.
+fn listed<T>(at: Place, items: Seq<T>) -> Listed<T>
+    ensures { result ≡ listed_at at items }
+{
+    Listed {
+        items,
+        at: Some(at),
+    }
+}
+
+fn set_truth(group: &mut GroupProps, field: Field, truth: Option<Given<bool>>)
+    ensures { group.new ≡ group_truth field truth group.old }
+{
+    group_truths!(set group, field, truth, {})
+}
+
+fn set_names(group: &mut GroupProps, field: Field, names: Listed<Item>)
+    ensures { group.new ≡ group_names field names group.old }
+{
+    group_names!(set group, field, names, {})
+}
+
+fn set_flags(group: &mut GroupProps, field: Field, flags: Listed<Text>)
+    ensures { group.new ≡ group_flags field flags group.old }
+{
+    group_flags!(set group, field, flags, {})
+}
+
+fn set_sources(group: &mut GroupProps, field: Field, sources: Listed<Source>)
+    ensures { group.new ≡ group_sources field sources group.old }
+{
+    group_sources!(set group, field, sources, {})
+}
+
+fn set_dirs(group: &mut GroupProps, field: Field, dirs: Listed<Path>)
+    ensures { group.new ≡ group_dirs field dirs group.old }
+{
+    group_dirs!(set group, field, dirs, {})
+}
+
+/// Sets a field of a group.
+pub(crate) fn set_group(group: &mut GroupProps, field: Field, at: Place, fit: Fit)
+    ensures { group.new ≡ group_set field at fit group.old }
+{
+    match fit {
+        Fit::Truth(truth) => set_truth(group, field, given(at, truth)),
+        Fit::Flags(flags) => set_flags(group, field, listed(at, flags)),
+        Fit::Names(names) => set_names(group, field, listed(at, names)),
+        Fit::Sources(sources) => set_sources(group, field, listed(at, sources)),
+        Fit::Dirs(dirs) => set_dirs(group, field, listed(at, dirs)),
+        Fit::Word(_) | Fit::Multi(_) | Fit::Level(_) | Fit::Unset => {}
+    }
+}
+
+fn set_props_truth(props: &mut Props, field: Field, truth: Option<Given<bool>>)
+    ensures { props.new ≡ props_truth field truth props.old }
+{
+    module_truths!(set props, field, truth, set_truth(&mut props.base, field, truth))
+}
+
+fn set_props_names(props: &mut Props, field: Field, names: Listed<Item>)
+    ensures { props.new ≡ props_names field names props.old }
+{
+    if field == Field::Defaults {
+        props.defaults = names;
+    } else {
+        module_names!(set props, field, names, set_names(&mut props.base, field, names))
+    }
+}
+
+fn set_props_word(props: &mut Props, field: Field, word: Option<Given<Text>>)
+    ensures { props.new ≡ props_word field word props.old }
+{
+    if field == Field::Name {
+        props.name = word;
+    }
+}
+
+fn set_props_multi(props: &mut Props, field: Field, multi: Option<Given<Multi>>)
+    ensures { props.new ≡ props_multi field multi props.old }
+{
+    if field == Field::CompileMultilib {
+        props.compile_multilib = multi;
+    }
+}
+
+fn set_props_level(props: &mut Props, field: Field, level: Option<Given<u32>>)
+    ensures { props.new ≡ props_level field level props.old }
+{
+    if field == Field::MinSdkVersion {
+        props.min_sdk_version = level;
+    }
+}
+
+/// Sets a field of a record.
+pub(crate) fn set_props(props: &mut Props, field: Field, at: Place, fit: Fit)
+    ensures { props.new ≡ props_set field at fit props.old }
+{
+    match fit {
+        Fit::Truth(truth) => set_props_truth(props, field, given(at, truth)),
+        Fit::Word(word) => set_props_word(props, field, given(at, word)),
+        Fit::Names(names) => set_props_names(props, field, listed(at, names)),
+        Fit::Multi(multi) => set_props_multi(props, field, given(at, multi)),
+        Fit::Level(level) => set_props_level(props, field, given(at, level)),
+        other => set_group(&mut props.base, field, at, other),
+    }
+}

@@ -4,10 +4,12 @@ ghost use Rattle.std.specs.Char.{is_ascii_digit};
 ghost use Rattle.std.specs.Str.Parse.{digits_value};
 ghost use Rattle.bp_faults.specs.Answers.{Answers};
 ghost use Rattle.bp_values.specs.Values.{field_of};
-ghost use Rattle.property_tables.specs.Fits.{multi_in, level_in, is_number as number, in_levels as levels, each, dir_in, base_of, fits};
+ghost use Rattle.property_tables.specs.Fits.{multi_in, level_in, is_number as number, in_levels as levels, dir_in};
+ghost use Rattle.property_tables.specs.Fits.{base_of, fits};
+ghost use Rattle.bp_faults.specs.Phases.{each_in_turn};
 
-use crate::items::{dirs, flags, names, sources};
-use crate::values::{entries, entry_fault, list, truth, word};
+use crate::entry_values::{entries, entry_fault, list, truth, word};
+use crate::list_items::{dirs, flags, names, sources};
 use crate::{LoadError, PropKind, Row};
 use bp_faults::{FaultKind, Item, Path, Place, Seq, Text};
 use bp_props::{Field, Multi, Source};
@@ -99,7 +101,7 @@ fn dirs_of(
     effect: Option<Field>,
     items: &[Item],
 ) -> Result<Seq<Path>, LoadError>
-    ensures { Answers (λ dirs. dirs) result (each (dir_in (base_of dir.now effect)) items.now) }
+    ensures { Answers (λ dirs. dirs) result (each_in_turn (dir_in (base_of dir.now effect)) items.now) }
 {
     match effect {
         Some(Field::IncludeDirs) => dirs(alloc, &Path::root(alloc), items),
@@ -115,7 +117,8 @@ pub(crate) fn fitted(
     row: Row,
     entry: &Entry,
 ) -> Result<Fit, LoadError>
-    ensures { Answers (λ fit. fit) result (fits dir.now row.effect (prefix.now ++ (field_of entry.now).name) (field_of entry.now) row.kind) }
+    ensures { Answers (λ fit. fit) result
+        (fits dir.now row.effect (prefix.now ++ (field_of entry.now).name) (field_of entry.now) row.kind) }
 {
     match row.kind {
         PropKind::Bool => Ok(Fit::Truth(truth(alloc, prefix, entry)?)),

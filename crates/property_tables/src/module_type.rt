@@ -1,7 +1,7 @@
 ghost use Rattle.std.specs.Prelude.{◌≡◌};
 ghost use Rattle.std.specs.Str.{bytes_eq};
 ghost use Rattle.std.specs.Map.{lookup};
-ghost use Rattle.property_tables.specs.Typing.{types, is_dropped as dropped};
+ghost use Rattle.property_tables.specs.Types.{types, is_dropped as dropped};
 
 use bp_props::ModuleKind;
 

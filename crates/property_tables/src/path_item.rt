@@ -1,30 +1,28 @@
 ghost use Rattle.std.specs.Prelude.{◌≡◌, ◌==◌, IfOk, OnOk, codes, not};
 ghost use Rattle.std.specs.Str.{bytes_eq};
 ghost use Rattle.std.specs.List.{list_any};
-ghost use Rattle.property_tables.specs.Paths.{is_control, is_barred, is_absolute, is_refused as refused, parts, components, placed, path_and, behind};
+ghost use Rattle.bp_faults.specs.Characters.{is_control};
+ghost use Rattle.property_tables.specs.Paths.{is_barred, is_absolute, is_refused as refused, parts, components, placed};
+ghost use Rattle.property_tables.specs.Inside.{path_and, behind};
 ghost use Rattle.bp_faults.specs.Paths.{is_component as component};
 ghost use Rattle.property_tables.specs.Fits.{is_empty};
 
-use bp_faults::{OutOfMemory, Path, Text};
+use bp_faults::{OutOfMemory, Path, Text, is_barred_in_paths, is_control};
 use std::alloc::Global;
-
-fn is_control_byte(byte: u8) -> bool
-    ensures { result ≡ is_control byte }
-{
-    byte < 32 || byte == 127
-}
 
 /// Whether a text holds a control character.
 pub(crate) fn has_control(text: &str) -> bool
     ensures { result ≡ list_any is_control text.now }
 {
-    text.as_bytes().iter().any(|byte| is_control_byte(*byte))
+    text.as_bytes()
+        .iter()
+        .any(|byte| is_control(char::from(*byte)))
 }
 
 fn is_barred_byte(byte: u8) -> bool
     ensures { result ≡ is_barred byte }
 {
-    is_control_byte(byte) || byte == b'*' || byte == b'|'
+    is_barred_in_paths(char::from(byte)) || byte == b'*'
 }
 
 fn has_barred(text: &str) -> bool
@@ -77,11 +75,21 @@ fn put_part(path: &mut Text, part: &str) -> Result<(), OutOfMemory>
     }
 }
 
+// A copy of a directory's path, with room for an item behind it.
+fn with_room(alloc: Global, dir: &Text, item: &str) -> Result<Text, OutOfMemory>
+    ensures { IfOk result (λ copy. copy ≡ dir.now) }
+{
+    let dir = dir.as_str();
+    let mut copy = Text::new(String::with_capacity(alloc, dir.len() + 1 + item.len())?);
+    copy.push_str(dir)?;
+    Ok(copy)
+}
+
 /// The path of an item below a directory.
 pub(crate) fn path_below(alloc: Global, dir: &Path, item: &str) -> Result<Text, OutOfMemory>
     ensures { IfOk result (λ path. path ≡ placed dir.now item.now) }
 {
-    let mut path = dir.as_text().copy(alloc)?;
+    let mut path = with_room(alloc, dir.as_text(), item)?;
     for part in item.split('/') {
         put_part(&mut path, part)?;
     }

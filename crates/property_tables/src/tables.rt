@@ -1,6 +1,8 @@
 ghost use Rattle.std.specs.Prelude.{◌≡◌};
-ghost use Rattle.bp_props.specs.declared.kind.ModuleKind.TheVariants.{Binary, Library, LibraryShared, Test, Defaults, Filegroup};
-ghost use Rattle.property_tables.specs.Tables.{table_of, group_table, sanitize_table, arch_table, multilib_table, target_table};
+ghost use Rattle.bp_props.specs.declared.kind.ModuleKind.TheVariants.{Binary, Library, LibraryShared, Test, Defaults};
+ghost use Rattle.bp_props.specs.declared.kind.ModuleKind.TheVariants.{Filegroup};
+ghost use Rattle.property_tables.specs.Tables.{table_of, group_table, sanitize_table, arch_table, multilib_table};
+ghost use Rattle.property_tables.specs.Tables.{target_table};
 
 use crate::{PropKind, PropTable, Row};
 use bp_faults::Target;

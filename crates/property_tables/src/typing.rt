@@ -1,13 +1,14 @@
 ghost use Rattle.std.specs.Prelude.{◌≡◌, IfOk};
 ghost use Rattle.bp_faults.specs.Faults.{fault_on as fault_on_as};
 ghost use Rattle.bp_faults.specs.Answers.{Answers};
-ghost use Rattle.bp_values.specs.Files.{raw_of};
-ghost use Rattle.property_tables.specs.Typing.{name_in, module_typed, typed as typed_as};
+ghost use Rattle.bp_values.specs.Meaning.{raw_of};
+ghost use Rattle.property_tables.specs.Names.{name_in};
+ghost use Rattle.property_tables.specs.Meaning.{module_typed, typed as typed_as};
 
 use crate::LoadError;
-use crate::in_module::props_of;
+use crate::module_entries::props_of;
+use crate::module_name::is_module_name;
 use crate::module_type::{is_dropped, kind_of};
-use crate::name::is_module_name;
 use bp_faults::{Fault, FaultKind, OutOfMemory, Path, Place, Text};
 use bp_props::{Given, Module, ModuleKind};
 use bp_values::RawModule;
@@ -57,7 +58,7 @@ fn typed_as_kind(
 
 /// A module with its record, or nothing for a `package` or a `license`.
 ///
-/// Where there is neither, the first fault is told: the type's, *unknown module type*; then those of
+/// Where there is neither, the first fault is the answer: the type's, *unknown module type*; then those of
 /// the entries in their order, groups depth first and lists item by item, *unknown property*, *wrong
 /// type*, *bad value* and *bad path*; then the name's, *module without a name* or *bad module name*.
 /// So a bad property stands before a missing name. `dir` is the directory of the module's file.

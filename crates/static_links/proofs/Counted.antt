@@ -1,8 +1,9 @@
 -- How many items modules have.
-use Rattle.std.proofs.Common.{◌≡◌, ◌<◌, ◌≤◌, ◌+◌, ◌-◌, ◌++◌, ◌^◌, ℕ, zero, suc, List, [], ◌∷◌, Option, Some, None, Result, Ok, Err, length, drop, get_or, refl, sym, ap, ◌∙◌, arith}
+use Rattle.std.proofs.Common.{◌≡◌, ◌<◌, ◌≤◌, ◌+◌, ◌-◌, ◌++◌, ℕ, zero, suc, List, [], ◌∷◌, Option, Some, None, Result, Ok, Err, length, drop, get_or, refl, sym, ap, ◌∙◌, arith}
 use Rattle.std.specs.Prelude.{slice_get}
 use Rattle.std.specs.Option.{option_map_or}
 use Rattle.std.proofs.lemmas.List.{drop_more}
+use Rattle.bp_faults.specs.declared.limits.TheConstants.{MOST_EDGES}
 use Rattle.bp_faults.specs.declared.fault.Fault.{Fault}
 use Rattle.bp_faults.specs.declared.place.Item.{Item}
 use Rattle.static_links.specs.declared.module.Module.{Module}
@@ -31,7 +32,7 @@ module _ (ms : List Module) (k left : ℕ) (m : Module) (items : List Item) (lt 
   behind_items meant within is = sym (next_get ∙ slice_get-append_past items (all_items (drop (k + 1) ms)) left within) ∙ is
 
   -- else it is one of them
-  pub counted_beyond : (item : Item) → left < length items → item ≡ get_or items left item → slice_get (all_items (drop k ms)) left ≡ slice_get (all_items ms) (2 ^ 22) → edges_counted ms ≡ Err (too_many item)
+  pub counted_beyond : (item : Item) → left < length items → item ≡ get_or items left item → slice_get (all_items (drop k ms)) left ≡ slice_get (all_items ms) MOST_EDGES → edges_counted ms ≡ Err (too_many item)
   counted_beyond item beyond item_is is =
       ap (λ o. option_map_or (λ item. Err (too_many item)) o (Ok tt)) (sym is ∙ next_get ∙ slice_get-append items (all_items (drop (k + 1) ms)) left item beyond ∙ ap Some (sym item_is))
 
@@ -41,9 +42,9 @@ none_there (x ∷ xs) zero is = cc
 none_there (x ∷ xs) (suc n) is = let rest = none_there xs n is in omega arith
 
 -- where they are counted there are no more than the limit
-pub few_items : (ms : List Module) → edges_counted ms ≡ Ok tt → length (all_items ms) ≤ 2 ^ 22
-few_items ms counted = by (slice_get (all_items ms) (2 ^ 22)) refl counted
+pub few_items : (ms : List Module) → edges_counted ms ≡ Ok tt → length (all_items ms) ≤ MOST_EDGES
+few_items ms counted = by (slice_get (all_items ms) MOST_EDGES) refl counted
   where
-    by : (o : Option Item) → slice_get (all_items ms) (2 ^ 22) ≡ o → option_map_or {U = Result Unit Fault} (λ item. Err (too_many item)) o (Ok tt) ≡ Ok tt → length (all_items ms) ≤ 2 ^ 22
-    by None is ok = none_there (all_items ms) (2 ^ 22) is
+    by : (o : Option Item) → slice_get (all_items ms) MOST_EDGES ≡ o → option_map_or {U = Result Unit Fault} (λ item. Err (too_many item)) o (Ok tt) ≡ Ok tt → length (all_items ms) ≤ MOST_EDGES
+    by None is ok = none_there (all_items ms) MOST_EDGES is
     by (Some item) is ok = cc

@@ -1,30 +1,25 @@
 -- What holds of the plan of modules whose names are checked.
 use Rattle.std.proofs.Common.{◌≡◌, ◌<◌, ◌+◌, ℕ, zero, suc, List, [], ◌∷◌, length, map, get_or, Some, Result, Ok, Err, refl, sym, ap, subst, ◌∙◌, arith, Bool, true, false, cond, nat_le}
 use Rattle.std.specs.Prelude.{slice_get}
-use Rattle.std.specs.Option.{option_map_or}
+use Rattle.std.specs.Option.{unwrap_or, option_map_or}
 use Rattle.std.specs.List.{AllByRecursion, range_with_len}
 use Rattle.bp_faults.specs.declared.fault.Fault.{Fault}
 use Rattle.bp_faults.specs.Faults.{fault_on}
 use Rattle.bp_faults.specs.declared.kind.FaultKind.TheVariants.{LinkTooLong}
+use Rattle.bp_faults.specs.declared.limits.TheConstants.{LONGEST_LINE}
 use Rattle.pass_core.specs.declared.plan.Plan.{Plan}
-use Rattle.pass_core.specs.Plans.{HasNoCycle, predecessors}
-use Rattle.pass_core.specs.Heights.{height, unroll, above_all}
-use Rattle.pass_core.proofs.Unrolled.{unroll_equation, tight, tight_below, tight_rises}
-use Rattle.module_graph.specs.declared.direction.Direction.TheVariants.{BottomUp}
-use Rattle.module_graph.specs.declared.graph.Node.{Node}
-use Rattle.module_graph.specs.Graphs.{targets}
-use Rattle.module_graph.specs.Planned.{plan_edges}
-use Rattle.module_graph.proofs.Targets.{predecessors_targets}
-use Rattle.ninja_text.specs.declared.file.Statement.{Statement}
+use Rattle.pass_core.specs.Plans.{predecessors}
+use Rattle.bp_faults.specs.Order.{above_all}
+use Rattle.pass_core.specs.Heights.{height, unroll}
+use Rattle.pass_core.specs.Laws.{RecursionMeetsItsEquation}
+use Rattle.ninja_file.specs.declared.file.Statement.{Statement}
 use Rattle.static_links.specs.declared.module.Module.{Module}
-use Rattle.static_links.specs.Names.{number_of, targets_of}
+use Rattle.static_links.specs.Names.{number_in, targets_of}
 use Rattle.static_links.specs.Lines.{libraries_at, line_over, link_line, limited, line_step, height_in}
-use Rattle.static_links.specs.Actions.{acted, actions_step}
-use Rattle.static_links.specs.Nodes.{IsPlanned}
-use Rattle.static_links.specs.Visits.{line_meant, actions_meant}
+use Rattle.static_links.specs.Actions.{outputs_of, acted, actions_step}
+use Rattle.static_links.specs.Inside.{IsPlanned, line_meant, actions_meant}
 use Rattle.static_links.specs.Variants.{module_label}
 use Rattle.static_links.proofs.Inside.{AllInside, all_inside}
-use Rattle.static_links.proofs.Planned.{length-nodes, targets-nodes, no_cycle}
 use Rattle.static_links.proofs.Visited.{get_at}
 
 pub some_module : (ms : List Module) (n : ℕ) → n < length ms → Module
@@ -36,52 +31,34 @@ all_get P [] n x lt h = absurd (omega arith)
 all_get P (y ∷ ys) zero x lt h = h.0
 all_get P (y ∷ ys) (suc n) x lt h = all_get P ys n x (omega arith) h.1
 
-module _ (ms : List Module) (nodes : List (Node Unit)) (plan : Plan) (h : IsPlanned ms nodes plan) where
-  pub count_is : plan.count ≡ length ms
-  count_is = ap (λ (p : Plan). p.count) h.plan_is ∙ ap length h.nodes_are ∙ length-nodes (number_of ms) 0 ms
-
-  pub many_nodes : length nodes ≡ length ms
-  many_nodes = ap length h.nodes_are ∙ length-nodes (number_of ms) 0 ms
-
+module _ (ms : List Module) (plan : Plan) (h : IsPlanned ms plan) where
   inside : AllInside ms ms
   inside = all_inside ms h.named
 
-  edges_are : plan.edges ≡ plan_edges BottomUp nodes
-  edges_are = ap (λ (p : Plan). p.edges) h.plan_is
-
-  pub plan_free : HasNoCycle plan.edges
-  plan_free = subst HasNoCycle (sym (edges_are ∙ ap (plan_edges BottomUp) h.nodes_are)) (no_cycle ms inside h.acyclic)
-
-  pub before_targets : (n : ℕ) → predecessors plan.edges n ≡ targets nodes n
-  before_targets n = ap (λ es. predecessors es n) edges_are ∙ predecessors_targets nodes n
-
-  node_targets : (n : ℕ) → targets nodes n ≡ libraries_at ms n
-  node_targets n = ap (λ ns. targets ns n) h.nodes_are ∙ targets-nodes (number_of ms) 0 ms n
-
   before : predecessors plan.edges ≡ libraries_at ms
-  before = λ i n. (before_targets n ∙ node_targets n) i
+  before = λ i n. h.before n i
 
-  -- a module stands above the libraries that it names
-  abbrev level : ℕ → ℕ
-  level = tight plan h.is_plan.ends plan_free
+  abbrev Meets : (ℕ → List ℕ) → ℕ → ℕ → Type 0
+  Meets ins count n =
+      unroll ins (λ n lines. line_over (libraries_at ms n) lines) [] count n
+      ≡ line_over (libraries_at ms n) (map (unroll ins (λ n lines. line_over (libraries_at ms n) lines) [] count) (ins n))
 
-  level_rises : (n : ℕ) → AllByRecursion (λ m. level m < level n) (libraries_at ms n)
-  level_rises = subst (λ ins. (n : ℕ) → AllByRecursion (λ m. level m < level n) (ins n)) before (tight_rises plan h.is_plan.ends plan_free)
-
-  level_below : (n : ℕ) → n < length ms → level n < length ms
-  level_below n lt = let c = count_is in let below = tight_below plan h.is_plan.ends plan_free n (omega arith) in omega (arith, c, below)
-
-  line_equation : (n : ℕ) → n < length ms → link_line ms n ≡ line_over (libraries_at ms n) (map (link_line ms) (libraries_at ms n))
+  line_equation : RecursionMeetsItsEquation (List ℕ) → (n : ℕ) → n < length ms
+      → link_line ms n ≡ line_over (libraries_at ms n) (map (link_line ms) (libraries_at ms n))
   unfolding link_line
-  line_equation n lt = unroll_equation (libraries_at ms) level level_rises (λ n lines. line_over (libraries_at ms n) lines) [] (length ms) n (level_below n lt)
+  line_equation rule n lt =
+      let c = h.count_is in
+      subst (λ ins. Meets ins (length ms) n) before
+      (subst (λ count. Meets (predecessors plan.edges) count n) h.count_is
+      (rule plan (λ n lines. line_over (libraries_at ms n) lines) [] n h.is_plan h.free (omega (arith, c, lt))))
 
   -- the plan's heights are those of the modules
   pub height_is : (n : ℕ) → n < plan.count → height plan n ≡ height_in ms n
   unfolding height height_in
-  height_is n lt = λ i. unroll (before i) (λ n hs. above_all hs) 0 (count_is i) n
+  height_is n lt = λ i. unroll (before i) (λ n hs. above_all hs) 0 (h.count_is i) n
 
   limited_line : (line out : List ℕ) (m : Module) → Ok out ≡ limited line m → out ≡ line
-  limited_line line out m e = by (nat_le (length line) 1024) e
+  limited_line line out m e = by (nat_le (length line) LONGEST_LINE) e
     where
       by : (b : Bool) → Ok out ≡ cond {A = Result (List ℕ) Fault} b (Ok line) (Err (fault_on LinkTooLong m.at (module_label m))) → out ≡ line
       by true e = cc
@@ -103,14 +80,18 @@ module _ (ms : List Module) (nodes : List (Node Unit)) (plan : Plan) (h : IsPlan
 
   libraries_inside : (n : ℕ) (m : Module) → n < length ms → AllByRecursion (λ t. t < length ms) (libraries_at ms n)
   libraries_inside n m lt =
-      subst (λ o. AllByRecursion (λ t. t < length ms) (option_map_or (targets_of (number_of ms)) o [])) (sym (get_at ms n m lt)) (all_get (λ (m : Module). AllByRecursion (λ t. t < length ms) (targets_of (number_of ms) m)) ms n m lt inside)
+      subst (λ o. AllByRecursion (λ t. t < length ms) (option_map_or (targets_of (number_in ms)) o [])) (sym (get_at ms n m lt)) (all_get (λ (m : Module). AllByRecursion (λ t. t < length ms) (targets_of (number_in ms) m)) ms n m lt inside)
 
   -- at each node the first pass means the link line
-  pub line_right : (n : ℕ) → n < plan.count → (outs : List (List ℕ)) → map Ok outs ≡ map (line_step ms) (predecessors plan.edges n) → line_meant ms nodes n outs ≡ line_step ms n
-  line_right n lt outs e =
-      let l : n < length ms = (let c = count_is in omega arith) in
-      let lines = step_lines (libraries_at ms n) outs (libraries_inside n (some_module ms n l) l) (e ∙ ap (λ ins. map (line_step ms) (ins n)) before) in
-      ap (λ line. option_map_or (limited line) (slice_get ms n) (Ok [])) (ap (λ ts. line_over ts outs) (node_targets n) ∙ ap (line_over (libraries_at ms n)) lines ∙ sym (line_equation n l))
+  pub line_right : RecursionMeetsItsEquation (List ℕ) → (n : ℕ) (outs : List (List ℕ)) → n < plan.count
+      → map Ok outs ≡ map (line_step ms) (predecessors plan.edges n) → line_meant ms n outs ≡ line_step ms n
+  line_right rule n outs lt e =
+      let l : n < length ms = (let c = h.count_is in omega (arith, c, lt)) in
+      let lines =
+      step_lines (libraries_at ms n) outs (libraries_inside n (some_module ms n l) l)
+      (e ∙ ap (λ ins. map (line_step ms) (ins n)) before) in
+      ap (λ line. option_map_or (limited line) (slice_get ms n) (Ok []))
+      (ap (line_over (libraries_at ms n)) lines ∙ sym (line_equation rule n l))
 
   value_in : (a count : ℕ) (outs : List (List ℕ)) → map Ok outs ≡ map (line_step ms) (range_with_len a count) → (i : ℕ) → i < count → (out : List ℕ) × (slice_get outs i ≡ Some out) × (Ok out ≡ line_step ms (a + i))
   value_in a zero outs e i lt = absurd (omega arith)
@@ -128,10 +109,14 @@ module _ (ms : List Module) (nodes : List (Node Unit)) (plan : Plan) (h : IsPlan
   many_lines_made a (suc count) (x ∷ xs) e = let rest : map Ok xs ≡ map (line_step ms) (range_with_len (a + 1) count) = cc in ap suc (many_lines_made (a + 1) count xs rest)
 
   -- at each node the second pass means the statements
-  pub actions_right : (lines : List (List ℕ)) → map Ok lines ≡ map (line_step ms) (range_with_len 0 (length ms)) → (n : ℕ) → n < plan.count → (outs : List (List Statement))
-      → map Ok outs ≡ map (actions_step ms) (predecessors plan.edges n) → actions_meant ms lines n ≡ actions_step ms n
-  actions_right lines made n lt outs e =
-      let l : n < length ms = (let c = count_is in omega arith) in
+  pub actions_right : (outputs : List (List ℕ)) → outputs ≡ outputs_of ms → (lines : List (List ℕ))
+      → map Ok lines ≡ map (line_step ms) (range_with_len 0 (length ms))
+      → (n : ℕ) (outs : List (List Statement)) → n < plan.count
+      → map Ok outs ≡ map (actions_step ms) (predecessors plan.edges n)
+      → actions_meant ms outputs lines n ≡ actions_step ms n
+  actions_right outputs outputs_are lines made n outs lt e =
+      let l : n < length ms = (let c = h.count_is in omega (arith, c, lt)) in
       let found = value_in 0 (length ms) lines made n l in
       let line = step_line n found.0 l (let s : 0 + n ≡ n = omega arith in found.2 ∙ ap (line_step ms) s) in
-      ap (λ x. option_map_or (λ m. acted ms x m) (slice_get ms n) (Ok [])) (ap (λ o. option_map_or (λ line. line) o []) found.1 ∙ line)
+      ap (λ x. option_map_or (acted outputs x) (slice_get ms n) (Ok [])) (ap (λ o. unwrap_or o []) found.1 ∙ line)
+      ∙ ap (λ outputs. option_map_or (acted outputs (link_line ms n)) (slice_get ms n) (Ok [])) outputs_are

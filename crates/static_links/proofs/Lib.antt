@@ -4,7 +4,6 @@ pub mod Inside
 pub mod Counted
 pub mod Planned
 pub mod Visited
-pub mod Telling
 pub mod Passes
 pub mod Facts
 pub mod Phased

@@ -13,12 +13,13 @@ use Rattle.module_graph.specs.Numbered.{by_number}
 use Rattle.module_graph.specs.Graphs.{outward, edges_of, targets, NameNodes, IsNumbered}
 use Rattle.module_graph.specs.Planned.{plan_edges}
 use Rattle.module_graph.specs.Walks.{NoneReturns}
-use Rattle.module_graph.proofs.Turned.{plan_free}
+use Rattle.module_graph.specs.Laws.{NoneReturnsWherePlansHaveNoCycle}
 use Rattle.static_links.specs.declared.module.Module.{Module}
-use Rattle.static_links.specs.Names.{number_of, target_of, targets_of}
+use Rattle.static_links.specs.Names.{number_in, target_of, targets_of}
 use Rattle.static_links.specs.Limits.{all_items}
 use Rattle.static_links.specs.Variants.{module_label}
 use Rattle.static_links.specs.Nodes.{edge_of, nodes_from, graph_of}
+use Rattle.static_links.specs.Inside.{targets_at}
 use Rattle.static_links.proofs.Inside.{AreInside, AllInside}
 
 module _ (names : List ℕ → Option ℕ) where
@@ -36,6 +37,13 @@ module _ (names : List ℕ → Option ℕ) where
   targets-nodes k (m ∷ ms) zero = to_targets m.static_libs
   targets-nodes k (m ∷ ms) (suc n) = targets-nodes (k + 1) ms n
 
+  -- and so are the targets of the node's edges
+  pub edges-nodes : (k : ℕ) (ms : List Module) (n : ℕ) (x : Node Unit) → n < length ms
+      → targets_at (get_or (nodes_from names k ms) n x).edges ≡ option_map_or (targets_of names) (slice_get ms n) []
+  edges-nodes k [] n x lt = absurd (omega arith)
+  edges-nodes k (m ∷ ms) zero x lt = to_targets m.static_libs
+  edges-nodes k (m ∷ ms) (suc n) x lt = edges-nodes (k + 1) ms n x (omega arith)
+
   -- an edge for each item
   length-edges : (k j : ℕ) (ms : List Module) → length (by_number (λ n (x : Node Unit). map (outward n) x.edges) j (nodes_from names k ms)) ≡ length (all_items ms)
   length-edges k j [] = refl
@@ -52,7 +60,7 @@ one_more_label ms i m lt = sym (ap (map module_label) (take_more ms i m lt) ∙ 
 
 module _ (all : List Module) where
   abbrev names : List ℕ → Option ℕ
-  names = number_of all
+  names = number_in all
 
   edges_name : (count : ℕ) (items : List Item) → count ≡ length all → AreInside all items → AllByRecursion (λ (e : Edge). e.to.0 < count) (map (edge_of names) items)
   edges_name count [] same h = tt
@@ -74,5 +82,6 @@ module _ (all : List Module) where
   }
 
   -- where no walk returns the plan has no cycle
-  pub no_cycle : AllInside all all → NoneReturns (edges_of (graph_of all)) → HasNoCycle (plan_edges BottomUp (graph_of all))
-  no_cycle inside none = plan_free (graph_of all) (name_nodes inside) BottomUp none
+  pub no_cycle : NoneReturnsWherePlansHaveNoCycle Unit → AllInside all all → NoneReturns (edges_of (graph_of all))
+      → HasNoCycle (plan_edges BottomUp (graph_of all))
+  no_cycle rule inside none = (rule (graph_of all) BottomUp (name_nodes inside)).0 none

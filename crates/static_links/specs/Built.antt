@@ -2,16 +2,16 @@
 use Rattle.std.specs.Prelude.{◌≡◌, List, length, Result, Ok}
 use Rattle.bp_faults.specs.declared.fault.Fault.{Fault}
 use Rattle.bp_faults.specs.Answers.{then_do}
-use Rattle.ninja_text.specs.declared.file.Statement.{Statement}
+use Rattle.ninja_file.specs.declared.file.Statement.{Statement}
 use Rattle.module_graph.specs.Cycles.{CycleMeans}
 use Rattle.static_links.specs.declared.module.Module.{Module}
-use Rattle.static_links.specs.Phases.{GoesOn, Then}
-use Rattle.static_links.specs.Names.{number_of, names_checked}
+use Rattle.bp_faults.specs.Phases.{GoesOn, Then}
+use Rattle.static_links.specs.Names.{number_in, names_checked}
 use Rattle.static_links.specs.Limits.{edges_counted}
 use Rattle.static_links.specs.Nodes.{graph_of, labels_of}
 use Rattle.static_links.specs.Lines.{line_step, height_in}
 use Rattle.static_links.specs.Actions.{actions_step, all_statements}
-use Rattle.static_links.specs.Order.{Gathers}
+use Rattle.bp_faults.specs.Order.{Gathers}
 
 -- the statements of modules whose link lines are right
 abbrev pub IsActed : List Module → Result (List Statement) Fault → Type 0
@@ -27,7 +27,7 @@ CycleSays ms said = CycleMeans (graph_of ms) (labels_of ms) said
 
 -- what is checked item by item: that it names a library, and then that there aren't too many
 abbrev pub checks : List Module → Result Unit Fault
-checks ms = then_do (names_checked (number_of ms) ms) (λ done. edges_counted ms)
+checks ms = then_do (names_checked (number_in ms) ms) (λ done. edges_counted ms)
 
 -- The phases: the checks of items, the cycle rule, the link lines, and the statements.
 abbrev pub IsBuilt : List Module → Result (List Statement) Fault → Type 0

@@ -1,13 +1,10 @@
-pub mod Phases
 pub mod Names
 pub mod Limits
-pub mod Tables
 pub mod Variants
 pub mod Lines
 pub mod Sources
 pub mod Actions
-pub mod Order
 pub mod Nodes
-pub mod Visits
+pub mod Inside
 pub mod Built
 pub mod Laws

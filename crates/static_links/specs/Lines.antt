@@ -5,10 +5,12 @@ use Rattle.std.specs.Option.{option_map_or}
 use Rattle.std.specs.List.{list_any}
 use Rattle.bp_faults.specs.declared.fault.Fault.{Fault}
 use Rattle.bp_faults.specs.declared.kind.FaultKind.TheVariants.{LinkTooLong}
+use Rattle.bp_faults.specs.declared.limits.TheConstants.{LONGEST_LINE}
 use Rattle.bp_faults.specs.Faults.{fault_on}
-use Rattle.pass_core.specs.Heights.{unroll, above_all}
+use Rattle.bp_faults.specs.Order.{above_all}
+use Rattle.pass_core.specs.Heights.{unroll}
 use Rattle.static_links.specs.declared.module.Module.{Module}
-use Rattle.static_links.specs.Names.{number_of, targets_of}
+use Rattle.static_links.specs.Names.{number_in, targets_of}
 use Rattle.static_links.specs.Variants.{module_label}
 
 -- Of what repeats, the last is kept.
@@ -27,7 +29,7 @@ line_over libraries lines = kept_last (with_lines libraries lines)
 
 -- the numbers of the libraries that module n names
 abbrev pub libraries_at : List Module → ℕ → List ℕ
-libraries_at ms n = option_map_or (targets_of (number_of ms)) (slice_get ms n) []
+libraries_at ms n = option_map_or (targets_of (number_in ms)) (slice_get ms n) []
 
 -- The link line of module n: the numbers of the libraries that it is linked with. This is a recursion over the
 -- libraries that modules name, to a depth of as many as there are modules: without a cycle it never comes so deep.
@@ -36,7 +38,7 @@ link_line ms n = unroll (libraries_at ms) (λ n lines. line_over (libraries_at m
 
 -- A link line has at most 1,024 entries.
 abbrev pub limited : List ℕ → Module → Result (List ℕ) Fault
-limited line m = if nat_le (length line) 1024 then Ok line else Err (fault_on LinkTooLong m.at (module_label m))
+limited line m = if nat_le (length line) LONGEST_LINE then Ok line else Err (fault_on LinkTooLong m.at (module_label m))
 
 -- the link line of module n, or its fault
 abbrev pub line_step : List Module → ℕ → Result (List ℕ) Fault

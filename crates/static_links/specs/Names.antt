@@ -1,24 +1,20 @@
 -- The modules that are meant by names. Modules are numbered from 0, in their order.
-use Rattle.std.specs.Prelude.{ℕ, ◌+◌, List, [], ◌∷◌, map, Option, Some, None, Result, Ok, Err, if◌then◌else◌, slice_get}
+use Rattle.std.specs.Prelude.{ℕ, List, map, Option, Some, None, Result, Ok, Err, slice_get}
 use Rattle.std.specs.Option.{unwrap_or, option_map_or}
-use Rattle.std.specs.Str.{bytes_eq}
 use Rattle.bp_faults.specs.declared.fault.Fault.{Fault}
 use Rattle.bp_faults.specs.declared.place.Item.{Item}
 use Rattle.bp_faults.specs.declared.kind.FaultKind.TheVariants.{MissingModule, MissingVariant}
 use Rattle.bp_faults.specs.Faults.{fault_on}
+use Rattle.bp_names.specs.Meaning.{first_number}
 use Rattle.static_links.specs.declared.module.Module.{Module}
 use Rattle.static_links.specs.declared.module.ModuleKind.{ModuleKind}
 use Rattle.static_links.specs.declared.module.ModuleKind.TheVariants.{Binary, StaticLibrary}
-use Rattle.static_links.specs.Phases.{checked}
+use Rattle.bp_faults.specs.Phases.{check_each}
 use Rattle.static_links.specs.Variants.{variant_label}
 
--- The number of the first module of a name, counted on from k.
-abbrev pub number_from : ℕ → List Module → List ℕ → Option ℕ
-number_from k [] name = None
-number_from k (m ∷ ms) name = if bytes_eq m.name name then Some k else number_from (k + 1) ms name
-
-abbrev pub number_of : List Module → List ℕ → Option ℕ
-number_of ms name = number_from 0 ms name
+-- The number of the first module of a name.
+abbrev pub number_in : List Module → List ℕ → Option ℕ
+number_in ms name = first_number (map (λ (m : Module). m.name) ms) name
 
 -- the static variant is wanted
 abbrev pub missing_variant : Item → Fault
@@ -39,11 +35,11 @@ module _ (names : List ℕ → Option ℕ) where
   is_library ms item = library_at ms item (names item.text)
 
   abbrev pub has_libraries : List Module → Module → Result Unit Fault
-  has_libraries ms m = checked (is_library ms) m.static_libs
+  has_libraries ms m = check_each (is_library ms) m.static_libs
 
   -- Every item of every module names a library.
   abbrev pub names_checked : List Module → Result Unit Fault
-  names_checked ms = checked (has_libraries ms) ms
+  names_checked ms = check_each (has_libraries ms) ms
 
   -- the number of the library that an item names
   abbrev pub target_of : Item → ℕ

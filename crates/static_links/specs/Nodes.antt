@@ -1,17 +1,11 @@
 -- The private graph: a node for each module, and an edge for each library that it names.
-use Rattle.std.specs.Prelude.{◌≡◌, ℕ, ◌+◌, List, [], ◌∷◌, map, Option, Ok}
+use Rattle.std.specs.Prelude.{ℕ, ◌+◌, List, [], ◌∷◌, map, Option}
 use Rattle.bp_faults.specs.declared.place.Item.{Item}
-use Rattle.pass_core.specs.declared.plan.Plan.{Plan}
-use Rattle.pass_core.specs.Plans.{IsPlan}
-use Rattle.module_graph.specs.declared.direction.Direction.TheVariants.{BottomUp}
-use Rattle.module_graph.specs.Graphs.{edges_of}
-use Rattle.module_graph.specs.Planned.{plan_of}
-use Rattle.module_graph.specs.Walks.{NoneReturns}
 use Rattle.module_graph.specs.declared.graph.Edge.{Edge}
 use Rattle.module_graph.specs.declared.graph.EdgeKind.TheVariants.{Static}
 use Rattle.module_graph.specs.declared.graph.Node.{Node}
 use Rattle.static_links.specs.declared.module.Module.{Module}
-use Rattle.static_links.specs.Names.{number_of, names_checked, target_of}
+use Rattle.static_links.specs.Names.{number_in, target_of}
 use Rattle.static_links.specs.Variants.{variations_of, module_label}
 
 module _ (names : List ℕ → Option ℕ) where
@@ -28,16 +22,8 @@ module _ (names : List ℕ → Option ℕ) where
 
 -- the graph of modules
 abbrev pub graph_of : List Module → List (Node Unit)
-graph_of ms = nodes_from (number_of ms) 0 ms
+graph_of ms = nodes_from (number_in ms) 0 ms
 
 -- the labels of its nodes
 abbrev pub labels_of : List Module → List (List ℕ)
 labels_of ms = map module_label ms
-
--- The graph of modules whose names are checked and among which no walk returns, and its plan from the bottom up.
-pub record IsPlanned (ms : List Module) (nodes : List (Node Unit)) (plan : Plan) : Type 0 where
-  pub named : names_checked (number_of ms) ms ≡ Ok tt
-  pub nodes_are : nodes ≡ graph_of ms
-  pub acyclic : NoneReturns (edges_of (graph_of ms))
-  pub plan_is : plan ≡ plan_of BottomUp nodes
-  pub is_plan : IsPlan plan

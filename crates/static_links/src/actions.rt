@@ -1,17 +1,17 @@
-ghost use Rattle.std.specs.Prelude.{◌≡◌, [], ◌∷◌, ◌++◌, ◌<◌, IfOk, OnOk, length, map, codes, string_bytes};
+ghost use Rattle.std.specs.Prelude.{◌≡◌, [], ◌∷◌, ◌++◌, ◌<◌, IfOk, OnOk, length, map};
 ghost use Rattle.std.specs.Arc.{arc_value};
 ghost use Rattle.bp_faults.specs.Answers.{Answers};
-ghost use Rattle.module_graph.specs.Graphs.{targets};
-ghost use Rattle.static_links.specs.Variants.{variant_of};
-ghost use Rattle.static_links.specs.Actions.{variant_directory, object_path, output_suffix, output_path, target_variable, flags_of, step, compiled, compiles, objects, output_at, joined, statements_of, acted};
-ghost use Rattle.static_links.specs.Visits.{actions_meant};
+ghost use Rattle.static_links.specs.Actions.{variant_directory, object_path, output_suffix, output_path, outputs_of};
+ghost use Rattle.static_links.specs.Actions.{target_variable, flags_of, step, compiled, compiles, objects};
+ghost use Rattle.static_links.specs.Actions.{output_at, joined, acted};
+ghost use Rattle.static_links.specs.Inside.{actions_meant};
 
 use crate::sources::check_sources;
-use crate::variants::variations;
+use crate::text_of::text_of;
+use crate::variants::variant_of;
 use crate::{Module, ModuleKind};
-use bp_faults::{NodeId, OutOfMemory, Seq, Text};
-use module_graph::variant_name;
-use ninja_text::Statement;
+use bp_faults::{Item, NodeId, OutOfMemory, Seq, Text};
+use ninja_file::Statement;
 use pass_core::{Visit, VisitError};
 use std::alloc::Global;
 use std::sync::Arc;
@@ -19,39 +19,55 @@ use std::sync::Arc;
 fn variant_directory(alloc: Global, item: &Module) -> Result<Text, OutOfMemory>
     ensures { IfOk result (λ path. path ≡ variant_directory item.now) }
 {
-    let variant = variant_name(alloc, &variations(alloc, item.kind))?;
-    let variant = variant.as_str();
-    let name = item.name.as_str();
-    Ok(Text::new(format!(in alloc; "out/m/{name}/{variant}")?))
+    text_of(
+        alloc,
+        &["out/m/", item.name.as_str(), "/", variant_of(item)],
+    )
 }
 
-fn object_path(alloc: Global, item: &Module, source: &Text) -> Result<Text, OutOfMemory>
-    ensures { IfOk result (λ path. path ≡ object_path item.now source.now) }
+fn object_path(alloc: Global, directory: &str, source: &Text) -> Result<Text, OutOfMemory>
+    ensures { IfOk result (λ path. path ≡ object_path directory.now source.now) }
 {
-    let directory = variant_directory(alloc, item)?;
-    let directory = directory.as_str();
-    let source = source.as_str();
-    Ok(Text::new(format!(in alloc; "{directory}/obj/{source}.o")?))
+    text_of(alloc, &[directory, "/obj/", source.as_str(), ".o"])
 }
 
-fn output_suffix(kind: ModuleKind) -> &'static str
-    ensures { result.now ≡ output_suffix kind }
+fn output_suffix(item: &Module) -> &str
+    ensures { result.now ≡ output_suffix item.now.kind }
 {
-    match kind {
+    match item.kind {
         ModuleKind::Binary => "",
         ModuleKind::StaticLibrary => ".a",
     }
 }
 
-/// What a module makes: a binary, or an archive.
-pub fn output_path(alloc: Global, item: &Module) -> Result<Text, OutOfMemory>
+// What a module makes: a binary, or an archive.
+fn output_path(alloc: Global, item: &Module) -> Result<Text, OutOfMemory>
     ensures { IfOk result (λ path. path ≡ output_path item.now) }
 {
-    let directory = variant_directory(alloc, item)?;
-    let directory = directory.as_str();
     let name = item.name.as_str();
-    let suffix = output_suffix(item.kind);
-    Ok(Text::new(format!(in alloc; "{directory}/bin/{name}{suffix}")?))
+    text_of(
+        alloc,
+        &[
+            "out/m/",
+            name,
+            "/",
+            variant_of(item),
+            "/bin/",
+            name,
+            output_suffix(item),
+        ],
+    )
+}
+
+/// The outputs of all modules.
+pub fn outputs_of(alloc: Global, modules: &[Module]) -> Result<Vec<Text>, OutOfMemory>
+    ensures { IfOk result (λ paths. paths.items ≡ outputs_of modules.now) }
+{
+    let mut paths = Vec::with_capacity(alloc, modules.len())?;
+    for item in modules {
+        paths.push(output_path(alloc, item)?)?;
+    }
+    Ok(paths)
 }
 
 fn variable(alloc: Global, key: &str, value: &str) -> Result<(Text, Text), OutOfMemory>
@@ -104,46 +120,54 @@ pub fn step(
     })
 }
 
-fn compile(alloc: Global, item: &Module, source: &Text) -> Result<Statement, OutOfMemory>
-    ensures { IfOk result (λ statement. statement ≡ compiled item.now source.now) }
+fn compile(
+    alloc: Global,
+    kind: ModuleKind,
+    directory: &str,
+    source: &Item,
+) -> Result<Statement, OutOfMemory>
+    ensures { IfOk result (λ statement. statement ≡ compiled kind directory.now source.now) }
 {
     let mut ins = Seq::new(Vec::new(alloc));
-    ins.push(source.copy(alloc)?)?;
-    let object = object_path(alloc, item, source)?;
-    step(
-        alloc,
-        object,
-        "cc",
-        ins,
-        compile_variables(alloc, item.kind)?,
-    )
+    ins.push(source.text.copy(alloc)?)?;
+    let object = object_path(alloc, directory, &source.text)?;
+    step(alloc, object, "cc", ins, compile_variables(alloc, kind)?)
 }
 
-fn compiles(alloc: Global, item: &Module) -> Result<Vec<Statement>, OutOfMemory>
-    ensures { IfOk result (λ statements. statements.items ≡ compiles item.now) }
+// The compile steps of a module. There is room for one step more.
+fn compiles(alloc: Global, item: &Module, directory: &str) -> Result<Vec<Statement>, OutOfMemory>
+    ensures { IfOk result (λ statements. statements.items ≡ compiles item.now directory.now) }
 {
-    let mut statements = Vec::new(alloc);
-    for source in item.srcs.as_slice() {
-        statements.push(compile(alloc, item, &source.text)?)?;
+    let sources = item.srcs.as_slice();
+    let mut statements = Vec::with_capacity(alloc, sources.len().saturating_add(1))?;
+    for source in sources {
+        statements.push(compile(alloc, item.kind, directory, source)?)?;
     }
     Ok(statements)
 }
 
-fn objects(alloc: Global, item: &Module) -> Result<Vec<Text>, OutOfMemory>
-    ensures { IfOk result (λ paths. paths.items ≡ objects item.now) }
+// The objects of a module. There is room for so many paths more.
+fn objects(
+    alloc: Global,
+    item: &Module,
+    directory: &str,
+    room: usize,
+) -> Result<Vec<Text>, OutOfMemory>
+    ensures { IfOk result (λ paths. paths.items ≡ objects item.now directory.now) }
 {
-    let mut paths = Vec::new(alloc);
-    for source in item.srcs.as_slice() {
-        paths.push(object_path(alloc, item, &source.text)?)?;
+    let sources = item.srcs.as_slice();
+    let mut paths = Vec::with_capacity(alloc, sources.len().saturating_add(room))?;
+    for source in sources {
+        paths.push(object_path(alloc, directory, &source.text)?)?;
     }
     Ok(paths)
 }
 
-fn output_at(alloc: Global, modules: &[Module], number: u32) -> Result<Text, OutOfMemory>
-    ensures { IfOk result (λ path. path ≡ output_at modules.now number) }
+fn output_at(alloc: Global, outputs: &[Text], number: u32) -> Result<Text, OutOfMemory>
+    ensures { IfOk result (λ path. path ≡ output_at outputs.now number) }
 {
-    match modules.get(number as usize) {
-        Some(found) => output_path(alloc, found),
+    match outputs.get(number as usize) {
+        Some(output) => output.copy(alloc),
         None => Ok(Text::new(String::new(alloc))),
     }
 }
@@ -151,14 +175,14 @@ fn output_at(alloc: Global, modules: &[Module], number: u32) -> Result<Text, Out
 // The outputs of a link line, behind some paths.
 fn add_outputs(
     alloc: Global,
-    modules: &[Module],
+    outputs: &[Text],
     line: &[u32],
     paths: &mut Vec<Text>,
 ) -> Result<(), OutOfMemory>
-    ensures { OnOk result (paths.new.items ≡ paths.old.items ++ map (output_at modules.now) line.now) }
+    ensures { OnOk result (paths.new.items ≡ paths.old.items ++ map (output_at outputs.now) line.now) }
 {
     for number in line {
-        paths.push(output_at(alloc, modules, *number)?)?;
+        paths.push(output_at(alloc, outputs, *number)?)?;
     }
     Ok(())
 }
@@ -167,26 +191,22 @@ fn add_outputs(
 // the outputs of its link line.
 fn join(
     alloc: Global,
-    modules: &[Module],
+    outputs: &[Text],
     line: &[u32],
     item: &Module,
+    directory: &str,
 ) -> Result<Statement, OutOfMemory>
-    ensures { IfOk result (λ statement. statement ≡ joined modules.now line.now item.now item.now.kind) }
+    ensures { IfOk result (λ statement. statement ≡ joined outputs.now line.now item.now directory.now item.now.kind) }
 {
-    let mut ins = objects(alloc, item)?;
     let output = output_path(alloc, item)?;
     match item.kind {
         ModuleKind::StaticLibrary => {
-            step(
-                alloc,
-                output,
-                "ar",
-                Seq::new(ins),
-                Seq::new(Vec::new(alloc)),
-            )
+            let ins = Seq::new(objects(alloc, item, directory, 0)?);
+            step(alloc, output, "ar", ins, Seq::new(Vec::new(alloc)))
         }
         ModuleKind::Binary => {
-            add_outputs(alloc, modules, line, &mut ins)?;
+            let mut ins = objects(alloc, item, directory, line.len())?;
+            add_outputs(alloc, outputs, line, &mut ins)?;
             step(
                 alloc,
                 output,
@@ -201,15 +221,16 @@ fn join(
 // The statements of a module by its link line, where its sources have no fault.
 fn act(
     alloc: Global,
-    modules: &[Module],
+    outputs: &[Text],
     line: &[u32],
     item: &Module,
 ) -> Result<Seq<Statement>, VisitError>
-    ensures { Answers (λ statements. statements) result (acted modules.now line.now item.now) }
+    ensures { Answers (λ statements. statements) result (acted outputs.now line.now item.now) }
 {
     check_sources(alloc, item.srcs.as_slice())?;
-    let mut statements = compiles(alloc, item)?;
-    statements.push(join(alloc, modules, line, item)?)?;
+    let directory = variant_directory(alloc, item)?;
+    let mut statements = compiles(alloc, item, directory.as_str())?;
+    statements.push(join(alloc, outputs, line, item, directory.as_str())?)?;
     Ok(Seq::new(statements))
 }
 
@@ -217,13 +238,14 @@ fn act(
 #[derive(Drop)]
 pub struct ActionVisit<'a> {
     pub modules: &'a [Module],
+    pub outputs: &'a [Text],
     pub lines: &'a [Arc<Seq<u32>>],
 }
 
 impl<'a> Visit for ActionVisit<'a> {
     type Out = Seq<Statement>;
 
-    ghost meaning = { λ v n ins. actions_meant v.modules.now (map arc_value v.lines.now) n };
+    ghost meaning = { λ v n ins. actions_meant v.modules.now v.outputs.now (map arc_value v.lines.now) n };
 
     ghost takes = { λ v n count. (n < length v.modules.now) × (n < length v.lines.now) };
 
@@ -234,6 +256,6 @@ impl<'a> Visit for ActionVisit<'a> {
         _ins: &[Arc<Seq<Statement>>],
     ) -> Result<Seq<Statement>, VisitError> {
         let line = self.lines[n.0 as usize].as_slice();
-        act(alloc, self.modules, line, &self.modules[n.0 as usize])
+        act(alloc, self.outputs, line, &self.modules[n.0 as usize])
     }
 }

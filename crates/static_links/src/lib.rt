@@ -16,6 +16,7 @@ mod module;
 mod names;
 mod pass;
 mod sources;
+mod text_of;
 mod variants;
 
 pub use built::build;

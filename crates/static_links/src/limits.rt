@@ -3,11 +3,9 @@ ghost use Rattle.bp_faults.specs.Answers.{Answers};
 ghost use Rattle.static_links.specs.Limits.{too_many, edges_counted};
 
 use crate::Module;
+use bp_faults::limits::MOST_EDGES;
 use bp_faults::{Fault, FaultKind, Item, OutOfMemory, Refusal, Text};
 use std::alloc::Global;
-
-/// How many edges a graph may have.
-const EDGES: usize = 1 << 22;
 
 fn too_many(alloc: Global, item: &Item) -> Result<Fault, OutOfMemory>
     ensures { IfOk result (λ fault. fault ≡ too_many item.now) }
@@ -20,7 +18,7 @@ fn too_many(alloc: Global, item: &Item) -> Result<Fault, OutOfMemory>
 pub fn count_edges(alloc: Global, modules: &[Module]) -> Result<(), Refusal>
     ensures { Answers (λ done. done) result (edges_counted modules.now) }
 {
-    let mut left = EDGES;
+    let mut left = MOST_EDGES;
     for item in modules {
         let items = item.static_libs.as_slice();
         if let Some(beyond) = items.get(left) {

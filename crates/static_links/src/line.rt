@@ -1,41 +1,69 @@
-ghost use Rattle.std.specs.Prelude.{◌≡◌, ◌<◌, ◌≤◌, IfOk, OnOk, length, map, nat_eq, reverse, slice_get};
+ghost use Rattle.std.specs.Prelude.{◌≡◌, ◌<◌, ◌↔◌, IfOk, OnOk, IsTrue, length, map, reverse};
 ghost use Rattle.std.specs.Arc.{arc_value};
-ghost use Rattle.std.specs.List.{fold};
-ghost use Rattle.indexmap.specs.IndexSet.{insert_key, insert_all};
 ghost use Rattle.bp_faults.specs.Answers.{Answers};
-ghost use Rattle.static_links.specs.Lines.{kept_last, line_over, limited};
-ghost use Rattle.module_graph.specs.Graphs.{targets};
-ghost use Rattle.static_links.specs.Visits.{targets_at, line_meant};
-ghost use Rattle.static_links.specs.Variants.{module_label};
+ghost use Rattle.static_links.specs.Lines.{libraries_at, line_over, limited};
+ghost use Rattle.static_links.specs.Nodes.{graph_of};
+ghost use Rattle.static_links.specs.Inside.{targets_at, line_meant, noted, noted_all, ArePlaced, IsAt};
 
 use crate::Module;
 use crate::variants::module_label;
+use bp_faults::limits::LONGEST_LINE;
 use bp_faults::{Fault, FaultKind, NodeId, OutOfMemory, Seq};
-use indexmap::IndexSet;
 use module_graph::{Edge, Graph};
 use pass_core::{Visit, VisitError};
 use std::alloc::Global;
+use std::cell::Cell;
 use std::sync::Arc;
 
-/// How many entries a link line may have.
-const ENTRIES: usize = 1024;
-
-// Notes a library, where it isn't there yet.
-fn note(seen: &mut IndexSet<u32>, library: u32) -> Result<(), OutOfMemory>
-    ensures { OnOk result (seen.new.keys ≡ insert_key nat_eq seen.old.keys library) }
+// Makes room for the place of a number.
+fn widen(places: &mut Vec<usize>, line: &[u32], number: usize) -> Result<(), OutOfMemory>
+    requires { ArePlaced places.old.items line.now }
+    ensures placed { OnOk result (ArePlaced places.new.items line.now) }
+    ensures inside { OnOk result (number < length places.new.items) }
 {
-    seen.insert_full(library)?;
+    if places.len() <= number {
+        places.resize(number.saturating_add(1), 0)?;
+    }
     Ok(())
 }
 
-// Notes the libraries of a line, from the last to the first.
-fn note_line(seen: &mut IndexSet<u32>, line: &[u32]) -> Result<(), OutOfMemory>
-    ensures { OnOk result (seen.new.keys ≡ insert_all nat_eq seen.old.keys (reverse line.now)) }
+// Whether a library stands at its place.
+fn is_noted(places: &[usize], line: &[u32], library: u32) -> bool
+    requires { library < length places.now }
+    ensures { IsTrue result ↔ IsAt places.now line.now library }
 {
-    let mut place = line.len();
-    while place > 0 {
-        place -= 1;
-        note(seen, line[place])?;
+    let place = places[library as usize];
+    place < line.len() && line[place] == library
+}
+
+// Puts a library behind a line, unless it is there.
+fn note(places: &mut Vec<usize>, line: &mut Vec<u32>, library: u32) -> Result<(), OutOfMemory>
+    requires { ArePlaced places.old.items line.old.items }
+    ensures placed { OnOk result (ArePlaced places.new.items line.new.items) }
+    ensures noted { OnOk result (line.new.items ≡ noted line.old.items library) }
+{
+    widen(places, line, library as usize)?;
+    if !is_noted(places, line, library) {
+        places[library as usize] = line.len();
+        line.push(library)?;
+    }
+    Ok(())
+}
+
+// Notes the libraries of another line, from the last to the first.
+fn note_line(
+    places: &mut Vec<usize>,
+    line: &mut Vec<u32>,
+    libraries: &[u32],
+) -> Result<(), OutOfMemory>
+    requires { ArePlaced places.old.items line.old.items }
+    ensures placed { OnOk result (ArePlaced places.new.items line.new.items) }
+    ensures noted { OnOk result (line.new.items ≡ noted_all line.old.items (reverse libraries.now)) }
+{
+    let mut end = libraries.len();
+    while end > 0 {
+        end -= 1;
+        note(places, line, libraries[end])?;
     }
     Ok(())
 }
@@ -43,20 +71,20 @@ fn note_line(seen: &mut IndexSet<u32>, line: &[u32]) -> Result<(), OutOfMemory>
 // The link line over the targets of some edges, which have these lines. It is gathered from its end.
 fn line_over(
     alloc: Global,
+    places: &mut Vec<usize>,
     edges: &[Edge],
     lines: &[Arc<Seq<u32>>],
 ) -> Result<Vec<u32>, OutOfMemory>
     requires { length edges.now ≡ length lines.now }
     ensures { IfOk result (λ line. line.items ≡ line_over (targets_at edges.now) (map arc_value lines.now)) }
 {
-    let mut seen = IndexSet::new(alloc);
-    let mut place = lines.len();
-    while place > 0 {
-        place -= 1;
-        note_line(&mut seen, lines[place].as_slice())?;
-        note(&mut seen, edges[place].to.0)?;
+    let mut line = Vec::new(alloc);
+    let mut end = lines.len();
+    while end > 0 {
+        end -= 1;
+        note_line(places, &mut line, lines[end].as_slice())?;
+        note(places, &mut line, edges[end].to.0)?;
     }
-    let mut line = seen.as_slice().to_vec(alloc)?;
     line.reverse();
     Ok(line)
 }
@@ -65,7 +93,7 @@ fn line_over(
 fn limit(alloc: Global, line: Vec<u32>, item: &Module) -> Result<Seq<u32>, VisitError>
     ensures { Answers (λ line. line) result (limited line.items item.now) }
 {
-    if line.len() <= ENTRIES {
+    if line.len() <= LONGEST_LINE {
         return Ok(Seq::new(line));
     }
     let subject = module_label(alloc, item)?;
@@ -74,18 +102,21 @@ fn limit(alloc: Global, line: Vec<u32>, item: &Module) -> Result<Seq<u32>, Visit
 }
 
 /// Makes the link line of each node from those of its libraries.
+///
+/// `places` is memory that one visit leaves to the next: no visit rests on what it finds there.
 #[derive(Drop)]
 pub struct LineVisit<'a> {
     pub modules: &'a [Module],
     pub graph: &'a Graph<()>,
+    pub places: Cell<Vec<usize>>,
 }
 
 impl<'a> Visit for LineVisit<'a> {
     type Out = Seq<u32>;
 
-    ghost meaning = { λ v n lines. line_meant v.modules.now v.graph.now.nodes n lines };
+    ghost meaning = { λ v n lines. line_meant v.modules.now n lines };
 
-    ghost takes = { λ v n count. (n < length v.modules.now) × (n < length v.graph.now.nodes) × (count ≡ length (targets v.graph.now.nodes n)) };
+    ghost takes = { λ v n count. (n < length v.modules.now) × (v.graph.now.nodes ≡ graph_of v.modules.now) × (count ≡ length (libraries_at v.modules.now n)) };
 
     fn visit(
         &self,
@@ -94,7 +125,9 @@ impl<'a> Visit for LineVisit<'a> {
         ins: &[Arc<Seq<u32>>],
     ) -> Result<Seq<u32>, VisitError> {
         let edges = self.graph.nodes.as_slice()[n.0 as usize].edges.as_slice();
-        let line = line_over(alloc, edges, ins)?;
-        limit(alloc, line, &self.modules[n.0 as usize])
+        let mut places = self.places.replace(Vec::new(alloc));
+        let line = line_over(alloc, &mut places, edges, ins);
+        self.places.set(places);
+        limit(alloc, line?, &self.modules[n.0 as usize])
     }
 }

@@ -1,4 +1,5 @@
 use bp_faults::{Item, Place, Seq, Text};
+use bp_names::Named;
 
 /// What a module makes.
 #[derive(Clone, Copy, Debug, PartialEq, Eq)]
@@ -16,4 +17,12 @@ pub struct Module {
     pub name: Text,
     pub srcs: Seq<Item>,
     pub static_libs: Seq<Item>,
+}
+
+impl Named for Module {
+    ghost name = { λ m. m.name };
+
+    fn name(&self) -> &str {
+        self.name.as_str()
+    }
 }

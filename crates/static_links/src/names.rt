@@ -1,37 +1,14 @@
-ghost use Rattle.std.specs.Prelude.{◌≡◌, ◌<◌, ◌^◌, IfOk, length};
-ghost use Rattle.std.specs.Str.{bytes_eq};
+ghost use Rattle.std.specs.Prelude.{◌≡◌, IfOk};
 ghost use Rattle.bp_faults.specs.Answers.{Answers};
-ghost use Rattle.indexmap.specs.IndexMap.{get};
-ghost use Rattle.static_links.specs.Names.{number_of, missing_variant, is_library, names_checked};
-ghost use Rattle.static_links.specs.Phases.{checked};
-ghost use Rattle.static_links.specs.Tables.{IsTable};
+ghost use Rattle.bp_faults.specs.Phases.{check_each};
+ghost use Rattle.bp_names.specs.Meaning.{number_of};
+ghost use Rattle.static_links.specs.Names.{missing_variant, is_library, names_checked};
 
 use crate::variants::variant_label;
 use crate::{Module, ModuleKind};
-use bp_faults::{Fault, FaultKind, Item, OutOfMemory, Refusal, Text};
-use indexmap::IndexMap;
+use bp_faults::{Fault, FaultKind, Item, OutOfMemory, Refusal};
+use bp_names::NameTable;
 use std::alloc::Global;
-
-/// The number of the first module of each name.
-pub fn number_names(alloc: Global, modules: &[Module]) -> Result<IndexMap<Text, u32>, OutOfMemory>
-    requires { length modules.now < 2 ^ 32 }
-    ensures { IfOk result (λ table. IsTable table (number_of modules.now)) }
-{
-    let mut table = IndexMap::new(alloc);
-    let mut number = modules.len();
-    while number > 0 {
-        number -= 1;
-        table.insert(modules[number].name.copy(alloc)?, number as u32)?;
-    }
-    Ok(table)
-}
-
-/// The number of the module of a name.
-pub fn number_of(table: &IndexMap<Text, u32>, name: &Text) -> Option<u32>
-    ensures { result ≡ get bytes_eq table.now name.now }
-{
-    table.get(name).copied()
-}
 
 fn missing_variant(alloc: Global, item: &Item) -> Result<Fault, OutOfMemory>
     ensures { IfOk result (λ fault. fault ≡ missing_variant item.now) }
@@ -43,13 +20,13 @@ fn missing_variant(alloc: Global, item: &Item) -> Result<Fault, OutOfMemory>
 // A module has the name of an item, and is a library.
 fn check_library(
     alloc: Global,
-    table: &IndexMap<Text, u32>,
+    table: &NameTable,
     modules: &[Module],
     item: &Item,
 ) -> Result<(), Refusal>
-    ensures { Answers (λ done. done) result (is_library (get bytes_eq table.now) modules.now item.now) }
+    ensures { Answers (λ done. done) result (is_library (number_of table.now) modules.now item.now) }
 {
-    let Some(number) = number_of(table, &item.text) else {
+    let Some(number) = table.number_of(item.text.as_str()) else {
         let subject = item.text.copy(alloc)?;
         let fault = Fault::on(alloc, FaultKind::MissingModule, item.at, subject);
         return Err(Refusal::Bad(fault));
@@ -65,11 +42,11 @@ fn check_library(
 
 fn check_libraries(
     alloc: Global,
-    table: &IndexMap<Text, u32>,
+    table: &NameTable,
     modules: &[Module],
     items: &[Item],
 ) -> Result<(), Refusal>
-    ensures { Answers (λ done. done) result (checked (is_library (get bytes_eq table.now) modules.now) items.now) }
+    ensures { Answers (λ done. done) result (check_each (is_library (number_of table.now) modules.now) items.now) }
 {
     for item in items {
         check_library(alloc, table, modules, item)?;
@@ -78,12 +55,8 @@ fn check_libraries(
 }
 
 /// Each item of each module names a library.
-pub fn check_names(
-    alloc: Global,
-    table: &IndexMap<Text, u32>,
-    modules: &[Module],
-) -> Result<(), Refusal>
-    ensures { Answers (λ done. done) result (names_checked (get bytes_eq table.now) modules.now) }
+pub fn check_names(alloc: Global, table: &NameTable, modules: &[Module]) -> Result<(), Refusal>
+    ensures { Answers (λ done. done) result (names_checked (number_of table.now) modules.now) }
 {
     for item in modules {
         check_libraries(alloc, table, modules, item.static_libs.as_slice())?;

@@ -1,5 +1,5 @@
 ghost use Rattle.std.specs.Prelude.{◌≡◌, IfOk};
-ghost use Rattle.static_links.specs.Variants.{link_of, variations_of, variant_label, module_label};
+ghost use Rattle.static_links.specs.Variants.{link_of, variations_of, variant_of, variant_label, module_label};
 
 use crate::{Module, ModuleKind};
 use bp_faults::{OutOfMemory, Target, Text};
@@ -23,6 +23,16 @@ pub fn variations(alloc: Global, kind: ModuleKind) -> Variations
     variations.set(Axis::Target, Variation::Target(Target::AndroidArm64));
     variations.set(Axis::Link, link_of(kind));
     variations
+}
+
+/// The name of a module's one variant.
+pub fn variant_of(item: &Module) -> &str
+    ensures { result.now ≡ variant_of item.now.kind }
+{
+    match item.kind {
+        ModuleKind::Binary => "android_arm64",
+        ModuleKind::StaticLibrary => "android_arm64_static",
+    }
 }
 
 /// The label of a variant of that name.

@@ -1,7 +1,8 @@
 use Rattle.std.proofs.Common.{arith, ap, sym, refl, subst, get_or, length, take, drop, length-drop, IsUtf8, IsCharBoundary, ◌∙◌, ◌+◌, ◌-◌, ◌≡◌}
 use Rattle.bp_faults.specs.declared.place.Place.{Place}
 use Rattle.bp_lexer.specs.declared.token.TokenKind.TheVariants.{Int}
-use Rattle.bp_lexer.specs.Places.{place_at, place_after}
+use Rattle.bp_lexer.specs.Places.{place_at}
+use Rattle.bp_lexer.specs.Search.{place_after}
 use Rattle.bp_lexer.specs.Forms.{IsLongest}
 use Rattle.bp_lexer.specs.Faults.{IsInRange}
 use Rattle.bp_lexer.specs.Meaning.{Covers}

@@ -1,6 +1,6 @@
 use Rattle.std.proofs.Common.{arith, ap, sym, refl, get_or, ◌∙◌}
 use Rattle.bp_faults.specs.declared.place.Place.{Place}
-use Rattle.bp_lexer.specs.Places.{place_after}
+use Rattle.bp_lexer.specs.Search.{place_after}
 use Rattle.bp_lexer.proofs.Places.{place_push, place_small}
 use Rattle.bp_lexer.proofs.place.advance.Goals as goal
 

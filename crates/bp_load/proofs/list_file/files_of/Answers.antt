@@ -7,7 +7,7 @@ use Rattle.std.specs.BTreeMap.{BTreeMap, values}
 use Rattle.std.proofs.lemmas.Result.{err_from_is_err_and}
 use Rattle.bp_load.specs.ListFile.{LinesMean}
 use Rattle.bp_load.specs.Listing.{with_line}
-use Rattle.bp_load.proofs.Told.{told}
+use Rattle.bp_faults.proofs.Refusals.{told}
 use Rattle.bp_load.proofs.Listing.{Holds, holds_more, first_fault, files_held, few_lines}
 use Rattle.bp_load.proofs.list_file.files_of.Goals as goal
 

@@ -1,10 +1,14 @@
-use Rattle.std.proofs.Common.{◌≡◌, ℕ, List, [], take, drop}
-use Rattle.bp_load.specs.Known.{knows}
-use Rattle.bp_load.specs.Loaded.{is_named, names_tested}
+use Rattle.std.proofs.Common.{◌≡◌, [], map, take, drop}
+use Rattle.bp_names.specs.Meaning.{IsSetOf}
+use Rattle.bp_props.specs.declared.module.Module.{Module}
+use Rattle.bp_load.specs.Loaded.{names_tested}
 use Rattle.bp_load.proofs.names.test_names.Given as goal
 
 abbrev pub invariant-modules : goal.invariant-modules
 invariant-modules l =
-    (l.count ≡ l.module-index) ×
-    ((name : List ℕ) → knows l.known name ≡ is_named name (take l.module-index l.modules)) ×
-    (names_tested [] l.modules ≡ names_tested (take l.module-index l.modules) (drop l.module-index l.modules))
+    let before = take l.module-index l.modules in
+    record {
+      counted : l.count ≡ l.module-index;
+      known : IsSetOf (map (λ (m : Module). m.name) before) l.known;
+      left : names_tested [] l.modules ≡ names_tested before (drop l.module-index l.modules);
+    }

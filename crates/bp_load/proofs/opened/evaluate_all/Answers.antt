@@ -9,7 +9,7 @@ use Rattle.bp_load.specs.declared.parsed.Parsed.{Parsed}
 use Rattle.bp_load.specs.Trees.{Placed, placed_of}
 use Rattle.bp_load.specs.Inherited.{placed_raw, all_evaluated}
 use Rattle.bp_load.specs.Opened.{open_of, turn_of, turned}
-use Rattle.bp_load.proofs.Told.{answered}
+use Rattle.bp_faults.proofs.Refusals.{answered}
 use Rattle.bp_load.proofs.Turns.{Reads, reads_none, reads_more, reads_fault}
 use Rattle.bp_load.proofs.opened.evaluate_all.Goals as goal
 

@@ -1,5 +1,5 @@
 use Rattle.std.proofs.Common.{◌≡◌, ◌++◌, map}
-use Rattle.bp_values.specs.Files.{raw_of}
+use Rattle.bp_values.specs.Meaning.{raw_of}
 use Rattle.bp_load.specs.Inherited.{placed_raw, in_directory}
 use Rattle.bp_load.proofs.opened.put_modules.Given as goal
 

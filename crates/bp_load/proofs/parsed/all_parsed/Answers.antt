@@ -3,9 +3,9 @@ use Rattle.std.specs.Prelude.{Ok, Err}
 use Rattle.std.proofs.lemmas.List.{get_or-map, length-map, length-take, take_more, map-append}
 use Rattle.std.proofs.lemmas.Result.{err_from_is_err_and}
 use Rattle.bp_load.specs.declared.parsed.Parsed.{Parsed}
-use Rattle.bp_load.specs.Phases.{Each}
+use Rattle.bp_faults.specs.Phases.{Each}
 use Rattle.bp_load.specs.Trees.{Source, FileMeans, TreesMean, placed_of, sources}
-use Rattle.bp_load.proofs.Told.{told_first}
+use Rattle.bp_faults.proofs.Refusals.{told_first}
 use Rattle.bp_load.proofs.Eachs.{each_push}
 use Rattle.bp_load.proofs.parsed.all_parsed.Goals as goal
 

@@ -1,5 +1,5 @@
 use Rattle.std.proofs.Common.{◌≡◌, ◌+◌, map, take}
-use Rattle.bp_load.specs.Phases.{Each}
+use Rattle.bp_faults.specs.Phases.{Each}
 use Rattle.bp_load.specs.Trees.{FileMeans, placed_of, sources}
 use Rattle.bp_load.proofs.parsed.all_parsed.Given as goal
 

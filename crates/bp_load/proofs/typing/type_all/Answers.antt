@@ -7,12 +7,12 @@ use Rattle.std.proofs.lemmas.Result.{err_from_is_err_and}
 use Rattle.bp_faults.specs.Answers.{then_do}
 use Rattle.bp_props.specs.declared.module.Module.{Module}
 use Rattle.bp_values.specs.declared.file.RawModule.{RawModule}
-use Rattle.bp_values.specs.Files.{Raw, raw_of}
-use Rattle.property_tables.specs.Typing.{typed}
+use Rattle.bp_values.specs.Meaning.{Raw, raw_of}
+use Rattle.property_tables.specs.Meaning.{typed}
 use Rattle.std.specs.Option.{option_to_list}
 use Rattle.bp_load.specs.Inherited.{placed_raw}
 use Rattle.bp_load.specs.Loaded.{all_typed}
-use Rattle.bp_load.proofs.Told.{answered}
+use Rattle.bp_faults.proofs.Refusals.{answered}
 use Rattle.bp_load.proofs.Typed.{typed_more, typed_fault}
 use Rattle.bp_load.proofs.typing.type_all.Goals as goal
 

@@ -1,6 +1,6 @@
 use Rattle.std.proofs.Common.{◌≡◌, ◌∙◌, ◌+◌, ◌∷◌, [], drop, refl}
 use Rattle.std.proofs.lemmas.Result.{err_from_is_err_and}
-use Rattle.bp_lexer.specs.declared.token.Punct.TheVariants.{Equals, PlusEquals}
+use Rattle.bp_lexer.specs.declared.token.Punct.TheVariants.{Equal, PlusEqual}
 use Rattle.bp_lexer.specs.Meaning.{word_of}
 use Rattle.bp_parser.specs.Words.{all_words}
 use Rattle.bp_parser.specs.Machine.{an_expr, entries}
@@ -50,7 +50,7 @@ returns-then-is_mark-2-clause-spells c =
     let here = ident_here text c.args.words.now c.args.at token c.in_ok-token.ensures.ok.0 c.in_ok-token.ensures.ok.1 in
     let same : c.in_ok-name.name ≡ word_of text token = c.in_ok-name.ensures ∙ c.text.ensures in
     rw same
-    (drop (c.args.at + 1) ws, drop (c.args.at + 2) ws, (here, c.in_ok-token.ensures.ok.2), mark_behind_name Equals ws c.args.at ((c.is_mark-2.ensures.yes c.if-is_mark-2.true).here text), c.in_ok-value.ensures.spells)
+    (drop (c.args.at + 1) ws, drop (c.args.at + 2) ws, (here, c.in_ok-token.ensures.ok.2), mark_behind_name Equal ws c.args.at ((c.is_mark-2.ensures.yes c.if-is_mark-2.true).here text), c.in_ok-value.ensures.spells)
 
 pub returns-then-is_mark-2-clause-goes_on : goal.returns-then-is_mark-2-clause-goes_on
 returns-then-is_mark-2-clause-goes_on c =
@@ -81,7 +81,7 @@ returns-then-is_mark-3-clause-spells c =
     let here = ident_here text c.args.words.now c.args.at token c.in_ok-token.ensures.ok.0 c.in_ok-token.ensures.ok.1 in
     let same : c.in_ok-name.name ≡ word_of text token = c.in_ok-name.ensures ∙ c.text.ensures in
     rw same
-    (drop (c.args.at + 1) ws, drop (c.args.at + 2) ws, (here, c.in_ok-token.ensures.ok.2), mark_behind_name PlusEquals ws c.args.at ((c.is_mark-3.ensures.yes c.if-is_mark-3.true).here text), c.in_ok-value-2.ensures.spells)
+    (drop (c.args.at + 1) ws, drop (c.args.at + 2) ws, (here, c.in_ok-token.ensures.ok.2), mark_behind_name PlusEqual ws c.args.at ((c.is_mark-3.ensures.yes c.if-is_mark-3.true).here text), c.in_ok-value-2.ensures.spells)
 
 pub returns-then-is_mark-3-clause-goes_on : goal.returns-then-is_mark-3-clause-goes_on
 returns-then-is_mark-3-clause-goes_on c =

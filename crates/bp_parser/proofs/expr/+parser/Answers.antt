@@ -9,7 +9,7 @@ use Rattle.bp_parser.specs.Trees.{Entry, tree_of, tree_and, term_and, no_entry, 
 use Rattle.bp_parser.specs.Words.{all_words}
 use Rattle.bp_parser.specs.Grammar.{IsMark}
 use Rattle.bp_parser.specs.Machine.{an_expr, more_terms, items, more_items, entries, more_entries, stuck, depth_of, has_name}
-use Rattle.bp_parser.specs.Reading.{knows}
+use Rattle.bp_names.specs.Meaning.{knows}
 use Rattle.bp_parser.proofs.Steps.{pass_mark, pass_plus, into_list, into_map, items_expr, ended, more_items_stop, more_entries_stop, entries_stop, colon_stop, stops_within, stops_at, trees_then_push, terms_then_push, entries_then_push, names_push, names_in, name_again, to_colon, to_value, has_name_push, map_roll}
 use Rattle.bp_parser.proofs.PartsRead.{ident_here, item_spelled, item_passed, entry_spelled, entry_passed, comma_before, within_part, too_nested, repeated, known_from, new_from}
 use Rattle.bp_parser.proofs.expr.+parser.Goals as goal
@@ -245,7 +245,7 @@ map_at-reading-preserved t c =
       within = within.1;
       opened = c.reading.invariant.opened;
       known = λ q.
-          c.in_ok-learn.ensures.grown q ∙
+          c.in_ok-learn.ensures.known q ∙
           ap (λ n. cond (bytes_eq n q) true (knows c.reading.known q)) c.text.ensures ∙
           ap (λ b. cond (bytes_eq word q) true b) (c.reading.invariant.known q) ∙
           sym (has_name_push q word names) ∙

@@ -5,7 +5,8 @@ use Rattle.bp_parser.specs.Words.{Word, all_words}
 use Rattle.bp_parser.specs.Grammar.{SpellsTerms, SpellsItems, SpellsEntries}
 use Rattle.bp_parser.specs.Flaws.{SpellsFirst}
 use Rattle.bp_parser.specs.Machine.{Part, more_terms, items, entries, stuck, depth_of, has_name}
-use Rattle.bp_parser.specs.Reading.{HasMark, LacksMark, knows}
+use Rattle.bp_parser.specs.Reading.{HasMark, LacksMark}
+use Rattle.bp_names.specs.Meaning.{knows}
 use Rattle.bp_parser.proofs.Steps.{names_in}
 use Rattle.bp_parser.proofs.expr.+parser.Given as goal
 

@@ -2,7 +2,7 @@ use Rattle.std.proofs.Common.{◌≡◌, map, drop, ◌++◌, Ok}
 use Rattle.bp_parser.specs.Trees.{tree_of, entry_of, trees_then, terms_then, entries_then, no_tree, no_term, no_entry}
 use Rattle.bp_values.specs.Values.{meaning, field_of}
 use Rattle.bp_faults.specs.Answers.{then_do}
-use Rattle.bp_values.specs.Scopes.{visible}
+use Rattle.bp_values.specs.Inside.{visible}
 use Rattle.bp_values.specs.Expressions.{val_items, val_terms, val_entries}
 use Rattle.bp_parser.specs.Trees.{term_of}
 use Rattle.bp_values.proofs.expression.+expressions.Given as goal

@@ -1,10 +1,11 @@
 use Rattle.std.proofs.Common.{◌≡◌, map, drop}
 use Rattle.bp_parser.specs.Trees.{definition_of}
 use Rattle.bp_values.specs.Scopes.{pairs_of}
-use Rattle.bp_values.specs.Files.{all_defined, known_of}
+use Rattle.bp_values.specs.Inside.{known_of}
+use Rattle.bp_values.specs.Meaning.{after_definitions}
 use Rattle.bp_values.proofs.file.define_all.Given as goal
 
 abbrev pub invariant-defs : goal.invariant-defs
 invariant-defs l =
-    all_defined (pairs_of l.inherited) (known_of (pairs_of l.inherited) l.fn.state) (map definition_of l.defs)
-    ≡ all_defined (pairs_of l.inherited) (known_of (pairs_of l.inherited) l.state) (map definition_of (drop l.def-index l.defs))
+    after_definitions (pairs_of l.inherited) (known_of (pairs_of l.inherited) l.fn.state) (map definition_of l.defs)
+    ≡ after_definitions (pairs_of l.inherited) (known_of (pairs_of l.inherited) l.state) (map definition_of (drop l.def-index l.defs))

@@ -1,9 +1,9 @@
 use Rattle.std.proofs.Common.{◌≡◌, map, drop, ◌++◌}
 use Rattle.bp_values.specs.Values.{field_of}
-use Rattle.bp_values.specs.Sums.{not_among}
+use Rattle.bp_values.specs.Inside.{not_among}
 use Rattle.bp_values.proofs.sums.copy_others.Given as goal
 
 abbrev pub invariant-loop-entry : goal.invariant-loop-entry
 invariant-loop-entry l =
-    map field_of l.fn.entries.items ++ not_among l.met.keys (map field_of l.others)
-    ≡ map field_of l.entries.items ++ not_among l.met.keys (map field_of (drop l.entry-index l.others))
+    not_among l.met (map field_of l.others)
+    ≡ map field_of l.left.items ++ not_among l.met (map field_of (drop l.entry-index l.others))

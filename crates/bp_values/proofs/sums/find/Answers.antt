@@ -1,6 +1,6 @@
 use Rattle.std.proofs.Common.{rules, ◌≡◌, map, Some, sym, ◌∙◌, ap}
 use Rattle.bp_values.specs.Values.{field_of}
-use Rattle.bp_values.specs.Sums.{place_of}
+use Rattle.bp_values.specs.Inside.{place_of}
 use Rattle.bp_values.proofs.Index.{value_there, value_absent, place_within}
 use Rattle.bp_values.proofs.sums.find.Goals as goal
 

@@ -1,8 +1,10 @@
 use Rattle.std.proofs.Common.{rules, ◌≡◌, ◌++◌, map, sym, ap, ◌∙◌, Ok, Err}
+use Rattle.std.proofs.lemmas.List.{map-append}
 use Rattle.bp_values.specs.Values.{field_of, body, fields_then, no_field, meaning}
-use Rattle.bp_values.specs.Sums.{sum_fields, others, IsIndex, HasMet}
-use Rattle.bp_values.proofs.Unite.{sum_bodies, passes}
-use Rattle.bp_values.proofs.Shared.{others_of}
+use Rattle.bp_values.specs.Sums.{sum_fields, others}
+use Rattle.bp_values.specs.Inside.{IsIndex, HasMet}
+use Rattle.bp_values.proofs.Unite.{sum_bodies, passes, summed_names}
+use Rattle.bp_values.proofs.Shared.{others_of, met_alike}
 use Rattle.bp_values.proofs.sums.unite.Goals as goal
 
 pub returns-in_err-entries : goal.returns-in_err-entries
@@ -17,8 +19,13 @@ pub returns : goal.returns
 returns c =
     let first = map field_of c.args.first.items in
     let second = map field_of c.args.second.items in
-    let index : IsIndex c.in_ok-places.places second = search rules in
-    let met : HasMet c.in_ok-met.met.keys c.in_ok-places.places first = search rules in
-    let each : sum_fields c.args.at (fields_then first no_field) second ≡ Ok (map field_of c.in_ok-entries.entries.items) = search rules in
-    let all = c.in_ok-move_others.ensures ∙ ap (λ l. map field_of c.in_ok-entries.entries.items ++ l) (others_of c.in_ok-places.places c.in_ok-met.met.keys first second index met) in
+    let summed = map field_of c.in_ok-entries.entries.items in
+    let table = c.in_ok-places.places in
+    let index : IsIndex table second = search rules in
+    let each : sum_fields c.args.at (fields_then first no_field) second ≡ Ok summed = search rules in
+    let found : HasMet c.in_ok-met.met table summed = search rules in
+    let met = met_alike table c.in_ok-met.met summed first (λ q. summed_names c.args.at q first second summed each) found in
+    let left : map field_of c.in_ok-others.others.items ≡ others second first = c.in_ok-others.ensures ∙ others_of table c.in_ok-met.met first second index met in
+    let all : map field_of c.append.new.self.items ≡ summed ++ others second first =
+    ap (map field_of) c.in_ok-append.ensures.items ∙ map-append field_of c.in_ok-entries.entries.items c.in_ok-others.others.items ∙ ap (λ l. summed ++ l) left in
     rw (sum_bodies c.args.at first second, each, ← all) (ap (λ v. Ok v) (sym c.map_value.ensures))

@@ -1,6 +1,6 @@
 use Rattle.std.proofs.Common.{◌≡◌, length, drop}
 use Rattle.module_form.specs.Forms.{forms_of}
-use Rattle.module_form.proofs.Taken.{behind}
+use Rattle.bp_faults.proofs.Lists.{behind}
 use Rattle.module_form.proofs.known.known_modules.Given as goal
 
 -- what is left, behind the modules so far, gives the whole

@@ -8,5 +8,6 @@ use Rattle.property_tables.proofs.path_item.goes_up.Goals as goal
 pub returns : goal.returns
 returns c =
     any_from_yields_List (λ part. bytes_eq part (codes "..")) _ _ c.any.result c.any.ensures.ran
-    (YieldsList-from_str_split 47 c.args.text.now (lit< tt) c.split.ensures.text c.split.ensures.has_more c.split.ensures.pattern)
+    (YieldsList-from_str_split 47 c.args.text.now
+    (lit< tt) c.split.ensures.text c.split.ensures.has_more c.split.ensures.pattern)
     (λ x b q k. search (rules, tests))

@@ -10,6 +10,7 @@ use Rattle.property_tables.proofs.path_item.has_component.Goals as goal
 pub returns : goal.returns
 returns c =
     any_from_yields_List is_component _ _ c.any.result c.any.ensures.ran
-    (YieldsList-from_str_split 47 c.args.item.now (lit< tt) c.split.ensures.text c.split.ensures.has_more c.split.ensures.pattern)
+    (YieldsList-from_str_split 47 c.args.item.now
+    (lit< tt) c.split.ensures.text c.split.ensures.has_more c.split.ensures.pattern)
     (λ x b q k. search (rules, tests))
     ∙ some_component (parts c.args.item.now)

@@ -4,4 +4,5 @@ use Rattle.static_links.specs.Actions.{object_path}
 use Rattle.static_links.proofs.actions.objects.Given as goal
 
 abbrev pub invariant-loop-source : goal.invariant-loop-source
-invariant-loop-source l = l.paths.items ≡ map (λ (source : Item). object_path l.item source.text) (take l.source-index l.item.srcs)
+invariant-loop-source l =
+    l.paths.items ≡ map (λ (source : Item). object_path l.directory source.text) (take l.source-index l.item.srcs)

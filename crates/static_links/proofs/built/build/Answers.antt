@@ -1,25 +1,25 @@
-use Rattle.std.proofs.Common.{ℕ, List, Vec, map, length, Ok, Err}
+use Rattle.std.proofs.Common.{ℕ, List, [], ◌∷◌, ◌++◌, ◌∙◌, Vec, map, length, Ok, Err, ap}
 use Rattle.std.specs.declared.alloc.Global.{Global}
 use Rattle.std.specs.declared.sync.Arc.{Arc}
-use Rattle.ninja_text.specs.declared.file.Statement.{Statement}
+use Rattle.ninja_file.specs.declared.file.Statement.{Statement}
 use Rattle.static_links.specs.Lines.{line_step, height_in}
-use Rattle.static_links.specs.Actions.{actions_step}
-use Rattle.static_links.specs.Order.{Gathers}
+use Rattle.std.specs.List.{flat_map}
+use Rattle.static_links.specs.Actions.{actions_step, all_step}
+use Rattle.bp_faults.specs.Order.{Gathers}
 use Rattle.std.specs.Arc.{arc_value}
-use Rattle.std.specs.Str.{bytes_eq}
-use Rattle.indexmap.specs.IndexMap.{get}
+use Rattle.bp_names.specs.Meaning.{number_of}
 use Rattle.module_graph.specs.Cycles.{CycleMeans}
 use Rattle.static_links.specs.Names.{names_checked}
 use Rattle.static_links.specs.Limits.{edges_counted}
 use Rattle.static_links.specs.Nodes.{labels_of}
 use Rattle.static_links.specs.Built.{IsBuilt}
-use Rattle.static_links.proofs.Telling.{refused, unanswered}
-use Rattle.static_links.proofs.Phased.{named_by, checked_by, numbered_by, cycle_by, planned_by, unnamed, uncounted, cycled, unlinked, unacted, built}
+use Rattle.bp_faults.proofs.Refusals.{refused, unanswered}
+use Rattle.static_links.proofs.Phased.{named_by, nodes_by, checked_by, numbered_by, cycle_by, planned_by, unnamed, uncounted, cycled, unlinked, unacted, built}
 use Rattle.static_links.proofs.built.build.Goals as goal
 
 pub returns-in_err-check_names : goal.returns-in_err-check_names
 returns-in_err-check_names c =
-    unanswered _ (names_checked (get bytes_eq c.in_ok-table.table) c.args.modules.now) (IsBuilt c.args.modules.now)
+    unanswered _ (names_checked (number_of c.in_ok-table.table) c.args.modules.now) (IsBuilt c.args.modules.now)
     (λ fault h. unnamed c.args.modules.now fault (named_by c.args.modules.now c.in_ok-table.table c.in_ok-table.ensures _ h))
     c.in_err-check_names.field-0.0 c.from_residual-in_err-check_names.result c.from_residual-in_err-check_names.ensures.1 c.in_err-check_names.ensures
 
@@ -45,9 +45,16 @@ pub plan-requires : goal.plan-requires
 plan-requires c =
     numbered_by c.args.modules.now c.in_ok-table.table c.in_ok-table.ensures c.in_ok-graph.graph.nodes c.requires c.in_ok-check_names.ensures c.in_ok-count_edges.ensures c.in_ok-graph.ensures
 
-pub link_lines-requires : goal.link_lines-requires
-link_lines-requires c =
-    planned_by c.args.modules.now c.in_ok-table.table c.in_ok-table.ensures c.in_ok-graph.graph.nodes c.in_ok-plan.plan c.in_ok-check_names.ensures c.in_ok-graph.ensures c.in_ok-check_cycles.ensures c.in_ok-plan.ensures.exact c.in_ok-plan.ensures.is_plan
+pub link_lines-requires-clause-planned : goal.link_lines-requires-clause-planned
+link_lines-requires-clause-planned c =
+    planned_by c.args.modules.now c.in_ok-table.table c.in_ok-table.ensures c.in_ok-graph.graph.nodes c.in_ok-plan.plan
+    c.in_ok-graph.ensures c.in_ok-plan.ensures.exact c.none_returns_where_plans_have_no_cycle.ensures
+    c.predecessors_are_targets.ensures c.in_ok-check_names.ensures c.in_ok-check_cycles.ensures
+    c.in_ok-plan.ensures.is_plan
+
+pub link_lines-requires-clause-graph : goal.link_lines-requires-clause-graph
+link_lines-requires-clause-graph c =
+    nodes_by c.args.modules.now c.in_ok-table.table c.in_ok-table.ensures c.in_ok-graph.graph.nodes c.in_ok-graph.ensures
 
 pub returns-in_err-lines : goal.returns-in_err-lines
 returns-in_err-lines c =
@@ -59,7 +66,10 @@ returns-in_err-lines c =
 
 pub act_all-requires-clause-planned : goal.act_all-requires-clause-planned
 act_all-requires-clause-planned c =
-    planned_by c.args.modules.now c.in_ok-table.table c.in_ok-table.ensures c.in_ok-graph.graph.nodes c.in_ok-plan.plan c.in_ok-check_names.ensures c.in_ok-graph.ensures c.in_ok-check_cycles.ensures c.in_ok-plan.ensures.exact c.in_ok-plan.ensures.is_plan
+    planned_by c.args.modules.now c.in_ok-table.table c.in_ok-table.ensures c.in_ok-graph.graph.nodes c.in_ok-plan.plan
+    c.in_ok-graph.ensures c.in_ok-plan.ensures.exact c.none_returns_where_plans_have_no_cycle.ensures
+    c.predecessors_are_targets.ensures c.in_ok-check_names.ensures c.in_ok-check_cycles.ensures
+    c.in_ok-plan.ensures.is_plan
 
 pub returns-in_err-made : goal.returns-in_err-made
 returns-in_err-made c =
@@ -74,4 +84,5 @@ pub returns : goal.returns
 returns c =
     built c.args.modules.now (checked_by c.args.modules.now c.in_ok-table.table c.in_ok-table.ensures c.in_ok-check_names.ensures c.in_ok-count_edges.ensures)
     (cycle_by c.args.modules.now c.in_ok-table.table c.in_ok-table.ensures c.in_ok-graph.graph.nodes (Ok tt) c.in_ok-graph.ensures c.in_ok-check_cycles.ensures)
-    (map arc_value c.in_ok-lines.lines.items) (map arc_value c.in_ok-made.made.items) c.in_ok-gather.field-0.items c.in_ok-lines.ensures c.in_ok-made.ensures c.in_ok-gather.ensures
+    (map arc_value c.in_ok-lines.lines.items) (map arc_value c.in_ok-made.made.items) c.in_ok-gather.field-0.items c.in_ok-lines.ensures c.in_ok-made.ensures
+    (c.in_ok-gather.ensures ∙ ap (λ outputs. flat_map (λ statements. statements) (map arc_value c.in_ok-made.made.items) ++ all_step outputs ∷ []) c.in_ok-outputs.ensures)

@@ -1,13 +1,15 @@
-use Rattle.std.proofs.Common.{◌≡◌, ◌≤◌, length, reverse, take, nat_eq}
-use Rattle.indexmap.specs.IndexSet.{insert_all}
+use Rattle.std.proofs.Common.{◌≡◌, ◌≤◌, length, reverse, take}
+use Rattle.static_links.specs.Inside.{noted_all, ArePlaced}
 use Rattle.static_links.proofs.line.note_line.Given as goal
 
 -- what is left is noted next
-abbrev pub invariant-loop-place : goal.invariant-loop-place
-invariant-loop-place l = record {
-  within : l.place ≤ length l.line;
-  left : insert_all nat_eq l.seen.keys (reverse (take l.place l.line)) ≡ insert_all nat_eq l.fn.seen.keys (reverse l.line);
+abbrev pub invariant-loop-end : goal.invariant-loop-end
+invariant-loop-end l = record {
+  within : l.end ≤ length l.libraries;
+  placed : ArePlaced l.places.items l.line.items;
+  left :
+      noted_all l.line.items (reverse (take l.end l.libraries)) ≡ noted_all l.fn.line.items (reverse l.libraries);
 }
 
-abbrev pub decreases-loop-place : goal.decreases-loop-place
-decreases-loop-place l = l.place
+abbrev pub decreases-loop-end : goal.decreases-loop-end
+decreases-loop-end l = l.end

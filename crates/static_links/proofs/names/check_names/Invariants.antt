@@ -1,9 +1,8 @@
 use Rattle.std.proofs.Common.{◌≡◌, drop}
-use Rattle.std.specs.Str.{bytes_eq}
-use Rattle.indexmap.specs.IndexMap.{get}
+use Rattle.bp_names.specs.Meaning.{number_of}
 use Rattle.static_links.specs.Names.{has_libraries}
-use Rattle.static_links.specs.Phases.{checked}
+use Rattle.bp_faults.specs.Phases.{check_each}
 use Rattle.static_links.proofs.names.check_names.Given as goal
 
 abbrev pub invariant-loop-item : goal.invariant-loop-item
-invariant-loop-item l = checked (has_libraries (get bytes_eq l.table) l.modules) (drop l.item-index l.modules) ≡ checked (has_libraries (get bytes_eq l.table) l.modules) l.modules
+invariant-loop-item l = check_each (has_libraries (number_of l.table) l.modules) (drop l.item-index l.modules) ≡ check_each (has_libraries (number_of l.table) l.modules) l.modules

@@ -1,9 +1,22 @@
-use Rattle.std.proofs.Common.{rules}
-use Rattle.std.proofs.lemmas.Map.Made.{filter_same_pairs}
+use Rattle.std.proofs.Common.{rules, subst, sym, ap, ◌∙◌}
+use Rattle.std.specs.Prelude.{filter}
+use Rattle.std.proofs.lemmas.Fn.{filter_same}
+use Rattle.bp_props.specs.Groups.{Ascends}
 use Rattle.bp_props.specs.Kinds.{has_field}
 use Rattle.bp_props.specs.declared.field.Field.TheVariants.{Group}
+use Rattle.bp_props.proofs.Places.{ascends_filtered}
 use Rattle.bp_props.proofs.groups.Groups.restrict.Goals as goal
 
 -- the closure only tests
 pub returns : goal.returns
-returns c = rw (← c.self.view_is) (filter_same_pairs _ (λ e. has_field c.args.kind (Group e.0)) _ (λ k v b w f' t. search rules) _ _ c.retain.ensures.filtered)
+returns c =
+    filter_same _ (λ e. has_field c.args.kind (Group e.0)) _
+    (λ x b f t. (search rules, search rules)) _ _ c.retain.ensures.filtered
+    ∙ ap (filter (λ e. has_field c.args.kind (Group e.0))) c.self.view_is
+
+pub invariant_of-self : goal.invariant_of-self
+invariant_of-self c =
+    subst Ascends
+    (sym (filter_same _ (λ e. has_field c.args.kind (Group e.0)) _
+    (λ x b f t. (search rules, search rules)) _ _ c.retain.ensures.filtered))
+    (ascends_filtered (λ id. has_field c.args.kind (Group id)) _ c.self.invariant)

@@ -1,5 +1,0 @@
-use Rattle.bp_lexer.proofs.Columns.{column}
-use Rattle.bp_lexer.proofs.law.columns_count_characters.Goals as goal
-
-pub returns : goal.returns
-returns c = column

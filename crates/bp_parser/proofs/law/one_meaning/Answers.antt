@@ -1,5 +1,0 @@
-use Rattle.bp_parser.proofs.OneMeaning.{one_meaning}
-use Rattle.bp_parser.proofs.law.one_meaning.Goals as goal
-
-pub returns : goal.returns
-returns c = one_meaning

@@ -1,5 +1,0 @@
-use Rattle.bp_parser.proofs.OneMeaning.{one_tree}
-use Rattle.bp_parser.proofs.law.one_tree.Goals as goal
-
-pub returns : goal.returns
-returns c = one_tree

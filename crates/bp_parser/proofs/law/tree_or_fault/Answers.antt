@@ -1,5 +1,0 @@
-use Rattle.bp_parser.proofs.SomeMeaning.{some_meaning}
-use Rattle.bp_parser.proofs.law.tree_or_fault.Goals as goal
-
-pub returns-clause-either : goal.returns-clause-either
-returns-clause-either c = some_meaning

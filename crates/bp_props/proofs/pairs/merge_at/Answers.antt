@@ -1,0 +1,15 @@
+use Rattle.bp_props.specs.Group.{group_merged}
+use Rattle.bp_props.specs.Undo.{group_cut}
+use Rattle.std.proofs.Common.{ap, ◌∙◌}
+use Rattle.bp_props.proofs.Places.{set_changed, changed_back}
+use Rattle.bp_props.proofs.pairs.merge_at.Goals as goal
+
+pub returns-clause-ok : goal.returns-clause-ok
+returns-clause-ok c =
+    set_changed _ _ _ (λ g. group_merged c.args.winner g c.args.group.now) _ c.requires
+    c.index_mut.ensures.value c.in_ok-merge.ensures.ok
+
+pub returns-clause-back : goal.returns-clause-back
+returns-clause-back c =
+    changed_back _ _ _ _ (group_cut c.mark-mark.result) c.requires c.index_mut.ensures.value
+    (ap (λ mark. group_cut mark c.merge.new.self) c.mark-mark.ensures ∙ c.in_ok-merge.ensures.begins)

@@ -1,0 +1,9 @@
+pub mod Counted
+pub mod Reading
+pub mod Progress
+pub mod Meeting
+pub mod Making
+pub mod OneJob
+pub mod SomeJob
+pub mod Ending
+pub mod Heads

@@ -1,0 +1,88 @@
+-- The job: what a configuration stands for over files, a text or the first fault.
+use Rattle.std.specs.Prelude.{◌≡◌, ℕ, ◌+◌, List, [], ◌∷◌, nat_le, length, codes}
+use Rattle.std.specs.Prelude.{Option, Some, None, Result, Ok, Err, if◌then◌else◌}
+use Rattle.std.specs.FinMap.{get}
+use Rattle.bp_faults.specs.declared.fault.Fault.{Fault}
+use Rattle.bp_faults.specs.declared.kind.FaultKind.TheVariants.{NoFile, FileTooLarge, OutputTooLarge, TooMany}
+use Rattle.bp_faults.specs.declared.limits.TheConstants.{LARGEST_FILE, LARGEST_LIST_FILE, LARGEST_TREE, LARGEST_OUTPUT}
+use Rattle.bp_faults.specs.Faults.{fault_at, fault_on, file_start}
+use Rattle.bp_faults.specs.Answers.{then_do}
+use Rattle.bp_ports.specs.Files.{Files}
+use Rattle.bp_props.specs.declared.module.Module.{Module as Typed}
+use Rattle.bp_load.specs.ListFile.{ListMeans}
+use Rattle.bp_load.specs.Trees.{Source}
+use Rattle.bp_load.specs.Loaded.{LoadMeans}
+use Rattle.module_form.specs.Known.{AreKnown}
+use Rattle.static_links.specs.declared.module.Module.{Module}
+use Rattle.bp_faults.specs.Phases.{GoesOn, Then}
+use Rattle.static_links.specs.Built.{IsBuilt}
+use Rattle.ninja_file.specs.declared.file.NinjaFile.{NinjaFile}
+use Rattle.ninja_write.specs.Meaning.{text_of}
+use Rattle.bp_run.specs.declared.words.Configuration.{Configuration}
+use Rattle.bp_run.specs.File.{file_of}
+
+-- What is read of a file, by its number: it is there, and no larger than the limit.
+abbrev pub read_of : ℕ → ℕ → Option (List ℕ) → Result (List ℕ) Fault
+read_of number limit None = Err (fault_at NoFile (file_start number))
+read_of number limit (Some bytes) =
+    if nat_le (length bytes) limit then Ok bytes else Err (fault_at FileTooLarge (file_start number))
+
+-- The paths that the list file names, which is no larger than its limit.
+abbrev pub ListFileMeans : Configuration → Files → Result (List (List ℕ)) Fault → Type 0
+ListFileMeans c files outcome = GoesOn (read_of 0 LARGEST_LIST_FILE (get files c.list)) ListMeans outcome
+
+-- Files together are no larger than the limit of a tree: the bytes of a file, behind others of that size.
+abbrev pub counted : ℕ → ℕ → List ℕ → Result (List ℕ) Fault
+counted number size bytes =
+    if nat_le (size + length bytes) LARGEST_TREE then Ok bytes
+    else Err (fault_on TooMany (file_start number) (codes "bytes"))
+
+-- The bytes of an Android.bp file, which is no larger than its limit.
+abbrev pub bytes_of : Files → ℕ → ℕ → List ℕ → Result (List ℕ) Fault
+bytes_of files number size path = then_do (read_of number LARGEST_FILE (get files path)) (counted number size)
+
+-- The files of some paths in turn, numbered on, behind others of that size.
+abbrev pub sources_from : Files → ℕ → ℕ → List (List ℕ) → Result (List Source) Fault
+sources_from files number size [] = Ok []
+sources_from files number size (path ∷ paths) =
+    then_do (bytes_of files number size path)
+    (λ bytes. then_do (sources_from files (number + 1) (size + length bytes) paths) (λ more. Ok ((path, bytes) ∷ more)))
+
+-- The files that the list names, which are numbered from 1.
+abbrev pub sources_of : Files → List (List ℕ) → Result (List Source) Fault
+sources_of files paths = sources_from files 1 0 paths
+
+-- The text of a file for Ninja, which is no larger than its limit.
+abbrev pub written : NinjaFile → Result (List ℕ) Fault
+written file =
+    if nat_le (length (text_of file)) LARGEST_OUTPUT then Ok (text_of file) else Err (fault_at OutputTooLarge (file_start 0))
+
+-- What modules give: the text of what they are built by.
+abbrev pub ModulesGive : List Module → Result (List ℕ) Fault → Type 0
+ModulesGive ms outcome = Then (IsBuilt ms) (λ statements outcome. written (file_of statements) ≡ outcome) outcome
+
+-- What typed modules of some files give: they must be known.
+abbrev pub TypedModulesGive : List Source → List Typed → Result (List ℕ) Fault → Type 0
+TypedModulesGive sources typed outcome = Then (AreKnown sources typed) ModulesGive outcome
+
+-- What files give: first they load as typed modules.
+abbrev pub SourcesGive : List Source → Result (List ℕ) Fault → Type 0
+SourcesGive sources outcome = Then (LoadMeans sources) (TypedModulesGive sources) outcome
+
+-- What the files of a list give: first all are read.
+abbrev pub ListedFilesGive : Files → List (List ℕ) → Result (List ℕ) Fault → Type 0
+ListedFilesGive files paths outcome = GoesOn (sources_of files paths) SourcesGive outcome
+
+-- The job of a configuration over files: the phases in their order.
+abbrev pub JobMeans : Configuration → Files → Result (List ℕ) Fault → Type 0
+JobMeans c files outcome = Then (ListFileMeans c files) (ListedFilesGive files) outcome
+
+-- The paths that are listed, and none where the list has a fault.
+abbrev pub listed_of : Result (List (List ℕ)) Fault → List (List ℕ)
+listed_of (Ok paths) = paths
+listed_of (Err fault) = []
+
+-- The files by their numbers: the list has the number 0, and behind it stand those that it names.
+abbrev pub AreListed : Configuration → Files → List (List ℕ) → Type 0
+AreListed c files paths =
+    (outcome : Result (List (List ℕ)) Fault) × ListFileMeans c files outcome × (paths ≡ listed_of outcome)

@@ -1,0 +1,9 @@
+pub mod Words
+pub mod Head
+pub mod File
+pub mod Job
+pub mod Steps
+pub mod Lines
+pub mod Run
+pub mod End
+pub mod Laws

@@ -1,0 +1,18 @@
+-- The lines that the program writes, but for those of faults.
+use Rattle.std.specs.Prelude.{ℕ, List, ◌++◌, codes}
+
+-- The words give no configuration.
+abbrev pub usage_line : List ℕ
+usage_line = codes "usage: bpgen build|replay|graph|synth OPTIONS\n"
+
+-- A path can't be read.
+abbrev pub read_line : List ℕ → List ℕ
+read_line path = codes "bpgen: cannot read " ++ (path ++ codes "\n")
+
+-- A path can't be written.
+abbrev pub write_line : List ℕ → List ℕ
+write_line path = codes "bpgen: cannot write " ++ (path ++ codes "\n")
+
+-- Memory ran out.
+abbrev pub memory_line : List ℕ
+memory_line = codes "bpgen: out of memory\n"

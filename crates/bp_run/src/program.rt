@@ -1,0 +1,53 @@
+ghost use Rattle.std.specs.Prelude.{◌≡◌};
+ghost use Rattle.bp_run.specs.End.{end_without_words};
+
+use crate::end::{End, report, status};
+use crate::run;
+use bp_faults::Text;
+use bp_ports::{FsStore, OpenGate, StdSink};
+use std::io::ErrorKind;
+use std::process::ExitCode;
+use std::rt::Env;
+use std::{env, io};
+
+// The words after the program's name.
+fn read_words(rt: &(impl Env + AllocGlobal)) -> io::Result<Vec<Text>> {
+    let mut words = Vec::new(rt.alloc());
+    for word in env::args(rt)?.skip(1) {
+        words.push(Text::new(word))?;
+    }
+    Ok(words)
+}
+
+// How a call ends whose words can't be read. A word that isn't UTF-8 is a faulty word.
+fn end_without_words(kind: ErrorKind) -> End
+    ensures { result ≡ end_without_words kind }
+{
+    match kind {
+        ErrorKind::OutOfMemory => End::OutOfMemory,
+        _ => End::Usage,
+    }
+}
+
+/// The program, over the real files and streams.
+pub fn start(rt: HostRuntime) -> ExitCode {
+    let mut diag = StdSink::err(rt);
+    let words = match read_words(&rt) {
+        Ok(words) => words,
+        Err(error) => {
+            let end = end_without_words(error.kind());
+            report(&end, &mut diag);
+            return ExitCode::from(status(&end));
+        }
+    };
+    let mut store = FsStore::new(rt);
+    let mut out = StdSink::out(rt);
+    ExitCode::from(run(
+        rt.alloc(),
+        &words,
+        &mut store,
+        &mut out,
+        &mut diag,
+        &OpenGate,
+    ))
+}

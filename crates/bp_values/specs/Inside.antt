@@ -1,0 +1,58 @@
+-- In what words the functions inside the crate say what they keep. No public contract speaks of it.
+use Rattle.std.specs.Prelude.{◌≡◌, ℕ, Bool, not, ◌&&◌, ◌||◌, is_some, List, [], ◌∷◌, ◌++◌, map, filter, suc, Option, None, Some, option_map, if◌then◌else◌}
+use Rattle.std.specs.Str.{bytes_eq}
+use Rattle.bp_names.specs.Meaning.{knows, number_of}
+use Rattle.bp_parser.specs.Trees as tree
+use Rattle.bp_parser.specs.Trees.{Tree, Trees, no_tree, tree_and, Terms, no_term, term_and, Entries, no_entry, entry_and}
+use Rattle.bp_values.specs.References.{is_atom}
+use Rattle.bp_values.specs.declared.file.State.{State}
+use Rattle.bp_values.specs.declared.scope.Names.{Names}
+use Rattle.bp_values.specs.Values.{Field}
+use Rattle.bp_values.specs.Scopes.{Pairs, pairs_of, layer_pairs}
+use Rattle.bp_values.specs.Sums.{has_name}
+use Rattle.bp_values.specs.Meaning.{Known, raw_of}
+
+-- What a file inherits, and its own behind.
+abbrev pub visible : Names → Pairs
+visible names = pairs_of names.inherited.now ++ layer_pairs names.own.now
+
+-- What a file knows that inherits those pairs.
+abbrev pub known_of : Pairs → State → Known
+known_of inherited s = record { scope = inherited ++ layer_pairs s.own; is_used = knows s.used; modules = map raw_of s.modules.items }
+
+-- The place of the first entry of that name.
+abbrev pub place_of : List ℕ → List Field → Option ℕ
+place_of name [] = None
+place_of name (f ∷ fs) = if bytes_eq name f.name then Some 0 else option_map suc (place_of name fs)
+
+-- The table gives each name's first place in the list.
+pub record IsIndex (table : List (List ℕ × ℕ)) (fs : List Field) : Type 0 where
+  pub places : (name : List ℕ) → number_of table name ≡ place_of name fs
+
+-- The names are those of the list that have a place.
+pub record HasMet (names : List (List ℕ)) (table : List (List ℕ × ℕ)) (fs : List Field) : Type 0 where
+  pub met : (name : List ℕ) → knows names name ≡ (has_name fs name && is_some (number_of table name))
+
+-- The entries whose names are not among these.
+abbrev pub not_among : List (List ℕ) → List Field → List Field
+not_among names fs = filter (λ f. not (knows names f.name)) fs
+
+-- Whether a name is noted once those in an expression are, part by part.
+abbrev mutual
+  pub noted : Bool → List ℕ → Tree → Bool
+  noted b name (tree.Leaf at atom) = b || is_atom name atom
+  noted b name (tree.Items at items) = noted_items b name items
+  noted b name (tree.Body at entries) = noted_entries b name entries
+  noted b name (tree.Sum first terms) = noted_terms (noted b name first) name terms
+
+  pub noted_items : Bool → List ℕ → Trees → Bool
+  noted_items b name no_tree = b
+  noted_items b name (tree_and item more) = noted_items (noted b name item) name more
+
+  pub noted_terms : Bool → List ℕ → Terms → Bool
+  noted_terms b name no_term = b
+  noted_terms b name (term_and at term more) = noted_terms (noted b name term) name more
+
+  pub noted_entries : Bool → List ℕ → Entries → Bool
+  noted_entries b name no_entry = b
+  noted_entries b name (entry_and key at value more) = noted_entries (noted b name value) name more

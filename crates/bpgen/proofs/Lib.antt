@@ -1,6 +1,0 @@
-pub mod Counted
-pub mod Reading
-pub mod Progress
-pub mod Meeting
-pub mod Making
-pub mod OneJob

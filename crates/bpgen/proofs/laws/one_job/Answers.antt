@@ -1,5 +1,0 @@
-use Rattle.bpgen.proofs.OneJob.{one_job}
-use Rattle.bpgen.proofs.laws.one_job.Goals as goal
-
-pub returns : goal.returns
-returns c = one_job c.one_list.ensures.one c.one_load.ensures.one c.one_known.ensures c.one_outcome.ensures

@@ -1,9 +1,0 @@
-use Rattle.std.proofs.Common.{◌≡◌, map, drop}
-use Rattle.bp_values.specs.Values.{field_of, fields_then, no_field}
-use Rattle.property_tables.specs.Typing.{each_entry, sanitize_entry}
-use Rattle.property_tables.proofs.in_module.add_sanitize.Given as goal
-
-abbrev pub invariant-entries : goal.invariant-entries
-invariant-entries l =
-    each_entry (sanitize_entry l.dir l.prefix) l.fn.props (fields_then (map field_of l.entries) no_field)
-    ≡ each_entry (sanitize_entry l.dir l.prefix) l.props (fields_then (map field_of (drop l.entry-index l.entries)) no_field)

@@ -1,5 +1,0 @@
-use Rattle.property_tables.proofs.Laws.{stays_below}
-use Rattle.property_tables.proofs.law.paths_stay_below.Goals as goal
-
-pub returns : goal.returns
-returns c = stays_below

@@ -1,5 +1,0 @@
-use Rattle.property_tables.proofs.Laws.{tables_have_fields}
-use Rattle.property_tables.proofs.law.tables_have_fields.Goals as goal
-
-pub returns : goal.returns
-returns c = tables_have_fields

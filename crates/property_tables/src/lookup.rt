@@ -1,0 +1,84 @@
+ghost use Rattle.std.specs.Prelude.{◌≡◌, ◌++◌, [], IfOk, option_map};
+ghost use Rattle.bp_faults.specs.Answers.{Answers};
+ghost use Rattle.bp_values.specs.Values.{field_of};
+ghost use Rattle.property_tables.specs.Tables.{property_of, named, table_of};
+ghost use Rattle.property_tables.specs.Entries.{property_or_unknown, property_in, within as within_group};
+
+use crate::entry_values::entry_fault;
+use crate::tables::{cc, defaults, filegroup, library, shared_library, test};
+use crate::{LoadError, PropTable, Row};
+use bp_faults::{FaultKind, OutOfMemory, Text};
+use bp_props::ModuleKind;
+use bp_values::Entry;
+use std::alloc::Global;
+
+/// The row of a name in a table. It takes no memory.
+#[tactic(auto, using(crate::proofs::Rows::copied_row))]
+fn row_in<const N: usize>(table: &PropTable<N>, name: &Text) -> Option<Row>
+    ensures { option_map property_of result ≡ named table.now name.now }
+{
+    table.row(name).copied()
+}
+
+/// The row of a name in the table of a kind. It takes no memory.
+fn module_row(kind: ModuleKind, name: &Text) -> Option<Row>
+    ensures { option_map property_of result ≡ named (table_of kind) name.now }
+{
+    match kind {
+        ModuleKind::Binary | ModuleKind::LibraryStatic | ModuleKind::LibraryHeaders => {
+            row_in(&cc(), name)
+        }
+        ModuleKind::Library => row_in(&library(), name),
+        ModuleKind::LibraryShared => row_in(&shared_library(), name),
+        ModuleKind::Test => row_in(&test(), name),
+        ModuleKind::Defaults => row_in(&defaults(), name),
+        ModuleKind::Filegroup => row_in(&filegroup(), name),
+    }
+}
+
+fn known(alloc: Global, row: Option<Row>, prefix: &str, entry: &Entry) -> Result<Row, LoadError>
+    ensures { Answers property_of result
+        (property_or_unknown (field_of entry.now).at (prefix.now ++ (field_of entry.now).name) (option_map property_of row)) }
+{
+    match row {
+        Some(row) => Ok(row),
+        None => {
+            let kind = FaultKind::UnknownProperty;
+            let fault = entry_fault(alloc, kind, entry.at, prefix, &entry.name)?;
+            Err(LoadError::Bad(fault))
+        }
+    }
+}
+
+/// The row of an entry of a group, in the group's table.
+pub(crate) fn row_of<const N: usize>(
+    alloc: Global,
+    table: &PropTable<N>,
+    prefix: &str,
+    entry: &Entry,
+) -> Result<Row, LoadError>
+    ensures { Answers property_of result (property_in table.now prefix.now (field_of entry.now)) }
+{
+    known(alloc, row_in(table, &entry.name), prefix, entry)
+}
+
+/// The row of an entry of a module, in the table of its kind.
+pub(crate) fn module_row_of(
+    alloc: Global,
+    kind: ModuleKind,
+    entry: &Entry,
+) -> Result<Row, LoadError>
+    ensures { Answers property_of result (property_in (table_of kind) [] (field_of entry.now)) }
+{
+    known(alloc, module_row(kind, &entry.name), "", entry)
+}
+
+/// What stands before the names in a group.
+pub(crate) fn within(alloc: Global, prefix: &str, name: &Text) -> Result<Text, OutOfMemory>
+    ensures { IfOk result (λ inner. inner ≡ within_group prefix.now name.now) }
+{
+    let mut inner = Text::from_str(alloc, prefix)?;
+    inner.push_str(name.as_str())?;
+    inner.push_str(".")?;
+    Ok(inner)
+}

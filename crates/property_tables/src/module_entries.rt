@@ -1,0 +1,178 @@
+ghost use Rattle.std.specs.Prelude.{◌≡◌, map, Some};
+ghost use Rattle.bp_props.specs.declared.field.Field.TheVariants.{Group};
+ghost use Rattle.property_tables.specs.declared.row.PropKind.TheVariants as K;
+ghost use Rattle.bp_faults.specs.Answers.{Answers, Leaves};
+ghost use Rattle.bp_values.specs.Values.{field_of, fields_then, no_field};
+ghost use Rattle.bp_props.specs.Records.{props_empty};
+ghost use Rattle.property_tables.specs.Entries.{each_entry, props_with_fit, sanitize_entry as sanitize_entry_as};
+ghost use Rattle.property_tables.specs.Entries.{groups_typed, inner_typed, entry_typed, module_entry as module_entry_as};
+
+use crate::entry_values::entries;
+use crate::fields::set_props;
+use crate::fit::{Fit, fitted};
+use crate::group_entries::{add_groups, group_of};
+use crate::lookup::{module_row_of, row_of, within};
+use crate::tables::{arch, multilib, sanitize, target};
+use crate::{LoadError, PropKind, PropTable, Row};
+use bp_faults::{Path, Place};
+use bp_props::{Field, GroupId, ModuleKind, Props};
+use bp_values::Entry;
+use std::alloc::Global;
+
+fn put_props(props: &mut Props, effect: Option<Field>, at: Place, fit: Fit)
+    ensures { props.new ≡ props_with_fit effect at fit props.old }
+{
+    if let Some(field) = effect {
+        set_props(props, field, at, fit);
+    }
+}
+
+fn sanitize_entry(
+    alloc: Global,
+    dir: &Path,
+    prefix: &str,
+    props: &mut Props,
+    entry: &Entry,
+) -> Result<(), LoadError>
+    ensures { Leaves (λ props. props) props.new result
+        (sanitize_entry_as dir.now prefix.now props.old (field_of entry.now)) }
+{
+    let row = row_of(alloc, &sanitize(), prefix, entry)?;
+    let fit = fitted(alloc, dir, prefix, row, entry)?;
+    put_props(props, row.effect, entry.at, fit);
+    Ok(())
+}
+
+fn add_sanitize(
+    alloc: Global,
+    dir: &Path,
+    prefix: &str,
+    props: &mut Props,
+    entries: &[Entry],
+) -> Result<(), LoadError>
+    ensures { Leaves (λ props. props) props.new result
+        (each_entry (sanitize_entry_as dir.now prefix.now) props.old
+        (fields_then (map field_of entries.now) no_field)) }
+{
+    'entries: for entry in entries {
+        sanitize_entry(alloc, dir, prefix, props, entry)?;
+    }
+    Ok(())
+}
+
+fn add_table<const N: usize>(
+    alloc: Global,
+    dir: &Path,
+    prefix: &str,
+    table: &PropTable<N>,
+    props: &mut Props,
+    entries: &[Entry],
+) -> Result<(), LoadError>
+    ensures { Leaves (λ props. props) props.new result
+        (groups_typed dir.now prefix.now table.now props.old (fields_then (map field_of entries.now) no_field)) }
+{
+    add_groups(alloc, dir, prefix, table, &mut props.groups, entries)
+}
+
+fn add_group(
+    alloc: Global,
+    dir: &Path,
+    prefix: &str,
+    id: GroupId,
+    props: &mut Props,
+    entries: &[Entry],
+) -> Result<(), LoadError>
+    ensures { Leaves (λ props. props) props.new result
+        (inner_typed dir.now prefix.now (Some (Group id)) props.old (fields_then (map field_of entries.now) no_field)) }
+{
+    let group = group_of(alloc, dir, prefix, entries)?;
+    props.groups.insert(id, group)?;
+    Ok(())
+}
+
+/// Puts what stands in a group of the file into a record.
+fn open(
+    alloc: Global,
+    dir: &Path,
+    prefix: &str,
+    effect: Option<Field>,
+    props: &mut Props,
+    entries: &[Entry],
+) -> Result<(), LoadError>
+    ensures { Leaves (λ props. props) props.new result
+        (inner_typed dir.now prefix.now effect props.old (fields_then (map field_of entries.now) no_field)) }
+{
+    match effect {
+        Some(Field::Sanitize) => add_sanitize(alloc, dir, prefix, props, entries),
+        Some(Field::Arch) => add_table(alloc, dir, prefix, &arch(), props, entries),
+        Some(Field::Multilib) => add_table(alloc, dir, prefix, &multilib(), props, entries),
+        Some(Field::Target) => add_table(alloc, dir, prefix, &target(), props, entries),
+        Some(Field::Group(id)) => add_group(alloc, dir, prefix, id, props, entries),
+        _ => Ok(()),
+    }
+}
+
+fn add_map(
+    alloc: Global,
+    dir: &Path,
+    effect: Option<Field>,
+    props: &mut Props,
+    entry: &Entry,
+) -> Result<(), LoadError>
+    ensures { Leaves (λ props. props) props.new result
+        (entry_typed dir.now effect props.old (field_of entry.now) K.Group) }
+{
+    let inside = entries(alloc, "", entry)?;
+    let inner = within(alloc, "", &entry.name)?;
+    open(alloc, dir, inner.as_str(), effect, props, inside)
+}
+
+fn add_entry(
+    alloc: Global,
+    dir: &Path,
+    row: Row,
+    props: &mut Props,
+    entry: &Entry,
+) -> Result<(), LoadError>
+    ensures { Leaves (λ props. props) props.new result
+        (entry_typed dir.now row.effect props.old (field_of entry.now) row.kind) }
+{
+    match row.kind {
+        PropKind::Group => add_map(alloc, dir, row.effect, props, entry),
+        _ => {
+            let fit = fitted(alloc, dir, "", row, entry)?;
+            put_props(props, row.effect, entry.at, fit);
+            Ok(())
+        }
+    }
+}
+
+fn module_entry(
+    alloc: Global,
+    dir: &Path,
+    kind: ModuleKind,
+    props: &mut Props,
+    entry: &Entry,
+) -> Result<(), LoadError>
+    ensures { Leaves (λ props. props) props.new result (module_entry_as dir.now kind props.old (field_of entry.now)) }
+{
+    let row = module_row_of(alloc, kind, entry)?;
+    add_entry(alloc, dir, row, props, entry)
+}
+
+/// The record of a module's entries.
+pub(crate) fn props_of(
+    alloc: Global,
+    dir: &Path,
+    kind: ModuleKind,
+    entries: &[Entry],
+) -> Result<Props, LoadError>
+    ensures { Answers (λ props. props) result
+        (each_entry (module_entry_as dir.now kind) props_empty (fields_then (map field_of entries.now) no_field)) }
+{
+    let mut props = Props::empty(alloc);
+    'entries: for entry in entries {
+        module_entry(alloc, dir, kind, &mut props, entry)?;
+    }
+    Ok(props)
+}
