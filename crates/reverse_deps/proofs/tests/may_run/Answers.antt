@@ -42,7 +42,7 @@ loop-node-preserved c =
     let x = c.node-item.result in
     subst (AllByRecursion (IsBare places)) (sym (take-more nodes i x c.loop-node-test.true c.node-item.is))
         (all_pushed (IsBare places) (take i nodes) x c.loop-node.invariant
-            (sym c.as_slice-edges.ensures ∙ none_left c.as_slice-edges.result.now (omega (arith, c.if-edges.false)), c.if-node-mods.false))
+            (sym c.as_slice-edges.ensures ∙ none_left c.as_slice-edges.result.now (omega (arith, c.if-edges-gt0.false)), c.if-node-mods.false))
 
 pub returns : goal.returns
 returns c told =
