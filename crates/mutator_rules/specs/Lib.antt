@@ -1,0 +1,9 @@
+pub mod Arrivals
+pub mod Conditions
+pub mod Configs
+pub mod Errors
+pub mod Inside
+pub mod Laws
+pub mod Meaning
+pub mod Outcomes
+pub mod Shapes

@@ -1,0 +1,12 @@
+pub mod Apart
+pub mod Counted
+pub mod Each
+pub mod Gained
+pub mod Inside
+pub mod Least
+pub mod Listed
+pub mod Made
+pub mod OneOutcome
+pub mod Sames
+pub mod Turns
+pub mod Whole

@@ -1,0 +1,52 @@
+-- What is answered where all requests are resolved and the edges are counted.
+use Rattle.std.proofs.Common.{◌≡◌, ◌<◌, List, Ok, Result, length, map, ap, sym, ◌∙◌, subst}
+use Rattle.std.specs.List.{AllByRecursion}
+use Rattle.bp_faults.specs.declared.fault.Fault.{Fault}
+use Rattle.bp_faults.specs.declared.ids.NodeId.{NodeId}
+use Rattle.bp_faults.specs.Phases.{GoesOn}
+use Rattle.bp_props.specs.declared.module.Module.{Module}
+use Rattle.module_graph.specs.declared.graph.Node.{Node}
+use Rattle.module_graph.specs.Graphs.{edges_of, IsValid}
+use Rattle.module_graph.specs.Walks.{NoneReturns}
+use Rattle.mutator_rules.specs.Conditions.{MayRun, places_in}
+use Rattle.mutator_rules.specs.declared.request.Request.{Request}
+use Rattle.reverse_deps.specs.Applied.{AskInside, edges_counted, found_for, IsAcyclic, IsCounted, IsApplied}
+use Rattle.reverse_deps.specs.Linked.{bare, links, linked}
+use Rattle.reverse_deps.specs.Resolved.{resolved}
+use Rattle.reverse_deps.proofs.Each.{all_made, as_many}
+use Rattle.reverse_deps.proofs.Gained.{bare_linked}
+use Rattle.reverse_deps.proofs.Inside.{LinksInside, links_inside, node_inside}
+use Rattle.reverse_deps.proofs.Made.{may_linked, valid_linked}
+
+module _ {P : Type 0} (mods : List Module) (nodes : List (Node P)) (asked : List (NodeId × Request)) (found : List NodeId) (found_is : found_for mods nodes asked ≡ Ok found) where
+  pub many_found : length found ≡ length asked
+  many_found = as_many (λ (a : NodeId × Request). resolved mods nodes a.1) asked found found_is
+
+  pub found_inside : AllByRecursion (λ (n : NodeId). n.0 < length nodes) found
+  found_inside = all_made (λ (a : NodeId × Request). resolved mods nodes a.1) (λ (n : NodeId). n.0 < length nodes) (λ a n is. node_inside mods nodes a.1 n is) asked found found_is
+
+  module _ (asking : AskInside (length nodes) asked) (made : List (Node P)) (made_is : made ≡ linked nodes (links asked found)) where
+    inside : AllByRecursion (LinksInside (length nodes)) (links asked found)
+    inside = links_inside (length nodes) asked found asking found_inside
+
+    pub bare_made : map bare made ≡ map bare nodes
+    bare_made = ap (map bare) made_is ∙ bare_linked nodes (links asked found)
+
+    module _ (counted : edges_counted made ≡ Ok tt) where
+      as_linked : edges_counted (linked nodes (links asked found)) ≡ Ok tt
+      as_linked = subst (λ (xs : List (Node P)). edges_counted xs ≡ Ok tt) made_is counted
+
+      pub may_made : MayRun (places_in (length mods)) nodes → MayRun (places_in (length mods)) made
+      may_made may = subst (MayRun (places_in (length mods))) (sym made_is) (may_linked (places_in (length mods)) nodes (links asked found) may inside as_linked)
+
+      module _ (acyclic : NoneReturns (edges_of made)) where
+        linked_acyclic : NoneReturns (edges_of (linked nodes (links asked found)))
+        linked_acyclic = subst (λ (xs : List (Node P)). NoneReturns (edges_of xs)) made_is acyclic
+
+        pub valid_made : IsValid nodes → IsValid made
+        valid_made valid = subst IsValid (sym made_is) (valid_linked nodes (links asked found) valid inside linked_acyclic)
+
+        pub means_made : IsApplied mods nodes asked (Ok made)
+        means_made =
+            subst (λ (r : Result (List NodeId) Fault). GoesOn r (λ found. IsCounted mods (linked nodes (links asked found))) (Ok made)) (sym found_is)
+            (subst (λ (r : Result (Unit {0}) Fault). GoesOn r (IsAcyclic mods (linked nodes (links asked found))) (Ok made)) (sym as_linked) (made_is, linked_acyclic))

@@ -1,0 +1,54 @@
+-- What holds of all requests.
+use Rattle.std.specs.Prelude.{◌≡◌, ◌↔◌, ◌<◌, ℕ, List, Option, Some, None, IsTrue, slice_get, slice_index_or}
+use Rattle.bp_faults.specs.declared.ids.NodeId.{NodeId}
+use Rattle.bp_faults.specs.Phases.{IsOnce}
+use Rattle.bp_props.specs.declared.module.Module.{Module}
+use Rattle.module_graph.specs.declared.graph.Node.{Node}
+use Rattle.module_graph.specs.declared.variation.Variation.{Variation}
+use Rattle.module_graph.specs.declared.variation.Variation.TheVariants.{Empty}
+use Rattle.module_graph.specs.declared.variations.Axis.{Axis}
+use Rattle.module_graph.specs.declared.variations.Axis.TheVariants.{Target, Image, Link}
+use Rattle.module_graph.specs.Axes.{place_of}
+use Rattle.mutator_rules.specs.declared.request.Request.{Request}
+use Rattle.mutator_rules.specs.declared.request.Wanted.{Wanted}
+use Rattle.reverse_deps.specs.Applied.{IsApplied}
+use Rattle.reverse_deps.specs.Resolved.{node_for}
+use Rattle.reverse_deps.specs.Same.{same}
+
+-- The test of two variations tells whether they are equal.
+abbrev pub SameMeansEqual : Type 0
+SameMeansEqual = (v w : Variation) → IsTrue (same v w) ↔ v ≡ w
+
+module _ {P : Type 0} where
+  -- The variation of a node along an axis.
+  abbrev pub along : Axis → Node P → Variation
+  along axis x = slice_index_or x.vars (place_of axis) Empty
+
+  -- A node is of a module and has the wanted target, image and link.
+  pub record IsFor (m : ℕ) (want : Wanted) (x : Node P) : Type 0 where
+    pub of_module : x.«module».0 ≡ m
+    pub target : want.target ≡ along Target x
+    pub image : want.image ≡ along Image x
+    pub link : want.link ≡ along Link x
+
+  -- Node n is there, and is such a node.
+  abbrev pub HasFor : List (Node P) → ℕ → Wanted → ℕ → Type 0
+  HasFor nodes m want n = (x : Node P) × (slice_get nodes n ≡ Some x) × IsFor m want x
+
+  -- The least such node, or none where there is none.
+  abbrev pub IsLeastFor : List (Node P) → ℕ → Wanted → Option NodeId → Type 0
+  IsLeastFor nodes m want None = (n : ℕ) → HasFor nodes m want n → ⊥
+  IsLeastFor nodes m want (Some least) =
+      HasFor nodes m want least.0 × ((n : ℕ) → n < least.0 → HasFor nodes m want n → ⊥)
+
+module _ (P : Type 0) where
+  -- The node that is found is the least of its module with the wanted variations, and none is found where there is none.
+  abbrev pub NodesForAreLeast : Type 0
+  NodesForAreLeast =
+      (nodes : List (Node P)) (m : ℕ) (want : Wanted) → IsLeastFor nodes m want (node_for nodes m want)
+
+  -- Requests make one thing of a graph, and no other.
+  abbrev pub OneOutcome : Type 0
+  OneOutcome =
+      (mods : List Module) (nodes : List (Node P)) (asked : List (NodeId × Request))
+      → IsOnce (IsApplied mods nodes asked)

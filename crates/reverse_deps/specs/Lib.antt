@@ -1,0 +1,6 @@
+pub mod Applied
+pub mod Inside
+pub mod Laws
+pub mod Linked
+pub mod Resolved
+pub mod Same
