@@ -60,7 +60,7 @@ module _ {P : Type 0} (m : ℕ) (want : Wanted) where
   passed x is =
       let own = both_so (nat_eq x.«module».0 m) (is_wanted want x.vars) is in
       let first =
-          both_so (has Target want.target x.vars) (has Image want.image x.vars && has Link want.link x.vars) own.1 in
+      both_so (has Target want.target x.vars) (has Image want.image x.vars && has Link want.link x.vars) own.1 in
       let rest = both_so (has Image want.image x.vars) (has Link want.link x.vars) first.1 in
       record {
         of_module = eqb-true x.«module».0 m own.0;
@@ -72,10 +72,10 @@ module _ {P : Type 0} (m : ℕ) (want : Wanted) where
   passes : (x : Node P) → IsFor m want x → is_for m want x ≡ true
   passes x is =
       and_so (nat_eq x.«module».0 m) (is_wanted want x.vars) (eq-eqb x.«module».0 m is.of_module)
-          (and_so (has Target want.target x.vars) (has Image want.image x.vars && has Link want.link x.vars)
-              (equal_same want.target (along Target x) is.target)
-              (and_so (has Image want.image x.vars) (has Link want.link x.vars)
-                  (equal_same want.image (along Image x) is.image) (equal_same want.link (along Link x) is.link)))
+      (and_so (has Target want.target x.vars) (has Image want.image x.vars && has Link want.link x.vars)
+      (equal_same want.target (along Target x) is.target)
+      (and_so (has Image want.image x.vars) (has Link want.link x.vars)
+      (equal_same want.image (along Image x) is.image) (equal_same want.link (along Link x) is.link)))
 
   -- the node that is found is the least
   pub least_for : (nodes : List (Node P)) → IsLeastFor nodes m want (node_for nodes m want)
@@ -88,8 +88,7 @@ module _ {P : Type 0} (m : ℕ) (want : Wanted) where
           → IsLeastFor nodes m want (option_map (λ n. record { 0 = n }) o)
       by None none = λ n there. none n (passing n there)
       by (Some least) first =
-          let e : first.0 ≡ least = let f = first.1 in omega arith in
-          (
+          let e : first.0 ≡ least = let f = first.1 in omega arith in (
             subst (HasFor nodes m want) e (first.2.0, first.2.1, passed first.2.0 first.2.2),
             λ n lt there. first.3 n (omega arith) (passing n there),
           )

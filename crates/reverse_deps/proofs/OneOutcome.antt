@@ -36,6 +36,6 @@ module _ {P : Type 0} (one : AtMostOneCycleMeaning P) (mods : List Module) where
   pub applied_once : (nodes : List (Node P)) (asked : List (NodeId × Request)) → IsOnce (IsApplied mods nodes asked)
   applied_once nodes asked =
       goes_on_once (found_for mods nodes asked) (λ found. IsCounted mods (linked nodes (links asked found)))
-          (λ found. goes_on_once (edges_counted (linked nodes (links asked found)))
-              (IsAcyclic mods (linked nodes (links asked found)))
-              (λ counted. acyclic_once (linked nodes (links asked found)) counted))
+      (λ found. goes_on_once (edges_counted (linked nodes (links asked found)))
+      (IsAcyclic mods (linked nodes (links asked found)))
+      (λ counted. acyclic_once (linked nodes (links asked found)) counted))

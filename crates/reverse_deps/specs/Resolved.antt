@@ -66,13 +66,13 @@ request_fault kind r = fault_on kind r.at r.name
 abbrev pub missing_variant : Request → Fault
 missing_variant r =
     fault_on MissingVariant r.at
-        (label_of r.name (r.want.target ∷ r.want.image ∷ r.want.link ∷ Empty ∷ Empty ∷ []))
+    (label_of r.name (r.want.target ∷ r.want.image ∷ r.want.link ∷ Empty ∷ Empty ∷ []))
 
 -- A module, if it is of the kind that the edge leads to.
 abbrev pub fitting : List Module → Request → ℕ → Result ℕ Fault
 fitting mods r m =
     option_map_or (λ kind. Err (request_fault kind r))
-        (option_and_then (λ (it : Module). wrong_kind r.kind it.kind) (slice_get mods m)) (Ok m)
+    (option_and_then (λ (it : Module). wrong_kind r.kind it.kind) (slice_get mods m)) (Ok m)
 
 -- The module of a request: it is there, and of that kind.
 abbrev pub module_for : List Module → Request → Result ℕ Fault

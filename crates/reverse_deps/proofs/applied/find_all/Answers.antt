@@ -8,6 +8,6 @@ use Rattle.reverse_deps.proofs.applied.find_all.Goals as goal
 pub loop-request-preserved : goal.loop-request-preserved
 loop-request-preserved g c =
     sym (in_turn_more (λ (a : NodeId × Request). resolved c.args.mods.now c.args.g.now.nodes a.1) c.args.asked.now
-        c.loop-request.request-index c.loop-request.found.items c.push.new.self.items c.loop-request-item.result
-        c.in_ok-resolve_by.field-0 c.loop-request-test.true c.loop-request-item.is (sym c.loop-request.invariant)
-        c.in_ok-resolve_by.ensures c.in_ok-push.ensures.items)
+    c.loop-request.request-index c.loop-request.found.items c.push.new.self.items c.loop-request-item.result
+    c.in_ok-resolve_by.field-0 c.loop-request-test.true c.loop-request-item.is (sym c.loop-request.invariant)
+    c.in_ok-resolve_by.ensures c.in_ok-push.ensures.items)

@@ -13,11 +13,11 @@ loop-number-preserved c =
     let item = c.index-mods-number.result in
     let name = c.as_str.result.now in
     let many : length (names_of (take n mods)) ≡ n =
-        length-map (take n mods) (λ (m : Module). m.name) ∙ length-take-le n mods (omega arith) in
+    length-map (take n mods) (λ (m : Module). m.name) ∙ length-take-le n mods (omega arith) in
     let learned = subst (λ k. LearnsNumber c.loop-number.table name k c.learn.new.self) (sym many)
-        c.in_ok-learn.ensures.known in
+    c.in_ok-learn.ensures.known in
     subst (λ names. NumbersFirst names c.learn.new.self)
-        (sym (map-take-more (λ (m : Module). m.name) mods n item name c.loop-number-test.true c.index-mods-number.is
-            c.as_str.ensures))
-        (c.tables_grow_with_lists.ensures (names_of (take n mods)) c.loop-number.table c.learn.new.self name
-            c.loop-number.invariant learned)
+    (sym (map-take-more (λ (m : Module). m.name) mods n item name c.loop-number-test.true c.index-mods-number.is
+    c.as_str.ensures))
+    (c.tables_grow_with_lists.ensures (names_of (take n mods)) c.loop-number.table c.learn.new.self name
+    c.loop-number.invariant learned)

@@ -14,9 +14,9 @@ loop-asker-preserved c =
     let i = c.loop-asker.asker-index in
     let a = c.loop-asker-item.result in
     subst (AskInside c.args.count) (sym (take-more asked i a c.loop-asker-test.true c.loop-asker-item.is))
-        (all_pushed (Inside c.args.count) (take i asked) a c.loop-asker.invariant c.if-asker-count.false)
+    (all_pushed (Inside c.args.count) (take i asked) a c.loop-asker.invariant c.if-asker-count.false)
 
 pub returns : goal.returns
 returns c told =
     subst (AskInside c.args.count) (take-past c.loop-asker.asker-index c.args.asked.now c.loop-asker-test.false)
-        c.loop-asker.invariant
+    c.loop-asker.invariant

@@ -41,13 +41,13 @@ loop-node-preserved c =
     let i = c.loop-node.node-index in
     let x = c.node-item.result in
     subst (AllByRecursion (IsBare places)) (sym (take-more nodes i x c.loop-node-test.true c.node-item.is))
-        (all_pushed (IsBare places) (take i nodes) x c.loop-node.invariant
-            (sym c.as_slice-edges.ensures ∙ none_left c.as_slice-edges.result.now (omega (arith, c.if-edges-gt0.false)), c.if-node-mods.false))
+    (all_pushed (IsBare places) (take i nodes) x c.loop-node.invariant
+    (sym c.as_slice-edges.ensures ∙ none_left c.as_slice-edges.result.now (omega (arith, c.if-edges-gt0.false)), c.if-node-mods.false))
 
 pub returns : goal.returns
 returns c told =
     subst (MayRun (places_in (length c.args.mods.now))) c.as_slice-nodes.ensures
-        (bare_run (length c.args.mods.now) c.as_slice-nodes.result.now (grind (arith, nat_tests, told))
-            (subst (AllByRecursion (IsBare (length c.args.mods.now)))
-                (take-past c.loop-node.node-index c.as_slice-nodes.result.now c.loop-node-test.false)
-                c.loop-node.invariant))
+    (bare_run (length c.args.mods.now) c.as_slice-nodes.result.now (grind (arith, nat_tests, told))
+    (subst (AllByRecursion (IsBare (length c.args.mods.now)))
+    (take-past c.loop-node.node-index c.as_slice-nodes.result.now c.loop-node-test.false)
+    c.loop-node.invariant))
