@@ -91,18 +91,19 @@ fn one_and_chain(alloc: Global, last: u32) -> Result<Plan, OutOfMemory>
     })
 }
 
-/// Runs a pass on two workers until its gate has held node 0 while the other node entered, 64 times at most.
+/// Runs a pass on two workers until its gate has held the first node while the second entered, 64 times at most.
 fn until_met<R: Threads + Sync>(
     rt: &R,
     alloc: Global,
     plan: &Plan,
-    other: u32,
+    first: u32,
+    second: u32,
 ) -> Result<Option<PassRun<NumberBut>>, PassError>
     requires plan { IsPlan plan.now }
     requires free { HasNoCycle plan.now.edges }
 {
     for _run in 0..64 {
-        let gate = PairGate::new((7, NodeId(0)), (7, NodeId(other)), TURNS);
+        let gate = PairGate::new((7, NodeId(first)), (7, NodeId(second)), TURNS);
         let run = visit_all(rt, alloc, 7, plan, &ALL, 2, &gate)?;
         if gate.met() {
             return Ok(Some(run));
@@ -121,22 +122,22 @@ fn gates(rt: HostRuntime) -> Result<(), Fail> {
     let alloc = rt.alloc();
     let two = plan(alloc, 2, &[])?;
     assert!(rt; rises(&two));
-    assert!(rt; until_met(&rt, alloc, &two, 1)?.is_some());
+    // Which of the two threads is the earlier one is the system's choice, so each node is held.
+    let is_met = until_met(&rt, alloc, &two, 0, 1)?.is_some();
+    let is_met_other_way = until_met(&rt, alloc, &two, 1, 0)?.is_some();
+    assert!(rt; is_met || is_met_other_way);
     let alone = PairGate::new((7, NodeId(0)), (7, NodeId(1)), 1_000);
     let run = visit_all(&rt, alloc, 7, &two, &ALL, 1, &alone)?;
     assert!(rt; !alone.met());
     assert_eq!(rt; run.order.len(), 2);
-    for last in [3, 1_000] {
-        let chain = one_and_chain(alloc, last)?;
-        assert!(rt; rises(&chain));
-        match until_met(&rt, alloc, &chain, last)? {
-            Some(run) => {
-                let before = before_first(&run.order);
-                assert!(rt; before >= Some(last as usize - 1));
-                assert_eq!(rt; run.receipt.order().len(), run.order.len());
-            }
-            None => assert!(rt; false, "never met"),
+    let chain = one_and_chain(alloc, 1_000)?;
+    assert!(rt; rises(&chain));
+    match until_met(&rt, alloc, &chain, 0, 1_000)? {
+        Some(run) => {
+            assert!(rt; before_first(&run.order) >= Some(999));
+            assert_eq!(rt; run.receipt.order().len(), run.order.len());
         }
+        None => assert!(rt; false, "never met"),
     }
     Ok(())
 }
