@@ -9,7 +9,7 @@ use Rattle.bp_faults.specs.declared.kind.FaultKind.TheVariants.{MissingName, Bad
 use Rattle.bp_faults.specs.declared.kind.FaultKind.TheVariants.{NotDefaults, Cycle, MissingVariant, BadSource, BadValue}
 use Rattle.bp_faults.specs.declared.kind.FaultKind.TheVariants.{BadPath, DuplicateSource, LinkTooLong, TooMany, NoFile}
 use Rattle.bp_faults.specs.declared.kind.FaultKind.TheVariants.{FileTooLarge, BadList, OutputTooLarge, NotReady}
-use Rattle.bp_faults.specs.declared.kind.FaultKind.TheVariants.{OrderEnds, NotBuilt}
+use Rattle.bp_faults.specs.declared.kind.FaultKind.TheVariants.{OrderEnds, NotBuilt, TextTooLong, NoModule, NotList}
 
 -- Each kind has a number.
 abbrev pub number_of : FaultKind → ℕ
@@ -50,6 +50,9 @@ number_of OutputTooLarge = 34
 number_of NotReady = 35
 number_of OrderEnds = 36
 number_of NotBuilt = 37
+number_of TextTooLong = 40
+number_of NoModule = 41
+number_of NotList = 42
 
 -- Each kind has a text.
 abbrev pub text_of : FaultKind → List ℕ
@@ -90,3 +93,6 @@ text_of OutputTooLarge = codes "output is too large"
 text_of NotReady = codes "not ready"
 text_of OrderEnds = codes "order ends early"
 text_of NotBuilt = codes "not built yet"
+text_of TextTooLong = codes "text is too long"
+text_of NoModule = codes "no such module"
+text_of NotList = codes "not a list"

@@ -40,6 +40,9 @@ pub enum FaultKind {
     NotReady,
     OrderEnds,
     NotBuilt,
+    TextTooLong,
+    NoModule,
+    NotList,
 }
 
 impl FaultKind {
@@ -87,6 +90,9 @@ impl FaultKind {
             FaultKind::NotReady => 35,
             FaultKind::OrderEnds => 36,
             FaultKind::NotBuilt => 37,
+            FaultKind::TextTooLong => 40,
+            FaultKind::NoModule => 41,
+            FaultKind::NotList => 42,
         }
     }
 
@@ -132,6 +138,9 @@ impl FaultKind {
             FaultKind::NotReady => "not ready",
             FaultKind::OrderEnds => "order ends early",
             FaultKind::NotBuilt => "not built yet",
+            FaultKind::TextTooLong => "text is too long",
+            FaultKind::NoModule => "no such module",
+            FaultKind::NotList => "not a list",
         }
     }
 }
