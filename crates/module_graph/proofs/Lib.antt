@@ -22,3 +22,4 @@ pub mod Lines
 pub mod OneCycle
 pub mod ShortCycle
 pub mod SomeCycle
+pub mod Sames

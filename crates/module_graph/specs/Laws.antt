@@ -1,5 +1,5 @@
 -- What holds of every graph and its plans.
-use Rattle.std.specs.Prelude.{◌≡◌, ◌<◌, ◌≤◌, ◌↔◌, ◌++◌, ℕ, suc, true, List, [], ◌∷◌, map, length, slice_get, Some}
+use Rattle.std.specs.Prelude.{◌≡◌, ◌<◌, ◌≤◌, ◌↔◌, ◌++◌, ℕ, suc, true, List, [], ◌∷◌, map, length, slice_get, Some, IsTrue}
 use Rattle.std.specs.Prelude.{Result}
 use Rattle.std.specs.List.{AllByRecursion}
 use Rattle.bp_faults.specs.declared.fault.Fault.{Fault}
@@ -14,6 +14,7 @@ use Rattle.module_graph.specs.Cycles.{IsCycle, IsReported, CycleMeans, edges_at}
 use Rattle.module_graph.specs.Graphs.{outward, edges_of, targets, NameNodes, IsNumbered, IsValid}
 use Rattle.module_graph.specs.Names.{variant_name_of, is_plain}
 use Rattle.module_graph.specs.Numbered.{by_number}
+use Rattle.module_graph.specs.Same.{same}
 use Rattle.module_graph.specs.Planned.{by_target, plan_edges, plan_of}
 use Rattle.module_graph.specs.Walks.{Walk, Returns, NoneReturns}
 
@@ -31,6 +32,10 @@ InEdgesStayByTarget =
 abbrev pub VariantNamesArePlain : Type 0
 VariantNamesArePlain =
     (variations : List Variation) → AllByRecursion (λ c. is_plain c ≡ true) (variant_name_of variations)
+
+-- The test of two variations tells whether they are equal.
+abbrev pub SameMeansEqual : Type 0
+SameMeansEqual = (v w : Variation) → IsTrue (same v w) ↔ v ≡ w
 
 -- One item more, at the end, makes one piece more, at the end.
 abbrev pub OneMoreItem : Type 0 → Type 0 → Type 0

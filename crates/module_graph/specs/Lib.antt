@@ -10,3 +10,4 @@ pub mod Inside
 pub mod Search
 pub mod Parts
 pub mod GraphText
+pub mod Same

@@ -5,7 +5,7 @@ ghost use Rattle.module_graph.specs.Laws.{ValidPlansHaveNoCycle, PlansOfGraphsAr
 ghost use Rattle.module_graph.specs.Laws.{PredecessorsAreTargets, PredecessorsAreSources, InEdgesStayByTarget};
 ghost use Rattle.module_graph.specs.Laws.{EdgesJoinNodes, OneMoreNode, OneMoreItem, EdgesStandAtTheirNode};
 ghost use Rattle.module_graph.specs.Laws.{ReportedWhereAWalkReturns, OneCycleMeaning, AtMostOneCycleMeaning};
-ghost use Rattle.module_graph.specs.Laws.{TheCycleIsShortest, VariantNamesArePlain};
+ghost use Rattle.module_graph.specs.Laws.{TheCycleIsShortest, VariantNamesArePlain, SameMeansEqual};
 
 /// No walk along some edges returns exactly where a numbering of the nodes rises along each of them.
 pub fn none_returns_where_numbering_rises()
@@ -85,4 +85,9 @@ pub fn edges_stand_at_their_node<P>()
 /// A variant's name holds no `/`, no space and no other special character.
 pub fn variant_names_are_plain()
     ensures { VariantNamesArePlain }
+{}
+
+/// The test of two variations tells whether they are equal.
+pub fn same_means_equal()
+    ensures { SameMeansEqual }
 {}

@@ -1,4 +1,5 @@
 ghost use Rattle.std.specs.Prelude.{◌≡◌, ◌↔◌, IsTrue};
+ghost use Rattle.module_graph.specs.Same.{same};
 
 use bp_faults::Target;
 
@@ -17,11 +18,18 @@ pub enum Variation {
     Asan,
 }
 
+fn is_equal(one: Variation, other: Variation) -> bool
+    ensures { IsTrue result ↔ one ≡ other }
+{
+    one == other
+}
+
 impl Variation {
     /// Whether two variations are the same.
     pub fn is_same(self, other: Variation) -> bool
-        ensures { IsTrue result ↔ self ≡ other }
+        ensures equal { IsTrue result ↔ self ≡ other }
+        ensures test { result ≡ same self other }
     {
-        self == other
+        is_equal(self, other)
     }
 }

@@ -6,10 +6,10 @@ use Rattle.std.specs.List.{position_from}
 use Rattle.std.proofs.lemmas.Bool.{eqb-true}
 use Rattle.module_graph.specs.declared.graph.Node.{Node}
 use Rattle.module_graph.specs.declared.variations.Axis.TheVariants.{Target, Image, Link}
+use Rattle.module_graph.specs.Laws.{SameMeansEqual}
 use Rattle.mutator_rules.specs.declared.request.Wanted.{Wanted}
 use Rattle.reverse_deps.specs.Laws.{along, IsFor, HasFor, IsLeastFor}
 use Rattle.reverse_deps.specs.Resolved.{has, is_wanted, is_for, node_for}
-use Rattle.reverse_deps.proofs.Sames.{both_so, same_is, equal_same}
 
 module _ {X : Type 0} (test : X → Bool) where
   -- the item at a place passes
@@ -51,11 +51,16 @@ module _ {X : Type 0} (test : X → Bool) where
       by true is rest = (zero, omega arith, (x, refl, is), λ j lt p. absurd (omega arith))
       by false is rest = behind k x xs is (position_from test (k + 1) xs) rest
 
+both_so : (a b : Bool) → (a && b) ≡ true → (a ≡ true) × (b ≡ true)
+both_so true true h = (refl, refl)
+both_so true false h = cc
+both_so false b h = cc
+
 and_so : (a b : Bool) → a ≡ true → b ≡ true → (a && b) ≡ true
 and_so true b is so = so
 and_so false b is so = cc
 
-module _ {P : Type 0} (m : ℕ) (want : Wanted) where
+module _ {P : Type 0} (told : SameMeansEqual) (m : ℕ) (want : Wanted) where
   passed : (x : Node P) → is_for m want x ≡ true → IsFor m want x
   passed x is =
       let own = both_so (nat_eq x.«module».0 m) (is_wanted want x.vars) is in
@@ -64,18 +69,18 @@ module _ {P : Type 0} (m : ℕ) (want : Wanted) where
       let rest = both_so (has Image want.image x.vars) (has Link want.link x.vars) first.1 in
       record {
         of_module = eqb-true x.«module».0 m own.0;
-        target = same_is want.target (along Target x) first.0;
-        image = same_is want.image (along Image x) rest.0;
-        link = same_is want.link (along Link x) rest.1;
+        target = (told want.target (along Target x)).0 first.0;
+        image = (told want.image (along Image x)).0 rest.0;
+        link = (told want.link (along Link x)).0 rest.1;
       }
 
   passes : (x : Node P) → IsFor m want x → is_for m want x ≡ true
   passes x is =
       and_so (nat_eq x.«module».0 m) (is_wanted want x.vars) (eq-eqb x.«module».0 m is.of_module)
       (and_so (has Target want.target x.vars) (has Image want.image x.vars && has Link want.link x.vars)
-      (equal_same want.target (along Target x) is.target)
+      ((told want.target (along Target x)).1 is.target)
       (and_so (has Image want.image x.vars) (has Link want.link x.vars)
-      (equal_same want.image (along Image x) is.image) (equal_same want.link (along Link x) is.link)))
+      ((told want.image (along Image x)).1 is.image) ((told want.link (along Link x)).1 is.link)))
 
   -- the node that is found is the least
   pub least_for : (nodes : List (Node P)) → IsLeastFor nodes m want (node_for nodes m want)

@@ -7,6 +7,5 @@ pub mod Least
 pub mod Listed
 pub mod Made
 pub mod OneOutcome
-pub mod Sames
 pub mod Turns
 pub mod Whole

@@ -1,5 +1,5 @@
 -- What holds of all requests.
-use Rattle.std.specs.Prelude.{◌≡◌, ◌↔◌, ◌<◌, ℕ, List, Option, Some, None, IsTrue, slice_get, slice_index_or}
+use Rattle.std.specs.Prelude.{◌≡◌, ◌<◌, ℕ, List, Option, Some, None, slice_get, slice_index_or}
 use Rattle.bp_faults.specs.declared.ids.NodeId.{NodeId}
 use Rattle.bp_faults.specs.Phases.{IsOnce}
 use Rattle.bp_props.specs.declared.module.Module.{Module}
@@ -13,11 +13,6 @@ use Rattle.mutator_rules.specs.declared.request.Request.{Request}
 use Rattle.mutator_rules.specs.declared.request.Wanted.{Wanted}
 use Rattle.reverse_deps.specs.Applied.{IsApplied}
 use Rattle.reverse_deps.specs.Resolved.{node_for}
-use Rattle.reverse_deps.specs.Same.{same}
-
--- The test of two variations tells whether they are equal.
-abbrev pub SameMeansEqual : Type 0
-SameMeansEqual = (v w : Variation) → IsTrue (same v w) ↔ v ≡ w
 
 module _ {P : Type 0} where
   -- The variation of a node along an axis.

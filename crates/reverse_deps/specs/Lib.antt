@@ -3,4 +3,3 @@ pub mod Inside
 pub mod Laws
 pub mod Linked
 pub mod Resolved
-pub mod Same

@@ -24,7 +24,7 @@ use Rattle.module_graph.specs.Axes.{place_of}
 use Rattle.module_graph.specs.Names.{label_of}
 use Rattle.mutator_rules.specs.declared.request.Request.{Request}
 use Rattle.mutator_rules.specs.declared.request.Wanted.{Wanted}
-use Rattle.reverse_deps.specs.Same.{same}
+use Rattle.module_graph.specs.Same.{same}
 
 -- The names of modules, by number.
 abbrev pub names_of : List Module → List (List ℕ)

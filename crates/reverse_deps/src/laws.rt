@@ -1,8 +1,8 @@
 //! What holds of all requests: each law is the contract of a function that does nothing.
 
-ghost use Rattle.reverse_deps.specs.Laws.{OneOutcome, NodesForAreLeast, SameMeansEqual};
+ghost use Rattle.reverse_deps.specs.Laws.{OneOutcome, NodesForAreLeast};
 
-use module_graph::laws::at_most_one_cycle_meaning;
+use module_graph::laws::{at_most_one_cycle_meaning, same_means_equal};
 
 /// Requests make one thing of a graph, and no other.
 pub fn one_outcome<P>()
@@ -14,9 +14,6 @@ pub fn one_outcome<P>()
 /// The node that is found is the least of its module with the wanted variations, and none is found where there is none.
 pub fn nodes_for_are_least<P>()
     ensures { NodesForAreLeast P }
-{}
-
-/// The test of two variations tells whether they are equal.
-pub fn same_means_equal()
-    ensures { SameMeansEqual }
-{}
+{
+    same_means_equal();
+}

@@ -252,6 +252,5 @@ fn one_request_alone(rt: HostRuntime) -> Result<(), Fail> {
     }
     laws::one_outcome::<bool>();
     laws::nodes_for_are_least::<bool>();
-    laws::same_means_equal();
     Ok(())
 }

@@ -9,7 +9,7 @@ use Rattle.bp_faults.specs.Targets.{target_rank}
 use Rattle.module_graph.specs.declared.variation.Variation.{Variation}
 use Rattle.module_graph.specs.declared.variation.Variation.TheVariants.{Empty, Target as OfTarget, Common, Vendor}
 use Rattle.module_graph.specs.declared.variation.Variation.TheVariants.{Recovery, Static, Shared, PerSource, Asan}
-use Rattle.reverse_deps.specs.Same.{sort_number, own_number, same}
+use Rattle.module_graph.specs.Same.{sort_number, own_number, same}
 
 -- a target and a variation, back from their numbers
 target_from : ℕ → Target
