@@ -36,18 +36,22 @@ pub fn stealers(
     Ok(stealers)
 }
 
-/// Deals the nodes without predecessors to the deques in turn.
+/// Deals the nodes without predecessors to the deques in turn, from the last deque on: the caller itself works along
+/// that one, and at once, while the threads of the others have still to start.
 pub fn deal<V: Visit, G: Gate>(pass: &Pass<V, G>, deques: &mut [Worker<NodeId>])
     requires pass { IsPass (V.takes pass.now.visitor.now) pass.now }
     requires some { 0 < length deques.old }
     ensures { length deques.new ≡ length deques.old }
 {
     let many = deques.len();
-    let mut turn = 0;
+    let mut turn = many;
     for n in 0..pass.plan.count {
         if pass.starts[n as usize] == pass.starts[n as usize + 1] {
+            if turn == 0 {
+                turn = many;
+            }
+            turn -= 1;
             let _ = deques[turn].push(NodeId(n));
-            turn = (turn + 1) % many;
         }
     }
 }

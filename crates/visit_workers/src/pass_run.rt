@@ -31,6 +31,21 @@ pub struct PassRun<V: Visit> {
     pub receipt: Receipt<V>,
 }
 
+impl<V: Visit> PassRun<V> {
+    /// The results and the order. The receipt is given up.
+    pub fn into_parts(self) -> (Vec<Arc<V::Out>>, Vec<NodeId>)
+        ensures outs { result.0 ≡ self.outs }
+        ensures order { result.1 ≡ self.order }
+    {
+        let Self {
+            outs,
+            order,
+            receipt: _receipt,
+        } = self;
+        (outs, order)
+    }
+}
+
 impl<V: Visit> Drop for PassRun<V> {
     fn drop(self) {
         let Self {

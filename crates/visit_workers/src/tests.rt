@@ -117,28 +117,40 @@ fn before_first(order: &[NodeId]) -> Option<usize> {
     order.iter().position(|n| *n == NodeId(0))
 }
 
+/// Whether node 0 is held until the last node of a chain has entered, so that the order has the others before it.
+fn is_held_over_chain<R: Threads + Sync>(
+    rt: &R,
+    alloc: Global,
+    last: u32,
+) -> Result<bool, PassError>
+    requires { last ≤ 1000 }
+{
+    let chain = one_and_chain(alloc, last)?;
+    if !rises(&chain) {
+        return Ok(false);
+    }
+    match until_met(rt, alloc, &chain, 0, last)? {
+        Some(run) => {
+            let least = (last as usize).saturating_sub(1);
+            let is_whole = run.receipt.order().len() == run.order.len();
+            Ok(is_whole && before_first(&run.order) >= Some(least))
+        }
+        None => Ok(false),
+    }
+}
+
 #[test]
 fn gates(rt: HostRuntime) -> Result<(), Fail> {
     let alloc = rt.alloc();
     let two = plan(alloc, 2, &[])?;
     assert!(rt; rises(&two));
-    // Which of the two threads is the earlier one is the system's choice, so each node is held.
-    let is_met = until_met(&rt, alloc, &two, 0, 1)?.is_some();
-    let is_met_other_way = until_met(&rt, alloc, &two, 1, 0)?.is_some();
-    assert!(rt; is_met || is_met_other_way);
+    assert!(rt; until_met(&rt, alloc, &two, 0, 1)?.is_some());
     let alone = PairGate::new((7, NodeId(0)), (7, NodeId(1)), 1_000);
     let run = visit_all(&rt, alloc, 7, &two, &ALL, 1, &alone)?;
     assert!(rt; !alone.met());
     assert_eq!(rt; run.order.len(), 2);
-    let chain = one_and_chain(alloc, 1_000)?;
-    assert!(rt; rises(&chain));
-    match until_met(&rt, alloc, &chain, 0, 1_000)? {
-        Some(run) => {
-            assert!(rt; before_first(&run.order) >= Some(999));
-            assert_eq!(rt; run.receipt.order().len(), run.order.len());
-        }
-        None => assert!(rt; false, "never met"),
-    }
+    assert!(rt; is_held_over_chain(&rt, alloc, 3)?);
+    assert!(rt; is_held_over_chain(&rt, alloc, 1_000)?);
     Ok(())
 }
 
