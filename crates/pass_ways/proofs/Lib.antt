@@ -1,0 +1,6 @@
+pub mod Lacking
+pub mod Parts
+pub mod Said
+pub mod Refused
+pub mod Told
+pub mod Numbered

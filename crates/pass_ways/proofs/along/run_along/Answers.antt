@@ -1,0 +1,48 @@
+use Rattle.std.proofs.Common.{◌≤◌, ◌∙◌, arith, length, subst, sym}
+use Rattle.pass_core.specs.Orders.{IsLegal, numbers}
+use Rattle.pass_ways.proofs.Said.{say_few}
+use Rattle.pass_ways.proofs.Refused.{made_along, taken_is, inside_at, few_numbers, refused_at, refused_short}
+use Rattle.pass_ways.proofs.along.run_along.Goals as goal
+
+pub lines_from-requires : goal.lines_from-requires
+lines_from-requires g c =
+    let e = say_few c.args.lines.now.lines.now c.args.before.now c.requires.follows in omega arith
+
+pub returns-in-Ok : goal.returns-in-Ok
+returns-in-Ok g c =
+    let taken = taken_is c.args.lines.now.lines.now _ _ _ _ _ c.lines_from.ensures c.in_ok-order.ensures in
+    (c.in-Ok.ensures.1, made_along c.args.lines.now.lines.now c.args.before.now c.requires.follows c.args.pass c.args.plan.now c.in_ok-order.order.items taken c.new.result c.new.ensures (subst (λ l. IsLegal c.args.plan.now (numbers l)) (c.deref.ensures.value ∙ sym c.new.ensures) c.in-Ok.ensures.0))
+
+pub returns-in-Err-At : goal.returns-in-Err-At
+returns-in-Err-At g c =
+    let taken = taken_is c.args.lines.now.lines.now _ _ _ _ _ c.lines_from.ensures c.in_ok-order.ensures in
+    let at = rw c.in-Err-At.field-0-is at c.in-Err-At.ensures in
+    (at.1, (c.deref.result.now, made_along c.args.lines.now.lines.now c.args.before.now c.requires.follows c.args.pass c.args.plan.now c.in_ok-order.order.items taken c.deref.result.now c.deref.ensures.value at.0))
+
+pub fault_at-requires-clause-inside : goal.fault_at-requires-clause-inside
+fault_at-requires-clause-inside g c =
+    let taken = taken_is c.args.lines.now.lines.now _ _ _ _ _ c.lines_from.ensures c.in_ok-order.ensures in
+    let at = rw c.in-Err-NotReady.field-0-is at c.in-Err-NotReady.ensures in
+    let many = few_numbers c.args.lines.now.lines.now c.args.before.now c.requires.follows c.args.pass c.args.plan.now c.in_ok-order.order.items taken c.deref.result.now c.deref.ensures.value in
+    let few : c.in-Err-NotReady.place ≤ length c.in_ok-order.order.items = let e = at.inside in omega arith in
+    inside_at c.args.lines.now.lines.now c.args.before.now c.requires.follows c.args.pass c.args.plan.now c.in_ok-order.order.items taken c.in-Err-NotReady.place few
+
+pub returns-in-Err-NotReady : goal.returns-in-Err-NotReady
+returns-in-Err-NotReady g c =
+    let taken = taken_is c.args.lines.now.lines.now _ _ _ _ _ c.lines_from.ensures c.in_ok-order.ensures in
+    let at = rw c.in-Err-NotReady.field-0-is at c.in-Err-NotReady.ensures in
+    refused_at c.args.lines.now.lines.now c.args.before.now c.requires.follows c.args.pass c.args.plan.now c.in_ok-order.order.items taken c.args.lines.now.file c.in_ok-fault-in-Err-NotReady.fault c.in-Err-NotReady.place (rw c.deref.ensures.value at at) c.in_ok-fault-in-Err-NotReady.ensures
+
+pub fault_at-requires-in-Err-Ends-clause-inside : goal.fault_at-requires-in-Err-Ends-clause-inside
+fault_at-requires-in-Err-Ends-clause-inside g c =
+    let taken = taken_is c.args.lines.now.lines.now _ _ _ _ _ c.lines_from.ensures c.in_ok-order.ensures in
+    let at = rw c.in-Err-Ends.field-0-is at c.in-Err-Ends.ensures in
+    let many = few_numbers c.args.lines.now.lines.now c.args.before.now c.requires.follows c.args.pass c.args.plan.now c.in_ok-order.order.items taken c.deref.result.now c.deref.ensures.value in
+    let few : c.in-Err-Ends.place ≤ length c.in_ok-order.order.items = let e = at.whole in omega arith in
+    inside_at c.args.lines.now.lines.now c.args.before.now c.requires.follows c.args.pass c.args.plan.now c.in_ok-order.order.items taken c.in-Err-Ends.place few
+
+pub returns-in-Err-Ends : goal.returns-in-Err-Ends
+returns-in-Err-Ends g c =
+    let taken = taken_is c.args.lines.now.lines.now _ _ _ _ _ c.lines_from.ensures c.in_ok-order.ensures in
+    let at = rw c.in-Err-Ends.field-0-is at c.in-Err-Ends.ensures in
+    refused_short c.args.lines.now.lines.now c.args.before.now c.requires.follows c.args.pass c.args.plan.now c.in_ok-order.order.items taken c.args.lines.now.file c.in_ok-fault-in-Err-Ends.fault c.in-Err-Ends.place (rw c.deref.ensures.value at at) c.in_ok-fault-in-Err-Ends.ensures

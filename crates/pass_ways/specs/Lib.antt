@@ -1,0 +1,6 @@
+pub mod Visits
+pub mod OrderFiles
+pub mod Ways
+pub mod Inside
+pub mod Laws
+pub mod Examples
