@@ -1,0 +1,9 @@
+pub mod Counted
+pub mod Firsts
+pub mod Arriving
+pub mod Fit
+pub mod Ended
+pub mod May
+pub mod Lasting
+pub mod OneOutcome
+pub mod Tested

@@ -1,0 +1,37 @@
+-- What bodies use on the way to a new graph. No public contract speaks of it.
+use Rattle.std.specs.Prelude.{◌≢◌, List, map, length, Option, Some, None, Result, Ok, Err, ⊤}
+use Rattle.std.specs.List.{AllByRecursion, AllPairs, range_with_len}
+use Rattle.module_graph.specs.declared.graph.EdgeKind.{EdgeKind}
+use Rattle.module_graph.specs.declared.graph.Node.{Node}
+use Rattle.module_graph.specs.declared.variation.Variation.{Variation}
+use Rattle.module_graph.specs.declared.variations.Axis.{Axis}
+use Rattle.mutator_rules.specs.declared.error.KindError.{KindError}
+use Rattle.mutator_rules.specs.declared.error.KindError.TheVariants.{At, Nodes, Edges, OutOfMemory}
+use Rattle.mutator_rules.specs.declared.split.Split.{Split}
+use Rattle.mutator_rules.specs.Arrivals.{kinds_into}
+use Rattle.mutator_rules.specs.Shapes.{HasShape}
+use Rattle.variant_graphs.specs.Limits.{IsWithinLimits, IsFirstNodeBeyond, IsFirstEdgeBeyond}
+
+module _ {P : Type 0} where
+  -- The kinds of the edges that lead to each node, by node number.
+  abbrev pub all_kinds : List (Node P) → List (List EdgeKind)
+  all_kinds nodes = map (kinds_into nodes) (range_with_len 0 (length nodes))
+
+  -- A graph is within the limits, or what is first beyond them.
+  abbrev pub AnswersLimits : List (Node P) → Result Unit KindError → Type 0
+  AnswersLimits nodes (Ok done) = IsWithinLimits nodes
+  AnswersLimits nodes (Err (At n fault)) = ⊥
+  AnswersLimits nodes (Err (Nodes m)) = IsFirstNodeBeyond nodes m
+  AnswersLimits nodes (Err (Edges p)) = IsFirstEdgeBeyond nodes p
+  AnswersLimits nodes (Err OutOfMemory) = ⊥
+
+  -- Where there is an axis, the variations of each result differ.
+  abbrev pub VariantsDiffer : Option Axis → List (Split P) → Type 0
+  VariantsDiffer None outs = ⊤
+  VariantsDiffer (Some axis) outs =
+      AllByRecursion (λ (made : Split P). AllPairs (λ (b c : Variation × P). b.0 ≢ c.0) made.variants) outs
+
+  -- Each result has its shape, and its variations differ where there is an axis.
+  pub record AreFit (along : Option Axis) (outs : List (Split P)) : Type 0 where
+    pub shaped : AllByRecursion (HasShape along) outs
+    pub differ : VariantsDiffer along outs

@@ -1,0 +1,6 @@
+pub mod TopDown
+pub mod BottomUp
+pub mod Answers
+pub mod Inside
+pub mod Laws
+pub mod Examples

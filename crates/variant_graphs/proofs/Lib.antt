@@ -1,0 +1,12 @@
+pub mod Alls
+pub mod Pieces
+pub mod Beyond
+pub mod Apart
+pub mod NewNodes
+pub mod Owners
+pub mod Valid
+pub mod Replacing
+pub mod Positions
+pub mod Kept
+pub mod Begun
+pub mod Assembled

@@ -1,0 +1,28 @@
+-- How large a graph may become.
+use Rattle.std.specs.Prelude.{◌≡◌, ◌≤◌, List, length, Some, slice_get}
+use Rattle.std.specs.Option.{option_map}
+use Rattle.std.specs.List.{flat_map}
+use Rattle.bp_faults.specs.declared.ids.ModuleId.{ModuleId}
+use Rattle.bp_faults.specs.declared.limits.TheConstants.{MOST_EDGES, MOST_NODES}
+use Rattle.bp_faults.specs.declared.place.Place.{Place}
+use Rattle.module_graph.specs.declared.graph.Edge.{Edge}
+use Rattle.module_graph.specs.declared.graph.Node.{Node}
+
+module _ {P : Type 0} where
+  -- The edges of a graph, in node order.
+  abbrev pub all_edges : List (Node P) → List Edge
+  all_edges nodes = flat_map (λ (x : Node P). x.edges) nodes
+
+  -- A graph is within the limits.
+  pub record IsWithinLimits (nodes : List (Node P)) : Type 0 where
+    pub few_nodes : length nodes ≤ MOST_NODES
+    pub few_edges : length (all_edges nodes) ≤ MOST_EDGES
+
+  -- A graph has too many nodes, and m is the module of the first beyond.
+  abbrev pub IsFirstNodeBeyond : List (Node P) → ModuleId → Type 0
+  IsFirstNodeBeyond nodes m = option_map (λ (x : Node P). x.«module») (slice_get nodes MOST_NODES) ≡ Some m
+
+  -- It has few enough nodes but too many edges, and p is the place of the first beyond, in node order.
+  pub record IsFirstEdgeBeyond (nodes : List (Node P)) (p : Place) : Type 0 where
+    pub few_nodes : length nodes ≤ MOST_NODES
+    pub beyond : option_map (λ (e : Edge). e.at) (slice_get (all_edges nodes) MOST_EDGES) ≡ Some p

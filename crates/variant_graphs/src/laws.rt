@@ -1,0 +1,45 @@
+//! What holds of every split and of new payloads: each law is the contract of a function that does nothing.
+
+ghost use Rattle.variant_graphs.specs.Laws.{SplitsStayValid, SplitsKeepModules, OtherAxesStayFree};
+ghost use Rattle.variant_graphs.specs.Laws.{NewPayloadsKeepPlans, NewPayloadsStayValid};
+ghost use Rattle.variant_graphs.specs.Laws.{NewPayloadsKeepModules, NewPayloadsLeaveAxesFree};
+
+use module_graph::laws::{edges_join_nodes, none_returns_where_numbering_rises};
+
+/// The graph after a split is valid where the old one was.
+pub fn splits_stay_valid<P, B>()
+    ensures { SplitsStayValid P B }
+{
+    edges_join_nodes::<P>();
+    none_returns_where_numbering_rises();
+}
+
+/// The graph after a split is numbered, and its nodes are of the old modules.
+pub fn splits_keep_modules<P, B>()
+    ensures { SplitsKeepModules P B }
+{}
+
+/// A split along one axis leaves another as free as it was.
+pub fn other_axes_stay_free<P, B>()
+    ensures { OtherAxesStayFree P B }
+{}
+
+/// New payloads change no plan.
+pub fn new_payloads_keep_plans<P>()
+    ensures { NewPayloadsKeepPlans P }
+{}
+
+/// A valid graph is valid with new payloads.
+pub fn new_payloads_stay_valid<P>()
+    ensures { NewPayloadsStayValid P }
+{}
+
+/// With new payloads a graph is numbered, and its nodes are of the same modules.
+pub fn new_payloads_keep_modules<P>()
+    ensures { NewPayloadsKeepModules P }
+{}
+
+/// New payloads leave a free axis free.
+pub fn new_payloads_leave_axes_free<P>()
+    ensures { NewPayloadsLeaveAxesFree P }
+{}
