@@ -1,0 +1,13 @@
+pub mod Pairs
+pub mod Members
+pub mod Adding
+pub mod Along
+pub mod BySpelling
+pub mod Equation
+pub mod WantsSplit
+pub mod Spellings
+pub mod Rising
+pub mod Examples
+pub mod Answered
+pub mod Steps
+pub mod OneTransition

@@ -1,0 +1,74 @@
+-- What holds of every transition.
+use Rattle.std.specs.Prelude.{◌≡◌, ◌<◌, ℕ, List, [], ◌++◌, length, slice_index_or, map, Ok}
+use Rattle.std.specs.Prelude.{◌↔◌, false, true, Contains}
+use Rattle.std.specs.List.{AllByRecursion, AllPairs}
+use Rattle.module_graph.specs.Names.{spelling}
+use Rattle.transition_rules.specs.Spelled.{is_spelled_before, FitsNumber}
+use Rattle.module_graph.specs.declared.graph.Node.{Node}
+use Rattle.module_graph.specs.declared.variation.Variation.{Variation}
+use Rattle.module_graph.specs.Graphs.{IsNumbered, IsValid}
+use Rattle.mutator_rules.specs.Arrivals.{arrivals}
+use Rattle.mutator_rules.specs.Meaning.{TransitionMeaning}
+use Rattle.variant_graphs.specs.Splits.{IsSplitting}
+use Rattle.variant_graphs.specs.Splitting.{splitting}
+use Rattle.transition_rules.specs.Wants.{others_of, wanted}
+use Rattle.mutator_rules.specs.Outcomes.{KindOutcome}
+use Rattle.transition_rules.specs.Passes.{AreWants, wanted_variants, MutateMeans, SplitsDiffer, TransitionMeans, WantsMean}
+
+module _ (P : Type 0) where
+  -- The variations of a node are its own, and then those that are wanted along the edges that lead to it by the
+  -- variants of their sources.
+  abbrev pub WantsMeetTheirEquation : Type 0
+  WantsMeetTheirEquation =
+      (m : TransitionMeaning P) (nodes : List (Node P)) (lists : List (List Variation)) (n : ℕ) → IsNumbered nodes
+      → IsValid nodes → AreWants m nodes (Ok lists) → n < length nodes
+      → (own : List Variation) × (m.split nodes n ≡ Ok own)
+      × (slice_index_or lists n [] ≡ own ++ others_of own
+      (wanted m nodes n (arrivals nodes n) (map (λ a. slice_index_or lists a.0.0 []) (arrivals nodes n))))
+
+  -- So the variants of the nodes differ, and each edge of each variant leads to a variant that its target has: none
+  -- is dropped.
+  abbrev pub WantsSplit : Type 0
+  WantsSplit =
+      (m : TransitionMeaning P) (nodes : List (Node P)) (lists : List (List Variation)) → IsNumbered nodes
+      → IsValid nodes → SplitsDiffer m nodes → AreWants m nodes (Ok lists)
+      → IsSplitting (splitting (wanted_variants m nodes) lists) nodes
+
+module _ (P : Type 0) where
+  -- The first step of a transition comes to at most one thing.
+  abbrev pub OneWantsOutcome : Type 0
+  OneWantsOutcome =
+      (m : TransitionMeaning P) (nodes : List (Node P)) (x y : KindOutcome (List (Node P))) → WantsMean m nodes x
+      → WantsMean m nodes y → x ≡ y
+
+  -- So does the second.
+  abbrev pub OneMutateOutcome : Type 0
+  OneMutateOutcome =
+      (m : TransitionMeaning P) (nodes : List (Node P)) (x y : KindOutcome (List (Node P))) → MutateMeans m nodes x
+      → MutateMeans m nodes y → x ≡ y
+
+  -- A transition rule makes at most one thing of a graph.
+  abbrev pub OneTransition : Type 0
+  OneTransition =
+      (m : TransitionMeaning P) (nodes : List (Node P)) (x y : KindOutcome (List (Node P))) → TransitionMeans m nodes x
+      → TransitionMeans m nodes y → x ≡ y
+
+-- The other variations of a node stand by their spelling: none is spelled before an earlier one.
+abbrev pub OthersStandBySpelling : Type 0
+OthersStandBySpelling = (own ws : List Variation) → AllPairs (λ v w. is_spelled_before w v ≡ false) (others_of own ws)
+
+-- The other variations of a node are exactly those that are wanted and that it doesn't have by itself.
+abbrev pub OthersAreThoseWanted : Type 0
+OthersAreThoseWanted =
+    (own ws : List Variation) (v : Variation)
+    → Contains (others_of own ws) v ↔ (Contains ws v × (Contains own v → ⊥))
+
+-- Two variations that are spelled alike are equal.
+abbrev pub SpellingsDiffer : Type 0
+SpellingsDiffer = (v w : Variation) → FitsNumber v → FitsNumber w → spelling v ≡ spelling w → v ≡ w
+
+-- So each of the other variations stands there once, and is spelled before the later ones.
+abbrev pub OthersRise : Type 0
+OthersRise =
+    (own ws : List Variation) → AllByRecursion FitsNumber ws
+    → AllPairs (λ v w. is_spelled_before v w ≡ true) (others_of own ws)

@@ -1,0 +1,5 @@
+pub mod Spelled
+pub mod Wants
+pub mod Passes
+pub mod Laws
+pub mod Examples
