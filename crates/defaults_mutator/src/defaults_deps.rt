@@ -1,0 +1,79 @@
+ghost use Rattle.std.specs.Prelude.{◌≡◌, None, IfOk, length};
+ghost use Rattle.defaults_mutator.specs.Asked.{defaults_asked};
+ghost use Rattle.module_rules.specs.Rules.{asks};
+ghost use Rattle.module_rules.specs.Shaped.{asks_shaped};
+ghost use Rattle.mutator_rules.specs.Conditions.{places_in};
+
+use bp_faults::{NodeId, OutOfMemory, Payload, Seq};
+use bp_props::{Module, Props};
+use module_graph::{EdgeKind, Graph, Node};
+use module_rules::{NO_VARIATIONS, Seen, ask, one_variant};
+use mutator_rules::{Axis, BottomUp, Config, Request, Split};
+use pass_core::VisitError;
+use std::alloc::Global;
+use std::marker::Model;
+use std::sync::Arc;
+
+/// The rule `defaults_deps`: a module asks for the modules that its `defaults` names. Contracts see it as the list of
+/// all modules.
+#[derive(Drop)]
+pub struct DefaultsDeps<'a> {
+    mods: &'a [Module],
+}
+
+impl<'a> Model for DefaultsDeps<'a> {
+    ghost use Rattle.std.specs.Prelude.{List};
+    ghost use Rattle.bp_props.specs.declared.module.Module.{Module};
+
+    ghost Value = { List Module };
+
+    ghost view = { λ rule. rule.mods.now };
+}
+
+impl<'a> DefaultsDeps<'a> {
+    /// The rule over some modules. It takes no memory.
+    pub fn new(mods: &'a [Module], _c: &'a Config) -> DefaultsDeps<'a>
+        ensures { result ≡ mods.now }
+    {
+        DefaultsDeps { mods }
+    }
+}
+
+fn ask_defaults(
+    alloc: Global,
+    item: &Module,
+    node: &Node<Props>,
+) -> Result<Seq<Request>, OutOfMemory>
+    ensures { IfOk result (λ asked. asked ≡ defaults_asked item.now node.now) }
+{
+    let mut asked = Seq::new(Vec::new(alloc));
+    let list = &node.payload.defaults;
+    ask(alloc, &mut asked, EdgeKind::Defaults, NO_VARIATIONS, list)?;
+    Ok(asked)
+}
+
+impl<'a> BottomUp<Props> for DefaultsDeps<'a> {
+    ghost splits_along = { λ rule. None };
+
+    ghost meaning = { λ rule. asks defaults_asked rule };
+
+    ghost accepts = { λ rule. places_in (length rule) };
+
+    fn axis(&self) -> Option<Axis> {
+        None
+    }
+
+    fn visit(
+        &self,
+        alloc: Global,
+        g: &Graph<Props>,
+        n: NodeId,
+        _ins: &[Arc<Split<Props>>],
+    ) -> Result<Split<Props>, VisitError> {
+        let at = Seen::at(self.mods, g, n);
+        let asked = ask_defaults(alloc, at.module, at.node)?;
+        Ok(one_variant(alloc, at.node.payload.copy(alloc)?, asked)?)
+    }
+
+    ghost shaped = { λ rule. asks_shaped defaults_asked rule };
+}

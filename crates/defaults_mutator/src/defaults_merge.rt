@@ -1,0 +1,100 @@
+ghost use Rattle.std.specs.Prelude.{◌≡◌, None, IfOk, length, map};
+ghost use Rattle.std.specs.Arc.{arc_value};
+ghost use Rattle.defaults_mutator.specs.Merged.{over_defaults, defaults_merged};
+ghost use Rattle.module_rules.specs.Rules.{renews};
+ghost use Rattle.module_rules.specs.Shaped.{renews_shaped};
+ghost use Rattle.mutator_rules.specs.Conditions.{places_in};
+
+use crate::following::followed;
+use bp_faults::{NodeId, OutOfMemory, Payload, Seq};
+use bp_props::{Module, ModuleKind, Props};
+use module_graph::{Graph, Node};
+use module_rules::{Seen, one_variant};
+use mutator_rules::{Axis, BottomUp, Config, Split};
+use pass_core::VisitError;
+use std::alloc::Global;
+use std::marker::Model;
+use std::sync::Arc;
+
+/// The rule `defaults`: a module takes over the records of its defaults. Contracts see it as the list of all modules.
+#[derive(Drop)]
+pub struct DefaultsMerge<'a> {
+    mods: &'a [Module],
+}
+
+impl<'a> Model for DefaultsMerge<'a> {
+    ghost use Rattle.std.specs.Prelude.{List};
+    ghost use Rattle.bp_props.specs.declared.module.Module.{Module};
+
+    ghost Value = { List Module };
+
+    ghost view = { λ rule. rule.mods.now };
+}
+
+impl<'a> DefaultsMerge<'a> {
+    /// The rule over some modules. It takes no memory.
+    pub fn new(mods: &'a [Module], _c: &'a Config) -> DefaultsMerge<'a>
+        ensures { result ≡ mods.now }
+    {
+        DefaultsMerge { mods }
+    }
+}
+
+/// A module's own record over that of its defaults.
+fn over_defaults(
+    alloc: Global,
+    kind: ModuleKind,
+    own: &Props,
+    given: Option<Props>,
+) -> Result<Props, OutOfMemory>
+    ensures { IfOk result (λ made. made ≡ over_defaults kind own.now given) }
+{
+    match given {
+        None => own.copy(alloc),
+        Some(mut made) => {
+            made.over(alloc, own)?;
+            made.restrict(kind);
+            Ok(made)
+        }
+    }
+}
+
+/// The record of a node with its defaults.
+fn merge(
+    alloc: Global,
+    item: &Module,
+    node: &Node<Props>,
+    ins: &[Arc<Split<Props>>],
+) -> Result<Props, OutOfMemory>
+    requires { length ins.now ≡ length node.now.edges }
+    ensures { IfOk result (λ made. made ≡ defaults_merged item.now node.now (map arc_value ins.now)) }
+{
+    let given = followed(alloc, node.edges.as_slice(), ins)?;
+    over_defaults(alloc, item.kind, &node.payload, given)
+}
+
+impl<'a> BottomUp<Props> for DefaultsMerge<'a> {
+    ghost splits_along = { λ rule. None };
+
+    ghost meaning = { λ rule. renews defaults_merged rule };
+
+    ghost accepts = { λ rule. places_in (length rule) };
+
+    fn axis(&self) -> Option<Axis> {
+        None
+    }
+
+    fn visit(
+        &self,
+        alloc: Global,
+        g: &Graph<Props>,
+        n: NodeId,
+        ins: &[Arc<Split<Props>>],
+    ) -> Result<Split<Props>, VisitError> {
+        let at = Seen::at(self.mods, g, n);
+        let made = merge(alloc, at.module, at.node, ins)?;
+        Ok(one_variant(alloc, made, Seq::new(Vec::new(alloc)))?)
+    }
+
+    ghost shaped = { λ rule. renews_shaped defaults_merged rule };
+}

@@ -1,0 +1,2 @@
+pub mod OneVariant
+pub mod Seeing

@@ -1,0 +1,9 @@
+pub mod Asking
+pub mod Flags
+pub mod Groups
+pub mod Laws
+pub mod Results
+pub mod Rules
+pub mod Seen
+pub mod Shaped
+pub mod Variants

@@ -1,0 +1,31 @@
+ghost use Rattle.std.specs.Prelude.{◌≡◌, IfOk, option_copied};
+ghost use Rattle.module_rules.specs.Results.{one_variant, first_record};
+
+use bp_faults::{OutOfMemory, Seq};
+use bp_props::Props;
+use module_graph::Variation;
+use mutator_rules::{Request, Split};
+use std::alloc::Global;
+
+/// A result of one variant.
+pub fn one_variant(
+    alloc: Global,
+    record: Props,
+    requests: Seq<Request>,
+) -> Result<Split<Props>, OutOfMemory>
+    ensures { IfOk result (λ made. made ≡ one_variant «record» requests) }
+{
+    let mut variants = Seq::new(Vec::new(alloc));
+    variants.push((Variation::Empty, record))?;
+    Ok(Split { variants, requests })
+}
+
+/// The record of a result's first variant.
+pub fn first_record(made: &Split<Props>) -> Option<&Props>
+    ensures { option_copied result ≡ first_record made.now }
+{
+    match made.variants.as_slice() {
+        [] => None,
+        [first, ..] => Some(&first.1),
+    }
+}

@@ -1,0 +1,181 @@
+ghost use Rattle.std.specs.Prelude.{◌≡◌, ◌++◌, ◌∷◌, [], Some, IfOk, OnOk, cond, length};
+ghost use Rattle.module_graph.specs.declared.variation.Variation.TheVariants.{Empty};
+ghost use Rattle.module_graph.specs.declared.variations.Axis.TheVariants.{Image};
+ghost use Rattle.module_rules.specs.Rules.{splits};
+ghost use Rattle.module_rules.specs.Shaped.{splits_shaped};
+ghost use Rattle.mutator_rules.specs.Conditions.{places_in};
+ghost use Rattle.target_mutators.specs.Images.{is_for_device, is_in_vendor, is_in_recovery, is_in_system};
+ghost use Rattle.target_mutators.specs.Images.{image_variant, device_images, images_of, image_variants};
+
+use crate::arch_split::is_of_class;
+use crate::groups::with_groups;
+use crate::targets::Class;
+use bp_faults::{NodeId, OutOfMemory, Payload, Seq};
+use bp_props::{GroupId, Module, Props};
+use module_graph::{Graph, Node, Variation};
+use module_rules::{Seen, add_if_enabled, is_true_or};
+use mutator_rules::{Axis, BottomUp, Config, Split};
+use pass_core::VisitError;
+use std::alloc::Global;
+use std::marker::Model;
+use std::sync::Arc;
+
+fn is_for_device(target: Variation) -> bool
+    ensures { result ≡ is_for_device target }
+{
+    match target {
+        Variation::Target(target) => is_of_class(Class::Device, target),
+        _ => false,
+    }
+}
+
+fn is_in_vendor(own: &Props) -> bool
+    ensures { result ≡ is_in_vendor own.now }
+{
+    is_true_or(false, &own.vendor) || is_true_or(false, &own.vendor_available)
+}
+
+fn is_in_recovery(own: &Props) -> bool
+    ensures { result ≡ is_in_recovery own.now }
+{
+    is_true_or(false, &own.recovery) || is_true_or(false, &own.recovery_available)
+}
+
+fn is_in_system(own: &Props) -> bool
+    ensures { result ≡ is_in_system own.now }
+{
+    !(is_true_or(false, &own.vendor) || is_true_or(false, &own.recovery))
+}
+
+/// Adds the module as it is.
+fn add_own(
+    alloc: Global,
+    variants: &mut Seq<(Variation, Props)>,
+    is_in: bool,
+    own: &Props,
+) -> Result<(), OutOfMemory>
+    ensures { OnOk result (variants.new ≡ variants.old ++ cond is_in ((Empty, own.now) ∷ []) []) }
+{
+    if is_in {
+        variants.push((Variation::Empty, own.copy(alloc)?))?;
+    }
+    Ok(())
+}
+
+/// Adds the variant of an image.
+fn add_image(
+    alloc: Global,
+    variants: &mut Seq<(Variation, Props)>,
+    is_in: bool,
+    v: Variation,
+    id: GroupId,
+    own: &Props,
+) -> Result<(), OutOfMemory>
+    ensures { OnOk result (variants.new ≡ variants.old ++ image_variant is_in v id own.now) }
+{
+    if is_in {
+        add_if_enabled(variants, v, with_groups(alloc, own, &[id])?)?;
+    }
+    Ok(())
+}
+
+fn device_images(alloc: Global, own: &Props) -> Result<Seq<(Variation, Props)>, OutOfMemory>
+    ensures { IfOk result (λ variants. variants ≡ device_images own.now) }
+{
+    let mut variants = Seq::new(Vec::new(alloc));
+    let to = &mut variants;
+    add_own(alloc, to, is_in_system(own), own)?;
+    add_image(
+        alloc,
+        to,
+        is_in_vendor(own),
+        Variation::Vendor,
+        GroupId::Vendor,
+        own,
+    )?;
+    add_image(
+        alloc,
+        to,
+        is_in_recovery(own),
+        Variation::Recovery,
+        GroupId::Recovery,
+        own,
+    )?;
+    Ok(variants)
+}
+
+fn system_alone(alloc: Global, own: &Props) -> Result<Seq<(Variation, Props)>, OutOfMemory>
+    ensures { IfOk result (λ variants. variants ≡ (Empty, own.now) ∷ []) }
+{
+    let mut variants = Seq::new(Vec::new(alloc));
+    variants.push((Variation::Empty, own.copy(alloc)?))?;
+    Ok(variants)
+}
+
+fn image_variants(
+    alloc: Global,
+    item: &Module,
+    node: &Node<Props>,
+) -> Result<Seq<(Variation, Props)>, OutOfMemory>
+    ensures { IfOk result (λ variants. variants ≡ image_variants item.now node.now) }
+{
+    let own = &node.payload;
+    if is_for_device(node.vars.get(Axis::Target)) {
+        device_images(alloc, own)
+    } else {
+        system_alone(alloc, own)
+    }
+}
+
+/// The rule `image`: a module for a device is split by the images on which it is installed. Contracts see it as the
+/// list of all modules.
+#[derive(Drop)]
+pub struct ImageSplit<'a> {
+    mods: &'a [Module],
+}
+
+impl<'a> Model for ImageSplit<'a> {
+    ghost use Rattle.std.specs.Prelude.{List};
+    ghost use Rattle.bp_props.specs.declared.module.Module.{Module};
+
+    ghost Value = { List Module };
+
+    ghost view = { λ rule. rule.mods.now };
+}
+
+impl<'a> ImageSplit<'a> {
+    /// It takes no memory.
+    pub fn new(mods: &'a [Module], _c: &'a Config) -> ImageSplit<'a>
+        ensures { result ≡ mods.now }
+    {
+        ImageSplit { mods }
+    }
+}
+
+impl<'a> BottomUp<Props> for ImageSplit<'a> {
+    ghost splits_along = { λ rule. Some Image };
+
+    ghost meaning = { λ rule. splits image_variants rule };
+
+    ghost accepts = { λ rule. places_in (length rule) };
+
+    fn axis(&self) -> Option<Axis> {
+        Some(Axis::Image)
+    }
+
+    fn visit(
+        &self,
+        alloc: Global,
+        g: &Graph<Props>,
+        n: NodeId,
+        _ins: &[Arc<Split<Props>>],
+    ) -> Result<Split<Props>, VisitError> {
+        let at = Seen::at(self.mods, g, n);
+        Ok(Split {
+            variants: image_variants(alloc, at.module, at.node)?,
+            requests: Seq::new(Vec::new(alloc)),
+        })
+    }
+
+    ghost shaped = { λ rule. splits_shaped Image image_variants rule };
+}
