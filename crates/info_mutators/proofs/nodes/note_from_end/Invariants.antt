@@ -1,0 +1,15 @@
+use Rattle.std.proofs.Common.{◌≡◌, ◌≤◌, length, reverse, take, nat_eq}
+use Rattle.indexmap.specs.IndexSet.{insert_all}
+use Rattle.pass_core.specs.Orders.{numbers}
+use Rattle.info_mutators.specs.Kept.{if_short}
+use Rattle.info_mutators.proofs.nodes.note_from_end.Given as goal
+
+-- what is left is noted next
+abbrev pub invariant-loop-place : goal.invariant-loop-place
+invariant-loop-place l = record {
+  within : l.place ≤ length l.nodes;
+  left : if_short (insert_all nat_eq l.seen.keys (reverse (numbers (take l.place l.nodes)))) ≡ if_short (insert_all nat_eq l.fn.seen.keys (reverse (numbers l.nodes)));
+}
+
+abbrev pub decreases-loop-place : goal.decreases-loop-place
+decreases-loop-place l = l.place

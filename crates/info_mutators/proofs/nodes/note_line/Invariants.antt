@@ -1,0 +1,17 @@
+use Rattle.std.proofs.Common.{◌≡◌, ◌≤◌, length, reverse, drop, nat_eq}
+use Rattle.std.specs.List.{flat_map}
+use Rattle.indexmap.specs.IndexSet.{insert_all}
+use Rattle.pass_core.specs.Orders.{numbers}
+use Rattle.info_mutators.specs.Info.{line_part}
+use Rattle.info_mutators.specs.Kept.{if_short}
+use Rattle.info_mutators.proofs.nodes.note_line.Given as goal
+
+-- the line's end is noted
+abbrev pub invariant-loop-place : goal.invariant-loop-place
+invariant-loop-place l = record {
+  within : l.place ≤ length l.dependencies;
+  end : if_short l.seen.keys ≡ if_short (insert_all nat_eq l.fn.seen.keys (reverse (flat_map (λ d. numbers (line_part d.node d.props d.kind)) (drop l.place l.dependencies))));
+}
+
+abbrev pub decreases-loop-place : goal.decreases-loop-place
+decreases-loop-place l = l.place

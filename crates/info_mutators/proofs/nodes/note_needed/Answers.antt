@@ -1,0 +1,11 @@
+use Rattle.std.proofs.Common.{nat_eq}
+use Rattle.pass_core.specs.Orders.{numbers}
+use Rattle.info_mutators.specs.Dependencies.{Dependency}
+use Rattle.info_mutators.specs.Info.{needed_part}
+use Rattle.info_mutators.proofs.Noted.{part_noted}
+use Rattle.info_mutators.proofs.nodes.note_needed.Goals as goal
+
+pub loop-dependency-preserved : goal.loop-dependency-preserved
+loop-dependency-preserved c =
+    part_noted nat_eq (λ (d : Dependency). numbers (needed_part d)) c.args.dependencies.now c.loop-dependency.dependency-index c.dependency-item.result c.loop-dependency-test.true c.dependency-item.is
+    c.args.seen.now.keys c.loop-dependency.seen.keys c.note_needed_part.new.seen.keys c.loop-dependency.invariant c.in_ok-note_needed_part.ensures

@@ -1,0 +1,10 @@
+use Rattle.std.proofs.Common.{◌≡◌, take, nat_eq}
+use Rattle.std.specs.List.{flat_map}
+use Rattle.indexmap.specs.IndexSet.{insert_all}
+use Rattle.pass_core.specs.Orders.{numbers}
+use Rattle.info_mutators.specs.Info.{shared_part}
+use Rattle.info_mutators.specs.Kept.{if_short}
+use Rattle.info_mutators.proofs.nodes.note_shared.Given as goal
+
+abbrev pub invariant-loop-dependency : goal.invariant-loop-dependency
+invariant-loop-dependency l = if_short l.seen.keys ≡ if_short (insert_all nat_eq l.fn.seen.keys (flat_map (λ d. numbers (shared_part d.node d.kind)) (take l.dependency-index l.dependencies)))

@@ -1,0 +1,21 @@
+use Rattle.std.proofs.Common.{ap, sym, ◌∙◌, map, cond, Some, get_or, take}
+use Rattle.std.specs.Arc.{arc_value}
+use Rattle.std.proofs.lemmas.List.{length-map}
+use Rattle.bp_props.specs.declared.props.Props.{Props}
+use Rattle.module_graph.specs.declared.graph.EdgeKind.TheVariants.{Defaults}
+use Rattle.info_mutators.specs.SdkLevel.{is_level_handed, lesser, least, handed_levels}
+use Rattle.info_mutators.proofs.Read.{get_mapped}
+use Rattle.info_mutators.proofs.Zipped.{least_handed_more}
+use Rattle.info_mutators.proofs.sdk_level.least_handed.Goals as goal
+
+pub loop-place-preserved : goal.loop-place-preserved
+loop-place-preserved c =
+    let kinds = c.args.kinds.now in
+    let ins = map arc_value c.args.ins.now in
+    let place = c.loop-place.place in
+    let arc = c.index-ins-place.result in
+    let read = c.deref.ensures ∙ sym (get_mapped arc_value c.args.ins.now place arc ∙ ap arc_value (sym c.index-ins-place.is)) in
+    c.with_edge-least.ensures
+    ∙ ap (λ l. cond (is_level_handed (get_or kinds place Defaults)) (Some (lesser l c.deref.result.now.level)) l) c.loop-place.invariant
+    ∙ ap (λ (p : Props). cond (is_level_handed (get_or kinds place Defaults)) (Some (lesser (least (handed_levels (take place kinds) ins)) p.level)) (least (handed_levels (take place kinds) ins))) read
+    ∙ sym (least_handed_more kinds ins place Defaults (arc_value arc) c.loop-place-test.true (length-map c.args.ins.now arc_value ∙ c.requires))

@@ -1,0 +1,130 @@
+ghost use Rattle.std.specs.Prelude.{◌≡◌, ◌<◌, IfOk, None, map, length};
+ghost use Rattle.std.specs.Arc.{arc_value};
+ghost use Rattle.std.specs.List.{AllByRecursion};
+ghost use Rattle.module_graph.specs.declared.graph.Edge.{Edge};
+ghost use Rattle.mutator_rules.specs.Conditions.{MayRun, places_in};
+ghost use Rattle.info_mutators.specs.Dependencies.{dependencies_of};
+ghost use Rattle.info_mutators.specs.Info.{too_long, with_short_lists, info_meant};
+ghost use Rattle.info_mutators.specs.Shaped.{info_shaped};
+
+use crate::dependency::Dependency;
+use crate::exports::exports_of;
+use crate::nodes::{link_line_of, slibs_of};
+use crate::paths::includes_of;
+use bp_faults::{Fault, FaultKind, NodeId, OutOfMemory, Payload, Seq};
+use bp_props::{Module, Props};
+use module_graph::{Axis, Edge, Graph, Variations, label};
+use module_rules::{Seen, one_variant};
+use mutator_rules::{BottomUp, Config, Split};
+use pass_core::VisitError;
+use std::alloc::Global;
+use std::marker::Model;
+use std::sync::Arc;
+
+/// The dependencies along some edges, given what was made of each.
+fn dependencies_of<'a>(
+    alloc: Global,
+    mods: &'a [Module],
+    g: &'a Graph<Props>,
+    edges: &'a [Edge],
+    made: &'a [Arc<Split<Props>>],
+) -> Result<Vec<Dependency<'a>>, OutOfMemory>
+    requires may { MayRun (places_in (length mods.now)) g.now.nodes }
+    requires ends { AllByRecursion (λ (e : Edge). e.to.0 < length g.now.nodes) edges.now }
+    requires each { length made.now ≡ length edges.now }
+    ensures { IfOk result (λ list. list.items ≡ dependencies_of mods.now g.now.nodes edges.now (map arc_value made.now)) }
+{
+    let mut list = Vec::with_capacity(alloc, edges.len())?;
+    for (place, edge) in edges.iter().enumerate() {
+        let node = &g.nodes.as_slice()[edge.to.0 as usize];
+        let name = &mods[node.module.0 as usize].name;
+        list.push(Dependency::new(edge.kind, edge.to, name, &made[place]))?;
+    }
+    Ok(list)
+}
+
+/// The record with the four lists, where they keep their limits.
+fn with_short_lists(
+    alloc: Global,
+    own: &Props,
+    dependencies: &[Dependency],
+) -> Result<Option<Props>, OutOfMemory>
+    ensures { IfOk result (λ made. made ≡ with_short_lists own.now dependencies.now) }
+{
+    let Some(includes) = includes_of(alloc, own, dependencies)? else {
+        return Ok(None);
+    };
+    let Some(line) = link_line_of(alloc, dependencies)? else {
+        return Ok(None);
+    };
+    let Some(slibs) = slibs_of(alloc, dependencies)? else {
+        return Ok(None);
+    };
+    let mut made = own.copy(alloc)?;
+    made.exports = Seq::new(exports_of(alloc, own, dependencies)?);
+    made.includes = Seq::new(includes);
+    made.line = Seq::new(line);
+    made.slibs = Seq::new(slibs);
+    Ok(Some(made))
+}
+
+fn too_long(alloc: Global, item: &Module, vars: &Variations) -> Result<Fault, OutOfMemory>
+    ensures { IfOk result (λ fault. fault ≡ too_long item.now vars.now) }
+{
+    let subject = label(alloc, &item.name, vars)?;
+    Ok(Fault::on(alloc, FaultKind::LinkTooLong, item.at, subject))
+}
+
+/// The rule `info`: what a module takes over from its dependencies. Contracts see it as the list of all modules.
+#[derive(Drop)]
+pub struct Info<'a> {
+    mods: &'a [Module],
+}
+
+impl<'a> Model for Info<'a> {
+    ghost use Rattle.std.specs.Prelude.{List};
+    ghost use Rattle.bp_props.specs.declared.module.Module.{Module};
+
+    ghost Value = { List Module };
+
+    ghost view = { λ rule. rule.mods.now };
+}
+
+impl<'a> Info<'a> {
+    /// It takes no memory.
+    pub fn new(mods: &'a [Module], _c: &'a Config) -> Info<'a>
+        ensures { result ≡ mods.now }
+    {
+        Info { mods }
+    }
+}
+
+impl<'a> BottomUp<Props> for Info<'a> {
+    ghost splits_along = { λ rule. None };
+
+    ghost meaning = { λ rule. info_meant rule };
+
+    ghost accepts = { λ rule. places_in (length rule) };
+
+    fn axis(&self) -> Option<Axis> {
+        None
+    }
+
+    fn visit(
+        &self,
+        alloc: Global,
+        g: &Graph<Props>,
+        n: NodeId,
+        ins: &[Arc<Split<Props>>],
+    ) -> Result<Split<Props>, VisitError> {
+        let at = Seen::at(self.mods, g, n);
+        let edges = at.node.edges.as_slice();
+        let dependencies = dependencies_of(alloc, self.mods, g, edges, ins)?;
+        match with_short_lists(alloc, &at.node.payload, &dependencies)? {
+            Some(props) => Ok(one_variant(alloc, props, Seq::new(Vec::new(alloc)))?),
+            None => Err(VisitError::Bad(too_long(alloc, at.module, &at.node.vars)?)),
+        }
+    }
+
+    ghost shaped = { λ rule. info_shaped rule };
+}

@@ -1,0 +1,109 @@
+ghost use Rattle.std.specs.Prelude.{◌≡◌, Some, map, length, if◌then◌else◌};
+ghost use Rattle.std.specs.Arc.{arc_value};
+ghost use Rattle.mutator_rules.specs.Conditions.{places_in};
+ghost use Rattle.info_mutators.specs.SdkLevel.{is_level_handed, lesser, least, handed_levels, own_level_or, level_meant};
+
+use bp_faults::{NodeId, Payload};
+use bp_props::{Given, Module, Props};
+use module_graph::{EdgeKind, Graph};
+use module_rules::Seen;
+use mutator_rules::{Config, TopDown};
+use pass_core::VisitError;
+use std::alloc::Global;
+use std::marker::Model;
+use std::sync::Arc;
+
+/// The level of a node that no level is handed to.
+const NO_LEVEL: u32 = 10_000;
+
+fn is_level_handed(kind: EdgeKind) -> bool
+    ensures { result ≡ is_level_handed kind }
+{
+    matches!(kind, EdgeKind::Whole | EdgeKind::Static | EdgeKind::Header)
+}
+
+fn lesser(least: Option<u32>, level: u32) -> u32
+    ensures { result ≡ lesser least level }
+{
+    match least {
+        Some(least) => least.min(level),
+        None => level,
+    }
+}
+
+/// The least level with one edge more.
+fn with_edge(least: Option<u32>, kind: EdgeKind, level: u32) -> Option<u32>
+    ensures { result ≡ (if is_level_handed kind then Some (lesser least level) else least) }
+{
+    if is_level_handed(kind) {
+        Some(lesser(least, level))
+    } else {
+        least
+    }
+}
+
+/// The least level that is handed to a node.
+fn least_handed(kinds: &[EdgeKind], ins: &[Arc<Props>]) -> Option<u32>
+    requires { length ins.now ≡ length kinds.now }
+    ensures { result ≡ least (handed_levels kinds.now (map arc_value ins.now)) }
+{
+    let mut least = None;
+    for (place, kind) in kinds.iter().enumerate() {
+        least = with_edge(least, *kind, ins[place].level);
+    }
+    least
+}
+
+fn own_level_or(level: u32, set: Option<Given<u32>>) -> u32
+    ensures { result ≡ own_level_or level set }
+{
+    match set {
+        Some(given) => given.value,
+        None => level,
+    }
+}
+
+/// The rule `sdk`: the level of the SDK that a module is built for. Contracts see it as the list of all modules.
+#[derive(Drop)]
+pub struct SdkLevel<'a> {
+    mods: &'a [Module],
+}
+
+impl<'a> Model for SdkLevel<'a> {
+    ghost use Rattle.std.specs.Prelude.{List};
+    ghost use Rattle.bp_props.specs.declared.module.Module.{Module};
+
+    ghost Value = { List Module };
+
+    ghost view = { λ rule. rule.mods.now };
+}
+
+impl<'a> SdkLevel<'a> {
+    /// It takes no memory.
+    pub fn new(mods: &'a [Module], _c: &'a Config) -> SdkLevel<'a>
+        ensures { result ≡ mods.now }
+    {
+        SdkLevel { mods }
+    }
+}
+
+impl<'a> TopDown<Props> for SdkLevel<'a> {
+    ghost meaning = { λ rule. level_meant };
+
+    ghost accepts = { λ rule. places_in (length rule) };
+
+    fn visit(
+        &self,
+        alloc: Global,
+        g: &Graph<Props>,
+        n: NodeId,
+        kinds: &[EdgeKind],
+        ins: &[Arc<Props>],
+    ) -> Result<Props, VisitError> {
+        let own = &Seen::at(self.mods, g, n).node.payload;
+        let handed = least_handed(kinds, ins).unwrap_or(NO_LEVEL);
+        let mut made = own.copy(alloc)?;
+        made.level = own_level_or(handed, own.min_sdk_version);
+        Ok(made)
+    }
+}

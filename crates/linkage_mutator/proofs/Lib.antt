@@ -1,0 +1,2 @@
+mod KindNamed
+mod Differing

@@ -1,0 +1,7 @@
+pub mod Deps
+pub mod Inside
+pub mod Laws
+pub mod Links
+pub mod Plugins
+pub mod Sources
+pub mod Wanting

@@ -1,0 +1,145 @@
+ghost use Rattle.std.specs.Prelude.{◌≡◌, Some, IfOk, length};
+ghost use Rattle.linkage_mutator.specs.Links.{with_pic, has_link, pic_if_linked, links_of, link_variants};
+ghost use Rattle.module_graph.specs.declared.variations.Axis.TheVariants.{Link};
+ghost use Rattle.module_rules.specs.Groups.{with_group};
+ghost use Rattle.module_rules.specs.Rules.{splits};
+ghost use Rattle.module_rules.specs.Shaped.{splits_shaped};
+ghost use Rattle.mutator_rules.specs.Conditions.{places_in};
+
+use bp_faults::{NodeId, OutOfMemory, Payload, Seq, Text};
+use bp_props::{GroupId, Module, ModuleKind, Props};
+use module_graph::{Graph, Node, Variation};
+use module_rules::{Seen, add_if_enabled, append_group};
+use mutator_rules::{Axis, BottomUp, Config, Split};
+use pass_core::VisitError;
+use std::alloc::Global;
+use std::marker::Model;
+use std::sync::Arc;
+
+/// The rule `link`: a library is split by how it is linked. Contracts see it as the list of all modules.
+#[derive(Drop)]
+pub struct LinkSplit<'a> {
+    mods: &'a [Module],
+}
+
+impl<'a> Model for LinkSplit<'a> {
+    ghost use Rattle.std.specs.Prelude.{List};
+    ghost use Rattle.bp_props.specs.declared.module.Module.{Module};
+
+    ghost Value = { List Module };
+
+    ghost view = { λ rule. rule.mods.now };
+}
+
+impl<'a> LinkSplit<'a> {
+    /// The rule over some modules. It takes no memory.
+    pub fn new(mods: &'a [Module], _c: &'a Config) -> LinkSplit<'a>
+        ensures { result ≡ mods.now }
+    {
+        LinkSplit { mods }
+    }
+}
+
+/// A copy of a record with its group of an id appended.
+fn with_group(alloc: Global, own: &Props, id: GroupId) -> Result<Props, OutOfMemory>
+    ensures { IfOk result (λ made. made ≡ with_group own.now id) }
+{
+    let mut made = own.copy(alloc)?;
+    append_group(alloc, &mut made, own, id)?;
+    Ok(made)
+}
+
+/// The variants as they are linked, without the flag.
+fn links_of(
+    alloc: Global,
+    kind: ModuleKind,
+    own: &Props,
+) -> Result<Seq<(Variation, Props)>, OutOfMemory>
+    ensures { IfOk result (λ variants. variants ≡ links_of kind own.now) }
+{
+    let mut variants = Seq::new(Vec::new(alloc));
+    match kind {
+        ModuleKind::Library => {
+            let as_static = with_group(alloc, own, GroupId::Static)?;
+            add_if_enabled(&mut variants, Variation::Static, as_static)?;
+            let as_shared = with_group(alloc, own, GroupId::Shared)?;
+            add_if_enabled(&mut variants, Variation::Shared, as_shared)?;
+        }
+        ModuleKind::LibraryStatic => variants.push((Variation::Static, own.copy(alloc)?))?,
+        ModuleKind::LibraryShared => variants.push((Variation::Shared, own.copy(alloc)?))?,
+        _ => variants.push((Variation::Empty, own.copy(alloc)?))?,
+    }
+    Ok(variants)
+}
+
+fn with_pic(alloc: Global, own: Props) -> Result<Props, OutOfMemory>
+    ensures { IfOk result (λ made. made ≡ with_pic own) }
+{
+    let mut made = own;
+    let flag = Text::from_str(alloc, "-fPIC")?;
+    made.base.cflags.items.push(flag)?;
+    Ok(made)
+}
+
+fn has_link(variation: Variation) -> bool
+    ensures { result ≡ has_link variation }
+{
+    matches!(variation, Variation::Static | Variation::Shared)
+}
+
+fn pic_if_linked(
+    alloc: Global,
+    variant: (Variation, Props),
+) -> Result<(Variation, Props), OutOfMemory>
+    ensures { IfOk result (λ made. made ≡ pic_if_linked variant) }
+{
+    let (variation, own) = variant;
+    if has_link(variation) {
+        Ok((variation, with_pic(alloc, own)?))
+    } else {
+        Ok((variation, own))
+    }
+}
+
+fn link_variants(
+    alloc: Global,
+    item: &Module,
+    node: &Node<Props>,
+) -> Result<Seq<(Variation, Props)>, OutOfMemory>
+    ensures { IfOk result (λ variants. variants ≡ link_variants item.now node.now) }
+{
+    let links = links_of(alloc, item.kind, &node.payload)?;
+    let mut variants = Seq::new(Vec::new(alloc));
+    for variant in links.into_vec() {
+        variants.push(pic_if_linked(alloc, variant)?)?;
+    }
+    Ok(variants)
+}
+
+impl<'a> BottomUp<Props> for LinkSplit<'a> {
+    ghost splits_along = { λ rule. Some Link };
+
+    ghost meaning = { λ rule. splits link_variants rule };
+
+    ghost accepts = { λ rule. places_in (length rule) };
+
+    fn axis(&self) -> Option<Axis> {
+        Some(Axis::Link)
+    }
+
+    fn visit(
+        &self,
+        alloc: Global,
+        g: &Graph<Props>,
+        n: NodeId,
+        _ins: &[Arc<Split<Props>>],
+    ) -> Result<Split<Props>, VisitError> {
+        let at = Seen::at(self.mods, g, n);
+        Ok(Split {
+            variants: link_variants(alloc, at.module, at.node)?,
+            requests: Seq::new(Vec::new(alloc)),
+        })
+    }
+
+    ghost shaped = { λ rule. splits_shaped Link link_variants rule };
+}

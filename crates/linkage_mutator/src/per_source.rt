@@ -1,0 +1,135 @@
+ghost use Rattle.std.specs.Prelude.{◌≡◌, ◌∷◌, [], Some, IfOk, length};
+ghost use Rattle.linkage_mutator.specs.Sources.{with_sources, variant_of_source, each_source, is_split};
+ghost use Rattle.linkage_mutator.specs.Sources.{source_variants};
+ghost use Rattle.module_graph.specs.declared.variations.Axis.TheVariants.{PerSource as SourceAxis};
+ghost use Rattle.module_graph.specs.Numbered.{by_number};
+ghost use Rattle.module_rules.specs.Rules.{splits};
+ghost use Rattle.module_rules.specs.Shaped.{splits_shaped};
+ghost use Rattle.mutator_rules.specs.Conditions.{places_in};
+
+use bp_faults::{NodeId, OutOfMemory, Payload, Seq};
+use bp_props::{Given, Module, ModuleKind, Props, Source};
+use module_graph::{Graph, Node, Variation};
+use module_rules::{Seen, is_true_or};
+use mutator_rules::{Axis, BottomUp, Config, Split};
+use pass_core::VisitError;
+use std::alloc::Global;
+use std::marker::Model;
+use std::sync::Arc;
+
+/// The rule `per_src`: a test is split by its sources, if it says so. Contracts see it as the list of all modules.
+#[derive(Drop)]
+pub struct PerSource<'a> {
+    mods: &'a [Module],
+}
+
+impl<'a> Model for PerSource<'a> {
+    ghost use Rattle.std.specs.Prelude.{List};
+    ghost use Rattle.bp_props.specs.declared.module.Module.{Module};
+
+    ghost Value = { List Module };
+
+    ghost view = { λ rule. rule.mods.now };
+}
+
+impl<'a> PerSource<'a> {
+    /// The rule over some modules. It takes no memory.
+    pub fn new(mods: &'a [Module], _c: &'a Config) -> PerSource<'a>
+        ensures { result ≡ mods.now }
+    {
+        PerSource { mods }
+    }
+}
+
+/// A copy of a record with one source alone. The record has none, so that no other source is copied.
+fn with_source(alloc: Global, bare: &Props, source: &Source) -> Result<Props, OutOfMemory>
+    ensures { IfOk result (λ made. made ≡ with_sources bare.now (source.now ∷ [])) }
+{
+    let mut made = bare.copy(alloc)?;
+    let mut items = Seq::new(Vec::new(alloc));
+    items.push(source.copy(alloc)?)?;
+    made.base.srcs.items = items;
+    Ok(made)
+}
+
+fn by_source(
+    alloc: Global,
+    own: &Props,
+    sources: &[Source],
+) -> Result<Seq<(Variation, Props)>, OutOfMemory>
+    ensures { IfOk result (λ variants. variants ≡ by_number (variant_of_source own.now) 1 sources.now) }
+{
+    let mut bare = own.copy(alloc)?;
+    bare.base.srcs.items = Seq::new(Vec::new(alloc));
+    let mut variants = Seq::new(Vec::new(alloc));
+    for (place, source) in sources.iter().enumerate() {
+        let variation = Variation::PerSource(place as u64 + 1);
+        variants.push((variation, with_source(alloc, &bare, source)?))?;
+    }
+    Ok(variants)
+}
+
+fn each_source(
+    alloc: Global,
+    split: bool,
+    own: &Props,
+    sources: &[Source],
+) -> Result<Seq<(Variation, Props)>, OutOfMemory>
+    ensures { IfOk result (λ variants. variants ≡ each_source split own.now sources.now) }
+{
+    if split && !sources.is_empty() {
+        return by_source(alloc, own, sources);
+    }
+    let mut variants = Seq::new(Vec::new(alloc));
+    variants.push((Variation::Empty, own.copy(alloc)?))?;
+    Ok(variants)
+}
+
+fn is_split(kind: ModuleKind, flag: &Option<Given<bool>>) -> bool
+    ensures { result ≡ is_split kind flag.now }
+{
+    match kind {
+        ModuleKind::Test => is_true_or(false, flag),
+        _ => false,
+    }
+}
+
+fn source_variants(
+    alloc: Global,
+    item: &Module,
+    node: &Node<Props>,
+) -> Result<Seq<(Variation, Props)>, OutOfMemory>
+    ensures { IfOk result (λ variants. variants ≡ source_variants item.now node.now) }
+{
+    let own = &node.payload;
+    let split = is_split(item.kind, &own.test_per_src);
+    each_source(alloc, split, own, own.base.srcs.items.as_slice())
+}
+
+impl<'a> BottomUp<Props> for PerSource<'a> {
+    ghost splits_along = { λ rule. Some SourceAxis };
+
+    ghost meaning = { λ rule. splits source_variants rule };
+
+    ghost accepts = { λ rule. places_in (length rule) };
+
+    fn axis(&self) -> Option<Axis> {
+        Some(Axis::PerSource)
+    }
+
+    fn visit(
+        &self,
+        alloc: Global,
+        g: &Graph<Props>,
+        n: NodeId,
+        _ins: &[Arc<Split<Props>>],
+    ) -> Result<Split<Props>, VisitError> {
+        let at = Seen::at(self.mods, g, n);
+        Ok(Split {
+            variants: source_variants(alloc, at.module, at.node)?,
+            requests: Seq::new(Vec::new(alloc)),
+        })
+    }
+
+    ghost shaped = { λ rule. splits_shaped SourceAxis source_variants rule };
+}
