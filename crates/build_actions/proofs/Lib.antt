@@ -1,0 +1,13 @@
+pub mod Results
+pub mod Gathered
+pub mod Made
+pub mod Differing
+pub mod Outputs
+pub mod Told
+pub mod Passed
+pub mod Separated
+pub mod Variants
+pub mod Shown
+pub mod Fitting
+pub mod Written
+pub mod Formed

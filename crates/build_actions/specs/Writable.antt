@@ -1,0 +1,32 @@
+-- What the texts of modules and records hold, so that a file for Ninja can hold them too.
+use Rattle.std.specs.Prelude.{◌≡◌, ◌++◌, ℕ, Bool, false, List, IsTrue}
+use Rattle.std.specs.List.{AllByRecursion, list_all}
+use Rattle.module_graph.specs.declared.graph.Node.{Node}
+use Rattle.bp_props.specs.declared.module.Module.{Module}
+use Rattle.bp_props.specs.declared.props.Props.{Props}
+use Rattle.bp_props.specs.declared.source.Source.{Source}
+use Rattle.ninja_file.specs.Names.{is_shown, is_path}
+
+-- A text without control characters.
+abbrev pub has_shown_bytes : List ℕ → Bool
+has_shown_bytes text = list_all is_shown text
+
+-- The flags and directories that the statements of a node name.
+abbrev pub words_of : Props → List (List ℕ)
+words_of p =
+    p.base.cflags.items
+    ++ (p.base.conlyflags.items
+    ++ (p.base.cppflags.items ++ (p.base.asflags.items ++ (p.base.ldflags.items ++ p.includes))))
+
+-- The names of modules and the sources that are paths can be paths of Ninja, and flags and directories hold no control
+-- character.
+pub record AreWritable (ms : List Module) (nodes : List (Node Props)) : Type 0 where
+  pub names : AllByRecursion (λ (m : Module). IsTrue (is_path m.name)) ms
+  pub sources :
+      AllByRecursion
+      (λ (x : Node Props).
+      AllByRecursion (λ (s : Source). s.named ≡ false → IsTrue (is_path s.item.text)) x.payload.base.srcs.items)
+      nodes
+  pub words :
+      AllByRecursion
+      (λ (x : Node Props). AllByRecursion (λ w. IsTrue (has_shown_bytes w)) (words_of x.payload)) nodes

@@ -1,0 +1,168 @@
+ghost use Rattle.std.specs.Prelude.{◌≡◌, IfOk, map};
+ghost use Rattle.std.specs.List.{filter};
+ghost use Rattle.bp_faults.specs.declared.place.Item.{Item};
+ghost use Rattle.build_actions.specs.Compiles.{language_by, language_of, is_header_kind, is_header, headers_of};
+ghost use Rattle.build_actions.specs.Compiles.{rule_of, compiler_of, variables_in, compile_step, step_of_file};
+ghost use Rattle.build_actions.specs.Compiles.{compile_steps};
+
+use crate::gather::{keep_first, one, push_some};
+use crate::path::{directory_of, object_path};
+use crate::sources::{Language, SourceKind, source_kind};
+use crate::variables::compile_variables;
+use bp_faults::{Item, OutOfMemory, Seq, Text, copy_all};
+use bp_props::{Module, Props};
+use module_graph::Node;
+use ninja_file::Statement;
+use std::alloc::Global;
+
+/// What the compile steps of a node have in common: where their objects stand, the headers that they may
+/// include, and the variables of each language.
+#[derive(Debug, Drop)]
+pub struct Compiler {
+    pub directory: Text,
+    pub headers: Seq<Text>,
+    pub c: Seq<(Text, Text)>,
+    pub cxx: Seq<(Text, Text)>,
+    pub assembler: Seq<(Text, Text)>,
+}
+
+// The language of a source that is compiled.
+fn language_of(file: &Item) -> Option<Language>
+    ensures { result ≡ language_of file.now }
+{
+    match source_kind(file.text.as_str()) {
+        Some(SourceKind::Compiled(language)) => Some(language),
+        _ => None,
+    }
+}
+
+fn is_header(file: &Item) -> bool
+    ensures { result ≡ is_header file.now }
+{
+    match source_kind(file.text.as_str()) {
+        Some(SourceKind::Header) => true,
+        _ => false,
+    }
+}
+
+fn listed_headers<'a>(alloc: Global, files: &'a [Item]) -> Result<Vec<&'a str>, OutOfMemory>
+    ensures { IfOk result (λ headers. map (λ t. t.now) headers.items
+        ≡ map (λ (file : Item). file.text) (filter is_header files.now)) }
+{
+    let mut headers = Vec::new(alloc);
+    for file in files {
+        if is_header(file) {
+            headers.push(file.text.as_str())?;
+        }
+    }
+    Ok(headers)
+}
+
+// The headers among some files, each once.
+fn headers_of(alloc: Global, files: &[Item]) -> Result<Vec<Text>, OutOfMemory>
+    ensures { IfOk result (λ headers. headers.items ≡ headers_of files.now) }
+{
+    let headers = listed_headers(alloc, files)?;
+    keep_first(alloc, headers.as_slice())
+}
+
+/// What the compile steps of a node have in common.
+pub fn compiler_of(
+    alloc: Global,
+    module: &Module,
+    node: &Node<Props>,
+    files: &[Item],
+) -> Result<Compiler, OutOfMemory>
+    ensures { IfOk result (λ compiler. compiler ≡ compiler_of «module».now node.now files.now) }
+{
+    Ok(Compiler {
+        directory: directory_of(alloc, module, node)?,
+        headers: Seq::new(headers_of(alloc, files)?),
+        c: compile_variables(alloc, node, Language::C)?,
+        cxx: compile_variables(alloc, node, Language::Cxx)?,
+        assembler: compile_variables(alloc, node, Language::Assembler)?,
+    })
+}
+
+fn rule_of(language: Language) -> &'static str
+    ensures { result.now ≡ rule_of language }
+{
+    match language {
+        Language::C => "cc",
+        Language::Cxx => "cxx",
+        Language::Assembler => "as",
+    }
+}
+
+impl Compiler {
+    fn variables_in(&self, language: Language) -> &[(Text, Text)]
+        ensures { result.now ≡ variables_in self.now language }
+    {
+        match language {
+            Language::C => self.c.as_slice(),
+            Language::Cxx => self.cxx.as_slice(),
+            Language::Assembler => self.assembler.as_slice(),
+        }
+    }
+}
+
+/// Copies variables.
+pub fn copy_variables(
+    alloc: Global,
+    variables: &[(Text, Text)],
+) -> Result<Seq<(Text, Text)>, OutOfMemory>
+    ensures { IfOk result (λ copies. copies ≡ variables.now) }
+{
+    let mut copies = Vec::new(alloc);
+    for (key, value) in variables {
+        copies.push((key.copy(alloc)?, value.copy(alloc)?))?;
+    }
+    Ok(Seq::new(copies))
+}
+
+fn compile(
+    alloc: Global,
+    compiler: &Compiler,
+    source: &Text,
+    language: Language,
+) -> Result<Statement, OutOfMemory>
+    ensures { IfOk result (λ statement. statement ≡ compile_step compiler.now source.now language) }
+{
+    Ok(Statement {
+        outs: one(alloc, object_path(alloc, &compiler.directory, source)?)?,
+        rule: Text::from_str(alloc, rule_of(language))?,
+        ins: one(alloc, source.copy(alloc)?)?,
+        implicit: Seq::new(copy_all(alloc, compiler.headers.as_slice())?),
+        order_only: Seq::new(Vec::new(alloc)),
+        vars: copy_variables(alloc, compiler.variables_in(language))?,
+    })
+}
+
+// The compile step of a file, where it isn't a header.
+fn compile_file(
+    alloc: Global,
+    compiler: &Compiler,
+    file: &Item,
+) -> Result<Option<Statement>, OutOfMemory>
+    ensures { IfOk result (λ statement. statement ≡ step_of_file compiler.now file.now) }
+{
+    match language_of(file) {
+        Some(language) => Ok(Some(compile(alloc, compiler, &file.text, language)?)),
+        None => Ok(None),
+    }
+}
+
+/// The compile steps of some files: one for each that isn't a header.
+pub fn compile_all(
+    alloc: Global,
+    compiler: &Compiler,
+    files: &[Item],
+) -> Result<Vec<Statement>, OutOfMemory>
+    ensures { IfOk result (λ statements. statements.items ≡ compile_steps compiler.now files.now) }
+{
+    let mut statements = Vec::new(alloc);
+    for file in files {
+        push_some(&mut statements, compile_file(alloc, compiler, file)?)?;
+    }
+    Ok(statements)
+}

@@ -1,0 +1,131 @@
+ghost use Rattle.std.specs.Prelude.{◌≡◌, IfOk};
+ghost use Rattle.build_actions.specs.Paths.{directory_of, object_path, link_of, product_of, suffix_of, role_of};
+ghost use Rattle.build_actions.specs.Paths.{output_in, output_of, output_at};
+
+use bp_faults::{NodeId, OutOfMemory, Text};
+use bp_props::{Module, ModuleKind, Props};
+use module_graph::{Axis, Graph, Node, Variation, variant_name};
+use std::alloc::Global;
+
+/// What a module is to the build: it makes something, it gives files, or neither.
+#[derive(Clone, Copy, Debug, PartialEq, Eq)]
+pub enum Role {
+    Makes,
+    Gives,
+    Neither,
+}
+
+/// What is made of objects.
+#[derive(Clone, Copy, Debug, PartialEq, Eq)]
+pub enum Product {
+    Archive,
+    SharedObject,
+    Program,
+}
+
+/// What a module of that kind is to the build.
+pub fn role_of(kind: ModuleKind) -> Role
+    ensures { result ≡ role_of kind }
+{
+    match kind {
+        ModuleKind::Filegroup => Role::Gives,
+        ModuleKind::LibraryHeaders | ModuleKind::Defaults => Role::Neither,
+        _ => Role::Makes,
+    }
+}
+
+fn product_by(link: Variation) -> Product
+    ensures { result ≡ product_of link }
+{
+    match link {
+        Variation::Static => Product::Archive,
+        Variation::Shared => Product::SharedObject,
+        _ => Product::Program,
+    }
+}
+
+/// What a node makes, by its link variation.
+pub fn product_of(node: &Node<Props>) -> Product
+    ensures { result ≡ product_of (link_of node.now) }
+{
+    product_by(node.vars.get(Axis::Link))
+}
+
+fn suffix_of(product: Product) -> &'static str
+    ensures { result.now ≡ suffix_of product }
+{
+    match product {
+        Product::Archive => ".a",
+        Product::SharedObject => ".so",
+        Product::Program => "",
+    }
+}
+
+/// Where the outputs of a node stand.
+pub fn directory_of(alloc: Global, module: &Module, node: &Node<Props>) -> Result<Text, OutOfMemory>
+    ensures { IfOk result (λ path. path ≡ directory_of «module».now node.now) }
+{
+    let variant = variant_name(alloc, &node.vars)?;
+    let variant = variant.as_str();
+    let name = module.name.as_str();
+    Ok(Text::new(format!(in alloc; "out/m/{name}/{variant}")?))
+}
+
+/// The object that a source is compiled to.
+pub fn object_path(alloc: Global, directory: &Text, source: &Text) -> Result<Text, OutOfMemory>
+    ensures { IfOk result (λ path. path ≡ object_path directory.now source.now) }
+{
+    let directory = directory.as_str();
+    let source = source.as_str();
+    Ok(Text::new(format!(in alloc; "{directory}/obj/{source}.o")?))
+}
+
+/// What a node makes in its directory: an archive, a shared object or a program.
+pub fn output_in(
+    alloc: Global,
+    directory: &Text,
+    module: &Module,
+    node: &Node<Props>,
+) -> Result<Text, OutOfMemory>
+    ensures { IfOk result (λ path. path ≡ output_in directory.now «module».now node.now) }
+{
+    let directory = directory.as_str();
+    let name = module.name.as_str();
+    let suffix = suffix_of(product_of(node));
+    Ok(Text::new(format!(in alloc; "{directory}/bin/{name}{suffix}")?))
+}
+
+/// The output of a node, where it has one.
+pub fn output_of(
+    alloc: Global,
+    module: &Module,
+    node: &Node<Props>,
+) -> Result<Option<Text>, OutOfMemory>
+    ensures { IfOk result (λ path. path ≡ output_of «module».now node.now) }
+{
+    match role_of(module.kind) {
+        Role::Makes => {
+            let directory = directory_of(alloc, module, node)?;
+            Ok(Some(output_in(alloc, &directory, module, node)?))
+        }
+        _ => Ok(None),
+    }
+}
+
+/// The output of a node by its number, where there is such a node and it has one.
+pub fn output_at(
+    alloc: Global,
+    modules: &[Module],
+    graph: &Graph<Props>,
+    n: NodeId,
+) -> Result<Option<Text>, OutOfMemory>
+    ensures { IfOk result (λ path. path ≡ output_at modules.now graph.now.nodes n.0) }
+{
+    let Some(node) = graph.nodes.as_slice().get(n.0 as usize) else {
+        return Ok(None);
+    };
+    match modules.get(node.module.0 as usize) {
+        Some(module) => output_of(alloc, module, node),
+        None => Ok(None),
+    }
+}

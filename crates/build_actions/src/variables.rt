@@ -1,0 +1,146 @@
+ghost use Rattle.std.specs.Prelude.{◌≡◌, ◌++◌, IfOk, OnOk, map};
+ghost use Rattle.build_actions.specs.Variables.{variable, target_word, target_by, target_of, level_words, flags_of};
+ghost use Rattle.build_actions.specs.Variables.{cflags_of, include_word, includes_of, compile_variables};
+ghost use Rattle.build_actions.specs.Variables.{link_variables};
+
+use crate::line::{add_words, join};
+use crate::sources::Language;
+use bp_faults::{OutOfMemory, Path, Seq, Target, Text};
+use bp_props::Props;
+use module_graph::{Axis, Node, Variation};
+use std::alloc::Global;
+
+fn target_word(target: Target) -> &'static str
+    ensures { result.now ≡ target_word target }
+{
+    match target {
+        Target::AndroidArm64 => "--target=aarch64-linux-android",
+        Target::AndroidArm => "--target=armv7a-linux-androideabi",
+        Target::AndroidX86_64 => "--target=x86_64-linux-android",
+        Target::AndroidX86 => "--target=i686-linux-android",
+        Target::LinuxGlibcX86_64 => "--target=x86_64-linux-gnu",
+        Target::LinuxGlibcX86 => "--target=i686-linux-gnu",
+    }
+}
+
+fn target_by(variation: Variation) -> &'static str
+    ensures { result.now ≡ target_by variation }
+{
+    match variation {
+        Variation::Target(target) => target_word(target),
+        _ => "",
+    }
+}
+
+fn target_of(node: &Node<Props>) -> &'static str
+    ensures { result.now ≡ target_of node.now }
+{
+    target_by(node.vars.get(Axis::Target))
+}
+
+// Puts a variable at the end, unless its value is empty.
+fn bind(
+    alloc: Global,
+    variables: &mut Seq<(Text, Text)>,
+    key: &str,
+    value: Text,
+) -> Result<(), OutOfMemory>
+    ensures { OnOk result (variables.new ≡ variables.old ++ variable key.now value) }
+{
+    if !value.as_str().is_empty() {
+        variables.push((Text::from_str(alloc, key)?, value))?;
+    }
+    Ok(())
+}
+
+fn add_level(alloc: Global, words: &mut Vec<Text>, level: u32) -> Result<(), OutOfMemory>
+    ensures { OnOk result (words.new.items ≡ words.old.items ++ level_words level) }
+{
+    if level != 10_000 {
+        words.push(Text::new(format!(in alloc; "-DMIN_SDK={level}")?))?;
+    }
+    Ok(())
+}
+
+fn flags_of(alloc: Global, props: &Props, language: Language) -> Result<Vec<Text>, OutOfMemory>
+    ensures { IfOk result (λ words. words.items ≡ flags_of props.now language) }
+{
+    let mut words = Vec::new(alloc);
+    match language {
+        Language::C => {
+            add_words(alloc, &mut words, props.base.cflags.items.as_slice())?;
+            add_words(alloc, &mut words, props.base.conlyflags.items.as_slice())?;
+        }
+        Language::Cxx => {
+            add_words(alloc, &mut words, props.base.cflags.items.as_slice())?;
+            add_words(alloc, &mut words, props.base.cppflags.items.as_slice())?;
+        }
+        Language::Assembler => add_words(alloc, &mut words, props.base.asflags.items.as_slice())?,
+    }
+    Ok(words)
+}
+
+fn cflags_of(alloc: Global, props: &Props, language: Language) -> Result<Text, OutOfMemory>
+    ensures { IfOk result (λ line. line ≡ cflags_of props.now language) }
+{
+    let mut words = flags_of(alloc, props, language)?;
+    add_level(alloc, &mut words, props.level)?;
+    join(alloc, words.as_slice())
+}
+
+fn include_word(alloc: Global, path: &Path) -> Result<Text, OutOfMemory>
+    ensures { IfOk result (λ word. word ≡ include_word path.now) }
+{
+    let path = path.as_str();
+    if path.is_empty() {
+        return Text::from_str(alloc, "-I.");
+    }
+    Ok(Text::new(format!(in alloc; "-I{path}")?))
+}
+
+fn include_words(alloc: Global, paths: &[Path]) -> Result<Vec<Text>, OutOfMemory>
+    ensures { IfOk result (λ words. words.items ≡ map include_word paths.now) }
+{
+    let mut words = Vec::new(alloc);
+    for path in paths {
+        words.push(include_word(alloc, path)?)?;
+    }
+    Ok(words)
+}
+
+fn includes_of(alloc: Global, props: &Props) -> Result<Text, OutOfMemory>
+    ensures { IfOk result (λ line. line ≡ includes_of props.now) }
+{
+    let words = include_words(alloc, props.includes.as_slice())?;
+    join(alloc, words.as_slice())
+}
+
+/// The variables of the compile steps of a node in a language.
+pub fn compile_variables(
+    alloc: Global,
+    node: &Node<Props>,
+    language: Language,
+) -> Result<Seq<(Text, Text)>, OutOfMemory>
+    ensures { IfOk result (λ variables. variables ≡ compile_variables node.now language) }
+{
+    let mut variables = Seq::new(Vec::new(alloc));
+    let target = Text::from_str(alloc, target_of(node))?;
+    bind(alloc, &mut variables, "target", target)?;
+    let cflags = cflags_of(alloc, &node.payload, language)?;
+    bind(alloc, &mut variables, "cflags", cflags)?;
+    let includes = includes_of(alloc, &node.payload)?;
+    bind(alloc, &mut variables, "includes", includes)?;
+    Ok(variables)
+}
+
+/// The variables of the link step of a node.
+pub fn link_variables(alloc: Global, node: &Node<Props>) -> Result<Seq<(Text, Text)>, OutOfMemory>
+    ensures { IfOk result (λ variables. variables ≡ link_variables node.now) }
+{
+    let mut variables = Seq::new(Vec::new(alloc));
+    let target = Text::from_str(alloc, target_of(node))?;
+    bind(alloc, &mut variables, "target", target)?;
+    let ldflags = join(alloc, node.payload.base.ldflags.items.as_slice())?;
+    bind(alloc, &mut variables, "ldflags", ldflags)?;
+    Ok(variables)
+}
