@@ -1,0 +1,5 @@
+pub mod Beginning
+pub mod Stepping
+pub mod Keeping
+pub mod Told
+pub mod OneGraph

@@ -1,0 +1,68 @@
+use Rattle.std.proofs.Common.{◌≡◌, List, Some, None, Result, Ok, Err, refl, subst, sym}
+use Rattle.bp_faults.specs.declared.fault.Fault.{Fault}
+use Rattle.bp_faults.specs.declared.ids.NodeId.{NodeId}
+use Rattle.bp_faults.specs.Answers.{Tells}
+use Rattle.bp_props.specs.declared.module.Module.{Module}
+use Rattle.bp_props.specs.declared.props.Props.{Props}
+use Rattle.module_graph.specs.declared.graph.Graph.{Graph}
+use Rattle.module_graph.specs.declared.graph.Node.{Node}
+use Rattle.mutator_kinds.specs.declared.pass_graph.PassGraph.{PassGraph}
+use Rattle.mutator_kinds.specs.BottomUp.{BottomUpMeans}
+use Rattle.mutator_rules.specs.declared.request.Request.{Request}
+use Rattle.std.proofs.Common.{length, Option}
+use Rattle.module_graph.specs.declared.variations.Axis.{Axis}
+use Rattle.reverse_deps.specs.Applied.{IsApplied, AskInside}
+use Rattle.bp_pipeline.specs.Limits.{ComesTo}
+use Rattle.bp_pipeline.specs.Passes.{Answer}
+use Rattle.bp_pipeline.proofs.Keeping.{asked_inside, applied_free}
+use Rattle.bp_pipeline.proofs.Stepping.{first_refuses, second_tells}
+use Rattle.bp_pipeline.proofs.steps.ask.Goals as goal
+
+abbrev Asked : Type 0
+Asked = List (Node Props) × List (NodeId × Request)
+
+abbrev First : List Module → Answer → List (Node Props) → Option Axis → Result Asked Fault → Type 0
+First mods answer nodes along outcome = ComesTo mods (BottomUpMeans answer nodes along) outcome
+
+pub returns-in_err-made-clause-means : goal.returns-in_err-made-clause-means
+returns-in_err-made-clause-means g c =
+    let mods = c.args.shop.now.mods.now in
+    let answer = g.M.BottomUp.meaning c.args.rule.now in
+    let here : Tells {T = PassGraph Props} {V = Asked} (λ made. (made.graph.nodes, made.asked))
+    (First mods answer c.args.graph.nodes None) (Err c.in_err-made.field-0.0) =
+    subst (λ along. Tells {T = PassGraph Props} {V = Asked} (λ made. (made.graph.nodes, made.asked))
+    (First mods answer c.args.graph.nodes along) (Err c.in_err-made.field-0.0))
+    c.requires.along c.in_err-made.ensures.comes in
+    first_refuses {T = PassGraph Props} {U = Graph Props} {A = Asked} (λ made. (made.graph.nodes, made.asked))
+    (λ g. g.nodes) (First mods answer c.args.graph.nodes None) (λ made. IsApplied mods made.0 made.1)
+    c.in_err-made.field-0.0 c.from_residual.result c.from_residual.ensures.1 here
+
+pub apply-requires-clause-asking : goal.apply-requires-clause-asking
+apply-requires-clause-asking g c =
+    let mods = c.args.shop.now.mods.now in
+    let answer = g.M.BottomUp.meaning c.args.rule.now in
+    let made = c.in_ok-made.made in
+    let here : First mods answer c.args.graph.nodes None (Ok (made.graph.nodes, made.asked)) =
+    subst (λ along. First mods answer c.args.graph.nodes along (Ok (made.graph.nodes, made.asked)))
+    c.requires.along c.in_ok-made.ensures.comes in
+    subst (AskInside (length made.graph.nodes)) (sym c.as_slice.ensures)
+    (asked_inside c.outs_are_many.ensures mods answer c.args.graph.nodes (made.graph.nodes, made.asked) here)
+
+pub returns-clause-means : goal.returns-clause-means
+returns-clause-means g c =
+    let mods = c.args.shop.now.mods.now in
+    let answer = g.M.BottomUp.meaning c.args.rule.now in
+    let made = c.in_ok-made.made in
+    let here : First mods answer c.args.graph.nodes None (Ok (made.graph.nodes, made.asked)) =
+    subst (λ along. First mods answer c.args.graph.nodes along (Ok (made.graph.nodes, made.asked)))
+    c.requires.along c.in_ok-made.ensures.comes in
+    second_tells {T = PassGraph Props} {U = Graph Props} {A = Asked} (λ made. (made.graph.nodes, made.asked))
+    (λ g. g.nodes) (First mods answer c.args.graph.nodes None) (λ made. IsApplied mods made.0 made.1)
+    (made.graph.nodes, made.asked) here c.apply.result
+    (subst (λ asked. Tells {T = Graph Props} (λ g. g.nodes) (IsApplied mods made.graph.nodes asked) c.apply.result)
+    c.as_slice.ensures c.apply.ensures.means)
+
+pub returns-clause-free : goal.returns-clause-free
+returns-clause-free g c =
+    applied_free (g.M.BottomUp.splits_along c.args.rule.now) c.args.graph.nodes c.in_ok-made.made.graph.nodes
+    c.requires.along c.in_ok-made.ensures.free c.apply.result c.apply.ensures.bare

@@ -1,0 +1,134 @@
+//! The graph after some mutators, as text.
+ghost use Rattle.std.specs.Prelude.{◌≡◌, ◌≤◌, ◌^◌, IfOk, length};
+ghost use Rattle.mutator_rules.specs.Configs.{TargetsDiffer};
+
+use crate::laws::one_graph;
+use crate::{GenError, graph_after, mutators_to, show_graph};
+use bp_faults::{Item, OutOfMemory, Path, Place, Seq, Target, Text};
+use bp_ports::OpenGate;
+use bp_props::{Given, Module, ModuleKind, Props};
+use mutator_rules::Config;
+use std::alloc::Global;
+use std::test::Fail;
+use std::thread::Threads;
+
+/// A binary with the sanitizer is linked with a static library, and a library takes over defaults: the graph after each
+/// mutator.
+const GRAPHS: [(&str, &str); 6] = [
+    (
+        "defaults_deps",
+        "0 d -\n1 l -\n  defaults 0\n2 s -\n3 b -\n",
+    ),
+    (
+        "arch",
+        "0 l android_arm64\n1 s android_arm64\n2 b android_arm64\n",
+    ),
+    (
+        "link",
+        "0 l android_arm64_static\n1 l android_arm64_shared\n2 s android_arm64_static\n\
+         3 b android_arm64\n",
+    ),
+    (
+        "per_src",
+        "0 l android_arm64_static\n1 l android_arm64_shared\n2 s android_arm64_static\n\
+         3 b android_arm64\n  static 2\n",
+    ),
+    (
+        "sanitize",
+        "0 l android_arm64_static\n1 l android_arm64_shared\n2 s android_arm64_static\n\
+         3 s android_arm64_static_asan\n4 b android_arm64_asan\n  static 3\n",
+    ),
+    (
+        "info",
+        "0 l android_arm64_static\n1 l android_arm64_shared\n2 s android_arm64_static\n\
+         3 s android_arm64_static_asan\n4 b android_arm64_asan\n  static 3\n",
+    ),
+];
+
+const PLACE: Place = Place {
+    file: 0,
+    line: 1,
+    col: 1,
+};
+
+fn item(alloc: Global, text: &str) -> Result<Item, OutOfMemory> {
+    Ok(Item {
+        text: Text::from_str(alloc, text)?,
+        at: PLACE,
+    })
+}
+
+fn named(alloc: Global, name: &str, kind: ModuleKind, props: Props) -> Result<Module, OutOfMemory> {
+    Ok(Module {
+        name: Text::from_str(alloc, name)?,
+        kind,
+        dir: Path::root(alloc),
+        at: PLACE,
+        props,
+    })
+}
+
+fn modules(alloc: Global) -> Result<Vec<Module>, OutOfMemory>
+    ensures { IfOk result (λ mods. length mods.items ≡ 4) }
+{
+    let mut library = Props::empty(alloc);
+    library.defaults.items.push(item(alloc, "d")?)?;
+    let mut binary = Props::empty(alloc);
+    binary.base.static_libs.items.push(item(alloc, "s")?)?;
+    binary.address = Some(Given {
+        value: true,
+        at: PLACE,
+    });
+    let mut mods = Vec::new(alloc);
+    mods.push(named(alloc, "d", ModuleKind::Defaults, Props::empty(alloc))?)?;
+    mods.push(named(alloc, "l", ModuleKind::Library, library)?)?;
+    mods.push(named(alloc, "s", ModuleKind::LibraryStatic, Props::empty(alloc))?)?;
+    mods.push(named(alloc, "b", ModuleKind::Binary, binary)?)?;
+    Ok(mods)
+}
+
+fn one_target(alloc: Global) -> Result<Config, OutOfMemory>
+    ensures { IfOk result (λ c. TargetsDiffer c) }
+{
+    let mut targets = Vec::new(alloc);
+    targets.push(Target::AndroidArm64)?;
+    Ok(Config {
+        targets: Seq::new(targets),
+    })
+}
+
+/// The text of the graph after the mutator of a name, on two workers.
+fn shown<R: Threads + Sync>(
+    rt: &R,
+    alloc: Global,
+    mods: &[Module],
+    config: &Config,
+    name: &str,
+) -> Result<Vec<u8>, GenError>
+    requires few { length mods.now ≤ 2 ^ 17 }
+    requires targets { TargetsDiffer config.now }
+{
+    match mutators_to(name) {
+        Some(k) => {
+            let g = graph_after(rt, alloc, mods, config, k, 2, &OpenGate)?;
+            Ok(show_graph(alloc, mods, &g)?)
+        }
+        None => Ok(Vec::new(alloc)),
+    }
+}
+
+#[test]
+fn graphs_after_mutators(rt: HostRuntime) -> Result<(), Fail> {
+    let alloc = rt.alloc();
+    let mods = modules(alloc)?;
+    let config = one_target(alloc)?;
+    for (name, want) in GRAPHS {
+        let text = shown(&rt, alloc, &mods, &config, name);
+        match text {
+            Ok(text) => assert_eq!(rt; text.as_slice(), want.as_bytes()),
+            Err(_) => assert!(rt; false, "a fault"),
+        }
+    }
+    one_graph();
+    Ok(())
+}
