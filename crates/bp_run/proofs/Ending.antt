@@ -1,11 +1,12 @@
 -- What an end that was reported says of the call, status by status.
-use Rattle.std.proofs.Common.{◌≡◌, ◌↔◌, ℕ, Option, Some, None, refl, subst, inl, inr}
+use Rattle.std.proofs.Common.{◌≡◌, ◌↔◌, ℕ, List, Option, Some, None, refl, subst, inl, inr}
 use Rattle.std.proofs.Common.{arith, lit≤}
 use Rattle.std.specs.Prelude.{IsNone, IsSomeAnd}
 use Rattle.bp_run.specs.declared.words.Configuration.{Configuration}
+use Rattle.bp_run.specs.declared.words.Configuration.TheVariants.{Build, Graph}
 use Rattle.bp_run.specs.declared.end.End.{End}
 use Rattle.bp_run.specs.Run.{World, Stream, Unchanged, DoneBy, FaultBy, ReadBy, WriteBy}
-use Rattle.bp_run.specs.Run.{RunMeans}
+use Rattle.bp_run.specs.Run.{RunMeans, Quiet}
 use Rattle.bp_run.specs.End.{status_of, report_of, IsReported, Ended}
 use Rattle.bp_run.specs.Laws.{OneJob}
 use Rattle.bp_run.proofs.OneJob.{done_no_fault, fault_no_text}
@@ -26,6 +27,11 @@ module _ (once : OneJob) (conf : Option Configuration) (old new : World) (before
   not_usage : (P : Configuration → Type 0) (status : ℕ) → (status ≡ 2 → ⊥) → IsSomeAnd conf P
       → (status ≡ 2) ↔ IsNone conf
   not_usage P status other some = (λ two. absurd (other two), λ none. absurd (some_not_none conf P some none))
+
+  -- a write or a put that failed raised its count
+  not_quiet : (c : Configuration) (line : List ℕ) → WriteBy old new line c → Quiet old new → ⊥
+  not_quiet (Build words) line (text, gives, fails) quiet = quiet.writes fails.cause
+  not_quiet (Graph words) line (text, gives, fails) quiet = quiet.puts fails.cause
 
   pub ended : (end : End) → Ended conf old new end → IsReported (report_of end) before after
       → RunMeans conf old new before after (status_of end)
@@ -87,8 +93,8 @@ module _ (once : OneJob) (conf : Option Configuration) (old new : World) (before
     read = λ e. absurd (omega (arith, e));
     write = λ e. (line, h, said);
     memory = λ e. absurd (omega (arith, e));
-    completes = λ c files text is told job quiet. absurd (quiet.writes (of_conf conf (WriteBy old new line) h c is).3);
-    reports = λ c files fault is told job quiet. absurd (quiet.writes (of_conf conf (WriteBy old new line) h c is).3);
+    completes = λ c files text is told job quiet. absurd (not_quiet c line (of_conf conf (WriteBy old new line) h c is) quiet);
+    reports = λ c files fault is told job quiet. absurd (not_quiet c line (of_conf conf (WriteBy old new line) h c is) quiet);
   }
   ended End.OutOfMemory h said = record {
     known = lit≤ tt;

@@ -7,3 +7,4 @@ pub mod OneJob
 pub mod SomeJob
 pub mod Ending
 pub mod Heads
+pub mod Names

@@ -7,20 +7,14 @@ use Rattle.bp_faults.specs.declared.fault.Fault.{Fault}
 use Rattle.bp_faults.specs.declared.refusal.Refusal.{Refusal}
 use Rattle.bp_faults.specs.declared.refusal.Refusal.TheVariants.{Bad, OutOfMemory as NoMemory}
 use Rattle.bp_faults.specs.Answers.{Tells}
+use Rattle.bp_faults.specs.Phases.{GoesOn, Then}
 use Rattle.bp_ports.specs.Files.{Files}
-use Rattle.bp_props.specs.declared.module.Module.{Module as Typed}
 use Rattle.bp_load.specs.Trees.{Source}
-use Rattle.bp_load.specs.Loaded.{LoadMeans}
-use Rattle.module_form.specs.Known.{AreKnown}
-use Rattle.ninja_file.specs.declared.file.Statement.{Statement}
-use Rattle.static_links.specs.declared.module.Module.{Module}
-use Rattle.bp_faults.specs.Phases.{GoesOn}
-use Rattle.static_links.specs.Built.{IsBuilt}
 use Rattle.bp_run.specs.declared.stop.Stop.{Stop}
-use Rattle.bp_run.specs.File.{file_of}
-use Rattle.bp_run.specs.Job.{TypedModulesGive, SourcesGive, ListedFilesGive, sources_of, written}
-use Rattle.bp_run.specs.Steps.{GivesOrStops, Exactly, CannotReadOf, stop_of}
-use Rattle.bp_run.proofs.Meeting.{Never, meets}
+use Rattle.bp_run.specs.declared.words.Configuration.{Configuration}
+use Rattle.bp_run.specs.Job.{SourcesGive, ListedFilesGive, sources_of}
+use Rattle.bp_run.specs.Steps.{GivesOrStops, CannotReadOf, stop_of}
+use Rattle.bp_run.proofs.Meeting.{Never, meets, stops}
 
 -- a layer that refuses, and the whole with it
 tells_here : {T U V W : Type 0} (view : T → V) (whole_view : U → W) (Part : Result V Fault → Type 0)
@@ -37,67 +31,45 @@ told view whole_view Part Whole on e (Ok x) same h = absurd same
 told view whole_view Part Whole on e (Err x) same h =
     subst (λ s. GivesOrStops whole_view Whole Never (Err s)) (sym same) (tells_here view whole_view Part Whole on e h)
 
-module _ (sources : List Source) where
-  abbrev MadeBy : Result (Vec ℕ Global) Stop → Type 0
-  MadeBy r = GivesOrStops {T = Vec ℕ Global} {V = List ℕ} (λ made. made.items) (SourcesGive sources) Never r
+-- Two steps, one after the other.
+module _ {T U A B : Type 0} (view : T → A) (whole_view : U → B) (First : Result A Fault → Type 0)
+    (Next : A → Result B Fault → Type 0) where
+  -- the first stops, and the whole with it
+  pub first_stops : (e : Stop) (r : Result U Stop) → IsErrAnd r (λ x. x ≡ e) → GivesOrStops view First Never (Err e)
+      → GivesOrStops whole_view (Then First Next) Never r
+  first_stops e r same h =
+      stops view whole_view First (Then First Next) Never Never (λ fault means. (Err fault, means, refl))
+      (λ path never. absurd never) e r same h
 
-  -- the files don't load
-  pub unloaded : (e : Refusal) (r : Result (Vec ℕ Global) Stop) → IsErrAnd r (λ x. x ≡ stop_of e)
-      → Tells {T = Vec Typed Global} {V = List Typed} (λ modules. modules.items) (LoadMeans sources) (Err e) → MadeBy r
-  unloaded e r same h =
-      told {T = Vec Typed Global} {U = Vec ℕ Global} (λ modules. modules.items) (λ made. made.items) (LoadMeans sources)
-      (SourcesGive sources) (λ fault means. (Err fault, means, refl)) e r same h
+  -- the same where the first is another layer's
+  pub first_refuses : (e : Refusal) (r : Result U Stop) → IsErrAnd r (λ x. x ≡ stop_of e) → Tells view First (Err e)
+      → GivesOrStops whole_view (Then First Next) Never r
+  first_refuses e r same h =
+      told view whole_view First (Then First Next) (λ fault means. (Err fault, means, refl)) e r same h
 
-  module _ (typed : List Typed) (loaded : LoadMeans sources (Ok typed)) where
-    from_typed : (outcome : Result (List ℕ) Fault) → TypedModulesGive sources typed outcome
-        → SourcesGive sources outcome
-    from_typed outcome made = (Ok typed, loaded, made)
-
-    -- something isn't built
-    pub unknown : (e : Refusal) (r : Result (Vec ℕ Global) Stop) → IsErrAnd r (λ x. x ≡ stop_of e)
-        → Tells {T = Vec Module Global} {V = List Module} (λ modules. modules.items) (AreKnown sources typed) (Err e)
-        → MadeBy r
-    unknown e r same h =
-        told {T = Vec Module Global} {U = Vec ℕ Global} (λ modules. modules.items) (λ made. made.items)
-        (AreKnown sources typed) (SourcesGive sources)
-        (λ fault known. from_typed (Err fault) (Err fault, known, refl)) e r same h
-
-    module _ (ms : List Module) (known : AreKnown sources typed (Ok ms)) where
-      -- the modules have a fault
-      pub unbuilt : (e : Refusal) (r : Result (Vec ℕ Global) Stop) → IsErrAnd r (λ x. x ≡ stop_of e)
-          → Tells {T = Vec Statement Global} {V = List Statement} (λ statements. statements.items) (IsBuilt ms) (Err e)
-          → MadeBy r
-      unbuilt e r same h =
-          told {T = Vec Statement Global} {U = Vec ℕ Global} (λ statements. statements.items) (λ made. made.items)
-          (IsBuilt ms) (SourcesGive sources)
-          (λ fault built. from_typed (Err fault) (Ok ms, known, (Err fault, built, refl))) e r same h
-
-      -- the text is that of what the modules are built by
-      pub made_whole : (statements : List Statement) (r : Result (Vec ℕ Global) Stop) → IsBuilt ms (Ok statements)
-          → GivesOrStops {T = Vec ℕ Global} {V = List ℕ} (λ made. made.items) (Exactly (written (file_of statements)))
-          Never r → MadeBy r
-      made_whole statements r built h =
-          meets {T = Vec ℕ Global} (λ made. made.items) (Exactly (written (file_of statements))) (SourcesGive sources)
-          Never Never
-          (λ outcome same. from_typed outcome (Ok ms, known, (Ok statements, built, same))) (λ path never. absurd never)
-          r h
+  -- the second answers for the whole
+  pub second_gives : (value : A) → First (Ok value) → (r : Result U Stop)
+      → GivesOrStops whole_view (Next value) Never r → GivesOrStops whole_view (Then First Next) Never r
+  second_gives value first r h =
+      meets whole_view (Next value) (Then First Next) Never Never (λ outcome next. (Ok value, first, next))
+      (λ path never. absurd never) r h
 
 -- what the files were read as, and what they gave
-read_here : (files : Files) (paths : List (List ℕ)) (sources : List Source) (r : Result (Vec ℕ Global) Stop)
+read_here : (c : Configuration) (files : Files) (paths : List (List ℕ)) (sources : List Source) (r : Result (Vec ℕ Global) Stop)
     → sources_of files paths ≡ Ok sources
-    → GivesOrStops {T = Vec ℕ Global} {V = List ℕ} (λ made. made.items) (SourcesGive sources) Never r
-    → GivesOrStops {T = Vec ℕ Global} {V = List ℕ} (λ made. made.items) (ListedFilesGive files paths)
+    → GivesOrStops {T = Vec ℕ Global} {V = List ℕ} (λ made. made.items) (SourcesGive c sources) Never r
+    → GivesOrStops {T = Vec ℕ Global} {V = List ℕ} (λ made. made.items) (ListedFilesGive c files paths)
     (CannotReadOf files paths) r
-read_here files paths sources r read h =
-    meets {T = Vec ℕ Global} (λ made. made.items) (SourcesGive sources) (ListedFilesGive files paths) Never
+read_here c files paths sources r read h =
+    meets {T = Vec ℕ Global} (λ made. made.items) (SourcesGive c sources) (ListedFilesGive c files paths) Never
     (CannotReadOf files paths)
-    (λ outcome tree. subst (λ s. GoesOn s SourcesGive outcome) (sym read) tree) (λ path never. absurd never) r h
+    (λ outcome tree. subst (λ s. GoesOn s (SourcesGive c) outcome) (sym read) tree) (λ path never. absurd never) r h
 
-pub job_made : (old : Option Files) (paths : List (List ℕ)) (sources : List Source) (r : Result (Vec ℕ Global) Stop)
+pub job_made : (c : Configuration) (old : Option Files) (paths : List (List ℕ)) (sources : List Source) (r : Result (Vec ℕ Global) Stop)
     → IfSome old (λ files. sources_of files paths ≡ Ok sources)
-    → GivesOrStops {T = Vec ℕ Global} {V = List ℕ} (λ made. made.items) (SourcesGive sources) Never r
+    → GivesOrStops {T = Vec ℕ Global} {V = List ℕ} (λ made. made.items) (SourcesGive c sources) Never r
     → IfSome old
-    (λ files. GivesOrStops {T = Vec ℕ Global} {V = List ℕ} (λ made. made.items) (ListedFilesGive files paths)
+    (λ files. GivesOrStops {T = Vec ℕ Global} {V = List ℕ} (λ made. made.items) (ListedFilesGive c files paths)
     (CannotReadOf files paths) r)
-job_made None paths sources r read h = tt
-job_made (Some files) paths sources r read h = read_here files paths sources r read h
+job_made c None paths sources r read h = tt
+job_made c (Some files) paths sources r read h = read_here c files paths sources r read h

@@ -8,6 +8,11 @@ use Rattle.bp_faults.specs.Phases.{IsOnce}
 use Rattle.bp_faults.proofs.Phases.{value_once, goes_on_once, then_once}
 use Rattle.bp_ports.specs.Files.{Files}
 use Rattle.bp_props.specs.declared.module.Module.{Module as Typed}
+use Rattle.bp_props.specs.declared.props.Props.{Props}
+use Rattle.bp_pipeline.specs.Course.{GraphAfter}
+use Rattle.bp_pipeline.specs.Laws.{OneGraph}
+use Rattle.bp_pipeline.specs.Shown.{shown_graph}
+use Rattle.module_graph.specs.declared.graph.Node.{Node}
 use Rattle.bp_load.specs.ListFile.{ListMeans}
 use Rattle.bp_load.specs.Trees.{Source}
 use Rattle.bp_load.specs.Loaded.{LoadMeans}
@@ -18,34 +23,51 @@ use Rattle.static_links.specs.declared.module.Module.{Module}
 use Rattle.static_links.specs.Built.{IsBuilt}
 use Rattle.static_links.specs.Laws.{OneOutcome}
 use Rattle.bp_run.specs.File.{file_of}
+use Rattle.bp_run.specs.declared.words.Graph.{Graph as GraphWords}
 use Rattle.bp_run.specs.declared.words.Configuration.{Configuration}
+use Rattle.bp_run.specs.declared.words.Configuration.TheVariants.{Build, Graph}
 use Rattle.bp_run.specs.Job.{read_of, sources_of, written, ListFileMeans, ModulesGive, TypedModulesGive, SourcesGive}
-use Rattle.bp_run.specs.Job.{ListedFilesGive, JobMeans}
+use Rattle.bp_run.specs.Job.{ListedFilesGive, JobMeans, BuildGives, GraphGives}
+use Rattle.bp_run.specs.Targets.{config_of}
+use Rattle.bp_run.specs.Words.{list_of}
 use Rattle.bp_run.specs.Laws.{OneJob}
 use Rattle.bp_run.specs.Run.{World, DoneBy, FaultBy}
 
-module _ (list : OneList) (load : OneLoad) (known : OneKnown) (built : OneOutcome) where
+module _ (list : OneList) (load : OneLoad) (known : OneKnown) (built : OneOutcome) (graph : OneGraph) where
   one_of_modules : (ms : List Module) → IsOnce (ModulesGive ms)
   one_of_modules ms =
       then_once (IsBuilt ms) (λ statements outcome. written (file_of statements) ≡ outcome) (built ms)
       (λ statements. value_once (written (file_of statements)))
 
-  one_of_typed : (sources : List Source) (typed : List Typed) → IsOnce (TypedModulesGive sources typed)
-  one_of_typed sources typed = then_once (AreKnown sources typed) ModulesGive (known sources typed) one_of_modules
+  one_of_build : (sources : List Source) (typed : List Typed) → IsOnce (BuildGives sources typed)
+  one_of_build sources typed = then_once (AreKnown sources typed) ModulesGive (known sources typed) one_of_modules
 
-  one_of_sources : (sources : List Source) → IsOnce (SourcesGive sources)
-  one_of_sources sources =
-      then_once (LoadMeans sources) (TypedModulesGive sources) (load sources) (one_of_typed sources)
+  one_of_graph : (words : GraphWords) (typed : List Typed) → IsOnce (GraphGives words typed)
+  one_of_graph words typed =
+      let config = config_of words.targets in
+      then_once (GraphAfter typed config words.after)
+      (λ (nodes : List (Node Props)) outcome. Ok (shown_graph typed nodes) ≡ outcome)
+      (graph typed config words.after) (λ nodes. value_once (Ok (shown_graph typed nodes)))
 
-  one_of_listed : (files : Files) (paths : List (List ℕ)) → IsOnce (ListedFilesGive files paths)
-  one_of_listed files paths = goes_on_once (sources_of files paths) SourcesGive one_of_sources
+  one_of_typed : (c : Configuration) (sources : List Source) (typed : List Typed)
+      → IsOnce (TypedModulesGive c sources typed)
+  one_of_typed (Build words) sources typed = one_of_build sources typed
+  one_of_typed (Graph words) sources typed = one_of_graph words typed
 
-  one_list_file : (c : Configuration) (files : Files) → IsOnce (ListFileMeans c files)
-  one_list_file c files = goes_on_once (read_of 0 LARGEST_LIST_FILE (get files c.list)) ListMeans list
+  one_of_sources : (c : Configuration) (sources : List Source) → IsOnce (SourcesGive c sources)
+  one_of_sources c sources =
+      then_once (LoadMeans sources) (TypedModulesGive c sources) (load sources) (one_of_typed c sources)
+
+  one_of_listed : (c : Configuration) (files : Files) (paths : List (List ℕ)) → IsOnce (ListedFilesGive c files paths)
+  one_of_listed c files paths = goes_on_once (sources_of files paths) (SourcesGive c) (one_of_sources c)
+
+  one_list_file : (path : List ℕ) (files : Files) → IsOnce (ListFileMeans path files)
+  one_list_file path files = goes_on_once (read_of 0 LARGEST_LIST_FILE (get files path)) ListMeans list
 
   pub one_job : OneJob
   one_job c files =
-      then_once (ListFileMeans c files) (ListedFilesGive files) (one_list_file c files) (one_of_listed files)
+      then_once (ListFileMeans (list_of c) files) (ListedFilesGive c files) (one_list_file (list_of c) files)
+      (one_of_listed c files)
 
 module _ (once : OneJob) where
   excluded : (c : Configuration) (files : Files) (text : List ℕ) (fault : Fault) → JobMeans c files (Ok text)

@@ -1,4 +1,4 @@
--- A job has an outcome, where each phase has.
+-- The job of `build` has an outcome, where each phase has.
 use Rattle.std.proofs.Common.{◌≡◌, ℕ, List, Result, Ok, Err, refl, subst}
 use Rattle.std.specs.FinMap.{get}
 use Rattle.bp_faults.specs.declared.fault.Fault.{Fault}
@@ -16,11 +16,11 @@ use Rattle.module_form.specs.Laws.{SomeKnown}
 use Rattle.static_links.specs.declared.module.Module.{Module}
 use Rattle.static_links.specs.Built.{IsBuilt}
 use Rattle.static_links.specs.Laws.{SomeOutcome}
-use Rattle.bp_run.specs.declared.words.Configuration.{Configuration}
+use Rattle.bp_run.specs.declared.words.Build.{Build as BuildWords}
+use Rattle.bp_run.specs.declared.words.Configuration.TheVariants.{Build}
 use Rattle.bp_run.specs.File.{file_of}
-use Rattle.bp_run.specs.Job.{read_of, sources_of, written, ListFileMeans, ModulesGive, TypedModulesGive, SourcesGive}
-use Rattle.bp_run.specs.Job.{ListedFilesGive}
-use Rattle.bp_run.specs.Laws.{SomeJob}
+use Rattle.bp_run.specs.Job.{read_of, sources_of, written, ListFileMeans, ModulesGive, BuildGives, SourcesGive}
+use Rattle.bp_run.specs.Job.{ListedFilesGive, JobMeans}
 
 -- The same as `goes_on_some`, where the next meaning has an outcome for this result alone.
 goes_on_from : {A B : Type 0} (first : Result A Fault) (Next : A → Result B Fault → Type 0)
@@ -35,25 +35,27 @@ module _ (list : SomeList) (load : SomeLoad) (known : SomeKnown) (built : SomeOu
       (λ statements. (written (file_of statements), refl))
 
   some_of_typed : (sources : List Source) (typed : List Typed) → LoadMeans sources (Ok typed)
-      → HasOutcome (TypedModulesGive sources typed)
+      → HasOutcome (BuildGives sources typed)
   some_of_typed sources typed loaded =
       then_some (AreKnown sources typed) ModulesGive (known sources typed loaded) some_of_modules
 
-  some_of_sources : (sources : List Source) → HasOutcome (SourcesGive sources)
-  some_of_sources sources =
-      let first = load sources in
-      let next =
-      goes_on_from first.0 (TypedModulesGive sources)
-      (λ typed is. some_of_typed sources typed (subst (LoadMeans sources) is first.1))
-      in
-      (next.0, (first.0, first.1, next.1))
+  module _ (words : BuildWords) where
+    some_of_sources : (sources : List Source) → HasOutcome (SourcesGive (Build words) sources)
+    some_of_sources sources =
+        let first = load sources in
+        let next =
+        goes_on_from first.0 (BuildGives sources)
+        (λ typed is. some_of_typed sources typed (subst (LoadMeans sources) is first.1))
+        in
+        (next.0, (first.0, first.1, next.1))
 
-  some_of_listed : (files : Files) (paths : List (List ℕ)) → HasOutcome (ListedFilesGive files paths)
-  some_of_listed files paths = goes_on_some (sources_of files paths) SourcesGive some_of_sources
+    some_of_listed : (files : Files) (paths : List (List ℕ)) → HasOutcome (ListedFilesGive (Build words) files paths)
+    some_of_listed files paths = goes_on_some (sources_of files paths) (SourcesGive (Build words)) some_of_sources
 
-  some_list_file : (c : Configuration) (files : Files) → HasOutcome (ListFileMeans c files)
-  some_list_file c files = goes_on_some (read_of 0 LARGEST_LIST_FILE (get files c.list)) ListMeans list
+    some_list_file : (files : Files) → HasOutcome (ListFileMeans words.list files)
+    some_list_file files = goes_on_some (read_of 0 LARGEST_LIST_FILE (get files words.list)) ListMeans list
 
-  pub some_job : SomeJob
-  some_job c files =
-      then_some (ListFileMeans c files) (ListedFilesGive files) (some_list_file c files) (some_of_listed files)
+    pub some_job : (files : Files) → HasOutcome (JobMeans (Build words) files)
+    some_job files =
+        then_some (ListFileMeans words.list files) (ListedFilesGive (Build words) files) (some_list_file files)
+        (some_of_listed files)

@@ -7,7 +7,8 @@ use Rattle.bp_run.specs.declared.words.Configuration.{Configuration}
 use Rattle.bp_run.specs.declared.end.End.{End}
 use Rattle.bp_run.specs.declared.stop.Stop.{Stop}
 use Rattle.bp_run.specs.Lines.{read_line, usage_line, memory_line}
-use Rattle.bp_run.specs.Run.{World, Stream, Untouched, Unchanged, DoneBy, FaultBy, ReadBy, WriteBy, Says, SaysNothing}
+use Rattle.bp_run.specs.Run.{World, Stream, Untouched, Unchanged, DoneBy, FaultBy, ReadBy, WriteBy, Delivers, Fails}
+use Rattle.bp_run.specs.Run.{Says, SaysNothing}
 
 -- The exit status of an end.
 abbrev pub status_of : End → ℕ
@@ -40,6 +41,13 @@ Ended conf old new End.Usage = IsNone conf × Untouched old new
 Ended conf old new (End.Read line) = IsSomeAnd conf (ReadBy old new line)
 Ended conf old new (End.Write line) = IsSomeAnd conf (WriteBy old new line)
 Ended conf old new End.OutOfMemory = IsSomeAnd conf (λ c. Unchanged old new)
+
+-- What the delivery of a text comes to: it is delivered, or fails, or memory runs out before it.
+abbrev pub EndsDelivery : Configuration → List ℕ → World → World → End → Type 0
+EndsDelivery c text old new End.Done = Delivers c text old new
+EndsDelivery c text old new (End.Write line) = Fails c text old new line
+EndsDelivery c text old new End.OutOfMemory = Unchanged old new
+EndsDelivery c text old new end = ⊥
 
 -- How a job's stop is reported, by the paths of the files.
 abbrev pub Stopped : List (List ℕ) → Stop → End → Type 0

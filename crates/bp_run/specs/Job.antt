@@ -18,7 +18,15 @@ use Rattle.bp_faults.specs.Phases.{GoesOn, Then}
 use Rattle.static_links.specs.Built.{IsBuilt}
 use Rattle.ninja_file.specs.declared.file.NinjaFile.{NinjaFile}
 use Rattle.ninja_write.specs.Meaning.{text_of}
+use Rattle.module_graph.specs.declared.graph.Node.{Node}
+use Rattle.bp_props.specs.declared.props.Props.{Props}
+use Rattle.bp_pipeline.specs.Course.{GraphAfter}
+use Rattle.bp_pipeline.specs.Shown.{shown_graph}
+use Rattle.bp_run.specs.declared.words.Graph.{Graph as GraphWords}
 use Rattle.bp_run.specs.declared.words.Configuration.{Configuration}
+use Rattle.bp_run.specs.declared.words.Configuration.TheVariants.{Build, Graph}
+use Rattle.bp_run.specs.Targets.{config_of}
+use Rattle.bp_run.specs.Words.{list_of}
 use Rattle.bp_run.specs.File.{file_of}
 
 -- What is read of a file, by its number: it is there, and no larger than the limit.
@@ -28,8 +36,8 @@ read_of number limit (Some bytes) =
     if nat_le (length bytes) limit then Ok bytes else Err (fault_at FileTooLarge (file_start number))
 
 -- The paths that the list file names, which is no larger than its limit.
-abbrev pub ListFileMeans : Configuration → Files → Result (List (List ℕ)) Fault → Type 0
-ListFileMeans c files outcome = GoesOn (read_of 0 LARGEST_LIST_FILE (get files c.list)) ListMeans outcome
+abbrev pub ListFileMeans : List ℕ → Files → Result (List (List ℕ)) Fault → Type 0
+ListFileMeans list files outcome = GoesOn (read_of 0 LARGEST_LIST_FILE (get files list)) ListMeans outcome
 
 -- Files together are no larger than the limit of a tree: the bytes of a file, behind others of that size.
 abbrev pub counted : ℕ → ℕ → List ℕ → Result (List ℕ) Fault
@@ -61,21 +69,32 @@ written file =
 abbrev pub ModulesGive : List Module → Result (List ℕ) Fault → Type 0
 ModulesGive ms outcome = Then (IsBuilt ms) (λ statements outcome. written (file_of statements) ≡ outcome) outcome
 
--- What typed modules of some files give: they must be known.
-abbrev pub TypedModulesGive : List Source → List Typed → Result (List ℕ) Fault → Type 0
-TypedModulesGive sources typed outcome = Then (AreKnown sources typed) ModulesGive outcome
+-- What `build` gives of typed modules of some files: they must be known.
+abbrev pub BuildGives : List Source → List Typed → Result (List ℕ) Fault → Type 0
+BuildGives sources typed outcome = Then (AreKnown sources typed) ModulesGive outcome
+
+-- What `graph` gives of typed modules: the text of the graph after the first mutators, for its targets.
+abbrev pub GraphGives : GraphWords → List Typed → Result (List ℕ) Fault → Type 0
+GraphGives words typed outcome =
+    Then (GraphAfter typed (config_of words.targets) words.after)
+    (λ (nodes : List (Node Props)) outcome. Ok (shown_graph typed nodes) ≡ outcome) outcome
+
+-- What typed modules of some files give, by the command.
+abbrev pub TypedModulesGive : Configuration → List Source → List Typed → Result (List ℕ) Fault → Type 0
+TypedModulesGive (Build words) sources typed = BuildGives sources typed
+TypedModulesGive (Graph words) sources typed = GraphGives words typed
 
 -- What files give: first they load as typed modules.
-abbrev pub SourcesGive : List Source → Result (List ℕ) Fault → Type 0
-SourcesGive sources outcome = Then (LoadMeans sources) (TypedModulesGive sources) outcome
+abbrev pub SourcesGive : Configuration → List Source → Result (List ℕ) Fault → Type 0
+SourcesGive c sources outcome = Then (LoadMeans sources) (TypedModulesGive c sources) outcome
 
 -- What the files of a list give: first all are read.
-abbrev pub ListedFilesGive : Files → List (List ℕ) → Result (List ℕ) Fault → Type 0
-ListedFilesGive files paths outcome = GoesOn (sources_of files paths) SourcesGive outcome
+abbrev pub ListedFilesGive : Configuration → Files → List (List ℕ) → Result (List ℕ) Fault → Type 0
+ListedFilesGive c files paths outcome = GoesOn (sources_of files paths) (SourcesGive c) outcome
 
 -- The job of a configuration over files: the phases in their order.
 abbrev pub JobMeans : Configuration → Files → Result (List ℕ) Fault → Type 0
-JobMeans c files outcome = Then (ListFileMeans c files) (ListedFilesGive files) outcome
+JobMeans c files outcome = Then (ListFileMeans (list_of c) files) (ListedFilesGive c files) outcome
 
 -- The paths that are listed, and none where the list has a fault.
 abbrev pub listed_of : Result (List (List ℕ)) Fault → List (List ℕ)
@@ -83,6 +102,6 @@ listed_of (Ok paths) = paths
 listed_of (Err fault) = []
 
 -- The files by their numbers: the list has the number 0, and behind it stand those that it names.
-abbrev pub AreListed : Configuration → Files → List (List ℕ) → Type 0
-AreListed c files paths =
-    (outcome : Result (List (List ℕ)) Fault) × ListFileMeans c files outcome × (paths ≡ listed_of outcome)
+abbrev pub AreListed : List ℕ → Files → List (List ℕ) → Type 0
+AreListed list files paths =
+    (outcome : Result (List (List ℕ)) Fault) × ListFileMeans list files outcome × (paths ≡ listed_of outcome)

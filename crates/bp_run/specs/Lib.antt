@@ -1,3 +1,4 @@
+pub mod Targets
 pub mod Words
 pub mod Head
 pub mod File

@@ -13,6 +13,10 @@ read_line path = codes "bpgen: cannot read " ++ (path ++ codes "\n")
 abbrev pub write_line : List ℕ → List ℕ
 write_line path = codes "bpgen: cannot write " ++ (path ++ codes "\n")
 
+-- The output can't be written.
+abbrev pub output_line : List ℕ
+output_line = write_line (codes "standard output")
+
 -- Memory ran out.
 abbrev pub memory_line : List ℕ
 memory_line = codes "bpgen: out of memory\n"

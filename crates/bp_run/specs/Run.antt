@@ -9,9 +9,11 @@ use Rattle.bp_ports.specs.declared.sink.Sink.{Ghosts as SinkGhosts}
 use Rattle.bp_ports.specs.Causes.{Rose}
 use Rattle.bp_ports.specs.Files.{Files, WhereTold, SameBut, AppendsPart}
 use Rattle.bp_run.specs.declared.words.Configuration.{Configuration}
+use Rattle.bp_run.specs.declared.words.Configuration.TheVariants.{Build, Graph}
 use Rattle.bp_run.specs.Job.{JobMeans, AreListed}
-use Rattle.bp_run.specs.Lines.{read_line, write_line, usage_line, memory_line}
+use Rattle.bp_run.specs.Lines.{read_line, write_line, output_line, usage_line, memory_line}
 use Rattle.bp_run.specs.Steps.{CannotRead}
+use Rattle.bp_run.specs.Words.{list_of}
 
 -- What a call sees of its store and of its output: what they hold, where they tell it, and their counts of failures.
 pub record World : Type 0 where
@@ -71,31 +73,61 @@ pub record Quiet (old new : World) : Type 0 where
 abbrev pub Gives : Configuration → World → Result (List ℕ) Fault → Type 0
 Gives c old outcome = IfSome old.files (λ files. JobMeans c files outcome)
 
--- Status 0: OUT holds the job's text, every other file is as it was, and so is the output.
+-- A file holds the text, every other file is as it was, and so is the output.
+pub record IsWritten (path text : List ℕ) (old new : World) : Type 0 where
+  pub files : WhereTold (λ before after. after ≡ insert before path text) old.files new.files
+  pub out : new.out ≡ old.out
+
+-- The text stands behind the output, and the files are as they were.
+pub record IsShown (text : List ℕ) (old new : World) : Type 0 where
+  pub out : WhereTold (λ before after. after ≡ before ++ text) old.out new.out
+  pub files : new.files ≡ old.files
+
+-- The text is where the command puts it: in OUT, or on the output.
+abbrev pub Delivers : Configuration → List ℕ → World → World → Type 0
+Delivers (Build words) text old new = IsWritten words.out text old new
+Delivers (Graph words) text old new = IsShown text old new
+
+-- Status 0: the job is a text, and it is delivered.
 abbrev pub DoneBy : World → World → Configuration → Type 0
-DoneBy old new c =
-    (text : List ℕ) × Gives c old (Ok text)
-    × WhereTold (λ before after. after ≡ insert before c.out text) old.files new.files × (new.out ≡ old.out)
+DoneBy old new c = (text : List ℕ) × Gives c old (Ok text) × Delivers c text old new
 
 -- Status 1: the job is the fault of the line, whose path is that of the list or of a file that it names, and nothing
 -- changed.
 abbrev pub FaultBy : World → World → List ℕ → Configuration → Type 0
 FaultBy old new line c =
     (fault : Fault) × Gives c old (Err fault)
-    × (paths : List (List ℕ)) × IfSome old.files (λ files. AreListed c files paths)
-    × (line ≡ line_of fault (c.list ∷ paths)) × Unchanged old new
+    × (paths : List (List ℕ)) × IfSome old.files (λ files. AreListed (list_of c) files paths)
+    × (line ≡ line_of fault (list_of c ∷ paths)) × Unchanged old new
 
 -- Status 3: a read failed, of a path that the job reads, and nothing changed.
 abbrev pub ReadBy : World → World → List ℕ → Configuration → Type 0
 ReadBy old new line c =
     (path : List ℕ) × (line ≡ read_line path)
-    × IfSome old.files (λ files. CannotRead c files path) × Rose old.reads new.reads × Unchanged old new
+    × IfSome old.files (λ files. CannotRead (list_of c) files path) × Rose old.reads new.reads × Unchanged old new
 
--- Status 4: the job is a text, its write failed, and of the files OUT alone may have changed.
+-- The write of a file failed, and of the files it alone may have changed.
+pub record IsUnwritten (path : List ℕ) (old new : World) (line : List ℕ) : Type 0 where
+  pub told : line ≡ write_line path
+  pub cause : Rose old.writes new.writes
+  pub files : WhereTold (SameBut path) old.files new.files
+  pub out : new.out ≡ old.out
+
+-- The put on the output failed, which may have gained a first part of the text, and the files are as they were.
+pub record IsUnshown (text : List ℕ) (old new : World) (line : List ℕ) : Type 0 where
+  pub told : line ≡ output_line
+  pub cause : Rose old.puts new.puts
+  pub out : WhereTold (AppendsPart text) old.out new.out
+  pub files : new.files ≡ old.files
+
+-- The text couldn't be put where the command puts it.
+abbrev pub Fails : Configuration → List ℕ → World → World → List ℕ → Type 0
+Fails (Build words) text old new line = IsUnwritten words.out old new line
+Fails (Graph words) text old new line = IsUnshown text old new line
+
+-- Status 4: the job is a text, and it couldn't be delivered.
 abbrev pub WriteBy : World → World → List ℕ → Configuration → Type 0
-WriteBy old new line c =
-    (text : List ℕ) × Gives c old (Ok text) × (line ≡ write_line c.out) × Rose old.writes new.writes
-    × WhereTold (SameBut c.out) old.files new.files × (new.out ≡ old.out)
+WriteBy old new line c = (text : List ℕ) × Gives c old (Ok text) × Fails c text old new line
 
 -- The job is a text and nothing failed: so it is done, or memory ran out.
 abbrev pub Completes : Option Configuration → World → World → ℕ → Type 0

@@ -6,7 +6,6 @@ use Rattle.bp_ports.specs.Files.{Files}
 use Rattle.bp_faults.specs.declared.fault.Fault.{Fault}
 use Rattle.bp_faults.specs.declared.refusal.Refusal.{Refusal}
 use Rattle.bp_faults.specs.declared.refusal.Refusal.TheVariants.{Bad, OutOfMemory as NoMemory}
-use Rattle.bp_run.specs.declared.words.Configuration.{Configuration}
 use Rattle.bp_run.specs.declared.stop.Stop.{Stop}
 use Rattle.bp_run.specs.Job.{ListFileMeans, sources_of}
 
@@ -49,6 +48,6 @@ CannotReadOf files paths path =
     (before after : List (List ℕ)) × (paths ≡ before ++ path ∷ after) × IsOk (sources_of files before)
 
 -- The path that can't be read is the list's, or one that the list names, where it has no fault.
-abbrev pub CannotRead : Configuration → Files → List ℕ → Type 0
-CannotRead c files path =
-    (path ≡ c.list) ⊎ ((paths : List (List ℕ)) × ListFileMeans c files (Ok paths) × CannotReadOf files paths path)
+abbrev pub CannotRead : List ℕ → Files → List ℕ → Type 0
+CannotRead list files path =
+    (path ≡ list) ⊎ ((paths : List (List ℕ)) × ListFileMeans list files (Ok paths) × CannotReadOf files paths path)

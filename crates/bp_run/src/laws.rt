@@ -3,6 +3,7 @@
 ghost use Rattle.bp_run.specs.Laws.{OneJob, SomeJob, HeadIsText};
 
 use bp_load::laws::{one_list, one_load};
+use bp_pipeline::laws::one_graph;
 use module_form::laws::{one_known, some_known};
 use static_links::laws::{one_outcome, some_built};
 
@@ -14,9 +15,10 @@ pub fn one_job()
     one_load();
     one_known();
     one_outcome();
+    one_graph();
 }
 
-/// A job has an outcome, since each of its phases has: a text or a fault, for all words and files.
+/// The job of `build` has an outcome, since each of its phases has: a text or a fault, for all words and files.
 pub fn some_job()
     ensures { SomeJob }
 {

@@ -8,6 +8,7 @@ use bp_ports::{FsStore, OpenGate, StdSink};
 use std::io::ErrorKind;
 use std::process::ExitCode;
 use std::rt::Env;
+use std::thread::Threads;
 use std::{env, io};
 
 // The words after the program's name.
@@ -29,8 +30,9 @@ fn end_without_words(kind: ErrorKind) -> End
     }
 }
 
-/// The program, over the real files and streams.
-pub fn start(rt: HostRuntime) -> ExitCode {
+/// The program, over the real files and streams. The first argument is the runtime once more, as the one that may start
+/// threads.
+pub fn start<R: Threads + Sync>(threads: &R, rt: HostRuntime) -> ExitCode {
     let mut diag = StdSink::err(rt);
     let words = match read_words(&rt) {
         Ok(words) => words,
@@ -43,6 +45,7 @@ pub fn start(rt: HostRuntime) -> ExitCode {
     let mut store = FsStore::new(rt);
     let mut out = StdSink::out(rt);
     ExitCode::from(run(
+        threads,
         rt.alloc(),
         &words,
         &mut store,

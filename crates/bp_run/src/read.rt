@@ -8,7 +8,7 @@ ghost use Rattle.bp_load.specs.Trees.{sources};
 ghost use Rattle.bp_run.specs.Job.{read_of, counted, bytes_of, sources_of, ListFileMeans};
 ghost use Rattle.bp_run.specs.Steps.{GivesOrStops, GivesOrRunsOut, Exactly, ReadCause, CannotReadOf};
 
-use crate::{Configuration, Stop};
+use crate::Stop;
 use bp_faults::limits::{LARGEST_FILE, LARGEST_LIST_FILE, LARGEST_TREE};
 use bp_faults::{Fault, FaultKind, OutOfMemory, Path, Place, Text};
 use bp_load::file_list;
@@ -58,20 +58,16 @@ fn list_paths(alloc: Global, bytes: &[u8]) -> Result<Vec<Path>, Stop>
 }
 
 /// The paths that the list names, in file order.
-pub fn read_list<S: Store>(
-    alloc: Global,
-    configuration: &Configuration,
-    store: &mut S,
-) -> Result<Vec<Path>, Stop>
+pub fn read_list<S: Store>(alloc: Global, list: &Text, store: &mut S) -> Result<Vec<Path>, Stop>
     ensures gives { IfSome (S.files store.old) (λ files. GivesOrStops (λ paths. paths.items)
-        (ListFileMeans configuration.now files) (λ unread. unread ≡ configuration.now.list) result) }
+        (ListFileMeans list.now files) (λ unread. unread ≡ list.now) result) }
     ensures few { IfOk result (λ paths. length paths.items ≤ 2 ^ 14) }
     ensures order { IfOk result (λ paths. AreInFileOrder paths.items) }
     ensures cause { ReadCause (S.read_faults store.old) (S.read_faults store.new) result }
     ensures files { S.files store.new ≡ S.files store.old }
     ensures writes { S.write_faults store.new ≡ S.write_faults store.old }
 {
-    let bytes = read_file(alloc, store, &configuration.list, 0, LARGEST_LIST_FILE)?;
+    let bytes = read_file(alloc, store, list, 0, LARGEST_LIST_FILE)?;
     list_paths(alloc, &bytes)
 }
 

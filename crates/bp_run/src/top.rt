@@ -7,19 +7,20 @@ use crate::laws::one_job;
 use bp_faults::Text;
 use bp_ports::{Gate, Sink, Store};
 use std::alloc::Global;
+use std::thread::Threads;
 
 /// All that the program does, for the words after its name: the exit status.
 ///
 /// 0 is done, 1 a fault of the input, 2 faulty words, 3 a file that can't be read, 4 one that can't
-/// be written, and 5 that memory ran out. Each but 0 puts one line on `diag`. The gate has no effect
-/// yet, since passes run on this thread.
-pub fn run<S: Store, O: Sink, D: Sink, G: Gate>(
+/// be written, and 5 that memory ran out. Each but 0 puts one line on `diag`.
+pub fn run<R: Threads + Sync, S: Store, O: Sink, D: Sink, G: Gate + Sync>(
+    rt: &R,
     alloc: Global,
     words: &[Text],
     store: &mut S,
     out: &mut O,
     diag: &mut D,
-    _gate: &G,
+    gate: &G,
 ) -> u8
     ensures { RunMeans (configuration_of words.now)
         (world S.Store O.Sink store.old out.old) (world S.Store O.Sink store.new out.new)
@@ -27,7 +28,7 @@ pub fn run<S: Store, O: Sink, D: Sink, G: Gate>(
 {
     // A law: so a job that was done is no fault, and the other way round.
     one_job();
-    let end = do_work(alloc, words, store, out);
+    let end = do_work(rt, alloc, words, store, out, gate);
     report(&end, diag);
     status(&end)
 }

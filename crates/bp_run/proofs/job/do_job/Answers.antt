@@ -9,6 +9,7 @@ use Rattle.bp_run.proofs.job.do_job.Goals as goal
 
 pub returns-clause-gives : goal.returns-clause-gives
 returns-clause-gives g c =
-    job_made _ c.args.paths.now (sources c.in_ok-files.files.items) c.make.result c.in_ok-files.ensures.gives
-    (subst (λ files. GivesOrStops {T = Vec ℕ Global} {V = List ℕ} (λ made. made.items) (SourcesGive (sources files))
-    Never c.make.result) c.deref.ensures.value c.make.ensures)
+    let conf = c.args.configuration.now in
+    job_made conf _ c.args.paths.now (sources c.in_ok-files.files.items) c.make.result c.in_ok-files.ensures.gives
+    (subst (λ files. GivesOrStops {T = Vec ℕ Global} {V = List ℕ} (λ made. made.items)
+    (SourcesGive conf (sources files)) Never c.make.result) c.deref.ensures.value c.make.ensures)
