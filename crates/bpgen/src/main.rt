@@ -8,5 +8,5 @@ use std::process::ExitCode;
 mod tests;
 
 fn main(rt: HostRuntime) -> ExitCode {
-    start(rt)
+    start(&rt, rt)
 }

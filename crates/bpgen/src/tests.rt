@@ -1,5 +1,6 @@
 mod built;
 mod faults;
+mod graphs;
 mod limits;
 mod outside;
 
@@ -7,6 +8,7 @@ use bp_faults::{OutOfMemory, Text};
 use bp_ports::{MemSink, MemStore, OpenGate, Sink, Store};
 use bp_run::run;
 use std::alloc::Global;
+use std::thread::Threads;
 
 const BUILD: &str = "build -l list -o build.ninja -t android_arm64";
 
@@ -42,7 +44,8 @@ fn store_of(alloc: Global, tree: Vec<(Text, Vec<u8>)>) -> Result<MemStore, OutOf
 }
 
 // The status of the program for some words.
-fn status_of<S: Store, O: Sink, D: Sink>(
+fn status_of<R: Threads + Sync, S: Store, O: Sink, D: Sink>(
+    rt: &R,
     alloc: Global,
     words: &str,
     store: &mut S,
@@ -53,11 +56,12 @@ fn status_of<S: Store, O: Sink, D: Sink>(
     for word in words.split(' ') {
         list.push(Text::from_str(alloc, word)?)?;
     }
-    Ok(run(alloc, &list, store, out, diag, &OpenGate))
+    Ok(run(rt, alloc, &list, store, out, diag, &OpenGate))
 }
 
 // The status for some words over a store, and what is put on `diag`.
-fn outcome(
+fn outcome<R: Threads + Sync>(
+    rt: &R,
     alloc: Global,
     words: &str,
     store: &mut MemStore,
@@ -65,21 +69,31 @@ fn outcome(
 ) -> Result<(u8, Vec<u8>), OutOfMemory> {
     let mut out = MemSink::new(alloc, 0, Vec::new(alloc))?;
     let mut diag = MemSink::new(alloc, room, Vec::new(alloc))?;
-    let status = status_of(alloc, words, store, &mut out, &mut diag)?;
+    let status = status_of(rt, alloc, words, store, &mut out, &mut diag)?;
     Ok((status, diag.bytes().to_vec(alloc)?))
 }
 
 // Whether the tree is refused with status 1 and this line, and OUT isn't written.
-fn refuses(alloc: Global, tree: Vec<(Text, Vec<u8>)>, line: &str) -> Result<bool, OutOfMemory> {
+fn refuses<R: Threads + Sync>(
+    rt: &R,
+    alloc: Global,
+    tree: Vec<(Text, Vec<u8>)>,
+    line: &str,
+) -> Result<bool, OutOfMemory> {
     let mut store = store_of(alloc, tree)?;
-    let (status, said) = outcome(alloc, BUILD, &mut store, 300)?;
+    let (status, said) = outcome(rt, alloc, BUILD, &mut store, 300)?;
     Ok(status == 1 && said.as_slice() == line.as_bytes() && store.held("build.ninja").is_none())
 }
 
 // Whether the tree is built, and what is written ends with this text.
-fn builds(alloc: Global, tree: Vec<(Text, Vec<u8>)>, end: &str) -> Result<bool, OutOfMemory> {
+fn builds<R: Threads + Sync>(
+    rt: &R,
+    alloc: Global,
+    tree: Vec<(Text, Vec<u8>)>,
+    end: &str,
+) -> Result<bool, OutOfMemory> {
     let mut store = store_of(alloc, tree)?;
-    let (status, said) = outcome(alloc, BUILD, &mut store, 300)?;
+    let (status, said) = outcome(rt, alloc, BUILD, &mut store, 300)?;
     let Some(text) = store.held("build.ninja") else {
         return Ok(false);
     };

@@ -5,5 +5,5 @@ use bp_run::start;
 use std::process::ExitCode;
 
 fn main(rt: HostRuntime) -> ExitCode {
-    start(rt)
+    start(&rt, rt)
 }

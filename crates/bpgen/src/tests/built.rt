@@ -127,7 +127,7 @@ const BUILT: [(&str, &str); 14] = [
 fn trees_are_built(rt: HostRuntime) -> Result<(), Fail> {
     let alloc = rt.alloc();
     for (tree, end) in BUILT {
-        assert!(rt; builds(alloc, tree_of(alloc, tree)?, end)?, "{tree}");
+        assert!(rt; builds(&rt, alloc, tree_of(alloc, tree)?, end)?, "{tree}");
     }
     Ok(())
 }
@@ -138,7 +138,7 @@ const HELLO: &str = "@Android.bp\ncc_binary {\n    name: \"hello\",\n    srcs: [
 fn plain_start(rt: HostRuntime) -> Result<(), Fail> {
     let alloc = rt.alloc();
     let mut store = store_of(alloc, tree_of(alloc, HELLO)?)?;
-    let (status, said) = outcome(alloc, BUILD, &mut store, 300)?;
+    let (status, said) = outcome(&rt, alloc, BUILD, &mut store, 300)?;
     assert_eq!(rt; status, 0);
     assert!(rt; said.is_empty());
     assert!(rt; store.held("build.ninja") == Some(WRITTEN.as_bytes()));
@@ -146,7 +146,10 @@ fn plain_start(rt: HostRuntime) -> Result<(), Fail> {
     let mut free = FreeStore::new(alloc, tree_of(alloc, HELLO)?, 9000)?;
     let mut out = FreeSink::new(alloc, 0)?;
     let mut diag = FreeSink::new(alloc, 0)?;
-    assert_eq!(rt; status_of(alloc, BUILD, &mut free, &mut out, &mut diag)?, 0);
+    assert_eq!(rt;
+        status_of(&rt, alloc, BUILD, &mut free, &mut out, &mut diag)?,
+        0
+    );
     assert!(rt; free.held("build.ninja") == Some(WRITTEN.as_bytes()));
     Ok(())
 }
@@ -168,7 +171,7 @@ fn list_as_finder_writes(rt: HostRuntime) -> Result<(), Fail> {
         &mut tree,
     )?;
     let mut store = store_of(alloc, tree)?;
-    assert_eq!(rt; outcome(alloc, BUILD, &mut store, 300)?.0, 0);
+    assert_eq!(rt; outcome(&rt, alloc, BUILD, &mut store, 300)?.0, 0);
     assert_eq!(rt; store.calls(), 3);
     Ok(())
 }

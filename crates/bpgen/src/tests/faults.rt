@@ -203,10 +203,10 @@ const FAULTS: [(&str, &str); 48] = [
 fn the_first_fault_is_reported(rt: HostRuntime) -> Result<(), Fail> {
     let alloc = rt.alloc();
     for (tree, line) in FAULTS {
-        assert!(rt; refuses(alloc, tree_of(alloc, tree)?, line)?, "{line}");
+        assert!(rt; refuses(&rt, alloc, tree_of(alloc, tree)?, line)?, "{line}");
     }
     let mut tree = Vec::new(alloc);
     put(alloc, "list", b"\xff", &mut tree)?;
-    assert!(rt; refuses(alloc, tree, "list:1:1: error 1: not UTF-8\n")?);
+    assert!(rt; refuses(&rt, alloc, tree, "list:1:1: error 1: not UTF-8\n")?);
     Ok(())
 }

@@ -79,18 +79,19 @@ fn long_lists_strings_and_files(rt: HostRuntime) -> Result<(), Fail> {
     for (first, text, count, last, line) in REPEATED {
         let tree = repeated(alloc, first, text, count, last)?;
         assert!(rt;
-            refuses(alloc, tree_of(alloc, tree.as_str())?, line)?,
+            refuses(&rt, alloc, tree_of(alloc, tree.as_str())?, line)?,
             "{line}"
         );
     }
     let mut tree = Vec::new(alloc);
     let list = repeated(alloc, "", SPACES, (1 << 16) + 1, "")?;
     put(alloc, "list", list.as_bytes(), &mut tree)?;
-    assert!(rt; refuses(alloc, tree, "list:1:1: error 32: file is too large\n")?);
+    assert!(rt; refuses(&rt, alloc, tree, "list:1:1: error 32: file is too large\n")?);
     let maps = repeated(alloc, "@Android.bp\nx = ", "{a:", 63, "{}")?;
     let tree = repeated(alloc, maps.as_str(), "}", 63, "")?;
     assert!(rt;
         builds(
+            &rt,
             alloc,
             tree_of(alloc, tree.as_str())?,
             "\nbuild out/all: phony\ndefault out/all\n"
@@ -134,12 +135,20 @@ fn many_modules(alloc: Global, file: u32, modules: u32) -> Result<String, OutOfM
 fn many_files_and_modules(rt: HostRuntime) -> Result<(), Fail> {
     let alloc = rt.alloc();
     let tree = many_files(alloc, 1000, 1, 1000)?;
-    assert!(rt; builds(alloc, tree, "/bin/m999_0\ndefault out/all\n")?);
+    assert!(rt; builds(&rt, alloc, tree, "/bin/m999_0\ndefault out/all\n")?);
     let tree = many_files(alloc, 16_385, 1, 0)?;
-    assert!(rt; refuses(alloc, tree, "list:16385:1: error 30: too many: files\n")?);
+    assert!(rt;
+        refuses(
+            &rt,
+            alloc,
+            tree,
+            "list:16385:1: error 30: too many: files\n"
+        )?
+    );
     let tree = many_files(alloc, 5, 26_300, 5)?;
     assert!(rt;
         refuses(
+            &rt,
             alloc,
             tree,
             "d00004/Android.bp:25873:1: error 30: too many: modules\n"
@@ -169,7 +178,7 @@ fn large_tree(alloc: Global) -> Result<Vec<(Text, Vec<u8>)>, OutOfMemory> {
 fn files_of_many_bytes_together(rt: HostRuntime) -> Result<(), Fail> {
     let alloc = rt.alloc();
     let line = "e/Android.bp:1:1: error 30: too many: bytes\n";
-    assert!(rt; refuses(alloc, large_tree(alloc)?, line)?);
+    assert!(rt; refuses(&rt, alloc, large_tree(alloc)?, line)?);
     Ok(())
 }
 
@@ -199,6 +208,7 @@ fn long_link_lines(rt: HostRuntime) -> Result<(), Fail> {
     let alloc = rt.alloc();
     assert!(rt;
         builds(
+            &rt,
             alloc,
             many_libraries(alloc, 1024, "")?,
             "\ndefault out/all\n"
@@ -215,7 +225,7 @@ fn long_link_lines(rt: HostRuntime) -> Result<(), Fail> {
             "Android.bp:1027:46: error 23: dependency cycle: a{android_arm64_static} -> a{android_arm64_static}\n",
         ),
     ] {
-        assert!(rt; refuses(alloc, many_libraries(alloc, 1025, last)?, line)?);
+        assert!(rt; refuses(&rt, alloc, many_libraries(alloc, 1025, last)?, line)?);
     }
     Ok(())
 }

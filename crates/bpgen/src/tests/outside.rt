@@ -20,7 +20,7 @@ fn failing_store(rt: HostRuntime) -> Result<(), Fail> {
     ] {
         let tree = tree_of(alloc, TWO_FILES)?;
         let mut store = MemStore::new(alloc, tree, 9000, vec![in alloc; call]?)?;
-        let (got, said) = outcome(alloc, BUILD, &mut store, 300)?;
+        let (got, said) = outcome(&rt, alloc, BUILD, &mut store, 300)?;
         assert_eq!(rt; got, status);
         assert!(rt; said.as_slice() == line.as_bytes());
         assert_eq!(rt; store.calls(), call);
@@ -44,11 +44,17 @@ fn files_that_are_not_there(rt: HostRuntime) -> Result<(), Fail> {
     ] {
         let mut tree = Vec::new(alloc);
         put(alloc, "list", list.as_bytes(), &mut tree)?;
-        let (status, said) = outcome(alloc, BUILD, &mut store_of(alloc, tree)?, room)?;
+        let (status, said) = outcome(&rt, alloc, BUILD, &mut store_of(alloc, tree)?, room)?;
         assert_eq!(rt; status, 1);
         assert!(rt; said.as_slice() == line.as_bytes());
     }
-    let (status, said) = outcome(alloc, BUILD, &mut store_of(alloc, Vec::new(alloc))?, 300)?;
+    let (status, said) = outcome(
+        &rt,
+        alloc,
+        BUILD,
+        &mut store_of(alloc, Vec::new(alloc))?,
+        300,
+    )?;
     assert_eq!(rt; status, 1);
     assert!(rt; said.as_slice() == b"list:1:1: error 31: no such file\n".as_slice());
     Ok(())
@@ -65,10 +71,14 @@ fn words_that_give_no_configuration(rt: HostRuntime) -> Result<(), Fail> {
         "build -l list -o build.ninja -t android_arm",
         "build -o build.ninja -l list -t android_arm64",
         "graph -l list -o build.ninja -t android_arm64",
+        "graph -l list -t android_arm64",
+        "graph -l list -t android_arm64 -a alpha",
+        "graph -l list -a defaults -t android_arm64",
+        "graph -l -list -t android_arm64 -a defaults",
         "build -l list -o build.ninja -t android_arm64 x",
     ] {
         let mut store = store_of(alloc, tree_of(alloc, TWO_FILES)?)?;
-        let (status, said) = outcome(alloc, words, &mut store, 300)?;
+        let (status, said) = outcome(&rt, alloc, words, &mut store, 300)?;
         assert_eq!(rt; status, 2);
         assert!(rt;
             said.as_slice() == b"usage: bpgen build|replay|graph|synth OPTIONS\n".as_slice()
