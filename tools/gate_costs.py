@@ -1,5 +1,5 @@
 #!/usr/bin/env python3
-"""Runs a command of `rt` and prints what each crate cost: `tools/gate_costs.py rt ci --anew`. It is no part of the gate.
+"""Runs a command of `rt` and prints what each crate cost: `tools/gate_costs.py rt ci`. It is no part of the gate.
 
 It looks at the processes below the command twice a second, and prints the table of docs/CONTRIBUTING.md, in minutes of
 processor time: the proof of each crate, the proof of its tests, and its must-fail edits. What runs for less than half a
