@@ -16,4 +16,7 @@ pub mod Boundary
 pub mod Numbers
 mod Unescape
 pub mod ListedTokens
+mod Longest
+mod Rising
+mod Within
 mod Outcome

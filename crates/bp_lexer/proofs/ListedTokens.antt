@@ -1,7 +1,8 @@
 -- Each token of a list is a token of the text.
+use Rattle.std.specs.Prelude.{All}
 use Rattle.std.proofs.Common.{ℕ, zero, suc, ◌<◌, List, [], ◌∷◌, length, get_or, arith}
 use Rattle.bp_lexer.specs.declared.token.Token.{Token}
-use Rattle.bp_lexer.specs.Meaning.{IsToken, Covers}
+use Rattle.bp_lexer.specs.Meaning.{IsToken, IsTokenList, Covers}
 use Rattle.bp_lexer.proofs.Places.{place_file}
 
 pub token_at : (file : ℕ) (text : List ℕ) (i j : ℕ) (ts : List Token) → Covers file text i j ts → (k : ℕ) (d : Token) → k < length ts → IsToken file text (get_or ts k d)
@@ -17,3 +18,6 @@ token_here file text t token = record {
   number = token.number;
   place = place_file file text t.start t.place token.place;
 }
+
+pub all_tokens : (file : ℕ) (text : List ℕ) (ts : List Token) → IsTokenList file text ts → All (λ t. IsToken t.place.file text t) ts
+all_tokens file text ts listed = λ k d within. token_here file text (get_or ts k d) (token_at file text 0 (length text) ts listed k d within)

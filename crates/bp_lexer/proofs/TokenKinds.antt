@@ -74,7 +74,7 @@ kind_of (b ∷ w) =
     cond (is_letter b) Ident (cond (is_digit b || (b == 45)) Int (cond (b == 34) Quoted (cond (b == 96) Raw
     (cond (b == 47) (cond (get_or w 0 0 == 42) BlockComment LineComment) (mark_of b w)))))
 
-int_kind : (b : ℕ) (w : List ℕ) → ((b ≡ 45) × (0 < length w)) ⊎ (is_digit b ≡ true) → kind_of (b ∷ w) ≡ Int
+pub int_kind : (b : ℕ) (w : List ℕ) → ((b ≡ 45) × (0 < length w)) ⊎ (is_digit b ≡ true) → kind_of (b ∷ w) ≡ Int
 int_kind b w (inl minus) = rw minus.0 refl
 int_kind b w (inr digit) = cond-false (is_letter b) _ _ (digit_not_letter b digit) ∙ cond-true (is_digit b || (b == 45)) _ _ (or_left (is_digit b) (b == 45) digit)
 

@@ -1,6 +1,7 @@
 pub mod Classes
 pub mod Strings
 pub mod Forms
+pub mod Apart
 pub mod Places
 pub mod Faults
 pub mod Search

@@ -1,5 +1,5 @@
 -- Lines and columns.
-use Rattle.std.specs.Prelude.{ℕ, ◌+◌, Bool, not, ◌||◌, nat_lt, nat_le, ◌==◌, List, take, reverse}
+use Rattle.std.specs.Prelude.{◌≡◌, ◌⊎◌, ◌<◌, ℕ, ◌+◌, Bool, not, ◌||◌, nat_lt, nat_le, ◌==◌, List, take, reverse}
 use Rattle.std.specs.List.{count_by, take_while}
 use Rattle.bp_faults.specs.declared.place.Place.{Place}
 
@@ -18,3 +18,7 @@ place_at file text i = record {
   line = 1 + count_by (λ b. b == 10) (take i text);
   col = 1 + count_by begins_char (last_line (take i text));
 }
+
+-- One place is before another: on an earlier line, or on the same line in an earlier column.
+abbrev pub IsBefore : Place → Place → Type 0
+IsBefore p q = (p.line < q.line) ⊎ ((p.line ≡ q.line) × (p.col < q.col))

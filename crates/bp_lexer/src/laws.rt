@@ -1,6 +1,7 @@
 //! What makes the meaning of a text believable: each law is the contract of a function that does nothing.
 
 ghost use Rattle.bp_lexer.specs.Laws.{OneTokenList, SomeListOrFault, NotListAndFault, OneFault, OneMeaning, ColumnsCountCharacters};
+ghost use Rattle.bp_lexer.specs.Laws.{FormsHaveBytes, FormsStandApart, TokensStandWithin, PlacesRise, ListsHaveTokens};
 
 /// A text has at most one token list.
 pub fn one_token_list()
@@ -27,4 +28,29 @@ pub fn one_meaning()
 /// place is between two of its characters.
 pub fn columns_count_characters()
     ensures { ColumnsCountCharacters }
+{}
+
+/// A form has a byte, and begins with no white space.
+pub fn forms_have_bytes()
+    ensures { FormsHaveBytes }
+{}
+
+/// A form is the longest token of a text where the byte behind it doesn't go on with it.
+pub fn forms_stand_apart()
+    ensures { FormsStandApart }
+{}
+
+/// A token has a byte, lies within its text, and begins and ends where characters do.
+pub fn tokens_stand_within()
+    ensures { TokensStandWithin }
+{}
+
+/// Places rise from token to token.
+pub fn places_rise()
+    ensures { PlacesRise }
+{}
+
+/// Each token of a list is a token of the text.
+pub fn lists_have_tokens()
+    ensures { ListsHaveTokens }
 {}
