@@ -37,7 +37,7 @@ use Rattle.mutator_rules.specs.Outcomes.{AnswersKind}
 use Rattle.std.specs.Prelude.{IsErr, IsErrAnd}
 use Rattle.variant_graphs.specs.Splitting.{splitting, StayFree}
 use Rattle.mutator_kinds.specs.BottomUp.{chosen, rule_along, variants_of, first_payloads, asked_of, new_nodes, ResultsMean, DifferFor, IsFreeFor}
-use Rattle.mutator_kinds.specs.Inside.{AnswersLimits, AreFit}
+use Rattle.mutator_kinds.specs.Inside.{AnswersLimits, AreFit, VariantsDiffer}
 
 chosen_within : (v : Variation) (ws : List Variation) (place : ℕ) → chosen v ws ≡ Some place → place < length ws
 chosen_within v [] place is = cc
@@ -66,7 +66,7 @@ module _ {O : Type 0} (mean : ℕ → List O → Result O Fault) (plan : Plan) (
   all_outs Q each = recursion_from_All Q outs (λ n d lt. let inside : n < plan.count = omega (arith, many, lt) in
       each n _ (get_or outs n d) inside (equation mean plan outs n d is_plan free outcome inside))
 
-module _ {P : Type 0} (axis : Axis) (nodes : List (Node P)) (outs : List (Split P)) (many : length outs ≡ length nodes) (fit : AreFit (Some axis) outs) where
+module _ {P : Type 0} (axis : Axis) (nodes : List (Node P)) (outs : List (Split P)) (many : length outs ≡ length nodes) (differ : VariantsDiffer (Some axis) outs) where
   differ_all : (os : List (Split P)) → AllByRecursion (λ (made : Split P). AllPairs (λ (b c : Variation × P). b.0 ≢ c.0) made.variants) os → AllByRecursion (AllPairs (λ (b c : Variation × P). b.0 ≢ c.0)) (variants_of os)
   differ_all [] h = tt
   differ_all (o ∷ os) h = (h.0, differ_all os h.1)
@@ -77,7 +77,7 @@ module _ {P : Type 0} (axis : Axis) (nodes : List (Node P)) (outs : List (Split 
   pub is_splitting : IsSplitting (splitting (rule_along axis) (variants_of outs)) nodes
   is_splitting = record {
     many = length-map outs (λ (made : Split P). made.variants) ∙ many;
-    differ = differ_all outs fit.differ;
+    differ = differ_all outs differ;
     within = λ n v e place is.
         let within = chosen_within v (map (λ (b : Variation × P). b.0) (theirs e.to.0)) place is in
         let same_length = length-map (theirs e.to.0) (λ (b : Variation × P). b.0) in
@@ -88,6 +88,7 @@ module _ {P : Type 0} (axis : Axis) (nodes : List (Node P)) (outs : List (Split 
         (theirs n);
   }
 
+module _ {P : Type 0} (axis : Axis) (outs : List (Split P)) (shaped : AllByRecursion (HasShape (Some axis)) outs) where
   abbrev asks : ℕ → Split P → List (NodeId × Request)
   asks n made = map (λ r. (record { 0 = n }, r)) made.requests
 
@@ -96,17 +97,17 @@ module _ {P : Type 0} (axis : Axis) (nodes : List (Node P)) (outs : List (Split 
   nothing_asked k (o ∷ os) h = nothing_asked (k + 1) os h.1 ∙ ap (λ (rs : List Request). map (wanting k) rs ++ by_number asks (k + 1) os) (sym h.0)
 
   pub asks_nothing : [] ≡ asked_of outs
-  asks_nothing = nothing_asked 0 outs fit.shaped
+  asks_nothing = nothing_asked 0 outs shaped
 
 -- results have their shape, and differ where the rule splits
 module _ {P : Type 0} (mean : List (Node P) → ℕ → List (Split P) → Result (Split P) Fault) (nodes : List (Node P)) (outs : List (Split P))
     (all : (Q : Split P → Type 0) → ((n : ℕ) (ins : List (Split P)) (out : Split P) → n < length nodes → mean nodes n ins ≡ Ok out → Q out) → AllByRecursion Q outs) where
+  pub differ_outs : (along : Option Axis) → DifferFor mean nodes along → VariantsDiffer along outs
+  differ_outs None differ = tt
+  differ_outs (Some axis) differ = all (λ (made : Split P). AllPairs (λ (b c : Variation × P). b.0 ≢ c.0) made.variants) (λ n ins out lt h. differ n ins out lt h)
+
   pub fit_outs : (along : Option Axis) → AreShaped along mean → DifferFor mean nodes along → AreFit along outs
-  fit_outs None shaped differ = record { shaped = all (HasShape None) (λ n ins out lt h. shaped nodes n ins out h); differ = tt }
-  fit_outs (Some axis) shaped differ = record {
-    shaped = all (HasShape (Some axis)) (λ n ins out lt h. shaped nodes n ins out h);
-    differ = all (λ (made : Split P). AllPairs (λ (b c : Variation × P). b.0 ≢ c.0) made.variants) (λ n ins out lt h. differ n ins out lt h);
-  }
+  fit_outs along shaped differ = record { shaped = all (HasShape along) (λ n ins out lt h. shaped nodes n ins out h); differ = differ_outs along differ }
 
 -- new payloads and the limits
 module _ {P : Type 0} where
@@ -174,13 +175,13 @@ module _ {P T : Type 0} (view : T → List (Node P) × List (NodeId × Request))
 
 -- what stays of the old graph in the new one
 module _ {P : Type 0} (nodes : List (Node P)) (outs : List (Split P)) (many : length outs ≡ length nodes) where
-  pub valid_after : (along : Option Axis) → SplitsStayValid P (Variation × P) → NewPayloadsStayValid P → IsValid nodes → IsFreeFor along nodes → AreFit along outs → IsValid (new_nodes along nodes outs)
-  valid_after None split payloads valid free fit = payloads nodes (first_payloads nodes outs) valid
-  valid_after (Some axis) split payloads valid free fit = split (splitting (rule_along axis) (variants_of outs)) nodes valid free (is_splitting axis nodes outs many fit)
+  pub valid_after : (along : Option Axis) → SplitsStayValid P (Variation × P) → NewPayloadsStayValid P → IsValid nodes → IsFreeFor along nodes → VariantsDiffer along outs → IsValid (new_nodes along nodes outs)
+  valid_after None split payloads valid free differ = payloads nodes (first_payloads nodes outs) valid
+  valid_after (Some axis) split payloads valid free differ = split (splitting (rule_along axis) (variants_of outs)) nodes valid free (is_splitting axis nodes outs many differ)
 
-  pub modules_after : (along : Option Axis) → SplitsKeepModules P (Variation × P) → NewPayloadsKeepModules P → IsNumbered nodes → AreFit along outs → IsWithinLimits (new_nodes along nodes outs) → HasModulesOf nodes (new_nodes along nodes outs)
-  modules_after None split payloads numbered fit within = payloads nodes (first_payloads nodes outs) numbered
-  modules_after (Some axis) split payloads numbered fit within = split (splitting (rule_along axis) (variants_of outs)) nodes numbered (is_splitting axis nodes outs many fit) within
+  pub modules_after : (along : Option Axis) → SplitsKeepModules P (Variation × P) → NewPayloadsKeepModules P → IsNumbered nodes → VariantsDiffer along outs → IsWithinLimits (new_nodes along nodes outs) → HasModulesOf nodes (new_nodes along nodes outs)
+  modules_after None split payloads numbered differ within = payloads nodes (first_payloads nodes outs) numbered
+  modules_after (Some axis) split payloads numbered differ within = split (splitting (rule_along axis) (variants_of outs)) nodes numbered (is_splitting axis nodes outs many differ) within
 
   pub free_after : (along : Option Axis) → OtherAxesStayFree P (Variation × P) → NewPayloadsLeaveAxesFree P → StayFree along nodes (new_nodes along nodes outs)
   free_after None split payloads axis differ free = payloads nodes (first_payloads nodes outs) axis free

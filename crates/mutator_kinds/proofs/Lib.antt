@@ -7,3 +7,5 @@ pub mod May
 pub mod Lasting
 pub mod OneOutcome
 pub mod Tested
+pub mod SomeOutcome
+pub mod Keeping

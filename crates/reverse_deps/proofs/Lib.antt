@@ -9,3 +9,4 @@ pub mod Made
 pub mod OneOutcome
 pub mod Turns
 pub mod Whole
+pub mod SomeOutcome

@@ -1,7 +1,7 @@
 -- What holds of all requests.
-use Rattle.std.specs.Prelude.{◌≡◌, ◌<◌, ℕ, List, Option, Some, None, slice_get, slice_index_or}
+use Rattle.std.specs.Prelude.{◌≡◌, ◌<◌, ℕ, List, Option, Some, None, Ok, length, map, slice_get, slice_index_or}
 use Rattle.bp_faults.specs.declared.ids.NodeId.{NodeId}
-use Rattle.bp_faults.specs.Phases.{IsOnce}
+use Rattle.bp_faults.specs.Phases.{HasOutcome, IsOnce}
 use Rattle.bp_props.specs.declared.module.Module.{Module}
 use Rattle.module_graph.specs.declared.graph.Node.{Node}
 use Rattle.module_graph.specs.declared.variation.Variation.{Variation}
@@ -9,9 +9,12 @@ use Rattle.module_graph.specs.declared.variation.Variation.TheVariants.{Empty}
 use Rattle.module_graph.specs.declared.variations.Axis.{Axis}
 use Rattle.module_graph.specs.declared.variations.Axis.TheVariants.{Target, Image, Link}
 use Rattle.module_graph.specs.Axes.{place_of}
+use Rattle.module_graph.specs.Graphs.{IsValid, NameNodes}
 use Rattle.mutator_rules.specs.declared.request.Request.{Request}
 use Rattle.mutator_rules.specs.declared.request.Wanted.{Wanted}
-use Rattle.reverse_deps.specs.Applied.{IsApplied}
+use Rattle.mutator_rules.specs.Conditions.{MayRun, places_in}
+use Rattle.reverse_deps.specs.Applied.{AskInside, IsApplied}
+use Rattle.reverse_deps.specs.Linked.{bare}
 use Rattle.reverse_deps.specs.Resolved.{node_for}
 
 module _ {P : Type 0} where
@@ -36,6 +39,13 @@ module _ {P : Type 0} where
   IsLeastFor nodes m want (Some least) =
       HasFor nodes m want least.0 × ((n : ℕ) → n < least.0 → HasFor nodes m want n → ⊥)
 
+-- A graph with more edges is fit for the next mutator: it is valid, its nodes are variants of so many modules, and they
+-- are the same but for their edges.
+pub record IsFitStill {P : Type 0} (count : ℕ) (old new : List (Node P)) : Type 0 where
+  pub valid : IsValid new
+  pub may : MayRun (places_in count) new
+  pub same : map bare new ≡ map bare old
+
 module _ (P : Type 0) where
   -- The node that is found is the least of its module with the wanted variations, and none is found where there is none.
   abbrev pub NodesForAreLeast : Type 0
@@ -47,3 +57,16 @@ module _ (P : Type 0) where
   OneOutcome =
       (mods : List Module) (nodes : List (Node P)) (asked : List (NodeId × Request))
       → IsOnce (IsApplied mods nodes asked)
+
+  -- Whatever the nodes of a graph ask for makes something of it.
+  abbrev pub SomeOutcome : Type 0
+  SomeOutcome =
+      (mods : List Module) (nodes : List (Node P)) (asked : List (NodeId × Request))
+      → NameNodes nodes → AskInside (length nodes) asked → HasOutcome (IsApplied mods nodes asked)
+
+  -- The graph that it makes of a valid one is fit for the next mutator.
+  abbrev pub AppliedKeeps : Type 0
+  AppliedKeeps =
+      (mods : List Module) (nodes : List (Node P)) (asked : List (NodeId × Request)) (new : List (Node P))
+      → IsValid nodes → MayRun (places_in (length mods)) nodes → AskInside (length nodes) asked
+      → IsApplied mods nodes asked (Ok new) → IsFitStill (length mods) nodes new

@@ -1,8 +1,8 @@
 //! What holds of all requests: each law is the contract of a function that does nothing.
 
-ghost use Rattle.reverse_deps.specs.Laws.{OneOutcome, NodesForAreLeast};
+ghost use Rattle.reverse_deps.specs.Laws.{OneOutcome, SomeOutcome, AppliedKeeps, NodesForAreLeast};
 
-use module_graph::laws::{at_most_one_cycle_meaning, same_means_equal};
+use module_graph::laws::{at_most_one_cycle_meaning, one_cycle_meaning, same_means_equal};
 
 /// Requests make one thing of a graph, and no other.
 pub fn one_outcome<P>()
@@ -10,6 +10,18 @@ pub fn one_outcome<P>()
 {
     at_most_one_cycle_meaning::<P>();
 }
+
+/// Whatever the nodes of a graph ask for makes something of it.
+pub fn some_outcome<P>()
+    ensures { SomeOutcome P }
+{
+    one_cycle_meaning::<P>();
+}
+
+/// The graph that it makes of a valid one is fit for the next mutator.
+pub fn applied_keeps<P>()
+    ensures { AppliedKeeps P }
+{}
 
 /// The node that is found is the least of its module with the wanted variations, and none is found where there is none.
 pub fn nodes_for_are_least<P>()

@@ -11,3 +11,5 @@ pub mod Examples
 pub mod Answered
 pub mod Steps
 pub mod OneTransition
+pub mod SomeOutcome
+pub mod Keeping

@@ -1,5 +1,5 @@
 -- What holds of every transition.
-use Rattle.std.specs.Prelude.{◌≡◌, ◌<◌, ℕ, List, [], ◌++◌, length, slice_index_or, map, Ok}
+use Rattle.std.specs.Prelude.{◌≡◌, ◌<◌, ℕ, List, [], ◌++◌, length, slice_index_or, map, Some, None, Ok}
 use Rattle.std.specs.Prelude.{◌↔◌, false, true, Contains}
 use Rattle.std.specs.List.{AllByRecursion, AllPairs}
 use Rattle.module_graph.specs.Names.{spelling}
@@ -10,9 +10,11 @@ use Rattle.module_graph.specs.Graphs.{IsNumbered, IsValid}
 use Rattle.mutator_rules.specs.Arrivals.{arrivals}
 use Rattle.mutator_rules.specs.Meaning.{TransitionMeaning}
 use Rattle.variant_graphs.specs.Splits.{IsSplitting}
-use Rattle.variant_graphs.specs.Splitting.{splitting}
+use Rattle.variant_graphs.specs.Laws.{IsKept}
+use Rattle.variant_graphs.specs.Splitting.{splitting, HasFreeAxis}
 use Rattle.transition_rules.specs.Wants.{others_of, wanted}
-use Rattle.mutator_rules.specs.Outcomes.{KindOutcome}
+use Rattle.mutator_rules.specs.Conditions.{MayRun, places_in}
+use Rattle.mutator_rules.specs.Outcomes.{KindOutcome, Made}
 use Rattle.transition_rules.specs.Passes.{AreWants, wanted_variants, MutateMeans, SplitsDiffer, TransitionMeans, WantsMean}
 
 module _ (P : Type 0) where
@@ -52,6 +54,32 @@ module _ (P : Type 0) where
   OneTransition =
       (m : TransitionMeaning P) (nodes : List (Node P)) (x y : KindOutcome (List (Node P))) → TransitionMeans m nodes x
       → TransitionMeans m nodes y → x ≡ y
+
+module _ (P : Type 0) where
+  -- The first step of a transition comes to something for every valid graph.
+  abbrev pub SomeWantsOutcome : Type 0
+  SomeWantsOutcome =
+      (m : TransitionMeaning P) (nodes : List (Node P)) → IsNumbered nodes → IsValid nodes
+      → (outcome : KindOutcome (List (Node P))) × WantsMean m nodes outcome
+
+  -- So does the second.
+  abbrev pub SomeMutateOutcome : Type 0
+  SomeMutateOutcome =
+      (m : TransitionMeaning P) (nodes : List (Node P)) → IsNumbered nodes → IsValid nodes
+      → (outcome : KindOutcome (List (Node P))) × MutateMeans m nodes outcome
+
+  -- The graph of the variants is fit for the next rule.
+  abbrev pub WantsKeep : Type 0
+  WantsKeep =
+      (m : TransitionMeaning P) (nodes new : List (Node P)) (count : ℕ) → IsValid nodes → MayRun (places_in count) nodes
+      → HasFreeAxis m.axis nodes → SplitsDiffer m nodes → WantsMean m nodes (Made new)
+      → IsKept count (Some m.axis) nodes new
+
+  -- So is the graph with the new payloads.
+  abbrev pub MutateKeeps : Type 0
+  MutateKeeps =
+      (m : TransitionMeaning P) (nodes new : List (Node P)) (count : ℕ) → IsValid nodes → MayRun (places_in count) nodes
+      → MutateMeans m nodes (Made new) → IsKept count None nodes new
 
 -- The other variations of a node stand by their spelling: none is spelled before an earlier one.
 abbrev pub OthersStandBySpelling : Type 0

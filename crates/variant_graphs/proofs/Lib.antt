@@ -10,3 +10,4 @@ pub mod Positions
 pub mod Kept
 pub mod Begun
 pub mod Assembled
+pub mod Telling

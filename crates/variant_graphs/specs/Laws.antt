@@ -1,21 +1,31 @@
--- What holds of every split, and of every graph with new payloads.
-use Rattle.std.specs.Prelude.{◌≡◌, ◌≢◌, List, Contains, length, map}
+-- What holds of every split, of every graph with new payloads, and of the limits.
+use Rattle.std.specs.Prelude.{◌≡◌, ◌≢◌, ◌⊎◌, ℕ, List, Contains, Option, length, map}
 use Rattle.std.specs.List.{AllByRecursion}
+use Rattle.bp_faults.specs.declared.ids.ModuleId.{ModuleId}
+use Rattle.bp_faults.specs.declared.place.Place.{Place}
 use Rattle.module_graph.specs.declared.direction.Direction.{Direction}
 use Rattle.module_graph.specs.declared.graph.Node.{Node}
 use Rattle.module_graph.specs.declared.variations.Axis.{Axis}
 use Rattle.module_graph.specs.Graphs.{IsNumbered, IsValid}
 use Rattle.module_graph.specs.Planned.{plan_of}
-use Rattle.variant_graphs.specs.Limits.{IsWithinLimits}
+use Rattle.mutator_rules.specs.Conditions.{MayRun, places_in}
+use Rattle.variant_graphs.specs.Limits.{IsWithinLimits, IsFirstNodeBeyond, IsFirstEdgeBeyond}
 use Rattle.variant_graphs.specs.Payloads.{with_payloads}
 use Rattle.variant_graphs.specs.Splits.{IsSplitting}
-use Rattle.variant_graphs.specs.Splitting.{Splitting, split_nodes, HasFreeAxis}
+use Rattle.variant_graphs.specs.Splitting.{Splitting, split_nodes, HasFreeAxis, StayFree}
 
 -- A graph whose nodes and edges are numbered, and whose nodes are of modules of old nodes: a rule that may be run over
 -- the old nodes may be run over it.
 pub record HasModulesOf {P : Type 0} (old new : List (Node P)) : Type 0 where
   pub numbered : IsNumbered new
   pub modules : AllByRecursion (λ (x : Node P). Contains (map (λ (y : Node P). y.«module») old) x.«module») new
+
+-- A new graph is fit for the next mutator as the old one was: it is valid, its nodes are variants of so many modules,
+-- and the axes that were free are free, but for that along which the old one is split, if it is.
+pub record IsKept {P : Type 0} (count : ℕ) (along : Option Axis) (old new : List (Node P)) : Type 0 where
+  pub valid : IsValid new
+  pub may : MayRun (places_in count) new
+  pub free : StayFree along old new
 
 module _ (P B : Type 0) where
   -- The graph after a split is valid, where the old graph was and had no variation on the axis.
@@ -59,3 +69,10 @@ module _ (P : Type 0) where
   NewPayloadsLeaveAxesFree =
       (nodes : List (Node P)) (payloads : List P) (axis : Axis) → HasFreeAxis axis nodes
       → HasFreeAxis axis (with_payloads nodes payloads)
+
+  -- A graph is within the limits, or a node or an edge of it is the first beyond.
+  abbrev pub LimitsTell : Type 0
+  LimitsTell =
+      (nodes : List (Node P))
+      → IsWithinLimits nodes
+      ⊎ (((m : ModuleId) × IsFirstNodeBeyond nodes m) ⊎ ((p : Place) × IsFirstEdgeBeyond nodes p))

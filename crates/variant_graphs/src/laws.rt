@@ -1,8 +1,8 @@
-//! What holds of every split and of new payloads: each law is the contract of a function that does nothing.
+//! What holds of every split, of new payloads and of the limits: each law is the contract of a function that does nothing.
 
 ghost use Rattle.variant_graphs.specs.Laws.{SplitsStayValid, SplitsKeepModules, OtherAxesStayFree};
 ghost use Rattle.variant_graphs.specs.Laws.{NewPayloadsKeepPlans, NewPayloadsStayValid};
-ghost use Rattle.variant_graphs.specs.Laws.{NewPayloadsKeepModules, NewPayloadsLeaveAxesFree};
+ghost use Rattle.variant_graphs.specs.Laws.{NewPayloadsKeepModules, NewPayloadsLeaveAxesFree, LimitsTell};
 
 use module_graph::laws::{edges_join_nodes, none_returns_where_numbering_rises};
 
@@ -42,4 +42,9 @@ pub fn new_payloads_keep_modules<P>()
 /// New payloads leave a free axis free.
 pub fn new_payloads_leave_axes_free<P>()
     ensures { NewPayloadsLeaveAxesFree P }
+{}
+
+/// A graph is within the limits, or there is a first node or edge beyond.
+pub fn limits_tell<P>()
+    ensures { LimitsTell P }
 {}

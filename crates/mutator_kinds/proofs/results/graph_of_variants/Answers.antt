@@ -11,7 +11,7 @@ use Rattle.mutator_kinds.proofs.results.graph_of_variants.Goals as goal
 pub split_graph-requires-clause-splits : goal.split_graph-requires-clause-splits
 split_graph-requires-clause-splits g c =
     subst (λ lists. IsSplitting (splitting (rule_along c.args.axis) lists) c.args.g.now.nodes) (sym c.in_ok-lists.ensures)
-    (is_splitting c.args.axis c.args.g.now.nodes (map arc_value c.args.outs.items) (length-map c.args.outs.items arc_value ∙ c.requires.many) c.requires.fit)
+    (is_splitting c.args.axis c.args.g.now.nodes (map arc_value c.args.outs.items) (length-map c.args.outs.items arc_value ∙ c.requires.many) c.requires.fit.differ)
 
 pub returns-in_err-graph : goal.returns-in_err-graph
 returns-in_err-graph g c =
@@ -26,5 +26,5 @@ returns g c =
       made.1,
       made.0,
       c.new.ensures.items
-          ∙ asks_nothing c.args.axis c.args.g.now.nodes (map arc_value c.args.outs.items) (length-map c.args.outs.items arc_value ∙ c.requires.many) c.requires.fit,
+          ∙ asks_nothing c.args.axis (map arc_value c.args.outs.items) c.requires.fit.shaped,
     )

@@ -18,7 +18,7 @@ returns-clause-valid g c =
     let many = length-map items arc_value ∙ c.in_ok-run.ensures.many in
     let new = c.in_ok-made.ensures.1 ∙ ap (λ o. new_nodes o nodes (map arc_value items)) c.axis.ensures in
     subst (λ (l : List (Node _)). IsValid l) (sym new)
-    (valid_after nodes (map arc_value items) many (g.M.BottomUp.splits_along c.args.rule.now) c.splits_stay_valid.ensures c.new_payloads_stay_valid.ensures c.requires.valid c.requires.free c.in_ok-run.ensures.fit)
+    (valid_after nodes (map arc_value items) many (g.M.BottomUp.splits_along c.args.rule.now) c.splits_stay_valid.ensures c.new_payloads_stay_valid.ensures c.requires.valid c.requires.free c.in_ok-run.ensures.fit.differ)
 
 pub returns-clause-may : goal.returns-clause-may
 returns-clause-may g c =
@@ -30,7 +30,7 @@ returns-clause-may g c =
     let accepts = g.M.BottomUp.accepts c.args.rule.now in
     subst (λ (l : List (Node _)). MayRun accepts l) (sym new)
     (may_still accepts nodes _ c.requires.may
-    (modules_after nodes (map arc_value items) many (g.M.BottomUp.splits_along c.args.rule.now) c.splits_keep_modules.ensures c.new_payloads_keep_modules.ensures c.requires.may.numbered c.in_ok-run.ensures.fit within))
+    (modules_after nodes (map arc_value items) many (g.M.BottomUp.splits_along c.args.rule.now) c.splits_keep_modules.ensures c.new_payloads_keep_modules.ensures c.requires.may.numbered c.in_ok-run.ensures.fit.differ within))
 
 pub returns-clause-free : goal.returns-clause-free
 returns-clause-free g c =
