@@ -22,11 +22,13 @@ all_joined [] ys h k = k
 all_joined (x ∷ xs) ys h k = (h.0, all_joined xs ys h.1 k)
 
 decimal_is_plain : (n : ℕ) → n < 4294967296 → Plain (decimal n)
-decimal_is_plain n lt = all_map (λ b. 48 ≤ b) (λ b. b ≢ 10) (λ b h e. absurd (omega arith)) (decimal n) (decimal_by_digits n lt)
+decimal_is_plain n lt =
+    all_map (λ b. 48 ≤ b) (λ b. b ≢ 10) (λ b h e. absurd (omega arith)) (decimal n) (decimal_by_digits n lt)
 
 visit_text_is_plain : (v : ℕ × NodeId) → IsVisit v → Plain (visit_text v)
 visit_text_is_plain v f =
-    all_joined (decimal v.0) (32 ∷ decimal v.1.0) (decimal_is_plain v.0 f.0) ((λ e. absurd (omega arith)), decimal_is_plain v.1.0 f.1)
+    all_joined (decimal v.0) (32 ∷ decimal v.1.0) (decimal_is_plain v.0 f.0)
+    ((λ e. absurd (omega arith)), decimal_is_plain v.1.0 f.1)
 
 visit_text_is_utf8 : (v : ℕ × NodeId) → IsVisit v → IsUtf8 (visit_text v)
 visit_text_is_utf8 v f =
@@ -34,7 +36,8 @@ visit_text_is_utf8 v f =
     (IsAscii-append (decimal v.0) (32 ∷ decimal v.1.0) (IsAscii-decimal v.0 (omega (arith, f.0)))
     (IsAscii-cons 32 (decimal v.1.0) (lit< tt) (IsAscii-decimal v.1.0 (omega (arith, f.1)))))
 
-journal_pieces : (journal : List (ℕ × NodeId)) → AllByRecursion IsVisit journal → pieces (journal_text journal) ≡ map visit_text journal
+journal_pieces : (journal : List (ℕ × NodeId)) → AllByRecursion IsVisit journal
+    → pieces (journal_text journal) ≡ map visit_text journal
 journal_pieces [] h = λ i. []
 journal_pieces (v ∷ journal) h =
     pieces_ended (visit_text v) (journal_text journal) (visit_text_is_plain v h.0)
@@ -44,7 +47,8 @@ line_says : (v : ℕ × NodeId) (l : OrderLine) → IsVisit v → IsLine (visit_
 line_says v l f (inl a) = one_entry (visit_text v) l.entry (Some v) a.2 (f, (λ i. visit_text v))
 line_says v l f (inr a) = absurd (a.0 (visit_text_is_utf8 v f))
 
-said : (journal : List (ℕ × NodeId)) (lines : List OrderLine) → AllByRecursion IsVisit journal → AllZip IsLine (map visit_text journal) lines
+said : (journal : List (ℕ × NodeId)) (lines : List OrderLine) → AllByRecursion IsVisit journal
+    → AllZip IsLine (map visit_text journal) lines
     → Say lines journal × (length lines ≡ length journal)
 said [] [] h z = (tt, (λ i. 0))
 said [] (l ∷ lines) h z = absurd z
@@ -57,4 +61,5 @@ pub journals_are_read_back : JournalsAreReadBack
 journals_are_read_back journal lines h a =
     let fit = recursion_from_All IsVisit journal h in
     said journal lines fit
-    (subst (λ cut. AllZip IsLine cut lines) (cut_is_pieces (journal_text journal) a.cut a.cut_is ∙ journal_pieces journal fit) a.each)
+    (subst (λ cut. AllZip IsLine cut lines)
+    (cut_is_pieces (journal_text journal) a.cut a.cut_is ∙ journal_pieces journal fit) a.each)

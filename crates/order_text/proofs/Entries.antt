@@ -14,7 +14,8 @@ abbrev pub Lacks : List ℕ → ℕ → Type 0
 Lacks xs c = (i : ℕ) → i < length xs → get_or xs i 0 ≢ c
 
 -- a list has one first place at which an element stands
-pub cut_once : (c : ℕ) (xs ys us vs : List ℕ) → Lacks xs c → Lacks us c → xs ++ (c ∷ ys) ≡ us ++ (c ∷ vs) → (xs ≡ us) × (ys ≡ vs)
+pub cut_once : (c : ℕ) (xs ys us vs : List ℕ) → Lacks xs c → Lacks us c → xs ++ (c ∷ ys) ≡ us ++ (c ∷ vs)
+    → (xs ≡ us) × (ys ≡ vs)
 cut_once c [] ys [] vs h k e = let same : c ∷ ys ≡ c ∷ vs = e in (λ i. [], cc)
 cut_once c [] ys (u ∷ us) vs h k e = let same : c ∷ ys ≡ u ∷ (us ++ (c ∷ vs)) = e in absurd (k 0 (omega arith) (cc))
 cut_once c (x ∷ xs) ys [] vs h k e = let same : x ∷ (xs ++ (c ∷ ys)) ≡ c ∷ vs = e in absurd (h 0 (omega arith) (cc))
@@ -30,7 +31,8 @@ no_space n lt = lacks (decimal n) 32 (lit< tt) (decimal_by_digits n lt)
 
 pub visit_text_injective : (v w : ℕ × NodeId) → IsVisit v → IsVisit w → visit_text v ≡ visit_text w → v ≡ w
 visit_text_injective v w f g e =
-    let r = cut_once 32 (decimal v.0) (decimal v.1.0) (decimal w.0) (decimal w.1.0) (no_space v.0 f.0) (no_space w.0 g.0) e in
+    let r = cut_once 32 (decimal v.0) (decimal v.1.0) (decimal w.0) (decimal w.1.0) (no_space v.0 f.0)
+    (no_space w.0 g.0) e in
     let p : v.0 ≡ w.0 = decimal_injective v.0 w.0 (omega (arith, f.0)) (omega (arith, g.0)) r.0 in
     let q : v.1.0 ≡ w.1.0 = decimal_injective v.1.0 w.1.0 (omega (arith, f.1)) (omega (arith, g.1)) r.1 in
     λ i. (p i, record { 0 = q i })
@@ -39,7 +41,8 @@ visit_text_injective v w f g e =
 pub spaceless_is_none : (line : List ℕ) → Lacks line 32 → IsEntry line None
 spaceless_is_none line none v f e =
     none (length (decimal v.0)) (omega (arith, ap length e, length-append (decimal v.0) (32 ∷ decimal v.1.0)))
-    (ap (λ xs. get_or xs (length (decimal v.0)) 0) e ∙ get_or_at (decimal v.0) 32 (decimal v.1.0) 0 (length (decimal v.0)) (λ i. length (decimal v.0)))
+    (ap (λ xs. get_or xs (length (decimal v.0)) 0) e
+    ∙ get_or_at (decimal v.0) 32 (decimal v.1.0) 0 (length (decimal v.0)) (λ i. length (decimal v.0)))
 
 module _ (line pass node : List ℕ) (whole : line ≡ pass ++ (32 ∷ node)) (first : Lacks pass 32) where
   -- what is before the space, and behind it, of the text of a visit

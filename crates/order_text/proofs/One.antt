@@ -23,7 +23,8 @@ one_line line l m (inl a) (inr b) = absurd (b.0 a.0)
 one_line line l m (inr a) (inl b) = absurd (a.0 b.0)
 one_line line l m (inr a) (inr b) = same_line l m (a.2 ∙ sym b.2) (a.1 ∙ sym b.1)
 
-each_one : (cut : List (List ℕ)) (lines other : List OrderLine) → AllZip IsLine cut lines → AllZip IsLine cut other → lines ≡ other
+each_one : (cut : List (List ℕ)) (lines other : List OrderLine) → AllZip IsLine cut lines → AllZip IsLine cut other
+    → lines ≡ other
 each_one [] [] [] h k = λ i. []
 each_one [] [] (m ∷ other) h k = absurd k
 each_one [] (l ∷ lines) other h k = absurd h
@@ -37,4 +38,5 @@ each_one (piece ∷ cut) (l ∷ lines) (m ∷ other) h k =
 pub one_lines : OneLines
 one_lines bytes lines other a b =
     each_one a.cut lines other a.each
-    (subst (λ cut. AllZip IsLine cut other) (cut_is_pieces bytes b.cut b.cut_is ∙ sym (cut_is_pieces bytes a.cut a.cut_is)) b.each)
+    (subst (λ cut. AllZip IsLine cut other)
+    (cut_is_pieces bytes b.cut b.cut_is ∙ sym (cut_is_pieces bytes a.cut a.cut_is)) b.each)

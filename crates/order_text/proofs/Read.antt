@@ -16,36 +16,45 @@ pub record IsRead (bytes : List ℕ) (lines : List OrderLine) (rest : List ℕ) 
 pub read_none : (bytes : List ℕ) → IsRead bytes [] bytes
 read_none bytes = record { cut = []; cut_is = λ i. pieces bytes; each = tt }
 
-pub zip_pushed : (cut : List (List ℕ)) (lines : List OrderLine) (line : List ℕ) (l : OrderLine) → AllZip IsLine cut lines → IsLine line l → AllZip IsLine (cut ++ line ∷ []) (lines ++ l ∷ [])
+pub zip_pushed : (cut : List (List ℕ)) (lines : List OrderLine) (line : List ℕ) (l : OrderLine)
+    → AllZip IsLine cut lines → IsLine line l → AllZip IsLine (cut ++ line ∷ []) (lines ++ l ∷ [])
 zip_pushed [] [] line l h is = (is, tt)
 zip_pushed [] (m ∷ lines) line l h is = absurd h
 zip_pushed (piece ∷ cut) [] line l h is = absurd h
 zip_pushed (piece ∷ cut) (m ∷ lines) line l h is = (h.0, zip_pushed cut lines line l h.1 is)
 
-first_piece : (rest line behind : List ℕ) → 0 < length rest → IsFirstLine rest line behind → pieces rest ≡ line ∷ pieces behind
+first_piece : (rest line behind : List ℕ) → 0 < length rest → IsFirstLine rest line behind
+    → pieces rest ≡ line ∷ pieces behind
 first_piece rest line behind some f = by f.whole
   where
     by : (rest ≡ ended_line line ++ behind) ⊎ ((rest ≡ line) × (behind ≡ [])) → pieces rest ≡ line ∷ pieces behind
     by (inl e) = ap pieces e ∙ pieces_ended line behind (plain line f.apart)
-    by (inr e) = ap pieces e.0 ∙ pieces_open line (omega (arith, ap length e.0)) (plain line f.apart) ∙ ap (λ bs. line ∷ pieces bs) (sym e.1)
+    by (inr e) =
+        ap pieces e.0 ∙ pieces_open line (omega (arith, ap length e.0)) (plain line f.apart)
+        ∙ ap (λ bs. line ∷ pieces bs) (sym e.1)
 
-pub read_more : (bytes : List ℕ) (lines : List OrderLine) (rest line behind : List ℕ) (l : OrderLine) → IsRead bytes lines rest
+pub read_more : (bytes : List ℕ) (lines : List OrderLine) (rest line behind : List ℕ) (l : OrderLine)
+    → IsRead bytes lines rest
     → 0 < length rest → IsFirstLine rest line behind → IsLine line l → IsRead bytes (lines ++ l ∷ []) behind
 read_more bytes lines rest line behind l r some f is = record {
   cut = r.cut ++ line ∷ [];
-  cut_is = r.cut_is ∙ ap (λ ls. r.cut ++ ls) (first_piece rest line behind some f) ∙ sym (append_assoc r.cut (line ∷ []) (pieces behind));
+  cut_is =
+      r.cut_is ∙ ap (λ ls. r.cut ++ ls) (first_piece rest line behind some f)
+      ∙ sym (append_assoc r.cut (line ∷ []) (pieces behind));
   each = zip_pushed r.cut lines line l r.each is;
 }
 
 -- what is behind a line is shorter
-pub behind_shorter : (rest line behind : List ℕ) → 0 < length rest → IsFirstLine rest line behind → length behind < length rest
+pub behind_shorter : (rest line behind : List ℕ) → 0 < length rest → IsFirstLine rest line behind
+    → length behind < length rest
 behind_shorter rest line behind some f = by f.whole
   where
     by : (rest ≡ ended_line line ++ behind) ⊎ ((rest ≡ line) × (behind ≡ [])) → length behind < length rest
     by (inl e) = omega (arith, ap length e, length-append (ended_line line) behind, length-append line (10 ∷ []))
     by (inr e) = omega (arith, ap length e.1)
 
-pub read_all : (bytes : List ℕ) (lines : List OrderLine) (rest : List ℕ) → IsRead bytes lines rest → length rest ≡ 0 → AreLines bytes lines
+pub read_all : (bytes : List ℕ) (lines : List OrderLine) (rest : List ℕ) → IsRead bytes lines rest → length rest ≡ 0
+    → AreLines bytes lines
 read_all bytes lines [] r none = record {
   cut = pieces bytes;
   cut_is = pieces_are_cut bytes;

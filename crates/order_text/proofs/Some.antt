@@ -36,9 +36,12 @@ module _ (P : ℕ → Type 0) (decided : (n : ℕ) → P n ⊎ (P n → ⊥)) wh
 abbrev node : ℕ → NodeId
 node n = record { 0 = n }
 
-same_or_not : (xs ys : List ℕ) (r : Bool) → bytes_eq xs ys ≡ r → (xs ≡ ys) ⊎ (xs ≡ ys → ⊥)
-same_or_not xs ys true is = inl ((bytes_eq-Decides xs ys).0 is)
-same_or_not xs ys false is = inr (λ e. both_ways (bytes_eq xs ys) is ((bytes_eq-Decides xs ys).1 e))
+same_or_not : (xs ys : List ℕ) → (xs ≡ ys) ⊎ (xs ≡ ys → ⊥)
+same_or_not xs ys = by (bytes_eq xs ys) (λ i. bytes_eq xs ys)
+  where
+    by : (r : Bool) → bytes_eq xs ys ≡ r → (xs ≡ ys) ⊎ (xs ≡ ys → ⊥)
+    by true is = inl ((bytes_eq-Decides xs ys).0 is)
+    by false is = inr (λ e. both_ways (bytes_eq xs ys) is ((bytes_eq-Decides xs ys).1 e))
 
 module _ (line : List ℕ) where
   -- the line is the text of a visit of this pass and some node
@@ -46,16 +49,19 @@ module _ (line : List ℕ) where
   HasNode pass = (n : ℕ) × (n < 2 ^ 32) × (line ≡ visit_text (pass, node n))
 
   some_node : (pass : ℕ) → HasNode pass ⊎ (HasNode pass → ⊥)
-  some_node pass = by (found (λ n. line ≡ visit_text (pass, node n)) (λ n. same_or_not line (visit_text (pass, node n)) (bytes_eq line (visit_text (pass, node n))) (λ i. bytes_eq line (visit_text (pass, node n)))) (2 ^ 32))
+  some_node pass =
+      by (found (λ n. line ≡ visit_text (pass, node n)) (λ n. same_or_not line (visit_text (pass, node n))) (2 ^ 32))
     where
-      by : ((n : ℕ) × (n < 2 ^ 32) × (line ≡ visit_text (pass, node n))) ⊎ ((n : ℕ) → n < 2 ^ 32 → line ≡ visit_text (pass, node n) → ⊥) → HasNode pass ⊎ (HasNode pass → ⊥)
+      by : HasNode pass ⊎ ((n : ℕ) → n < 2 ^ 32 → line ≡ visit_text (pass, node n) → ⊥)
+          → HasNode pass ⊎ (HasNode pass → ⊥)
       by (inl h) = inl h
       by (inr none) = inr (λ h. none h.0 h.1 h.2)
 
   pub some_entry : (e : Option (ℕ × NodeId)) × IsEntry line e
   some_entry = by (found HasNode some_node (2 ^ 32))
     where
-      by : ((pass : ℕ) × (pass < 2 ^ 32) × HasNode pass) ⊎ ((pass : ℕ) → pass < 2 ^ 32 → HasNode pass → ⊥) → (e : Option (ℕ × NodeId)) × IsEntry line e
+      by : ((pass : ℕ) × (pass < 2 ^ 32) × HasNode pass) ⊎ ((pass : ℕ) → pass < 2 ^ 32 → HasNode pass → ⊥)
+          → (e : Option (ℕ × NodeId)) × IsEntry line e
       by (inl h) = (Some (h.0, node h.2.0), ((h.1, h.2.1), h.2.2))
       by (inr none) = (None, λ v f e. none v.0 f.0 (v.1.0, f.1, e))
 
@@ -64,7 +70,8 @@ some_line line true is =
     let e = some_entry line in
     (record { entry = e.0; text = line }, inl (IsUtf8-from_is_utf8 line is, (λ i. line), e.1))
 some_line line false is =
-    (record { entry = None; text = [] }, inr ((λ u. both_ways (is_utf8 line) is (is_utf8-from_IsUtf8 line u)), (λ i. []), (λ i. None)))
+    let never : IsUtf8 line → ⊥ = λ u. both_ways (is_utf8 line) is (is_utf8-from_IsUtf8 line u) in
+    (record { entry = None; text = [] }, inr (never, (λ i. []), (λ i. None)))
 
 some_each : (cut : List (List ℕ)) → (lines : List OrderLine) × AllZip IsLine cut lines
 some_each [] = ([], tt)

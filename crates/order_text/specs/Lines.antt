@@ -10,7 +10,7 @@ abbrev pub HasNoLineEnd : List ℕ → Type 0
 HasNoLineEnd line = All (λ b. b ≢ 10) line
 
 -- The bytes are lines with LF behind each but the last, which lacks it and isn't empty.
-pub record IsOpen (bytes : List ℕ) (lines : List (List ℕ)) : Type 0 where
+pub record LacksLastEnd (bytes : List ℕ) (lines : List (List ℕ)) : Type 0 where
   pub before : List (List ℕ)
   pub last : List ℕ
   pub some : 0 < length last
@@ -20,7 +20,7 @@ pub record IsOpen (bytes : List ℕ) (lines : List (List ℕ)) : Type 0 where
 -- The bytes are these lines: LF is behind each of them and nowhere in them, but the last may lack it.
 pub record AreCut (bytes : List ℕ) (lines : List (List ℕ)) : Type 0 where
   pub apart : All HasNoLineEnd lines
-  pub whole : (bytes ≡ flat_map ended_line lines) ⊎ IsOpen bytes lines
+  pub whole : (bytes ≡ flat_map ended_line lines) ⊎ LacksLastEnd bytes lines
 
 -- The numbers of a visit are below 2^32.
 abbrev pub IsVisit : ℕ × NodeId → Type 0

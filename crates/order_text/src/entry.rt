@@ -9,12 +9,7 @@ fn number_of(text: &str) -> Option<u32>
 {
     match text.as_bytes().first()? {
         b'+' => None,
-        b'0' => {
-            if text.len() == 1 {
-                return Some(0);
-            }
-            None
-        }
+        b'0' => (text.len() == 1).then_some(0),
         _ => text.parse().ok(),
     }
 }

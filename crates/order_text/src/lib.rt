@@ -13,3 +13,6 @@ mod lines;
 
 pub use journal::journal_text;
 pub use lines::order_lines;
+
+#[cfg(test)]
+mod tests;
