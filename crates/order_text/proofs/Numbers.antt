@@ -1,5 +1,5 @@
--- What a text is that begins as a number may or may not begin.
-use Rattle.std.proofs.Common.{◌≡◌, ◌≢◌, ◌==◌, Bool, true, false, ◌<◌, ◌+◌, ◌^◌, ℕ, List, [], ◌∷◌, length, get_or, slice_get, arith, lit<, sym, ap, ◌∙◌, subst, Result, Ok, Err, Some, None}
+-- The number of which a text is the decimal, by its first byte.
+use Rattle.std.proofs.Common.{◌≡◌, ◌≢◌, ◌==◌, Bool, true, false, ◌<◌, ◌^◌, ℕ, List, [], ◌∷◌, length, get_or, slice_get, arith, lit<, sym, ap, ◌∙◌, subst, Result, Ok, Err, Some, None}
 use Rattle.std.specs.Bool.{then_some}
 use Rattle.std.specs.Fmt.{decimal}
 use Rattle.std.specs.Result.{result_ok}

@@ -1,10 +1,10 @@
 -- Bytes are one list of lines alone.
-use Rattle.std.proofs.Common.{◌≡◌, ◌⊎◌, inl, inr, ℕ, List, [], ◌∷◌, Option, Some, None, sym, ap, ◌∙◌, subst}
+use Rattle.std.proofs.Common.{◌≡◌, inl, inr, ℕ, List, [], ◌∷◌, Option, Some, None, sym, ap, ◌∙◌, subst}
 use Rattle.std.specs.List.{AllZip}
 use Rattle.bp_faults.specs.declared.ids.NodeId.{NodeId}
 use Rattle.pass_ways.specs.declared.way.OrderLine.{OrderLine}
 use Rattle.order_text.specs.Laws.{OneLines}
-use Rattle.order_text.specs.Lines.{AreLines, IsEntry, IsLine}
+use Rattle.order_text.specs.Lines.{IsEntry, IsLine}
 use Rattle.order_text.proofs.Entries.{visit_text_injective}
 use Rattle.order_text.proofs.Pieces.{cut_is_pieces}
 
