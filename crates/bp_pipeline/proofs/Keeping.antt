@@ -135,7 +135,7 @@ axis_of MarkSanitized = None
 axis_of HandLevels = None
 axis_of GatherInfo = None
 
-own_axis : (p : ℕ) (axis : Axis) → axis_of (pass_at p) ≡ Some axis → split_at axis ≡ p
+pub own_axis : (p : ℕ) (axis : Axis) → axis_of (pass_at p) ≡ Some axis → split_at axis ≡ p
 own_axis zero axis is = absurd (cc)
 own_axis (suc zero) axis is = absurd (cc)
 own_axis (suc (suc zero)) axis is = one_axis Target axis is

@@ -3,3 +3,5 @@ pub mod Stepping
 pub mod Keeping
 pub mod Told
 pub mod OneGraph
+pub mod SomeStep
+pub mod SomeGraph
