@@ -1,11 +1,12 @@
 -- What stays from pass to pass: the nodes that ask are nodes, and the axes of later passes are free.
-use Rattle.std.proofs.Common.{◌≡◌, ◌<◌, ◌≤◌, ◌+◌, ◌∙◌, ◌++◌, ℕ, zero, suc, List, [], ◌∷◌, length, map, Option, Some, None}
+use Rattle.std.proofs.Common.{◌≡◌, ◌<◌, ◌≤◌, ◌↔◌, ◌+◌, ◌∙◌, ◌++◌, ℕ, zero, suc, List, [], ◌∷◌, length, map, Option, Some, None}
 use Rattle.std.proofs.Common.{Result, Ok, Err, refl, ap, sym, subst, arith}
 use Rattle.std.specs.Prelude.{slice_get, IfOk}
 use Rattle.std.specs.List.{AllByRecursion}
 use Rattle.bp_faults.specs.declared.fault.Fault.{Fault}
 use Rattle.bp_faults.specs.declared.ids.NodeId.{NodeId}
 use Rattle.bp_faults.specs.declared.refusal.Refusal.{Refusal}
+use Rattle.bp_faults.proofs.Lists.{all_map}
 use Rattle.bp_props.specs.declared.module.Module.{Module}
 use Rattle.bp_props.specs.declared.props.Props.{Props}
 use Rattle.pass_core.specs.Laws.{OutsAreMany}
@@ -21,6 +22,7 @@ use Rattle.module_graph.specs.Numbered.{by_number}
 use Rattle.module_graph.specs.Planned.{plan_of}
 use Rattle.mutator_rules.specs.declared.request.Request.{Request}
 use Rattle.mutator_rules.specs.declared.split.Split.{Split}
+use Rattle.mutator_rules.specs.Conditions.{MayRun, places_in}
 use Rattle.mutator_rules.specs.Outcomes.{KindOutcome, Made, FaultAt, NodesBeyond, EdgesBeyond}
 use Rattle.mutator_kinds.specs.BottomUp.{BottomUpMeans, first_payloads, asked_of}
 use Rattle.reverse_deps.specs.Applied.{AskInside}
@@ -157,3 +159,13 @@ next_free p pass at old free (Ok g) stay =
     still_free p (axis_of pass) old g.nodes
     (λ axis is. own_axis p axis (ap axis_of at ∙ is)) free stay
 next_free p pass at old free (Err e) stay = tt
+
+-- A rule that accepts the modules of a list may be run where places in the list may.
+pub may_places : (Accepts : ℕ → Type 0) (count : ℕ) (nodes : List (Node Props))
+    → ((m : ℕ) → Accepts m ↔ places_in count m) → MayRun Accepts nodes → MayRun (places_in count) nodes
+may_places Accepts count nodes same may = record {
+  numbered = may.numbered;
+  accepted =
+      all_map (λ (x : Node Props). Accepts x.«module».0) (λ (x : Node Props). places_in count x.«module».0)
+      (λ x accepted. (same x.«module».0).0 accepted) nodes may.accepted;
+}

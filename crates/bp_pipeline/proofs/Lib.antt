@@ -1,7 +1,12 @@
 pub mod Beginning
 pub mod Stepping
+pub mod Passing
 pub mod Keeping
-pub mod Told
+pub mod Counting
+pub mod Sized
+pub mod Whole
 pub mod OneGraph
+pub mod OneReplay
+pub mod Replaying
 pub mod SomeStep
 pub mod SomeGraph

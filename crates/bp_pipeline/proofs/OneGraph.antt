@@ -1,11 +1,15 @@
--- The first mutators come to one thing, since each pass does.
-use Rattle.std.proofs.Common.{◌≡◌, ◌∙◌, ℕ, zero, suc, List, Option, Some, None, Result, Ok, sym, ap}
+-- The first passes, and all that is made behind them, come to one thing, since each pass does.
+use Rattle.std.proofs.Common.{◌≡◌, ◌∙◌, ℕ, zero, suc, List, Option, Some, None, Result, Ok, Err, sym, ap}
 use Rattle.bp_faults.specs.declared.fault.Fault.{Fault}
 use Rattle.bp_faults.specs.declared.ids.NodeId.{NodeId}
 use Rattle.bp_faults.specs.Phases.{IsOnce, Then}
 use Rattle.bp_faults.proofs.Phases.{value_once, then_once}
 use Rattle.bp_props.specs.declared.module.Module.{Module}
 use Rattle.bp_props.specs.declared.props.Props.{Props}
+use Rattle.build_actions.specs.declared.actions.Actions.{Actions}
+use Rattle.build_actions.specs.Acts.{acts_at}
+use Rattle.build_actions.specs.File.{file_of}
+use Rattle.module_graph.specs.declared.direction.Direction.TheVariants.{BottomUp}
 use Rattle.module_graph.specs.declared.graph.Node.{Node}
 use Rattle.module_graph.specs.declared.variations.Axis.{Axis}
 use Rattle.module_graph.specs.declared.variations.Axis.TheVariants.{Target, Image, Link, PerSource}
@@ -13,6 +17,11 @@ use Rattle.module_rules.specs.Rules.{asks, renews, splits}
 use Rattle.mutator_rules.specs.declared.config.Config.{Config}
 use Rattle.mutator_rules.specs.declared.request.Request.{Request}
 use Rattle.mutator_rules.specs.Outcomes.{KindOutcome}
+use Rattle.module_graph.specs.Planned.{plan_of}
+use Rattle.ninja_file.specs.declared.file.NinjaFile.{NinjaFile}
+use Rattle.pass_core.specs.declared.plan.Plan.{Plan}
+use Rattle.pass_core.specs.Laws.{AtMostOneOutcome}
+use Rattle.pass_core.specs.Outcomes.{PassMeans}
 use Rattle.mutator_kinds.specs.BottomUp.{BottomUpMeans}
 use Rattle.mutator_kinds.specs.TopDown.{TopDownMeans}
 use Rattle.mutator_kinds.specs.Laws.{OneBottomUpOutcome, OneTopDownOutcome}
@@ -37,10 +46,11 @@ use Rattle.bp_pipeline.specs.declared.passes.Pass.TheVariants.{SplitLinks, AskDe
 use Rattle.bp_pipeline.specs.declared.passes.Pass.TheVariants.{SplitSanitized, MarkSanitized, HandLevels, GatherInfo}
 use Rattle.bp_pipeline.specs.First.{first_nodes}
 use Rattle.bp_pipeline.specs.Limits.{ComesTo, graph_or_fault}
-use Rattle.bp_pipeline.specs.Mutators.{passes_of}
+use Rattle.bp_pipeline.specs.Generated.{ActionsMean, FileMeans, TextMeans, written}
+use Rattle.bp_pipeline.specs.Mutators.{built, passes_of}
 use Rattle.bp_pipeline.specs.Passes.{Answer, AskMeans, MakeMeans, StepMeans, pass_at}
-use Rattle.bp_pipeline.specs.Course.{CourseMeans}
-use Rattle.bp_pipeline.specs.Laws.{OneGraph}
+use Rattle.bp_pipeline.specs.Course.{CourseMeans, GraphAfter}
+use Rattle.bp_pipeline.specs.Laws.{OneCourse, OneGraph}
 
 -- A kind of mutator comes to one thing, where it means one.
 comes_once : {G : Type 0} (mods : List Module) (Means : KindOutcome G → Type 0)
@@ -83,6 +93,42 @@ module _ (kind : OneBottomUpOutcome Props) (above : OneTopDownOutcome Props) (wa
   course_once c (suc p) =
       then_once (CourseMeans mods c p) (StepMeans mods c (pass_at p)) (course_once c p) (pass_once c (pass_at p))
 
-pub one_graph : OneBottomUpOutcome Props → OneTopDownOutcome Props → OneWantsOutcome Props → OneMutateOutcome Props
-    → OneOutcome Props → OneGraph
-one_graph kind above wants mutate applied mods c k = course_once kind above wants mutate applied mods c (passes_of k)
+pub one_course : OneBottomUpOutcome Props → OneTopDownOutcome Props → OneWantsOutcome Props → OneMutateOutcome Props
+    → OneOutcome Props → OneCourse
+one_course kind above wants mutate applied mods c p = course_once kind above wants mutate applied mods c p
+
+-- an outcome without the node of its fault
+abbrev plain : Result (List Actions) (ℕ × Fault) → Result (List Actions) Fault
+plain (Ok outs) = Ok outs
+plain (Err at) = Err at.1
+
+module _ (once : OneCourse) where
+  pub one_graph : OneGraph
+  one_graph mods c k = once mods c (passes_of k)
+
+  module _ (one : AtMostOneOutcome Actions) where
+    -- a pass means one thing, whichever node its fault is of
+    pub means_once : (mean : ℕ → List Actions → Result Actions Fault) (plan : Plan) → IsOnce (PassMeans mean plan)
+    means_once mean plan (Ok outs) (Ok others) first second = ap plain (one mean plan (Ok outs) (Ok others) first second)
+    means_once mean plan (Ok outs) (Err fault) first (n, second) =
+        ap plain (one mean plan (Ok outs) (Err (n, fault)) first second)
+    means_once mean plan (Err fault) (Ok outs) (n, first) second =
+        ap plain (one mean plan (Err (n, fault)) (Ok outs) first second)
+    means_once mean plan (Err fault) (Err other) (n, first) (m, second) =
+        ap plain (one mean plan (Err (n, fault)) (Err (m, other)) first second)
+
+    module _ (mods : List Module) (c : Config) where
+      pub actions_once : IsOnce (ActionsMean mods c)
+      actions_once =
+          then_once (GraphAfter mods c built) (λ nodes. PassMeans (acts_at mods nodes) (plan_of BottomUp nodes))
+          (one_graph mods c built) (λ nodes. means_once (acts_at mods nodes) (plan_of BottomUp nodes))
+
+      pub file_once : IsOnce (FileMeans mods c)
+      file_once =
+          then_once (ActionsMean mods c) (λ made (outcome : Result NinjaFile Fault). Ok (file_of made) ≡ outcome)
+          actions_once (λ made. value_once (Ok (file_of made)))
+
+      pub text_once : IsOnce (TextMeans mods c)
+      text_once =
+          then_once (FileMeans mods c) (λ file (outcome : Result (List ℕ) Fault). written file ≡ outcome) file_once
+          (λ file. value_once (written file))

@@ -1,5 +1,5 @@
 -- Each pass makes something of a graph, and a graph that it makes is fit for the next pass.
-use Rattle.std.proofs.Common.{◌≡◌, List, Option, Some, None, Result, Ok, Err, length, refl}
+use Rattle.std.proofs.Common.{◌≡◌, ◌+◌, ℕ, suc, List, Option, Some, None, Result, Ok, Err, length, refl, subst, arith}
 use Rattle.std.specs.Prelude.{IfOk}
 use Rattle.bp_faults.specs.declared.fault.Fault.{Fault}
 use Rattle.bp_faults.specs.declared.ids.NodeId.{NodeId}
@@ -42,10 +42,11 @@ use Rattle.bp_pipeline.specs.declared.passes.Pass.{Pass}
 use Rattle.bp_pipeline.specs.declared.passes.Pass.TheVariants.{AskDefaults, MergeDefaults, SplitTargets, SplitImages}
 use Rattle.bp_pipeline.specs.declared.passes.Pass.TheVariants.{SplitLinks, AskDependencies, AskPlugins, SplitSources}
 use Rattle.bp_pipeline.specs.declared.passes.Pass.TheVariants.{SplitSanitized, MarkSanitized, HandLevels, GatherInfo}
-use Rattle.bp_pipeline.specs.Inside.{IsUsable}
+use Rattle.bp_pipeline.specs.Inside.{AreFreeAt, IsUsable}
 use Rattle.bp_pipeline.specs.Limits.{ComesTo, graph_or_fault}
-use Rattle.bp_pipeline.specs.Passes.{Answer, Outcome, AskMeans, MakeMeans, StepMeans}
-use Rattle.bp_pipeline.proofs.Keeping.{applied_free, asked_inside, axis_of}
+use Rattle.bp_pipeline.specs.Passes.{Answer, Outcome, AskMeans, MakeMeans, StepMeans, pass_at}
+use Rattle.bp_pipeline.specs.Ready.{IsReady}
+use Rattle.bp_pipeline.proofs.Keeping.{applied_free, asked_inside, axis_of, next_free, own_axis}
 
 -- An outcome that is meant, and what holds of its value.
 abbrev pub Comes : {A : Type 0} → (Result A Fault → Type 0) → (A → Type 0) → Type 0
@@ -127,7 +128,7 @@ module _ (some_up : SomeBottomUpOutcome Props) (up_keeps : BottomUpKeeps Props) 
       (links : LinkVariantsDiffer) (sources : SourceVariantsDiffer) (own : OwnVariationsDiffer) (c : Config)
       (differ : TargetsDiffer c) where
     -- A pass over a graph in which the axis is free along which it splits.
-    pub pass_some : (pass : Pass) → ((axis : Axis) → axis_of pass ≡ Some axis → HasFreeAxis axis nodes)
+    pass_some : (pass : Pass) → ((axis : Axis) → axis_of pass ≡ Some axis → HasFreeAxis axis nodes)
         → Comes (StepMeans mods c pass nodes) (Kept (axis_of pass))
     pass_some AskDefaults free = ask_some (asks defaults_asked mods)
     pass_some MergeDefaults free = make_some None (renews defaults_merged mods) tt tt
@@ -155,3 +156,25 @@ module _ (some_up : SomeBottomUpOutcome Props) (up_keeps : BottomUpKeeps Props) 
         comes_some mods (TopDownMeans level_meant nodes) (Kept None)
         (λ new means. down_keeps level_meant nodes new (length mods) usable.valid usable.may means) made.0 made.1
     pass_some GatherInfo free = make_some None (info_meant mods) tt tt
+
+    -- The pass with a number over a graph that is ready for it.
+    pub step_some : (p : ℕ) → AreFreeAt p nodes
+        → Comes (StepMeans mods c (pass_at p) nodes) (IsReady (length mods) (suc p))
+    step_some p free =
+        let made = pass_some (pass_at p) (λ axis is. let here = own_axis p axis is in free axis (omega (arith, here))) in
+        by made.0 made.1 made.2
+      where
+        by : (outcome : Outcome) → StepMeans mods c (pass_at p) nodes outcome
+            → IfOk outcome (Kept (axis_of (pass_at p)))
+            → Comes (StepMeans mods c (pass_at p) nodes) (IsReady (length mods) (suc p))
+        by (Ok new) means kept =
+            let more : p + 1 ≡ suc p = omega arith in (
+              Ok new,
+              means,
+              (
+                record { valid = kept.valid; may = kept.may },
+                subst (λ q. AreFreeAt q new) more
+                    (next_free p (pass_at p) refl nodes free (Ok (record { nodes = new })) kept.free),
+              ),
+            )
+        by (Err fault) means kept = (Err fault, means, tt)

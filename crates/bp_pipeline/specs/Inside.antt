@@ -10,8 +10,9 @@ use Rattle.module_graph.specs.declared.graph.Node.{Node}
 use Rattle.module_graph.specs.declared.variations.Axis.{Axis}
 use Rattle.module_graph.specs.declared.variations.Axis.TheVariants.{Target, Image, Link, PerSource, Sanitize}
 use Rattle.module_graph.specs.Graphs.{IsValid}
+use Rattle.variant_graphs.specs.declared.error.StepError.{StepError}
+use Rattle.variant_graphs.specs.declared.error.StepError.TheVariants.{Kind, Refused}
 use Rattle.variant_graphs.specs.Splitting.{HasFreeAxis}
-use Rattle.mutator_rules.specs.declared.error.KindError.{KindError}
 use Rattle.mutator_rules.specs.declared.error.KindError.TheVariants.{At, Nodes, Edges, OutOfMemory as Want}
 use Rattle.mutator_rules.specs.Conditions.{MayRun, places_in}
 use Rattle.bp_pipeline.specs.Limits.{place_of_module}
@@ -34,10 +35,11 @@ abbrev pub AreFreeAt : ℕ → List (Node Props) → Type 0
 AreFreeAt p nodes = (axis : Axis) → p ≤ split_at axis → HasFreeAxis axis nodes
 
 -- A refusal is the fault of an error, or memory ran out.
-abbrev pub RefusalMeans : List Module → KindError → Refusal → Type 0
-RefusalMeans mods (At n fault) (Bad told) = told ≡ fault
-RefusalMeans mods (Nodes number) (Bad told) =
+abbrev pub RefusalMeans : List Module → StepError → Refusal → Type 0
+RefusalMeans mods (Refused fault) (Bad told) = told ≡ fault
+RefusalMeans mods (Kind (At n fault)) (Bad told) = told ≡ fault
+RefusalMeans mods (Kind (Nodes number)) (Bad told) =
     told ≡ fault_on TooMany (place_of_module mods number) (codes "variants")
-RefusalMeans mods (Edges at) (Bad told) = told ≡ fault_on TooMany at (codes "edges")
-RefusalMeans mods Want (Bad told) = ⊥
+RefusalMeans mods (Kind (Edges at)) (Bad told) = told ≡ fault_on TooMany at (codes "edges")
+RefusalMeans mods (Kind Want) (Bad told) = ⊥
 RefusalMeans mods error OutOfMemory = ⊤

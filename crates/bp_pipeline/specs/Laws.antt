@@ -1,5 +1,7 @@
 -- What holds of all modules and configurations.
-use Rattle.std.specs.Prelude.{◌≤◌, ◌^◌, ℕ, List, Ok, length}
+use Rattle.std.specs.Prelude.{◌≡◌, ◌≤◌, ◌^◌, ℕ, List, Result, Ok, Err, length}
+use Rattle.bp_faults.specs.declared.fault.Fault.{Fault}
+use Rattle.bp_faults.specs.declared.ids.NodeId.{NodeId}
 use Rattle.bp_faults.specs.Phases.{HasOutcome, IsOnce}
 use Rattle.bp_props.specs.declared.module.Module.{Module}
 use Rattle.bp_props.specs.declared.props.Props.{Props}
@@ -8,8 +10,17 @@ use Rattle.module_graph.specs.Graphs.{IsValid}
 use Rattle.mutator_rules.specs.declared.config.Config.{Config}
 use Rattle.mutator_rules.specs.Conditions.{MayRun, places_in}
 use Rattle.mutator_rules.specs.Configs.{TargetsDiffer}
-use Rattle.bp_pipeline.specs.Course.{GraphAfter}
+use Rattle.pass_ways.specs.declared.way.OrderLine.{OrderLine}
+use Rattle.pass_ways.specs.OrderFiles.{Say}
+use Rattle.bp_pipeline.specs.Course.{CourseMeans, GraphAfter}
+use Rattle.bp_pipeline.specs.Endings.{IsFaulty}
+use Rattle.bp_pipeline.specs.Generated.{TextMeans}
 use Rattle.bp_pipeline.specs.Mutators.{built}
+use Rattle.bp_pipeline.specs.Replays.{AreJournal, ReplayMeans}
+
+-- The first passes come to one graph or one fault.
+abbrev pub OneCourse : Type 0
+OneCourse = (mods : List Module) (c : Config) (p : ℕ) → IsOnce (CourseMeans mods c p)
 
 -- The first mutators come to one graph or one fault.
 abbrev pub OneGraph : Type 0
@@ -26,3 +37,25 @@ abbrev pub GraphsAreValid : Type 0
 GraphsAreValid =
     (mods : List Module) (c : Config) (k : ℕ) (nodes : List (Node Props)) → length mods ≤ 2 ^ 17 → TargetsDiffer c
     → k ≤ built → GraphAfter mods c k (Ok nodes) → IsValid nodes × MayRun (places_in (length mods)) nodes
+
+-- Modules have one text or one fault.
+abbrev pub OneText : Type 0
+OneText = (mods : List Module) (c : Config) → IsOnce (TextMeans mods c)
+
+-- The lines of an order file are replayed to one text or one fault: no two causes of a fault meet.
+abbrev pub OneReplay : Type 0
+OneReplay = (mods : List Module) (c : Config) (lines : List OrderLine) (file : ℕ) → IsOnce (ReplayMeans mods c lines file)
+
+-- Lines that are a legal journal are replayed to the text of the job, and to nothing else.
+abbrev pub JournalsAreReplayed : Type 0
+JournalsAreReplayed =
+    (mods : List Module) (c : Config) (lines : List OrderLine) (file : ℕ) (journal : List (ℕ × NodeId))
+    (text : List ℕ) (outcome : Result (List ℕ) Fault) → AreJournal mods c lines file journal
+    → TextMeans mods c (Ok text) → ReplayMeans mods c lines file outcome → outcome ≡ Ok text
+
+-- Lines that are legal up to the end of a pass that makes a fault are replayed to that fault, and to nothing else.
+abbrev pub FaultsAreReplayed : Type 0
+FaultsAreReplayed =
+    (mods : List Module) (c : Config) (lines : List OrderLine) (file p : ℕ) (whole : List (ℕ × NodeId))
+    (fault : Fault) (outcome : Result (List ℕ) Fault) → IsFaulty mods c p whole fault → Say lines whole
+    → ReplayMeans mods c lines file outcome → outcome ≡ Err fault

@@ -3,6 +3,12 @@ pub mod First
 pub mod Limits
 pub mod Passes
 pub mod Course
+pub mod Journals
+pub mod Endings
+pub mod Generated
+pub mod Replays
 pub mod Shown
 pub mod Inside
+pub mod Runs
+pub mod Ready
 pub mod Laws

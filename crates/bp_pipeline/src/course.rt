@@ -1,40 +1,75 @@
-ghost use Rattle.std.specs.Prelude.{◌≤◌, ◌^◌, length, IfOk};
+ghost use Rattle.std.specs.Prelude.{◌≡◌, ◌≤◌, ◌^◌, [], length, IfOk};
 ghost use Rattle.bp_faults.specs.Answers.{Tells};
 ghost use Rattle.module_graph.specs.Graphs.{IsValid};
 ghost use Rattle.mutator_rules.specs.Configs.{TargetsDiffer};
-ghost use Rattle.bp_pipeline.specs.Course.{CourseMeans, GraphAfter};
+ghost use Rattle.bp_pipeline.specs.Course.{GraphAfter};
+ghost use Rattle.bp_pipeline.specs.Generated.{AreSizes};
+ghost use Rattle.bp_pipeline.specs.Inside.{IsUsable, AreFreeAt};
+ghost use Rattle.bp_pipeline.specs.Journals.{IsJournal};
 ghost use Rattle.bp_pipeline.specs.Mutators.{built, passes};
-ghost use Rattle.bp_pipeline.specs.Inside.{IsUsable};
+ghost use Rattle.bp_pipeline.specs.Runs.{MayStart, MayStep, AnswersCourse};
 
 use crate::GenError;
 use crate::first::first_graph;
-use crate::mutators::passes_of;
-use crate::steps::{Workshop, step};
-use bp_faults::Refusal;
+use crate::mutators::{BUILT, passes_of};
+use crate::sizes::{Sizes, sizes_of};
+use crate::steps::step;
+use crate::workshop::Workshop;
+use bp_faults::{NodeId, Refusal};
 use bp_ports::Gate;
 use bp_props::{Module, Props};
 use module_graph::Graph;
 use mutator_rules::Config;
+use pass_ways::Way;
 use std::alloc::Global;
 use std::thread::Threads;
 
-/// Runs the first passes.
-fn run_first<R: Threads + Sync, G: Gate + Sync>(
+/// Runs the passes from one to another, behind those before.
+fn run_passes<R: Threads + Sync, G: Gate + Sync>(
     rt: &R,
     alloc: Global,
     shop: &Workshop<'_, G>,
-    count: u32,
+    journal: &mut Vec<(u32, NodeId)>,
+    from: u32,
+    to: u32,
+    before: Graph<Props>,
 ) -> Result<Graph<Props>, Refusal>
-    requires few { length shop.now.mods.now ≤ 2 ^ 17 }
-    requires workers { (1 ≤ shop.now.workers) × (shop.now.workers ≤ 64) }
-    requires targets { TargetsDiffer shop.now.config.now }
-    requires last { count ≤ passes }
-    ensures means { Tells (λ g. g.nodes) (CourseMeans shop.now.mods.now shop.now.config.now count) result }
+    requires may { MayStep shop.now journal.old.items before.nodes }
+    requires begun { IsJournal shop.now.mods.now shop.now.config.now from before.nodes journal.old.items }
+    requires free { AreFreeAt from before.nodes }
+    requires rises { from ≤ to }
+    requires last { to ≤ passes }
+    ensures course { AnswersCourse shop.now.mods.now shop.now.config.now shop.now.way to journal.new.items result }
     ensures usable { IfOk result (λ g. IsUsable (length shop.now.mods.now) g.nodes) }
+    ensures free { IfOk result (λ g. AreFreeAt to g.nodes) }
+{
+    let mut graph = before;
+    for number in from..to {
+        graph = step(rt, alloc, shop, journal, number, graph)?;
+    }
+    Ok(graph)
+}
+
+/// Runs the passes of all mutators, and puts down the size of the graph after each mutator.
+pub fn run_mutators<R: Threads + Sync, G: Gate + Sync>(
+    rt: &R,
+    alloc: Global,
+    shop: &Workshop<'_, G>,
+    journal: &mut Vec<(u32, NodeId)>,
+    sizes: &mut Vec<Sizes>,
+) -> Result<Graph<Props>, Refusal>
+    requires may { MayStart shop.now }
+    requires unvisited { journal.old.items ≡ [] }
+    requires uncounted { sizes.old.items ≡ [] }
+    ensures course { AnswersCourse shop.now.mods.now shop.now.config.now shop.now.way passes journal.new.items result }
+    ensures usable { IfOk result (λ g. IsUsable (length shop.now.mods.now) g.nodes) }
+    ensures sizes { IfOk result (λ _. AreSizes shop.now.mods.now shop.now.config.now sizes.new.items) }
 {
     let mut graph = first_graph(alloc, shop.mods)?;
-    for number in 0..count {
-        graph = step(rt, alloc, shop, number, graph)?;
+    for k in 0..BUILT {
+        let (from, to) = (passes_of(k), passes_of(k + 1));
+        graph = run_passes(rt, alloc, shop, journal, from, to, graph)?;
+        sizes.push(sizes_of(&graph))?;
     }
     Ok(graph)
 }
@@ -62,8 +97,9 @@ pub fn graph_after<R: Threads + Sync, G: Gate + Sync>(
     let shop = Workshop {
         mods,
         config: c,
-        workers,
-        gate,
+        way: Way::Workers { workers, gate },
     };
-    run_first(rt, alloc, &shop, passes_of(k))
+    let mut journal = Vec::new(alloc);
+    let first = first_graph(alloc, mods)?;
+    run_passes(rt, alloc, &shop, &mut journal, 0, passes_of(k), first)
 }

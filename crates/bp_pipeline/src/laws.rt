@@ -1,8 +1,11 @@
 //! What holds of all modules and configurations: each law is the contract of a function that does nothing.
 
-ghost use Rattle.bp_pipeline.specs.Laws.{OneGraph, SomeGraph, GraphsAreValid};
+ghost use Rattle.bp_pipeline.specs.Laws.{OneCourse, OneGraph, OneText, OneReplay, JournalsAreReplayed};
+ghost use Rattle.bp_pipeline.specs.Laws.{FaultsAreReplayed, GraphsAreValid, SomeGraph};
+ghost use Rattle.bp_pipeline.specs.Ready.{SomeStep};
 
 use bp_props::Props;
+use build_actions::Actions;
 use info_mutators::laws::own_variations_differ;
 use linkage_mutator::laws::{link_variants_differ, source_variants_differ};
 use mutator_kinds::laws::{
@@ -10,7 +13,8 @@ use mutator_kinds::laws::{
     some_top_down_outcome, top_down_keeps,
 };
 use mutator_rules::Split;
-use pass_core::laws::outs_are_many;
+use pass_core::laws::{at_most_one_outcome, outs_are_many};
+use pass_ways::laws::{lines_say_one_order, one_refusal, refused_have_no_order};
 use reverse_deps::laws::{applied_keeps, one_outcome, some_outcome};
 use target_mutators::laws::{image_variants_differ, target_variants_differ};
 use transition_rules::laws::{
@@ -18,9 +22,9 @@ use transition_rules::laws::{
     wants_keep,
 };
 
-/// The first mutators come to one graph or one fault, since each mutator does.
-pub fn one_graph()
-    ensures { OneGraph }
+/// The first passes come to one graph or one fault, since each pass does.
+pub fn one_course()
+    ensures { OneCourse }
 {
     one_bottom_up_outcome::<Props>();
     one_top_down_outcome::<Props>();
@@ -29,12 +33,50 @@ pub fn one_graph()
     one_outcome::<Props>();
 }
 
-/// The first mutators come to a graph or a fault, since each pass does, and what it makes is fit for the next.
-pub fn some_graph()
-    ensures some { SomeGraph }
-    ensures valid { GraphsAreValid }
+/// The first mutators come to one graph or one fault.
+pub fn one_graph()
+    ensures { OneGraph }
 {
-    one_graph();
+    one_course();
+}
+
+/// Modules have one text or one fault.
+pub fn one_text()
+    ensures { OneText }
+{
+    one_course();
+    at_most_one_outcome::<Actions>();
+}
+
+/// Lines are replayed to one text or one fault.
+pub fn one_replay()
+    ensures { OneReplay }
+{
+    one_course();
+    at_most_one_outcome::<Actions>();
+    lines_say_one_order();
+    refused_have_no_order();
+    one_refusal();
+}
+
+/// A legal journal is replayed to the text of the job, and to nothing else.
+pub fn journals_are_replayed()
+    ensures { JournalsAreReplayed }
+{
+    one_replay();
+}
+
+/// Lines that end a pass with a fault are replayed to that fault, and to nothing else.
+pub fn faults_are_replayed()
+    ensures { FaultsAreReplayed }
+{
+    one_replay();
+}
+
+/// Each pass makes of a graph that is ready for it a fault, or a graph that is ready for the next pass.
+fn some_step()
+    ensures { SomeStep }
+{
     some_bottom_up_outcome::<Props>();
     bottom_up_keeps::<Props>();
     some_top_down_outcome::<Props>();
@@ -51,4 +93,13 @@ pub fn some_graph()
     link_variants_differ();
     source_variants_differ();
     own_variations_differ();
+}
+
+/// The first mutators come to a graph or a fault, since each pass does. The graph is valid.
+pub fn some_graph()
+    ensures some { SomeGraph }
+    ensures valid { GraphsAreValid }
+{
+    one_graph();
+    some_step();
 }

@@ -1,22 +1,34 @@
-//! The mutators one after another: from typed modules to the graph after the first of them.
+//! The mutators one after another, and the file for Ninja: from typed modules to its text.
 //!
 //! Modules and a configuration flow in; the graph after the first k mutators flows out, or the first fault, and the
-//! text of a graph. It is measured by `GraphAfter` in `specs/Course.antt`, a fold over graphs.
+//! text of a graph; or the text of the file for Ninja, with the journal of the passes. It is measured by `GraphAfter`
+//! in `specs/Course.antt`, a fold over graphs, and by `TextMeans` in `specs/Generated.antt`.
 #![tactic(auto)]
 
+mod actions;
 mod course;
 mod first;
+mod generated;
+mod journal;
 pub mod laws;
 mod limits;
 mod mutators;
 mod passes;
+mod ran;
+mod replayed;
 mod shown;
+mod sizes;
 mod steps;
+mod text;
+mod workshop;
 
 pub use bp_faults::Refusal as GenError;
 pub use course::graph_after;
+pub use generated::{Generated, generate};
 pub use mutators::mutators_to;
+pub use replayed::replay_lines;
 pub use shown::show_graph;
+pub use sizes::Sizes;
 
 #[cfg(test)]
 mod tests;

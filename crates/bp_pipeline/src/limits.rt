@@ -9,6 +9,7 @@ use bp_faults::{Fault, FaultKind, ModuleId, OutOfMemory, Place, Refusal, Text};
 use bp_props::Module;
 use mutator_rules::KindError;
 use std::alloc::Global;
+use variant_graphs::StepError;
 
 fn place_of_module(mods: &[Module], number: ModuleId) -> Place
     ensures { result ≡ place_of_module mods.now number }
@@ -26,14 +27,17 @@ fn too_many(alloc: Global, at: Place, limit: &str) -> Result<Fault, OutOfMemory>
 }
 
 /// Why a pass gives no graph, as the refusal of the whole.
-pub fn refusal_of(alloc: Global, mods: &[Module], error: KindError) -> Refusal
+pub fn refusal_of(alloc: Global, mods: &[Module], error: StepError) -> Refusal
     ensures { RefusalMeans mods.now error result }
 {
     let fault = match error {
-        KindError::At(_, fault) => Ok(fault),
-        KindError::Nodes(number) => too_many(alloc, place_of_module(mods, number), "variants"),
-        KindError::Edges(at) => too_many(alloc, at, "edges"),
-        KindError::OutOfMemory => Err(OutOfMemory),
+        StepError::Refused(fault) => Ok(fault),
+        StepError::Kind(KindError::At(_, fault)) => Ok(fault),
+        StepError::Kind(KindError::Nodes(number)) => {
+            too_many(alloc, place_of_module(mods, number), "variants")
+        }
+        StepError::Kind(KindError::Edges(at)) => too_many(alloc, at, "edges"),
+        StepError::Kind(KindError::OutOfMemory) => Err(OutOfMemory),
     };
     match fault {
         Ok(fault) => Refusal::Bad(fault),

@@ -1,5 +1,8 @@
-ghost use Rattle.std.specs.Prelude.{◌≡◌, ◌≤◌, IfSome};
+ghost use Rattle.std.specs.Prelude.{◌≡◌, ◌≤◌, ◌+◌, IfSome};
 ghost use Rattle.bp_pipeline.specs.Mutators.{built, mutators_to, passes, passes_of};
+
+/// How many mutators there are.
+pub const BUILT: u32 = 11;
 
 /// How many mutators have run after the one of a name, if there is such a one.
 pub fn mutators_to(name: &str) -> Option<u32>
@@ -26,6 +29,7 @@ pub fn mutators_to(name: &str) -> Option<u32>
 pub fn passes_of(k: u32) -> u32
     requires { k ≤ built }
     ensures count { result ≡ passes_of k }
+    ensures near { (k ≤ result) × (result ≤ k + 1) }
     ensures built { result ≤ passes }
 {
     if k < 9 { k } else { k + 1 }

@@ -1,6 +1,9 @@
 ghost use Rattle.std.specs.Prelude.{◌≡◌};
 ghost use Rattle.bp_pipeline.specs.Passes.{pass_at};
 
+/// The number of the pass of the actions, counted from 1: it comes behind those of the mutators.
+pub const ACTIONS: u32 = 13;
+
 /// A pass of a mutator over all nodes.
 #[derive(Clone, Copy, Debug, PartialEq, Eq)]
 pub enum Pass {

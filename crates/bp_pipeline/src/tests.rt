@@ -1,13 +1,14 @@
-//! The graph after some mutators, as text.
-ghost use Rattle.std.specs.Prelude.{◌≡◌, ◌≤◌, ◌^◌, IfOk, length};
+//! The graph after some mutators as text, and what is generated and replayed of a small tree.
+ghost use Rattle.std.specs.Prelude.{◌≡◌, ◌≤◌, ◌<◌, ◌^◌, IfOk, length};
 ghost use Rattle.mutator_rules.specs.Configs.{TargetsDiffer};
 
-use crate::laws::one_graph;
-use crate::{GenError, graph_after, mutators_to, show_graph};
-use bp_faults::{Item, OutOfMemory, Path, Place, Seq, Target, Text};
+use crate::laws::{faults_are_replayed, journals_are_replayed, one_graph, one_text};
+use crate::{GenError, Generated, generate, graph_after, mutators_to, replay_lines, show_graph};
+use bp_faults::{Item, NodeId, OutOfMemory, Path, Place, Seq, Target, Text};
 use bp_ports::OpenGate;
 use bp_props::{Given, Module, ModuleKind, Props};
 use mutator_rules::Config;
+use pass_ways::OrderLine;
 use std::alloc::Global;
 use std::test::Fail;
 use std::thread::Threads;
@@ -130,5 +131,128 @@ fn graphs_after_mutators(rt: HostRuntime) -> Result<(), Fail> {
         }
     }
     one_graph();
+    Ok(())
+}
+
+/// The sizes of the graphs after the mutators, as nodes and edges.
+const SIZES: [(u32, u32); 11] = [
+    (4, 1),
+    (4, 1),
+    (3, 0),
+    (3, 0),
+    (4, 0),
+    (4, 1),
+    (4, 1),
+    (4, 1),
+    (5, 1),
+    (5, 1),
+    (5, 1),
+];
+
+fn has_sizes(made: &Generated) -> bool {
+    let sizes = made.sizes.as_slice();
+    let mut same = sizes.len() == SIZES.len();
+    for (place, want) in SIZES.iter().enumerate() {
+        same &= match sizes.get(place) {
+            Some(size) => (size.nodes, size.edges) == *want,
+            None => false,
+        };
+    }
+    same
+}
+
+#[test]
+fn generated_on_workers(rt: HostRuntime) -> Result<(), Fail> {
+    let alloc = rt.alloc();
+    let mods = modules(alloc)?;
+    let config = one_target(alloc)?;
+    let alone = generate(&rt, alloc, &mods, &config, 1, &OpenGate);
+    let together = generate(&rt, alloc, &mods, &config, 2, &OpenGate);
+    let (Ok(alone), Ok(together)) = (alone, together) else {
+        assert!(rt; false, "a fault");
+        return Ok(());
+    };
+    assert!(rt; alone.ninja.as_slice() == together.ninja.as_slice());
+    assert_eq!(rt; (alone.statements, together.statements), (6, 6));
+    assert_eq!(rt;
+        (
+            alone.journal.as_slice().len(),
+            together.journal.as_slice().len()
+        ),
+        (54, 54)
+    );
+    assert!(rt; has_sizes(&alone));
+    assert!(rt; has_sizes(&together));
+    one_text();
+    Ok(())
+}
+
+/// The lines of a journal.
+fn lines_of(alloc: Global, journal: &[(u32, NodeId)]) -> Result<Vec<OrderLine>, OutOfMemory> {
+    let mut lines = Vec::new(alloc);
+    for (pass, node) in journal {
+        lines.push(OrderLine {
+            entry: Some((*pass, *node)),
+            text: Text::from_str(alloc, "line")?,
+        })?;
+    }
+    Ok(lines)
+}
+
+/// The number and the line of the fault of a replay; 0 where it gives the text.
+fn replayed_at<R: Threads + Sync>(
+    rt: &R,
+    alloc: Global,
+    mods: &[Module],
+    config: &Config,
+    lines: &[OrderLine],
+    text: &[u8],
+) -> (u32, u32)
+    requires few { length mods.now ≤ 2 ^ 17 }
+    requires targets { TargetsDiffer config.now }
+    requires lines { length lines.now < 100 }
+{
+    match replay_lines(rt, alloc, mods, config, lines, 9) {
+        Ok(replayed) if replayed.as_slice() == text => (0, 0),
+        Ok(_) => (1, 1),
+        Err(GenError::Bad(fault)) => (fault.kind.number(), fault.at.line),
+        Err(GenError::OutOfMemory) => (2, 2),
+    }
+}
+
+#[test]
+fn replayed_along_lines(rt: HostRuntime) -> Result<(), Fail> {
+    let alloc = rt.alloc();
+    let mods = modules(alloc)?;
+    let config = one_target(alloc)?;
+    let Ok(made) = generate(&rt, alloc, &mods, &config, 2, &OpenGate) else {
+        assert!(rt; false, "a fault");
+        return Ok(());
+    };
+    let text = made.ninja.as_slice();
+    let mut lines = lines_of(alloc, made.journal.as_slice())?;
+    assert!(rt; lines.len() == 54);
+    assert_eq!(rt;
+        replayed_at(&rt, alloc, &mods, &config, &lines, text),
+        (0, 0)
+    );
+    assert_eq!(rt;
+        replayed_at(&rt, alloc, &mods, &config, &lines[..53], text),
+        (36, 54)
+    );
+    assert_eq!(rt;
+        replayed_at(&rt, alloc, &mods, &config, &lines[1..], text),
+        (35, 4)
+    );
+    lines.push(OrderLine {
+        entry: Some((13, NodeId(0))),
+        text: Text::from_str(alloc, "line")?,
+    })?;
+    assert_eq!(rt;
+        replayed_at(&rt, alloc, &mods, &config, &lines, text),
+        (35, 55)
+    );
+    journals_are_replayed();
+    faults_are_replayed();
     Ok(())
 }

@@ -2,6 +2,4 @@ use Rattle.bp_pipeline.proofs.OneGraph.{one_graph}
 use Rattle.bp_pipeline.proofs.laws.one_graph.Goals as goal
 
 pub returns : goal.returns
-returns c =
-    one_graph c.one_bottom_up_outcome.ensures c.one_top_down_outcome.ensures c.one_wants_outcome.ensures
-    c.one_mutate_outcome.ensures c.one_outcome.ensures
+returns c = one_graph c.one_course.ensures

@@ -1,21 +1,23 @@
-use Rattle.std.proofs.Common.{◌≡◌, List, Some, None, Result, Ok, Err, refl, subst, sym}
+use Rattle.std.proofs.Common.{◌≡◌, List, None, Option, Result, Ok, Err, length, sym, subst}
 use Rattle.bp_faults.specs.declared.fault.Fault.{Fault}
 use Rattle.bp_faults.specs.declared.ids.NodeId.{NodeId}
 use Rattle.bp_faults.specs.Answers.{Tells}
 use Rattle.bp_props.specs.declared.module.Module.{Module}
 use Rattle.bp_props.specs.declared.props.Props.{Props}
+use Rattle.module_graph.specs.declared.direction.Direction.TheVariants.{BottomUp}
 use Rattle.module_graph.specs.declared.graph.Graph.{Graph}
 use Rattle.module_graph.specs.declared.graph.Node.{Node}
+use Rattle.module_graph.specs.declared.variations.Axis.{Axis}
+use Rattle.module_graph.specs.Planned.{plan_of}
 use Rattle.mutator_kinds.specs.declared.pass_graph.PassGraph.{PassGraph}
 use Rattle.mutator_kinds.specs.BottomUp.{BottomUpMeans}
 use Rattle.mutator_rules.specs.declared.request.Request.{Request}
-use Rattle.std.proofs.Common.{length, Option}
-use Rattle.module_graph.specs.declared.variations.Axis.{Axis}
 use Rattle.reverse_deps.specs.Applied.{IsApplied, AskInside}
 use Rattle.bp_pipeline.specs.Limits.{ComesTo}
 use Rattle.bp_pipeline.specs.Passes.{Answer}
+use Rattle.bp_pipeline.specs.Runs.{TellsPass}
 use Rattle.bp_pipeline.proofs.Keeping.{asked_inside, applied_free}
-use Rattle.bp_pipeline.proofs.Stepping.{first_refuses, second_tells}
+use Rattle.bp_pipeline.proofs.Passing.{first_refuses, next_tells}
 use Rattle.bp_pipeline.proofs.steps.ask.Goals as goal
 
 abbrev Asked : Type 0
@@ -24,18 +26,23 @@ Asked = List (Node Props) × List (NodeId × Request)
 abbrev First : List Module → Answer → List (Node Props) → Option Axis → Result Asked Fault → Type 0
 First mods answer nodes along outcome = ComesTo mods (BottomUpMeans answer nodes along) outcome
 
-pub returns-in_err-made-clause-means : goal.returns-in_err-made-clause-means
-returns-in_err-made-clause-means g c =
+pub returns-in_err-made-clause-tells : goal.returns-in_err-made-clause-tells
+returns-in_err-made-clause-tells g c =
     let mods = c.args.shop.now.mods.now in
     let answer = g.M.BottomUp.meaning c.args.rule.now in
-    let here : Tells {T = PassGraph Props} {V = Asked} (λ made. (made.graph.nodes, made.asked))
-    (First mods answer c.args.graph.nodes None) (Err c.in_err-made.field-0.0) =
-    subst (λ along. Tells {T = PassGraph Props} {V = Asked} (λ made. (made.graph.nodes, made.asked))
-    (First mods answer c.args.graph.nodes along) (Err c.in_err-made.field-0.0))
-    c.requires.along c.in_err-made.ensures.comes in
-    first_refuses {T = PassGraph Props} {U = Graph Props} {A = Asked} (λ made. (made.graph.nodes, made.asked))
-    (λ g. g.nodes) (First mods answer c.args.graph.nodes None) (λ made. IsApplied mods made.0 made.1)
-    c.in_err-made.field-0.0 c.from_residual.result c.from_residual.ensures.1 here
+    let nodes = c.args.graph.nodes in
+    let here : TellsPass c.args.shop.now.way {T = PassGraph Props} {V = Asked} (λ made. (made.graph.nodes, made.asked))
+    (First mods answer nodes None) (plan_of BottomUp nodes) c.args.pass c.args.journal.now.items
+    c.run_rule.new.journal.items (Err c.in_err-made.field-0.0) =
+    subst (λ along. TellsPass c.args.shop.now.way {T = PassGraph Props} {V = Asked}
+    (λ made. (made.graph.nodes, made.asked)) (First mods answer nodes along) (plan_of BottomUp nodes) c.args.pass
+    c.args.journal.now.items c.run_rule.new.journal.items (Err c.in_err-made.field-0.0))
+    c.requires.along c.in_err-made.ensures.tells in
+    first_refuses c.args.shop.now.way (plan_of BottomUp nodes) c.args.pass c.args.journal.now.items
+    {T = PassGraph Props} {U = Graph Props} {A = Asked} (λ made. (made.graph.nodes, made.asked)) (λ g. g.nodes)
+    (First mods answer nodes None) (λ made. IsApplied mods made.0 made.1)
+    c.run_rule.new.journal.items c.in_err-made.field-0.0 c.from_residual.result c.from_residual.ensures.1
+    here
 
 pub apply-requires-clause-asking : goal.apply-requires-clause-asking
 apply-requires-clause-asking g c =
@@ -44,21 +51,23 @@ apply-requires-clause-asking g c =
     let made = c.in_ok-made.made in
     let here : First mods answer c.args.graph.nodes None (Ok (made.graph.nodes, made.asked)) =
     subst (λ along. First mods answer c.args.graph.nodes along (Ok (made.graph.nodes, made.asked)))
-    c.requires.along c.in_ok-made.ensures.comes in
+    c.requires.along c.in_ok-made.ensures.tells.1 in
     subst (AskInside (length made.graph.nodes)) (sym c.as_slice.ensures)
     (asked_inside c.outs_are_many.ensures mods answer c.args.graph.nodes (made.graph.nodes, made.asked) here)
 
-pub returns-clause-means : goal.returns-clause-means
-returns-clause-means g c =
+pub returns-clause-tells : goal.returns-clause-tells
+returns-clause-tells g c =
     let mods = c.args.shop.now.mods.now in
     let answer = g.M.BottomUp.meaning c.args.rule.now in
+    let nodes = c.args.graph.nodes in
     let made = c.in_ok-made.made in
-    let here : First mods answer c.args.graph.nodes None (Ok (made.graph.nodes, made.asked)) =
-    subst (λ along. First mods answer c.args.graph.nodes along (Ok (made.graph.nodes, made.asked)))
-    c.requires.along c.in_ok-made.ensures.comes in
-    second_tells {T = PassGraph Props} {U = Graph Props} {A = Asked} (λ made. (made.graph.nodes, made.asked))
-    (λ g. g.nodes) (First mods answer c.args.graph.nodes None) (λ made. IsApplied mods made.0 made.1)
-    (made.graph.nodes, made.asked) here c.apply.result
+    let here : First mods answer nodes None (Ok (made.graph.nodes, made.asked)) =
+    subst (λ along. First mods answer nodes along (Ok (made.graph.nodes, made.asked)))
+    c.requires.along c.in_ok-made.ensures.tells.1 in
+    next_tells c.args.shop.now.way (plan_of BottomUp nodes) c.args.pass c.args.journal.now.items
+    {T = PassGraph Props} {U = Graph Props} {A = Asked} (λ made. (made.graph.nodes, made.asked)) (λ g. g.nodes)
+    (First mods answer nodes None) (λ made. IsApplied mods made.0 made.1)
+    c.run_rule.new.journal.items made (c.in_ok-made.ensures.tells.0, here) c.apply.result
     (subst (λ asked. Tells {T = Graph Props} (λ g. g.nodes) (IsApplied mods made.graph.nodes asked) c.apply.result)
     c.as_slice.ensures c.apply.ensures.means)
 

@@ -1,15 +1,20 @@
 use Rattle.std.proofs.Common.{List, subst}
-use Rattle.bp_faults.specs.Answers.{Tells}
 use Rattle.bp_props.specs.declared.module.Module.{Module}
 use Rattle.bp_props.specs.declared.props.Props.{Props}
+use Rattle.module_graph.specs.declared.direction.Direction.TheVariants.{BottomUp}
 use Rattle.module_graph.specs.declared.graph.Graph.{Graph}
+use Rattle.module_graph.specs.declared.graph.Node.{Node}
+use Rattle.module_graph.specs.Planned.{plan_of}
 use Rattle.module_rules.specs.Rules.{asks}
 use Rattle.linkage_mutator.specs.Plugins.{plugins_asked}
 use Rattle.bp_pipeline.specs.Passes.{AskMeans}
+use Rattle.bp_pipeline.specs.Runs.{TellsPass}
 use Rattle.bp_pipeline.proofs.steps.ask_plugins.Goals as goal
 
-pub returns-clause-means : goal.returns-clause-means
-returns-clause-means g c =
-    subst (λ (ms : List Module). Tells {T = Graph Props} (λ g. g.nodes)
-    (AskMeans c.args.shop.now.mods.now (asks (plugins_asked ms) ms) c.args.graph.nodes) c.ask.result)
-    c.with_names-rule.ensures c.ask.ensures.means
+pub returns-clause-tells : goal.returns-clause-tells
+returns-clause-tells g c =
+    let nodes = c.args.graph.nodes in
+    subst (λ (ms : List Module). TellsPass c.args.shop.now.way {T = Graph Props} {V = List (Node Props)} (λ g. g.nodes)
+    (AskMeans c.args.shop.now.mods.now (asks (plugins_asked ms) ms) nodes) (plan_of BottomUp nodes) c.args.pass
+    c.args.journal.now.items c.ask.new.journal.items c.ask.result)
+    c.with_names-rule.ensures c.ask.ensures.tells

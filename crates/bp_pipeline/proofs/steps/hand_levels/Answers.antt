@@ -1,18 +1,31 @@
-use Rattle.std.proofs.Common.{◌∙◌, ap, List, Err, refl}
+use Rattle.std.proofs.Common.{List, refl}
 use Rattle.bp_props.specs.declared.props.Props.{Props}
-use Rattle.info_mutators.specs.SdkLevel.{level_meant}
+use Rattle.module_graph.specs.declared.direction.Direction.TheVariants.{TopDown}
+use Rattle.module_graph.specs.declared.graph.Graph.{Graph}
 use Rattle.module_graph.specs.declared.graph.Node.{Node}
+use Rattle.module_graph.specs.Planned.{plan_of}
+use Rattle.info_mutators.specs.SdkLevel.{level_meant}
 use Rattle.mutator_kinds.specs.declared.pass_graph.PassGraph.{PassGraph}
 use Rattle.mutator_kinds.specs.TopDown.{TopDownMeans}
-use Rattle.mutator_rules.specs.Outcomes.{Made}
-use Rattle.bp_pipeline.proofs.Told.{pass_told}
+use Rattle.bp_pipeline.proofs.Passing.{pass_ended, pass_made}
 use Rattle.bp_pipeline.proofs.steps.hand_levels.Goals as goal
 
-pub returns-in-Ok-clause-means : goal.returns-in-Ok-clause-means
-returns-in-Ok-clause-means g c = (Made c.in-Ok.made.graph.nodes, c.in-Ok.ensures.means, refl)
+pub returns-in_ok-note-in-Ok-clause-tells : goal.returns-in_ok-note-in-Ok-clause-tells
+returns-in_ok-note-in-Ok-clause-tells g c =
+    pass_made c.args.shop.now.way (plan_of TopDown c.args.graph.nodes) c.args.pass c.as_slice.result.now
+    c.args.journal.now.items c.as_slice.ensures.value {T = PassGraph Props} {U = Graph Props}
+    {V = List (Node Props)} (λ made. made.graph.nodes) (λ g. g.nodes) (λ made. made.order)
+    c.args.shop.now.mods.now
+    (TopDownMeans level_meant c.args.graph.nodes)
+    c.in-Ok.made c.in-Ok.made.graph refl c.in-Ok.ensures.means c.in-Ok.ensures.followed c.as_slice-in-Ok.result.now
+    c.as_slice-in-Ok.ensures c.note.new.journal.items c.in_ok-note-in-Ok.ensures
 
-pub returns-in-Err-At-clause-means : goal.returns-in-Err-At-clause-means
-returns-in-Err-At-clause-means g c =
-    pass_told {T = PassGraph Props} {G = List (Node Props)} (λ made. made.graph.nodes) c.args.shop.now.mods.now
-    (TopDownMeans level_meant c.args.graph.nodes) c.run_top_down.result c.in-Err-At.field-0-0 c.in-Err-At.fault
-    (c.in-Err-At.is ∙ ap Err c.in-Err-At.field-0-is) c.run_top_down.ensures.means
+pub returns-in-Err-clause-tells : goal.returns-in-Err-clause-tells
+returns-in-Err-clause-tells g c =
+    pass_ended c.args.shop.now.way (plan_of TopDown c.args.graph.nodes) c.args.pass c.as_slice.result.now
+    c.args.journal.now.items c.as_slice.ensures.value {T = PassGraph Props} {U = Graph Props}
+    {V = List (Node Props)} (λ made. made.graph.nodes) (λ g. g.nodes) (λ made. made.order)
+    c.args.shop.now.mods.now
+    (TopDownMeans level_meant c.args.graph.nodes)
+    c.in-Err.error c.refusal_of.result c.args.journal.now.items c.in-Err.ensures.means c.in-Err.ensures.followed
+    c.refusal_of.ensures

@@ -1,36 +1,40 @@
-use Rattle.std.proofs.Common.{◌≡◌, List, Some, None, Result, Ok, Err, refl, subst, sym}
-use Rattle.bp_faults.specs.declared.fault.Fault.{Fault}
+use Rattle.std.proofs.Common.{List, length, refl}
 use Rattle.bp_faults.specs.declared.ids.NodeId.{NodeId}
-use Rattle.bp_faults.specs.Answers.{Tells}
-use Rattle.bp_props.specs.declared.module.Module.{Module}
 use Rattle.bp_props.specs.declared.props.Props.{Props}
-use Rattle.module_graph.specs.declared.graph.Graph.{Graph}
+use Rattle.module_graph.specs.declared.direction.Direction.TheVariants.{BottomUp}
 use Rattle.module_graph.specs.declared.graph.Node.{Node}
+use Rattle.module_graph.specs.Planned.{plan_of}
 use Rattle.mutator_kinds.specs.declared.pass_graph.PassGraph.{PassGraph}
 use Rattle.mutator_kinds.specs.BottomUp.{BottomUpMeans}
 use Rattle.mutator_rules.specs.declared.request.Request.{Request}
-use Rattle.mutator_rules.specs.Outcomes.{Made}
-use Rattle.std.proofs.Common.{length}
-use Rattle.bp_pipeline.specs.Limits.{ComesTo}
-use Rattle.bp_pipeline.proofs.Stepping.{kind_refused, may_places}
+use Rattle.bp_pipeline.proofs.Keeping.{may_places}
+use Rattle.bp_pipeline.proofs.Passing.{pass_ended, pass_made}
 use Rattle.bp_pipeline.proofs.steps.run_rule.Goals as goal
 
-pub returns-in-Ok-clause-comes : goal.returns-in-Ok-clause-comes
-returns-in-Ok-clause-comes g c =
-    (Made (c.in-Ok.made.graph.nodes, c.in-Ok.made.asked), c.in-Ok.ensures.means, refl)
+pub returns-in_ok-note-in-Ok-clause-tells : goal.returns-in_ok-note-in-Ok-clause-tells
+returns-in_ok-note-in-Ok-clause-tells g c =
+    pass_made c.args.shop.now.way (plan_of BottomUp c.args.graph.nodes) c.args.pass c.as_slice.result.now
+    c.args.journal.now.items c.as_slice.ensures.value {T = PassGraph Props} {U = PassGraph Props}
+    {V = List (Node Props) × List (NodeId × Request)} (λ made. (made.graph.nodes, made.asked)) (λ made. (made.graph.nodes, made.asked)) (λ made. made.order)
+    c.args.shop.now.mods.now
+    (BottomUpMeans (g.M.BottomUp.meaning c.args.rule.now) c.args.graph.nodes (g.M.BottomUp.splits_along c.args.rule.now))
+    c.in-Ok.made c.in-Ok.made refl c.in-Ok.ensures.means c.in-Ok.ensures.followed c.as_slice-in-Ok.result.now
+    c.as_slice-in-Ok.ensures c.note.new.journal.items c.in_ok-note-in-Ok.ensures
 
-pub returns-in-Ok-clause-usable : goal.returns-in-Ok-clause-usable
-returns-in-Ok-clause-usable g c = record {
+pub returns-in_ok-note-in-Ok-clause-usable : goal.returns-in_ok-note-in-Ok-clause-usable
+returns-in_ok-note-in-Ok-clause-usable g c = record {
   valid = c.in-Ok.ensures.valid;
   may =
       may_places (g.M.BottomUp.accepts c.args.rule.now) (length c.args.shop.now.mods.now) c.in-Ok.made.graph.nodes
       c.requires.accepts c.in-Ok.ensures.may;
 }
 
-pub returns-in-Err-clause-comes : goal.returns-in-Err-clause-comes
-returns-in-Err-clause-comes g c =
-    kind_refused {T = PassGraph Props} {G = List (Node Props) × List (NodeId × Request)}
-    (λ made. (made.graph.nodes, made.asked)) c.args.shop.now.mods.now
-    (BottomUpMeans (g.M.BottomUp.meaning c.args.rule.now) c.args.graph.nodes
-    (g.M.BottomUp.splits_along c.args.rule.now))
-    c.in-Err.error c.refusal_of.result c.in-Err.ensures.means c.refusal_of.ensures
+pub returns-in-Err-clause-tells : goal.returns-in-Err-clause-tells
+returns-in-Err-clause-tells g c =
+    pass_ended c.args.shop.now.way (plan_of BottomUp c.args.graph.nodes) c.args.pass c.as_slice.result.now
+    c.args.journal.now.items c.as_slice.ensures.value {T = PassGraph Props} {U = PassGraph Props}
+    {V = List (Node Props) × List (NodeId × Request)} (λ made. (made.graph.nodes, made.asked)) (λ made. (made.graph.nodes, made.asked)) (λ made. made.order)
+    c.args.shop.now.mods.now
+    (BottomUpMeans (g.M.BottomUp.meaning c.args.rule.now) c.args.graph.nodes (g.M.BottomUp.splits_along c.args.rule.now))
+    c.in-Err.error c.refusal_of.result c.args.journal.now.items c.in-Err.ensures.means c.in-Err.ensures.followed
+    c.refusal_of.ensures

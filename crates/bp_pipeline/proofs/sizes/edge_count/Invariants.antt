@@ -1,0 +1,6 @@
+use Rattle.std.proofs.Common.{◌≡◌, length, take}
+use Rattle.variant_graphs.specs.Limits.{all_edges}
+use Rattle.bp_pipeline.proofs.sizes.edge_count.Given as goal
+
+abbrev pub invariant-loop-node : goal.invariant-loop-node
+invariant-loop-node l = l.count ≡ length (all_edges (take l.node-index l.nodes))

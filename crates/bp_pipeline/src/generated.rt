@@ -1,0 +1,68 @@
+ghost use Rattle.std.specs.Prelude.{◌≤◌, ◌^◌, length, IfOk};
+ghost use Rattle.bp_faults.specs.Answers.{Tells};
+ghost use Rattle.mutator_rules.specs.Configs.{TargetsDiffer};
+ghost use Rattle.bp_pipeline.specs.Generated.{TextMeans, IsStatementCount, AreSizes};
+ghost use Rattle.bp_pipeline.specs.Journals.{IsLegalJournal};
+
+use crate::GenError;
+use crate::actions::run_all;
+use crate::sizes::Sizes;
+use crate::text::text_of;
+use crate::workshop::Workshop;
+use bp_faults::{NodeId, Seq};
+use bp_ports::Gate;
+use bp_props::Module;
+use build_actions::build_file;
+use mutator_rules::Config;
+use pass_ways::Way;
+use std::alloc::Global;
+use std::thread::Threads;
+
+/// What is generated of modules.
+#[derive(Debug, Drop)]
+pub struct Generated {
+    /// The text of the file for Ninja.
+    pub ninja: Seq<u8>,
+    /// The visits of all passes, by pass and then in the order in which they ended.
+    pub journal: Seq<(u32, NodeId)>,
+    /// How many statements the file has, the one of all outputs among them.
+    pub statements: u32,
+    /// The size of the graph after each mutator.
+    pub sizes: Seq<Sizes>,
+}
+
+/// All passes over the modules, and the text of the file for Ninja, or the first fault.
+///
+/// Refusals are those of `graph_after`, then those of the actions (25 and 28), then 34. Everything but the journal is
+/// the same for any number of workers.
+pub fn generate<R: Threads + Sync, G: Gate + Sync>(
+    rt: &R,
+    alloc: Global,
+    mods: &[Module],
+    c: &Config,
+    workers: u32,
+    gate: &G,
+) -> Result<Generated, GenError>
+    requires few { length mods.now ≤ 2 ^ 17 }
+    requires targets { TargetsDiffer c.now }
+    requires workers { (1 ≤ workers) × (workers ≤ 64) }
+    ensures text { Tells (λ made. made.ninja) (TextMeans mods.now c.now) result }
+    ensures journal { IfOk result (λ made. IsLegalJournal mods.now c.now made.journal) }
+    ensures statements { IfOk result (λ made. IsStatementCount mods.now c.now made.statements) }
+    ensures sizes { IfOk result (λ made. AreSizes mods.now c.now made.sizes) }
+{
+    let shop = Workshop {
+        mods,
+        config: c,
+        way: Way::Workers { workers, gate },
+    };
+    let ran = run_all(rt, alloc, &shop)?;
+    let file = build_file(alloc, ran.made)?;
+    let text = text_of(alloc, &file)?;
+    Ok(Generated {
+        ninja: Seq::new(text),
+        journal: Seq::new(ran.journal),
+        statements: file.statements.as_slice().len() as u32,
+        sizes: Seq::new(ran.sizes),
+    })
+}
