@@ -1,0 +1,9 @@
+mod Numbers
+mod Twice
+mod Joining
+mod Adding
+mod Walking
+mod Reading
+mod Configuring
+mod Sound
+mod NoCommand

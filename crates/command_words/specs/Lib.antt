@@ -1,0 +1,12 @@
+pub mod Once
+pub mod Parts
+pub mod Plain
+pub mod Options
+pub mod Values
+pub mod Words
+pub mod Sound
+pub mod Rules
+pub mod Found
+pub mod Usage
+pub mod Notices
+pub mod Laws

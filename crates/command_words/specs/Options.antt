@@ -1,0 +1,85 @@
+-- The commands and their options.
+use Rattle.std.specs.Prelude.{ℕ, List, [], ◌∷◌, Bool, true, false, ◌||◌, Option, Some, None, if◌then◌else◌, codes}
+use Rattle.std.specs.Str.{bytes_eq}
+use Rattle.command_words.specs.declared.command.CommandName.{CommandName}
+use Rattle.command_words.specs.declared.command.CommandName.TheVariants.{Build, Replay, Graph, Synth, Format, Edit}
+use Rattle.command_words.specs.declared.option.OptionName.{OptionName}
+use Rattle.command_words.specs.declared.option.OptionName.TheVariants as option
+
+-- A command's name.
+abbrev pub command_name : CommandName → List ℕ
+command_name Build = codes "build"
+command_name Replay = codes "replay"
+command_name Graph = codes "graph"
+command_name Synth = codes "synth"
+command_name Format = codes "fmt"
+command_name Edit = codes "edit"
+
+-- The command of a name.
+abbrev pub command_named : List ℕ → Option CommandName
+command_named word =
+    if bytes_eq word (codes "build") then Some Build
+    else if bytes_eq word (codes "replay") then Some Replay
+    else if bytes_eq word (codes "graph") then Some Graph
+    else if bytes_eq word (codes "synth") then Some Synth
+    else if bytes_eq word (codes "fmt") then Some Format
+    else if bytes_eq word (codes "edit") then Some Edit
+    else None
+
+-- An option's long name.
+abbrev pub option_name : OptionName → List ℕ
+option_name option.List = codes "list"
+option_name option.Out = codes "out"
+option_name option.Jobs = codes "jobs"
+option_name option.Targets = codes "targets"
+option_name option.Journal = codes "journal"
+option_name option.Order = codes "order"
+option_name option.After = codes "after"
+option_name option.Seed = codes "seed"
+option_name option.Modules = codes "modules"
+option_name option.In = codes "in"
+option_name option.Module = codes "module"
+option_name option.Property = codes "property"
+option_name option.Items = codes "items"
+
+-- An option's short name, where it has one: `l`, `o`, `j`, `t`, `a`, `i`, `m`, `p`.
+abbrev pub short_name : OptionName → Option ℕ
+short_name option.List = Some 108
+short_name option.Out = Some 111
+short_name option.Jobs = Some 106
+short_name option.Targets = Some 116
+short_name option.After = Some 97
+short_name option.In = Some 105
+short_name option.Module = Some 109
+short_name option.Property = Some 112
+short_name _ = None
+
+-- The word is `-` and the short name, where there is one.
+abbrev pub is_short_spelling : Option ℕ → List ℕ → Bool
+is_short_spelling None word = false
+is_short_spelling (Some c) word = bytes_eq word (45 ∷ c ∷ [])
+
+-- The word is the option in one of its two spellings: `--` and the long name, `-` and the short name.
+abbrev pub is_spelling : OptionName → List ℕ → Bool
+is_spelling o word = bytes_eq word (45 ∷ 45 ∷ option_name o) || is_short_spelling (short_name o) word
+
+-- The options of each command. Those that must be given stand first.
+abbrev pub options_of : CommandName → List OptionName
+options_of Build = option.List ∷ option.Out ∷ option.Jobs ∷ option.Targets ∷ option.Journal ∷ []
+options_of Replay = option.List ∷ option.Out ∷ option.Order ∷ option.Targets ∷ []
+options_of Graph = option.List ∷ option.After ∷ option.Jobs ∷ option.Targets ∷ []
+options_of Synth = option.Seed ∷ option.Modules ∷ option.Jobs ∷ []
+options_of Format = option.In ∷ option.Out ∷ []
+options_of Edit = option.In ∷ option.Out ∷ option.Module ∷ option.Property ∷ option.Items ∷ []
+
+-- Where a command has the option, the option must be given.
+abbrev pub is_required : OptionName → Bool
+is_required option.Jobs = false
+is_required option.Targets = false
+is_required option.Journal = false
+is_required option.Items = false
+is_required _ = true
+
+-- Two options are the same one.
+abbrev pub is_same : OptionName → OptionName → Bool
+is_same a b = bytes_eq (option_name a) (option_name b)

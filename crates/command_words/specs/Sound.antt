@@ -1,0 +1,58 @@
+-- What every configuration keeps, so that a caller need not know how words give one.
+use Rattle.std.specs.Prelude.{◌≡◌, ◌≢◌, ◌≤◌, ℕ, List, length, true, Option, IfSome, ⊤}
+use Rattle.std.specs.List.{All, AllPairs}
+use Rattle.bp_faults.specs.declared.target.Target.{Target}
+use Rattle.command_words.specs.declared.configuration.Build.{Build}
+use Rattle.command_words.specs.declared.configuration.Configuration.{Configuration}
+use Rattle.command_words.specs.declared.configuration.Configuration.TheVariants as configuration
+use Rattle.command_words.specs.declared.configuration.Edit.{Edit}
+use Rattle.command_words.specs.declared.configuration.Graph.{Graph}
+use Rattle.command_words.specs.declared.configuration.Replay.{Replay}
+use Rattle.command_words.specs.declared.configuration.Synth.{Synth}
+use Rattle.command_words.specs.Values.{is_identifier}
+
+-- There are 1 to 64 workers.
+abbrev pub AreWorkers : ℕ → Type 0
+AreWorkers n = (1 ≤ n) × (n ≤ 64)
+
+-- The targets differ.
+abbrev pub AllDiffer : List Target → Type 0
+AllDiffer targets = AllPairs (λ a b. a ≢ b) targets
+
+-- OUT differs from the list and from the journal.
+pub record IsSoundBuild (c : Build) : Type 0 where
+  pub workers : AreWorkers c.workers
+  pub targets : AllDiffer c.targets
+  pub list : c.out ≢ c.list
+  pub journal : IfSome c.journal (λ journal. c.out ≢ journal)
+
+-- OUT differs from the list and from the order.
+pub record IsSoundReplay (c : Replay) : Type 0 where
+  pub targets : AllDiffer c.targets
+  pub list : c.out ≢ c.list
+  pub order : c.out ≢ c.order
+
+-- There are eleven mutators.
+pub record IsSoundGraph (c : Graph) : Type 0 where
+  pub after : c.after ≤ 11
+  pub workers : AreWorkers c.workers
+  pub targets : AllDiffer c.targets
+
+-- There are 1 to 100,000 modules.
+pub record IsSoundSynth (c : Synth) : Type 0 where
+  pub some : 1 ≤ c.modules
+  pub few : c.modules ≤ 100000
+  pub workers : AreWorkers c.workers
+
+-- The property is an identifier.
+pub record IsSoundEdit (c : Edit) : Type 0 where
+  pub property : is_identifier c.property ≡ true
+
+-- What a configuration keeps, by its command.
+abbrev pub IsSound : Configuration → Type 0
+IsSound (configuration.Build c) = IsSoundBuild c
+IsSound (configuration.Replay c) = IsSoundReplay c
+IsSound (configuration.Graph c) = IsSoundGraph c
+IsSound (configuration.Synth c) = IsSoundSynth c
+IsSound (configuration.Format c) = ⊤
+IsSound (configuration.Edit c) = IsSoundEdit c

@@ -1,0 +1,30 @@
+//! The words of the command line, and the configuration that they give.
+//!
+//! Words flow in, without the program's name, and a configuration of one of the six commands flows out, or none. It is
+//! measured by `specs/Words.antt`. Words are first put into their plain form and tested; `clap` then reads the value of
+//! each option. What a configuration keeps is `specs/Sound.antt`.
+#![tactic(auto)]
+
+mod command;
+mod configuration;
+mod help;
+mod items;
+pub mod laws;
+mod mutators;
+mod notices;
+mod number;
+mod option;
+mod pairs;
+mod parser;
+mod plain;
+mod targets;
+mod usage;
+mod words;
+
+pub use command::{COMMANDS, CommandName};
+pub use configuration::{Build, Configuration, Edit, Format, Graph, Replay, Synth};
+pub use help::{HELP, VERSION};
+pub use notices::{Notice, notice_of};
+pub use option::{OptionName, options};
+pub use usage::usage_line;
+pub use words::configure;
