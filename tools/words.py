@@ -13,6 +13,7 @@ import sys
 
 TOP = os.path.dirname(os.path.dirname(os.path.abspath(__file__)))
 SOURCE = "crates/command_words/src/help.rt"
+PURPOSE = "write build.ninja from the Android.bp files of a source tree"
 LIST, FILE, NAMES, OTHER = range(4)
 KINDS = {"TARGETS": LIST, "MUTATOR": NAMES, "LIST": FILE, "OUT": FILE, "PATH": FILE, "FILE": FILE}
 OPTION = re.compile(r" ([ \[])(?:-(\w), |    )--([a-z]+) ([A-Z]+)\]? +(.*)")
@@ -99,7 +100,7 @@ def synopsis(command):
 
 
 def manual(text):
-    out = [f'.TH BPGEN 1 "" "{version()}" "User Commands"', ".SH NAME", "bpgen \\- " + roff(text.about[6:].rstrip("."))]
+    out = [f'.TH BPGEN 1 "" "{version()}" "User Commands"', ".SH NAME", "bpgen \\- " + PURPOSE]
     out += [".SH SYNOPSIS"]
     for command in text.commands:
         out += [synopsis(command), ".br"]

@@ -24,8 +24,7 @@ bare_app name = record (new_app name) { top = record (new_app name).top { disabl
 
 -- A command with some options.
 abbrev pub app_with : List ℕ → List OptionName → App
-app_with name options =
-    record (bare_app name) { top = record (bare_app name).top { rules = map rule_for options } }
+app_with name options = record (bare_app name) { top = record (bare_app name).top { rules = map rule_for options } }
 
 -- What `clap` is told of a command.
 abbrev pub app_for : CommandName → App

@@ -1,5 +1,6 @@
-/// What `--help` prints: each command with its options, and an example. A test holds it against the table of options, and
-/// `tools/words.py` makes the manual page and the completions from it.
+/// What `--help` prints: each command with its options, and an example.
+///
+/// A test holds it against the table of options. `tools/words.py` makes the manual page and the completions of it.
 pub const HELP: &str = "\
 bpgen reads the Android.bp files of a source tree and writes one build.ninja.
 

@@ -41,7 +41,7 @@ pub fn pairs(
     command: CommandName,
     words: &[&str],
 ) -> Result<Option<Vec<Pair>>, OutOfMemory>
-    ensures { IfOk result (λ pairs. option_map (λ vec. vec.items) pairs ≡ pairs_of command (map (λ word. word.now) words.now)) }
+    ensures { IfOk result (λ pairs. option_map (λ v. v.items) pairs ≡ pairs_of command (map (λ w. w.now) words.now)) }
 {
     let mut pairs = Vec::new(alloc);
     let mut rest = words;

@@ -49,7 +49,7 @@ fn names(alloc: Global, text: &str) -> Result<Vec<&str>, AllocError>
 }
 
 fn targets_named(alloc: Global, names: &[&str]) -> Result<Option<Vec<Target>>, OutOfMemory>
-    ensures { IfOk result (λ targets. option_map (λ vec. vec.items) targets ≡ targets_named (map (λ name. name.now) names.now)) }
+    ensures { IfOk result (λ targets. option_map (λ v. v.items) targets ≡ targets_named (map (λ n. n.now) names.now)) }
 {
     let mut targets = Vec::new(alloc);
     for name in names {

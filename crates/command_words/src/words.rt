@@ -274,7 +274,7 @@ fn configuration_behind(
     words: &[&str],
 ) -> Result<Option<Configuration>, OutOfMemory>
     requires { 0 < length words.now }
-    ensures { IfOk result (λ configuration. configuration ≡ configuration_behind (drop 1 (map (λ word. word.now) words.now)) command) }
+    ensures { IfOk result (λ c. c ≡ configuration_behind (drop 1 (map (λ word. word.now) words.now)) command) }
 {
     match pairs(alloc, command, &words[1..])? {
         Some(pairs) if is_plain(command, pairs.as_slice()) => {

@@ -1,0 +1,8 @@
+//! What holds of all synthetic trees: each law is the contract of a function that does nothing.
+
+ghost use Rattle.synthetic_tree.specs.Laws.{OneTree};
+
+/// A seed and a number of modules have one tree.
+pub fn one_tree()
+    ensures { OneTree }
+{}
