@@ -1,5 +1,5 @@
 -- A command with one option more.
-use Rattle.std.proofs.Common.{◌≡◌, ◌<◌, ◌+◌, ℕ, List, length, take, get_or, map, ap, sym}
+use Rattle.std.proofs.Common.{◌≡◌, ◌<◌, ◌+◌, ℕ, List, length, take, get_or, ap, sym}
 use Rattle.std.proofs.lemmas.List.{map_more}
 use Rattle.clap.specs.Words.{with_rule, Rule}
 use Rattle.command_words.specs.declared.option.OptionName.{OptionName}

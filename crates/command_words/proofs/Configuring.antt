@@ -5,7 +5,6 @@ use Rattle.std.proofs.lemmas.List.{take_all}
 use Rattle.std.specs.Prelude.{Option, Some, None, drop, if◌then◌else◌}
 use Rattle.std.specs.Borrow.{Bor}
 use Rattle.command_words.specs.declared.command.CommandName.{CommandName}
-use Rattle.command_words.specs.declared.configuration.Configuration.{Configuration}
 use Rattle.command_words.specs.declared.option.OptionName.{OptionName}
 use Rattle.command_words.specs.declared.pairs.Pair.{Pair}
 use Rattle.command_words.specs.Words.{Given, and_then, is_plain, configuration_by, configuration_of_pairs, configuration_behind, value_in, pairs_of}

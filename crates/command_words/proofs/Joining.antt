@@ -1,6 +1,6 @@
 -- Lists that are made piece by piece.
 use Rattle.std.proofs.Common.{suc, ◌≡◌, ◌∙◌, ◌<◌, ◌≤◌, ◌+◌, ◌-◌, ℕ, List, [], ◌∷◌, ◌++◌, map, take, drop, length, get_or, append_assoc, add-one, ap, refl, sym, arith}
-use Rattle.std.specs.Prelude.{Option, Some, None, option_map}
+use Rattle.std.specs.Prelude.{Option, Some, None}
 use Rattle.std.specs.Borrow.{Bor}
 use Rattle.std.proofs.lemmas.List.{take_more, take_all, drop_all, map-append}
 use Rattle.std.proofs.Math.Seq.{drop-cons}
@@ -10,7 +10,7 @@ use Rattle.command_words.specs.declared.option.OptionName.{OptionName}
 use Rattle.command_words.specs.declared.pairs.Pair.{Pair}
 use Rattle.command_words.specs.Plain.{parts_of_word, plain_words}
 use Rattle.command_words.specs.Values.{with_first, target_of, targets_named}
-use Rattle.command_words.specs.Words.{option_of, pair_with, pairs_of}
+use Rattle.command_words.specs.Words.{option_of, pairs_of}
 
 -- What is made of the rest stands behind what is there.
 abbrev pub behind : {X : Type 0} → List X → Option (List X) → Option (List X)

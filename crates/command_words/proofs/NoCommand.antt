@@ -3,7 +3,6 @@ use Rattle.std.proofs.Common.{◌≡◌, ℕ, Bool, true, false, List, [], ◌�
 use Rattle.std.specs.Prelude.{Option, Some, None, ◌||◌, codes, if◌then◌else◌}
 use Rattle.std.specs.Str.{bytes_eq}
 use Rattle.std.proofs.lemmas.Slice.Eq.{bytes_eq-Decides}
-use Rattle.command_words.specs.declared.configuration.Configuration.{Configuration}
 use Rattle.command_words.specs.declared.notices.Notice.{Notice}
 use Rattle.command_words.specs.declared.notices.Notice.TheVariants.{Help, Version}
 use Rattle.command_words.specs.Notices.{notice_named, notice_of}

@@ -1,14 +1,13 @@
 -- What `clap` reads of plain pairs: each option's value, and nothing else.
-use Rattle.std.proofs.Common.{◌≡◌, ◌∙◌, ◌+◌, ℕ, Bool, true, false, List, [], ◌∷◌, ◌++◌, map, length, ap, ap₂, sym, refl, append_assoc, subst}
-use Rattle.std.specs.Prelude.{Option, Some, None, not, ◌&&◌, ◌||◌, ◌==◌, fold, find, slice_get, option_map, option_and_then, drop, IsSomeAnd, if◌then◌else◌}
+use Rattle.std.proofs.Common.{◌≡◌, ◌∙◌, ℕ, Bool, true, false, List, [], ◌∷◌, ◌++◌, map, ap, ap₂, sym, refl, append_assoc, subst}
+use Rattle.std.specs.Prelude.{Option, Some, None, not, ◌&&◌, ◌||◌, ◌==◌, fold, drop, IsSomeAnd, if◌then◌else◌}
 use Rattle.std.specs.List.{list_all, list_any}
 use Rattle.std.specs.Option.{option_map_or}
 use Rattle.std.specs.Str.{bytes_eq}
 use Rattle.std.proofs.lemmas.List.{map-append}
-use Rattle.clap.specs.Facts.{explicit_source}
-use Rattle.clap.specs.Walk.{Held, Row, Rule, Text, Walk, arg_by_id, at_row, default_rows, finished, first_of, has_row, is_empty, more_values, nothing_held, reading_by, settled_rows, used_by_id, walk, walk_from, walked, with_default, with_values, without}
-use Rattle.clap.specs.Simple.{Shape, app_of, is_simple, built, matches_of, argument_words, names_of}
-use Rattle.clap.specs.Takes.{action_passes, default_passes, is_given, is_valid, level_passes, settle_passes, takes, turn_passes, use_passes, walk_passes, built_takes}
+use Rattle.clap.specs.Walk.{Row, Rule, Text, Walk, arg_by_id, at_row, default_rows, finished, first_of, has_row, more_values, nothing_held, reading_by, settled_rows, used_by_id, walk, walk_from, walked, with_default, with_values, without}
+use Rattle.clap.specs.Simple.{Shape, built, matches_of}
+use Rattle.clap.specs.Takes.{default_passes, is_given, is_valid, level_passes, settle_passes, takes, turn_passes, use_passes, walk_passes}
 use Rattle.clap.specs.declared.parser.matches.ValueSource.TheVariants.{CommandLine}
 use Rattle.clap.proofs.WalkLemmas.{list_any-map}
 use Rattle.clap.proofs.TakesLemmas.{leaf_takes}
@@ -21,7 +20,7 @@ use Rattle.command_words.specs.Options.{option_name, options_of, is_required, is
 use Rattle.command_words.specs.Values.{is_value, with_first}
 use Rattle.command_words.specs.Rules.{app_for}
 use Rattle.command_words.specs.Words.{option_of, pair_with, pairs_of, is_same_option, is_plain, has_option, has_required, value_in}
-use Rattle.command_words.proofs.Walking.{Turn, awaits, both, built_rule, held, not_true, rules_are, rules_for, same_name, shape_for, simple, turn_of, value_met, value_passes}
+use Rattle.command_words.proofs.Walking.{Turn, awaits, both, built_rule, held, not_true, rules_are, rules_for, shape_for, simple, turn_of, value_met, value_passes}
 
 -- the row of a pair
 abbrev pub row_of : Pair → Row

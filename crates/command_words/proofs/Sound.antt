@@ -1,7 +1,7 @@
 -- What every configuration keeps.
 use Rattle.std.proofs.Common.{◌≡◌, ◌≢◌, ◌≤◌, ℕ, Bool, true, false, List, [], ◌∷◌, ◌++◌, ◌∙◌, ap, sym, refl, subst, arith, lit≤}
 use Rattle.std.specs.Prelude.{Option, Some, None, IfSome, ⊤, not, ◌&&◌, ◌||◌, nat_le, if◌then◌else◌}
-use Rattle.std.specs.List.{All, AllPairs, list_all, list_any}
+use Rattle.std.specs.List.{All, AllPairs, list_any}
 use Rattle.std.specs.Str.{bytes_eq}
 use Rattle.std.specs.Str.Parse.{digits_value}
 use Rattle.std.proofs.lemmas.Bool.{and_parts, or_parts, not-true, true≢false, leb-true}
@@ -17,9 +17,9 @@ use Rattle.command_words.specs.declared.option.OptionName.TheVariants as option
 use Rattle.command_words.specs.Once.{has_none_twice}
 use Rattle.command_words.specs.Options.{command_named}
 use Rattle.command_words.specs.Plain.{plain_words}
-use Rattle.command_words.specs.Sound.{AreWorkers, AllDiffer, IsSound}
-use Rattle.command_words.specs.Values.{is_identifier, is_numeral, number_in, targets_once, targets_of, targets_named, names_in, mutator_number, is_same_target}
-use Rattle.command_words.specs.Words.{Given, and_then, read_or, workers_of, default_targets, targets_or_default, items_or_none, is_other, build_with, build_of, replay_with, replay_of, graph_of, synth_of, format_of, edit_with, edit_of, configuration_by, configuration_of_pairs, configuration_of_plain, configuration_of, pairs_of, is_plain, value_in}
+use Rattle.command_words.specs.Sound.{AreWorkers, AllDiffer, IsIdentifier, IsSound}
+use Rattle.command_words.specs.Values.{is_first_byte, is_further_byte, is_identifier, is_numeral, number_in, targets_once, targets_named, names_in, mutator_number, is_same_target}
+use Rattle.command_words.specs.Words.{Given, and_then, workers_of, default_targets, targets_or_default, items_or_none, is_other, build_of, replay_of, graph_of, synth_of, format_of, edit_of, configuration_by, configuration_of_plain, configuration_of, pairs_of, is_plain, value_in}
 
 -- ---- what holds of a value that is there
 
@@ -172,12 +172,18 @@ synth_sound given =
 format_sound : (given : Given) → IfSome (format_of given) IsSound
 format_sound given = with_any IsSound (given option.In) _ (λ file. with_any IsSound (given option.Out) _ (λ out. tt))
 
+identifier : (word : List ℕ) → is_identifier word ≡ true → IsIdentifier word
+identifier [] is = absurd (cc)
+identifier (first ∷ more) is =
+    let parts = and_parts (is_first_byte first) _ is in
+    (first, more, refl, parts.0, (and_parts (is_further_byte first) _ parts.1).1)
+
 edit_sound : (given : Given) → IfSome (edit_of given) IsSound
 edit_sound given =
     with_any IsSound (given option.In) _ (λ file. with_any IsSound (given option.Out) _ (λ out.
     with_any IsSound (given option.Module) _ (λ name. with_any IsSound (given option.Property) _ (λ property.
     with_any IsSound (items_or_none (given option.Items)) _ (λ items.
-    where_true IsSound (is_identifier property) _ (λ is. record { property = is }))))))
+    where_true IsSound (is_identifier property) _ (λ is. record { property = identifier property is }))))))
 
 by_command : (c : CommandName) (given : Given) → IfSome (configuration_by c given) IsSound
 by_command Build = build_sound

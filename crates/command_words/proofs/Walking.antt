@@ -1,22 +1,18 @@
 -- How `clap` walks over the plain pairs of a command.
-use Rattle.std.proofs.Common.{◌≡◌, ◌∙◌, ◌+◌, ℕ, Bool, true, false, List, [], ◌∷◌, ◌++◌, map, length, ap, ap₂, sym, refl, rules, append_assoc, subst, inl, inr}
-use Rattle.std.specs.Prelude.{Option, Some, None, not, ◌&&◌, ◌||◌, ◌==◌, fold, find, slice_get, option_map, option_and_then, is_some, unwrap_or, ◌⊎◌, if◌then◌else◌, nat_lt, IfSome, ⊤}
-use Rattle.std.specs.List.{list_all, list_any}
+use Rattle.std.proofs.Common.{◌≡◌, ◌∙◌, ℕ, Bool, true, false, List, [], ◌∷◌, map, ap, ap₂, sym, refl, subst, inl, inr}
+use Rattle.std.specs.Prelude.{Option, Some, None, not, ◌&&◌, ◌||◌, ◌==◌, find, option_and_then, ◌⊎◌, if◌then◌else◌, nat_lt, IfSome, ⊤}
 use Rattle.std.specs.Option.{option_map_or}
 use Rattle.std.specs.Str.{bytes_eq}
 use Rattle.std.proofs.lemmas.Slice.Eq.{bytes_eq-Decides}
 use Rattle.clap.specs.Lexer.{long_of, long_of_rest, short_of, short_of_rest, strip_byte}
-use Rattle.clap.specs.Walk.{Step, next, trailing, idle, after_step, word_met, long_or_other, short_or_plain, plain_word, option_word, Held, Row, Rule, Text, Waiting, Walk, option, arg_by_id, arg_by_long, at_row, finished, first_of, most_values, nothing_held, settled, settled_rows, used, used_by_id, walk, walk_from, walked, with_default, with_values, without, reading_by, has_row}
-use Rattle.clap.specs.Simple.{App, Shape, built, filled, is_simple}
-use Rattle.clap.specs.Takes.{flag_word_passes, bundle_passes, step_passes, settle_passes, turn_passes, walk_passes, is_given, is_valid, level_passes, default_passes, takes, built_takes, use_passes}
-use Rattle.clap.specs.declared.parser.matches.ValueSource.TheVariants.{CommandLine}
-use Rattle.clap.specs.declared.builder.value_parser.Reading.{Reading}
+use Rattle.clap.specs.Walk.{Step, next, trailing, idle, after_step, word_met, long_or_other, short_or_plain, plain_word, option_word, Held, Row, Rule, Text, Waiting, Walk, option, arg_by_id, settled_rows, walk_from, walked}
+use Rattle.clap.specs.Simple.{Shape, built, filled, is_simple}
+use Rattle.clap.specs.Takes.{flag_word_passes, bundle_passes, step_passes, settle_passes, turn_passes}
 use Rattle.clap.proofs.OnLiterals.{clap_on_literals}
 use Rattle.command_words.specs.declared.command.CommandName.{CommandName}
 use Rattle.command_words.specs.declared.command.CommandName.TheVariants.{Build, Replay, Graph, Synth, Format, Edit}
 use Rattle.command_words.specs.declared.option.OptionName.{OptionName}
-use Rattle.command_words.specs.declared.pairs.Pair.{Pair}
-use Rattle.command_words.specs.Options.{option_name, short_name, options_of, is_required, is_same, is_short_spelling, is_spelling}
+use Rattle.command_words.specs.Options.{option_name, short_name, options_of, is_short_spelling, is_spelling}
 use Rattle.command_words.specs.Rules.{app_for, rule_for}
 use Rattle.command_words.specs.Words.{option_of}
 

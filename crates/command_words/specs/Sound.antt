@@ -1,6 +1,6 @@
 -- What every configuration keeps, so that a caller need not know how words give one.
-use Rattle.std.specs.Prelude.{◌≡◌, ◌≢◌, ◌≤◌, ℕ, List, length, true, Option, IfSome, ⊤}
-use Rattle.std.specs.List.{All, AllPairs}
+use Rattle.std.specs.Prelude.{◌≡◌, ◌≢◌, ◌≤◌, ℕ, List, ◌∷◌, true, IfSome, ⊤}
+use Rattle.std.specs.List.{AllPairs, list_all}
 use Rattle.bp_faults.specs.declared.target.Target.{Target}
 use Rattle.command_words.specs.declared.configuration.Build.{Build}
 use Rattle.command_words.specs.declared.configuration.Configuration.{Configuration}
@@ -9,7 +9,7 @@ use Rattle.command_words.specs.declared.configuration.Edit.{Edit}
 use Rattle.command_words.specs.declared.configuration.Graph.{Graph}
 use Rattle.command_words.specs.declared.configuration.Replay.{Replay}
 use Rattle.command_words.specs.declared.configuration.Synth.{Synth}
-use Rattle.command_words.specs.Values.{is_identifier}
+use Rattle.command_words.specs.Values.{is_first_byte, is_further_byte}
 
 -- There are 1 to 64 workers.
 abbrev pub AreWorkers : ℕ → Type 0
@@ -18,6 +18,12 @@ AreWorkers n = (1 ≤ n) × (n ≤ 64)
 -- The targets differ.
 abbrev pub AllDiffer : List Target → Type 0
 AllDiffer targets = AllPairs (λ a b. a ≢ b) targets
+
+-- An identifier: a letter of ASCII or `_`, and then letters, digits and `_`. So a name of a property is spelled.
+abbrev pub IsIdentifier : List ℕ → Type 0
+IsIdentifier word =
+    (first : ℕ) × (more : List ℕ) × (word ≡ first ∷ more)
+    × (is_first_byte first ≡ true) × (list_all is_further_byte more ≡ true)
 
 -- OUT differs from the list and from the journal.
 pub record IsSoundBuild (c : Build) : Type 0 where
@@ -46,7 +52,7 @@ pub record IsSoundSynth (c : Synth) : Type 0 where
 
 -- The property is an identifier.
 pub record IsSoundEdit (c : Edit) : Type 0 where
-  pub property : is_identifier c.property ≡ true
+  pub property : IsIdentifier c.property
 
 -- What a configuration keeps, by its command.
 abbrev pub IsSound : Configuration → Type 0

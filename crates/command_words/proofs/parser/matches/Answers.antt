@@ -1,13 +1,12 @@
-use Rattle.std.proofs.Common.{◌≡◌, ◌∙◌, ℕ, List, true, map, ap, sym, subst, refl}
-use Rattle.std.specs.Prelude.{Option, Some, IsSomeAnd, drop}
+use Rattle.std.proofs.Common.{◌≡◌, ◌∙◌, ℕ, List, true, map, ap, subst}
+use Rattle.std.specs.Prelude.{Option, IsSomeAnd, drop}
 use Rattle.std.specs.Borrow.{Bor}
 use Rattle.std.proofs.lemmas.Result.{IfErr-weaker, IfOk-weaker}
-use Rattle.clap.specs.Words.{App, found_of, first_value, is_simple, matches_of, takes}
-use Rattle.clap.specs.Walk.{Row, first_of}
+use Rattle.clap.specs.Words.{App, found_of, is_simple, matches_of, takes}
+use Rattle.clap.specs.Walk.{first_of}
 use Rattle.clap.proofs.WalkLemmas.{first_value-rows}
 use Rattle.command_words.specs.declared.pairs.Pair.{Pair}
 use Rattle.command_words.specs.Options.{option_name}
-use Rattle.command_words.specs.Rules.{app_for}
 use Rattle.command_words.specs.Words.{is_plain, pairs_of}
 use Rattle.command_words.proofs.Walking.{simple}
 use Rattle.command_words.proofs.Reading.{line, first_is, some_pairs}

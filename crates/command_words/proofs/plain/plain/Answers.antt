@@ -1,6 +1,6 @@
-use Rattle.std.proofs.Common.{rules, ◌≡◌, ◌∙◌, ◌++◌, ◌∷◌, [], ap, sym, ℕ, List, map, take, Vec, Global, get_or}
+use Rattle.std.proofs.Common.{◌∙◌, ◌++◌, ◌∷◌, [], ap, sym, ℕ, List, Vec, Global, get_or}
 use Rattle.std.specs.Borrow.{Bor}
-use Rattle.command_words.specs.Plain.{parts_of_word, plain_words}
+use Rattle.command_words.specs.Plain.{parts_of_word}
 use Rattle.command_words.proofs.Joining.{plain_words-more, one_put, two_put, said}
 use Rattle.command_words.proofs.plain.plain.Goals as goal
 use Rattle.command_words.proofs.plain.plain.Goals.{in-Some+in_ok-push-2, in_default}

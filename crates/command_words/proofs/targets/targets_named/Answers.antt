@@ -1,4 +1,4 @@
-use Rattle.std.proofs.Common.{rules, ◌≡◌, ◌∙◌, ◌+◌, ◌++◌, ◌∷◌, [], List, ap, sym, drop}
+use Rattle.std.proofs.Common.{◌∙◌, ◌+◌, List, ap, sym, drop}
 use Rattle.bp_faults.specs.declared.target.Target.{Target}
 use Rattle.command_words.proofs.Joining.{one_target, no_target, all_targets, behind, said}
 use Rattle.command_words.specs.Values.{targets_named}

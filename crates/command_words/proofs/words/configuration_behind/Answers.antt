@@ -1,8 +1,7 @@
 use Rattle.std.proofs.Common.{◌≡◌, ◌∙◌, ℕ, List, true, map, ap, sym}
-use Rattle.std.specs.Prelude.{Option, Some, drop}
+use Rattle.std.specs.Prelude.{Some, drop}
 use Rattle.std.specs.Borrow.{Bor}
 use Rattle.std.proofs.lemmas.Result.{IfOk-weaker}
-use Rattle.command_words.specs.declared.pairs.Pair.{Pair}
 use Rattle.command_words.specs.Found.{value_found}
 use Rattle.command_words.specs.Words.{is_plain, pairs_of}
 use Rattle.command_words.proofs.Configuring.{behind_first, configured_is}
