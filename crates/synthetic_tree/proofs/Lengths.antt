@@ -1,10 +1,10 @@
 -- A synthetic file is short.
-use Rattle.std.proofs.Common.{◌≡◌, ◌∙◌, ◌<◌, ◌≤◌, ◌+◌, ◌*◌, ◌-◌, ◌/◌, ◌%◌, ◌^◌, ℕ, zero, suc, Bool, true, false, List, [], ◌∷◌, ◌++◌, length, length-append, ap, sym, refl, rules, arith, subst}
-use Rattle.std.specs.Prelude.{codes, decimal, ◌==◌, if◌then◌else◌, min}
+use Rattle.std.proofs.Common.{◌≡◌, ◌<◌, ◌≤◌, ◌+◌, ◌*◌, ◌%◌, ◌^◌, ℕ, zero, suc, Bool, true, false, List, [], ◌∷◌, ◌++◌, length, length-append, refl, arith}
+use Rattle.std.specs.Prelude.{codes, decimal, ◌==◌, if◌then◌else◌}
 use Rattle.std.specs.List.{flat_map, range_with_len}
 use Rattle.std.proofs.lemmas.Bool.Decides.{Decides-eqb, not_from_Decides}
 use Rattle.std.proofs.lemmas.Fmt.{length-decimal-le}
-use Rattle.synthetic_tree.specs.Modules.{near_dependency, far_dependency, first_in_file, place_in_file, dependencies, names_text, quoted_name, type_text, end_text, is_sanitized, module_text}
+use Rattle.synthetic_tree.specs.Modules.{near_dependency, far_dependency, place_in_file, dependencies, names_text, quoted_name, type_text, end_text, is_sanitized, module_text}
 use Rattle.synthetic_tree.specs.Blocks.{block_text, block_size}
 
 at_if : {X : Type 0} (P : X → Type 0) (b : Bool) (x y : X) → P x → P y → P (if b then x else y)

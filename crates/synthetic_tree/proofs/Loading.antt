@@ -1,16 +1,15 @@
 -- A synthetic tree can be loaded.
-use Rattle.std.proofs.Common.{◌≡◌, ◌∙◌, ◌<◌, ◌≤◌, ◌+◌, ◌*◌, ◌-◌, ◌^◌, ℕ, suc, List, [], ◌∷◌, map, length, take, get_or, ap, sym, refl, arith, subst, zero}
-use Rattle.std.specs.Prelude.{codes, ◌==◌}
-use Rattle.std.specs.List.{All, AllByRecursion, range_with_len, slice_split}
+use Rattle.std.proofs.Common.{◌≡◌, ◌∙◌, ◌<◌, ◌≤◌, ◌*◌, ◌-◌, ◌^◌, ℕ, suc, List, [], ◌∷◌, map, length, take, ap, sym, refl, arith, subst, zero}
+use Rattle.std.specs.List.{All, AllByRecursion, range_with_len}
 use Rattle.std.specs.List.Sorted.{IsPermutation, IsStrictlySortedBy}
 use Rattle.std.specs.Ordering.{nat_cmp}
 use Rattle.std.specs.Cmp.Lexicographic.{slice_cmp}
-use Rattle.std.specs.declared.cmp.Ordering.{Ordering}
 use Rattle.std.specs.declared.cmp.Ordering.TheVariants.{Less}
 use Rattle.std.proofs.lemmas.List.{length-map}
 use Rattle.std.proofs.lemmas.List.FromFn.{length-range_with_len}
 use Rattle.std.proofs.lemmas.List.Sorted.{length_permutation}
-use Rattle.synthetic_tree.specs.Blocks.{AreInFileOrder, CanLoad, File, block_cmp, block_count, directories, block_directory, block_file, block_path}
+use Rattle.bp_load.specs.Directories.{AreInFileOrder, directories}
+use Rattle.synthetic_tree.specs.Blocks.{CanLoad, File, block_cmp, block_count, block_directory, block_file, block_path}
 use Rattle.synthetic_tree.proofs.Lengths.{block_short}
 use Rattle.synthetic_tree.proofs.Paths.{components}
 

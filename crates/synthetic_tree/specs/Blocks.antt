@@ -1,11 +1,12 @@
 -- The files of a synthetic tree: blocks of 64 modules, in file order.
-use Rattle.std.specs.Prelude.{◌≡◌, ℕ, ◌+◌, ◌*◌, ◌/◌, ◌-◌, ◌≤◌, ◌^◌, ◌==◌, List, ◌++◌, map, min, length, take}
+use Rattle.std.specs.Prelude.{◌≡◌, ℕ, ◌+◌, ◌*◌, ◌/◌, ◌-◌, ◌≤◌, ◌^◌, List, ◌++◌, map, min, length}
 use Rattle.std.specs.Prelude.{codes, decimal}
-use Rattle.std.specs.List.{All, flat_map, range_with_len, slice_split}
+use Rattle.std.specs.List.{All, flat_map, range_with_len}
 use Rattle.std.specs.List.Sorted.{IsPermutation, IsStrictlySortedBy}
 use Rattle.std.specs.Ordering.{nat_cmp}
 use Rattle.std.specs.Cmp.Lexicographic.{slice_cmp}
 use Rattle.std.specs.declared.cmp.Ordering.{Ordering}
+use Rattle.bp_load.specs.Directories.{AreInFileOrder}
 use Rattle.synthetic_tree.specs.Modules.{module_text}
 
 -- A file: its path and its bytes.
@@ -45,14 +46,6 @@ abbrev pub AreTree : ℕ → ℕ → List File → Type 0
 AreTree seed modules files =
     (blocks : List ℕ) × IsPermutation (range_with_len 0 (block_count modules)) blocks
     × IsStrictlySortedBy block_cmp blocks × (files ≡ map (block_file seed modules) blocks)
-
--- The components of the directory of a file: all of its path's but the last.
-abbrev pub directories : List ℕ → List (List ℕ)
-directories path = take (length (slice_split (λ c. c == 47) path) - 1) (slice_split (λ c. c == 47) path)
-
--- File order: directories compare component by component, each by its bytes, and strictly ascend.
-abbrev pub AreInFileOrder : List (List ℕ) → Type 0
-AreInFileOrder paths = IsStrictlySortedBy (slice_cmp (slice_cmp nat_cmp)) (map directories paths)
 
 -- What loading asks of files: there are few, in file order, and each is short.
 pub record CanLoad (files : List File) : Type 0 where

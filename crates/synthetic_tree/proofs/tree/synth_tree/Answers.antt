@@ -1,4 +1,4 @@
-use Rattle.std.proofs.Common.{◌≡◌, ◌∙◌, ℕ, List, ap, sym, subst, map}
+use Rattle.std.proofs.Common.{◌∙◌, ℕ, List, ap, sym, subst, map}
 use Rattle.std.proofs.lemmas.List.{take_all}
 use Rattle.synthetic_tree.specs.Blocks.{CanLoad, File, block_file}
 use Rattle.synthetic_tree.proofs.Loading.{can_load}
