@@ -10,3 +10,6 @@ pub mod OneReplay
 pub mod Replaying
 pub mod SomeStep
 pub mod SomeGraph
+pub mod SomeText
+pub mod SomeReading
+pub mod SomeReplay

@@ -37,7 +37,8 @@ module _ (step : SomeStep) (mods : List Module) (few : length mods ≤ 2 ^ 17) (
     some_graph k = let made = course_some (passes_of k) in (made.0, made.1)
 
     -- The graph that they come to is that one.
-    pub valid_graph : (k : ℕ) (nodes : List (Node Props)) → IsOnce (GraphAfter mods c k) → GraphAfter mods c k (Ok nodes)
+    pub valid_graph : (k : ℕ) (nodes : List (Node Props)) → IsOnce (GraphAfter mods c k)
+        → GraphAfter mods c k (Ok nodes)
         → IsValid nodes × MayRun (places_in (length mods)) nodes
     valid_graph k nodes once means =
         let made = course_some (passes_of k) in

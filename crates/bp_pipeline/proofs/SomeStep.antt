@@ -161,7 +161,8 @@ module _ (some_up : SomeBottomUpOutcome Props) (up_keeps : BottomUpKeeps Props) 
     pub step_some : (p : ℕ) → AreFreeAt p nodes
         → Comes (StepMeans mods c (pass_at p) nodes) (IsReady (length mods) (suc p))
     step_some p free =
-        let made = pass_some (pass_at p) (λ axis is. let here = own_axis p axis is in free axis (omega (arith, here))) in
+        let made =
+        pass_some (pass_at p) (λ axis is. let here = own_axis p axis is in free axis (omega (arith, here))) in
         by made.0 made.1 made.2
       where
         by : (outcome : Outcome) → StepMeans mods c (pass_at p) nodes outcome

@@ -26,18 +26,6 @@ OneCourse = (mods : List Module) (c : Config) (p : ℕ) → IsOnce (CourseMeans 
 abbrev pub OneGraph : Type 0
 OneGraph = (mods : List Module) (c : Config) (k : ℕ) → IsOnce (GraphAfter mods c k)
 
--- They come to a graph or a fault, whatever the modules are.
-abbrev pub SomeGraph : Type 0
-SomeGraph =
-    (mods : List Module) (c : Config) (k : ℕ) → length mods ≤ 2 ^ 17 → TargetsDiffer c → k ≤ built
-    → HasOutcome (GraphAfter mods c k)
-
--- A graph that they come to is valid, a `u32` numbers its nodes and edges, and its nodes are variants of the modules.
-abbrev pub GraphsAreValid : Type 0
-GraphsAreValid =
-    (mods : List Module) (c : Config) (k : ℕ) (nodes : List (Node Props)) → length mods ≤ 2 ^ 17 → TargetsDiffer c
-    → k ≤ built → GraphAfter mods c k (Ok nodes) → IsValid nodes × MayRun (places_in (length mods)) nodes
-
 -- Modules have one text or one fault.
 abbrev pub OneText : Type 0
 OneText = (mods : List Module) (c : Config) → IsOnce (TextMeans mods c)
@@ -59,3 +47,26 @@ FaultsAreReplayed =
     (mods : List Module) (c : Config) (lines : List OrderLine) (file p : ℕ) (whole : List (ℕ × NodeId))
     (fault : Fault) (outcome : Result (List ℕ) Fault) → IsFaulty mods c p whole fault → Say lines whole
     → ReplayMeans mods c lines file outcome → outcome ≡ Err fault
+
+-- The first mutators come to a graph or a fault, whatever the modules are.
+abbrev pub SomeGraph : Type 0
+SomeGraph =
+    (mods : List Module) (c : Config) (k : ℕ) → length mods ≤ 2 ^ 17 → TargetsDiffer c → k ≤ built
+    → HasOutcome (GraphAfter mods c k)
+
+-- A graph that they come to is valid, a `u32` numbers its nodes and edges, and its nodes are variants of the modules.
+abbrev pub GraphsAreValid : Type 0
+GraphsAreValid =
+    (mods : List Module) (c : Config) (k : ℕ) (nodes : List (Node Props)) → length mods ≤ 2 ^ 17 → TargetsDiffer c
+    → k ≤ built → GraphAfter mods c k (Ok nodes) → IsValid nodes × MayRun (places_in (length mods)) nodes
+
+-- All mutators and actions come to a text for Ninja or a fault, whatever the modules are.
+abbrev pub SomeText : Type 0
+SomeText =
+    (mods : List Module) (c : Config) → length mods ≤ 2 ^ 17 → TargetsDiffer c → HasOutcome (TextMeans mods c)
+
+-- The lines of an order file are replayed to a text or a fault, whatever they are.
+abbrev pub SomeReplay : Type 0
+SomeReplay =
+    (mods : List Module) (c : Config) (lines : List OrderLine) (file : ℕ) → length mods ≤ 2 ^ 17 → TargetsDiffer c
+    → HasOutcome (ReplayMeans mods c lines file)

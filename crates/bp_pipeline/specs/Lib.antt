@@ -9,6 +9,6 @@ pub mod Generated
 pub mod Replays
 pub mod Shown
 pub mod Inside
-pub mod Runs
 pub mod Ready
+pub mod Runs
 pub mod Laws

@@ -1,4 +1,4 @@
--- What a pass needs of a graph, and that each pass makes something of such a graph. No definition of a graph speaks of it.
+-- What a pass needs of a graph, and that each pass makes something of such a graph. Bodies and laws alone use it.
 use Rattle.std.specs.Prelude.{ℕ, suc, List, IfOk, length}
 use Rattle.bp_props.specs.declared.module.Module.{Module}
 use Rattle.bp_props.specs.declared.props.Props.{Props}

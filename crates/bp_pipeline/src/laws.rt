@@ -1,20 +1,21 @@
 //! What holds of all modules and configurations: each law is the contract of a function that does nothing.
 
 ghost use Rattle.bp_pipeline.specs.Laws.{OneCourse, OneGraph, OneText, OneReplay, JournalsAreReplayed};
-ghost use Rattle.bp_pipeline.specs.Laws.{FaultsAreReplayed, GraphsAreValid, SomeGraph};
+ghost use Rattle.bp_pipeline.specs.Laws.{FaultsAreReplayed, SomeGraph, GraphsAreValid, SomeText, SomeReplay};
 ghost use Rattle.bp_pipeline.specs.Ready.{SomeStep};
 
 use bp_props::Props;
 use build_actions::Actions;
 use info_mutators::laws::own_variations_differ;
 use linkage_mutator::laws::{link_variants_differ, source_variants_differ};
+use module_graph::laws::{plans_of_graphs_are_plans, valid_plans_have_no_cycle};
 use mutator_kinds::laws::{
     bottom_up_keeps, one_bottom_up_outcome, one_top_down_outcome, some_bottom_up_outcome,
     some_top_down_outcome, top_down_keeps,
 };
 use mutator_rules::Split;
 use pass_core::laws::{at_most_one_outcome, outs_are_many};
-use pass_ways::laws::{lines_say_one_order, one_refusal, refused_have_no_order};
+use pass_ways::laws::{lines_say_one_order, one_refusal, parts_are_short, refused_have_no_order};
 use reverse_deps::laws::{applied_keeps, one_outcome, some_outcome};
 use target_mutators::laws::{image_variants_differ, target_variants_differ};
 use transition_rules::laws::{
@@ -102,4 +103,25 @@ pub fn some_graph()
 {
     one_graph();
     some_step();
+}
+
+/// All mutators and actions come to a text or a fault, since each pass does.
+pub fn some_text()
+    ensures { SomeText }
+{
+    some_graph();
+    plans_of_graphs_are_plans::<Props>();
+    valid_plans_have_no_cycle::<Props>();
+    pass_core::laws::one_outcome::<Actions>();
+}
+
+/// Lines are replayed to a text or a fault, since they say a legal order of each pass or are refused in it.
+pub fn some_replay()
+    ensures { SomeReplay }
+{
+    parts_are_short();
+    some_step();
+    plans_of_graphs_are_plans::<Props>();
+    valid_plans_have_no_cycle::<Props>();
+    pass_core::laws::one_outcome::<Actions>();
 }
