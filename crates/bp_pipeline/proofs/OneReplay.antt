@@ -14,6 +14,7 @@ use Rattle.module_graph.specs.declared.graph.Node.{Node}
 use Rattle.module_graph.specs.Planned.{plan_of}
 use Rattle.mutator_rules.specs.declared.config.Config.{Config}
 use Rattle.ninja_file.specs.declared.file.NinjaFile.{NinjaFile}
+use Rattle.order_text.specs.Laws.{JournalsAreReadBack, OneLines}
 use Rattle.pass_core.specs.declared.plan.Plan.{Plan}
 use Rattle.pass_core.specs.Laws.{AtMostOneOutcome}
 use Rattle.pass_core.specs.Orders.{IsLegal, numbers}
@@ -24,7 +25,7 @@ use Rattle.pass_ways.specs.Visits.{visits}
 use Rattle.bp_pipeline.specs.Endings.{IsFaulty}
 use Rattle.bp_pipeline.specs.Generated.{ActionsMean, FileMeans, TextMeans, written}
 use Rattle.bp_pipeline.specs.Journals.{HasRun, IsJournal, IsLegalJournal, plan_at}
-use Rattle.bp_pipeline.specs.Laws.{FaultsAreReplayed, JournalsAreReplayed, OneCourse, OneReplay}
+use Rattle.bp_pipeline.specs.Laws.{FaultsAreReplayed, JournalsAreReplayed, JournalTextsAreReplayed, OneCourse, OneOrder, OneReplay}
 use Rattle.bp_pipeline.specs.Mutators.{passes}
 use Rattle.bp_pipeline.specs.Replays.{AreJournal, Cause, ReplayMeans}
 use Rattle.bp_pipeline.specs.Replays.Cause.{Behind, Faulty, Illegal, TooLarge}
@@ -338,3 +339,15 @@ module _ (one : OneReplay) where
   pub faults_are_replayed : FaultsAreReplayed
   faults_are_replayed mods c lines file p whole fault outcome faulty say means =
       one mods c lines file outcome (Err fault) means (Faulty p whole faulty say)
+
+  module _ (lines_once : OneLines) where
+    pub one_order : OneOrder
+    one_order mods c order file x y (lines, are, means) (other, are_too, means_too) =
+        let same = lines_once order lines other are are_too in
+        one mods c lines file x y means
+        (subst (λ (l : List OrderLine). ReplayMeans mods c l file y) (sym same) means_too)
+
+pub journal_texts_are_replayed : JournalsAreReadBack → JournalsAreReplayed → JournalTextsAreReplayed
+journal_texts_are_replayed back replayed mods c journal text file outcome legal visits job (lines, are, means) =
+    let said = back journal lines visits are in
+    replayed mods c lines file journal text outcome (record { legal = legal; say = said.0; all = said.1 }) job means

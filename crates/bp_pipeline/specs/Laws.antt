@@ -1,5 +1,5 @@
 -- What holds of all modules and configurations.
-use Rattle.std.specs.Prelude.{◌≡◌, ◌≤◌, ◌^◌, ℕ, List, Result, Ok, Err, length}
+use Rattle.std.specs.Prelude.{◌≡◌, ◌≤◌, ◌^◌, ℕ, List, Result, Ok, Err, All, length}
 use Rattle.bp_faults.specs.declared.fault.Fault.{Fault}
 use Rattle.bp_faults.specs.declared.ids.NodeId.{NodeId}
 use Rattle.bp_faults.specs.Phases.{HasOutcome, IsOnce}
@@ -8,6 +8,8 @@ use Rattle.bp_props.specs.declared.props.Props.{Props}
 use Rattle.module_graph.specs.declared.graph.Node.{Node}
 use Rattle.module_graph.specs.Graphs.{IsValid}
 use Rattle.mutator_rules.specs.declared.config.Config.{Config}
+use Rattle.order_text.specs.Lines.{IsVisit}
+use Rattle.order_text.specs.Texts.{journal_text}
 use Rattle.mutator_rules.specs.Conditions.{MayRun, places_in}
 use Rattle.mutator_rules.specs.Configs.{TargetsDiffer}
 use Rattle.pass_ways.specs.declared.way.OrderLine.{OrderLine}
@@ -15,8 +17,9 @@ use Rattle.pass_ways.specs.OrderFiles.{Say}
 use Rattle.bp_pipeline.specs.Course.{CourseMeans, GraphAfter}
 use Rattle.bp_pipeline.specs.Endings.{IsFaulty}
 use Rattle.bp_pipeline.specs.Generated.{TextMeans}
+use Rattle.bp_pipeline.specs.Journals.{IsLegalJournal}
 use Rattle.bp_pipeline.specs.Mutators.{built}
-use Rattle.bp_pipeline.specs.Replays.{AreJournal, ReplayMeans}
+use Rattle.bp_pipeline.specs.Replays.{AreJournal, OrderMeans, ReplayMeans}
 
 -- The first passes come to one graph or one fault.
 abbrev pub OneCourse : Type 0
@@ -47,6 +50,17 @@ FaultsAreReplayed =
     (mods : List Module) (c : Config) (lines : List OrderLine) (file p : ℕ) (whole : List (ℕ × NodeId))
     (fault : Fault) (outcome : Result (List ℕ) Fault) → IsFaulty mods c p whole fault → Say lines whole
     → ReplayMeans mods c lines file outcome → outcome ≡ Err fault
+
+-- An order file is replayed to one text or one fault.
+abbrev pub OneOrder : Type 0
+OneOrder = (mods : List Module) (c : Config) (order : List ℕ) (file : ℕ) → IsOnce (OrderMeans mods c order file)
+
+-- The text of a legal journal, as an order file, is replayed to the text of the job, and to nothing else.
+abbrev pub JournalTextsAreReplayed : Type 0
+JournalTextsAreReplayed =
+    (mods : List Module) (c : Config) (journal : List (ℕ × NodeId)) (text : List ℕ) (file : ℕ)
+    (outcome : Result (List ℕ) Fault) → IsLegalJournal mods c journal → All IsVisit journal
+    → TextMeans mods c (Ok text) → OrderMeans mods c (journal_text journal) file outcome → outcome ≡ Ok text
 
 -- The first mutators come to a graph or a fault, whatever the modules are.
 abbrev pub SomeGraph : Type 0

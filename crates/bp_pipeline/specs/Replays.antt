@@ -1,4 +1,4 @@
--- What a replay along the lines of an order file comes to.
+-- What a replay along an order file comes to.
 use Rattle.std.specs.Prelude.{◌≡◌, ◌≤◌, ℕ, suc, List, [], ◌∷◌, length, Result, Ok, Err}
 use Rattle.bp_faults.specs.declared.fault.Fault.{Fault}
 use Rattle.bp_faults.specs.declared.ids.NodeId.{NodeId}
@@ -8,6 +8,7 @@ use Rattle.build_actions.specs.declared.actions.Actions.{Actions}
 use Rattle.module_graph.specs.declared.graph.Node.{Node}
 use Rattle.mutator_rules.specs.declared.config.Config.{Config}
 use Rattle.ninja_file.specs.declared.file.NinjaFile.{NinjaFile}
+use Rattle.order_text.specs.Lines.{AreLines}
 use Rattle.pass_ways.specs.declared.way.OrderLine.{OrderLine}
 use Rattle.pass_ways.specs.OrderFiles.{IsRefused, Say, lines_behind, stopped_at}
 use Rattle.bp_pipeline.specs.Endings.{IsFaulty}
@@ -41,6 +42,11 @@ module _ (mods : List Module) (c : Config) (lines : List OrderLine) (file : ℕ)
   abbrev pub ReplayMeans : Result (List ℕ) Fault → Type 0
   ReplayMeans (Ok text) = ((journal : List (ℕ × NodeId)) × AreJournal journal) × TextMeans mods c (Ok text)
   ReplayMeans (Err fault) = Cause fault
+
+-- What the bytes of an order file come to.
+abbrev pub OrderMeans : List Module → Config → List ℕ → ℕ → Result (List ℕ) Fault → Type 0
+OrderMeans mods c order file outcome =
+    (lines : List OrderLine) × AreLines order lines × ReplayMeans mods c lines file outcome
 
 -- The lines end: there is none any more, else the first that is left has the fault. Lines are counted from a number on.
 abbrev pub end_of : ℕ → ℕ → List OrderLine → Result Unit Fault

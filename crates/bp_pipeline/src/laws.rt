@@ -1,7 +1,8 @@
 //! What holds of all modules and configurations: each law is the contract of a function that does nothing.
 
 ghost use Rattle.bp_pipeline.specs.Laws.{OneCourse, OneGraph, OneText, OneReplay, JournalsAreReplayed};
-ghost use Rattle.bp_pipeline.specs.Laws.{FaultsAreReplayed, SomeGraph, GraphsAreValid, SomeText, SomeReplay};
+ghost use Rattle.bp_pipeline.specs.Laws.{FaultsAreReplayed, OneOrder, JournalTextsAreReplayed};
+ghost use Rattle.bp_pipeline.specs.Laws.{GraphsAreValid, SomeGraph, SomeReplay, SomeText};
 ghost use Rattle.bp_pipeline.specs.Ready.{SomeStep};
 
 use bp_props::Props;
@@ -14,6 +15,7 @@ use mutator_kinds::laws::{
     some_top_down_outcome, top_down_keeps,
 };
 use mutator_rules::Split;
+use order_text::laws::{journals_are_read_back, one_lines};
 use pass_core::laws::{at_most_one_outcome, outs_are_many};
 use pass_ways::laws::{lines_say_one_order, one_refusal, parts_are_short, refused_have_no_order};
 use reverse_deps::laws::{applied_keeps, one_outcome, some_outcome};
@@ -72,6 +74,22 @@ pub fn faults_are_replayed()
     ensures { FaultsAreReplayed }
 {
     one_replay();
+}
+
+/// An order file is replayed to one text or one fault.
+pub fn one_order()
+    ensures { OneOrder }
+{
+    one_lines();
+    one_replay();
+}
+
+/// The text of a legal journal is replayed to the text of the job, and to nothing else.
+pub fn journal_texts_are_replayed()
+    ensures { JournalTextsAreReplayed }
+{
+    journals_are_read_back();
+    journals_are_replayed();
 }
 
 /// Each pass makes of a graph that is ready for it a fault, or a graph that is ready for the next pass.

@@ -1,7 +1,7 @@
 ghost use Rattle.std.specs.Prelude.{◌≤◌, ◌<◌, ◌^◌, suc, drop, length};
 ghost use Rattle.bp_faults.specs.Answers.{Answers, Tells};
 ghost use Rattle.mutator_rules.specs.Configs.{TargetsDiffer};
-ghost use Rattle.bp_pipeline.specs.Replays.{ReplayMeans, end_of};
+ghost use Rattle.bp_pipeline.specs.Replays.{OrderMeans, ReplayMeans, end_of};
 
 use crate::GenError;
 use crate::actions::run_all;
@@ -12,6 +12,7 @@ use bp_ports::OpenGate;
 use bp_props::Module;
 use build_actions::build_file;
 use mutator_rules::Config;
+use order_text::order_lines;
 use pass_ways::{OrderLine, OrderLines, Way};
 use std::alloc::Global;
 use std::thread::Threads;
@@ -64,4 +65,22 @@ pub fn replay_lines<R: Threads + Sync>(
     let ninja = build_file(alloc, ran.made)?;
     let text = text_of(alloc, &ninja)?;
     Ok(Seq::new(text))
+}
+
+/// The same by the bytes of an order file.
+pub fn replay<R: Threads + Sync>(
+    rt: &R,
+    alloc: Global,
+    mods: &[Module],
+    c: &Config,
+    order: &[u8],
+    file: u32,
+) -> Result<Seq<u8>, GenError>
+    requires few { length mods.now ≤ 2 ^ 17 }
+    requires targets { TargetsDiffer c.now }
+    requires order { length order.now ≤ 2 ^ 26 }
+    ensures { Tells (λ text. text) (OrderMeans mods.now c.now order.now file) result }
+{
+    let lines = order_lines(alloc, order)?;
+    replay_lines(rt, alloc, mods, c, lines.as_slice(), file)
 }

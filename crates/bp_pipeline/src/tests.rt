@@ -2,12 +2,18 @@
 ghost use Rattle.std.specs.Prelude.{◌≡◌, ◌≤◌, ◌<◌, ◌^◌, IfOk, length};
 ghost use Rattle.mutator_rules.specs.Configs.{TargetsDiffer};
 
-use crate::laws::{faults_are_replayed, journals_are_replayed, one_graph, one_text};
-use crate::{GenError, Generated, generate, graph_after, mutators_to, replay_lines, show_graph};
+use crate::laws::{
+    faults_are_replayed, journal_texts_are_replayed, journals_are_replayed, one_graph, one_order,
+    one_text,
+};
+use crate::{
+    GenError, Generated, generate, graph_after, mutators_to, replay, replay_lines, show_graph,
+};
 use bp_faults::{Item, NodeId, OutOfMemory, Path, Place, Seq, Target, Text};
 use bp_ports::OpenGate;
 use bp_props::{Given, Module, ModuleKind, Props};
 use mutator_rules::Config;
+use order_text::journal_text;
 use pass_ways::OrderLine;
 use std::alloc::Global;
 use std::test::Fail;
@@ -199,7 +205,7 @@ fn lines_of(alloc: Global, journal: &[(u32, NodeId)]) -> Result<Vec<OrderLine>, 
     Ok(lines)
 }
 
-/// The number and the line of the fault of a replay; 0 where it gives the text.
+/// The number and the line of the fault of a replay along at most 100 lines; 0 where it gives the text.
 fn replayed_at<R: Threads + Sync>(
     rt: &R,
     alloc: Global,
@@ -210,8 +216,10 @@ fn replayed_at<R: Threads + Sync>(
 ) -> (u32, u32)
     requires few { length mods.now ≤ 2 ^ 17 }
     requires targets { TargetsDiffer config.now }
-    requires lines { length lines.now < 100 }
 {
+    if lines.len() > 100 {
+        return (3, 3);
+    }
     match replay_lines(rt, alloc, mods, config, lines, 9) {
         Ok(replayed) if replayed.as_slice() == text => (0, 0),
         Ok(_) => (1, 1),
@@ -231,19 +239,23 @@ fn replayed_along_lines(rt: HostRuntime) -> Result<(), Fail> {
     };
     let text = made.ninja.as_slice();
     let mut lines = lines_of(alloc, made.journal.as_slice())?;
-    assert!(rt; lines.len() == 54);
     assert_eq!(rt;
         replayed_at(&rt, alloc, &mods, &config, &lines, text),
         (0, 0)
     );
-    assert_eq!(rt;
-        replayed_at(&rt, alloc, &mods, &config, &lines[..53], text),
-        (36, 54)
-    );
-    assert_eq!(rt;
-        replayed_at(&rt, alloc, &mods, &config, &lines[1..], text),
-        (35, 4)
-    );
+    match (lines.split_first(), lines.split_last()) {
+        (Some((_, late)), Some((_, short))) => {
+            assert_eq!(rt;
+                replayed_at(&rt, alloc, &mods, &config, late, text),
+                (35, 4)
+            );
+            assert_eq!(rt;
+                replayed_at(&rt, alloc, &mods, &config, short, text),
+                (36, 54)
+            );
+        }
+        _ => assert!(rt; false, "no lines"),
+    }
     lines.push(OrderLine {
         entry: Some((13, NodeId(0))),
         text: Text::from_str(alloc, "line")?,
@@ -254,5 +266,32 @@ fn replayed_along_lines(rt: HostRuntime) -> Result<(), Fail> {
     );
     journals_are_replayed();
     faults_are_replayed();
+    Ok(())
+}
+
+#[test]
+fn replayed_along_bytes(rt: HostRuntime) -> Result<(), Fail> {
+    let alloc = rt.alloc();
+    let mods = modules(alloc)?;
+    let config = one_target(alloc)?;
+    let Ok(made) = generate(&rt, alloc, &mods, &config, 2, &OpenGate) else {
+        assert!(rt; false, "a fault");
+        return Ok(());
+    };
+    let order = journal_text(alloc, made.journal.as_slice())?;
+    if order.len() > 1000 {
+        assert!(rt; false, "a long journal");
+        return Ok(());
+    }
+    match replay(&rt, alloc, &mods, &config, &order, 9) {
+        Ok(replayed) => assert!(rt; replayed.as_slice() == made.ninja.as_slice()),
+        Err(_) => assert!(rt; false, "a fault"),
+    }
+    match replay(&rt, alloc, &mods, &config, b"01 0\n", 9) {
+        Err(GenError::Bad(fault)) => assert_eq!(rt; (fault.kind.number(), fault.at.line), (35, 1)),
+        _ => assert!(rt; false, "no fault"),
+    }
+    journal_texts_are_replayed();
+    one_order();
     Ok(())
 }
