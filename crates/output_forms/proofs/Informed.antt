@@ -1,0 +1,215 @@
+-- `sanitize`, `sdk` and `info` keep the forms of a graph.
+use Rattle.std.proofs.Common.{◌++◌, ◌||◌, ℕ, zero, suc, Bool, List, [], ◌∷◌, map, None, Ok, Err, refl, reverse}
+use Rattle.std.specs.Prelude.{IsTrue, if◌then◌else◌}
+use Rattle.std.specs.List.{AllByRecursion, fold, list_any, flat_map}
+use Rattle.std.specs.Str.{bytes_eq}
+use Rattle.std.specs.Option.{unwrap_or}
+use Rattle.bp_faults.specs.declared.ids.NodeId.{NodeId}
+use Rattle.bp_props.specs.declared.listed.Listed.{Listed}
+use Rattle.bp_props.specs.declared.module.Module.{Module}
+use Rattle.bp_props.specs.declared.props.Props.{Props}
+use Rattle.bp_props.specs.Records.{props_empty}
+use Rattle.module_graph.specs.declared.graph.Edge.{Edge}
+use Rattle.module_graph.specs.declared.graph.EdgeKind.{EdgeKind}
+use Rattle.module_graph.specs.declared.graph.Node.{Node}
+use Rattle.module_graph.specs.declared.variation.Variation.{Variation}
+use Rattle.module_graph.specs.declared.variation.Variation.TheVariants.{Empty, Asan}
+use Rattle.module_graph.specs.declared.variations.Axis.TheVariants.{Sanitize}
+use Rattle.module_graph.specs.Same.{same}
+use Rattle.module_rules.specs.Asking.{variation_on}
+use Rattle.module_rules.specs.Results.{one_variant, record_in}
+use Rattle.module_rules.specs.Seen.{node_at}
+use Rattle.mutator_rules.specs.Arrivals.{arrivals}
+use Rattle.mutator_rules.specs.declared.split.Split.{Split}
+use Rattle.transition_rules.specs.Spelled.{inserted, is_spelled_before}
+use Rattle.transition_rules.specs.Wants.{added, others_of, handed, wanted, variations_meant}
+use Rattle.info_mutators.specs.Dependencies.{Dependency, record_made, dependencies_of, is_archived, is_linked_against}
+use Rattle.info_mutators.specs.Info.{is_handed_on, export_part, own_includes, include_part, with_lists}
+use Rattle.info_mutators.specs.Info.{has_short_lists, too_long, info_over, info_meant}
+use Rattle.info_mutators.specs.Kept.{last_of_each, first_of_each}
+use Rattle.info_mutators.specs.Sanitize.{is_never, is_on, is_asan, asan_or, outgoing_of, incoming_of, sanitizer_flag}
+use Rattle.info_mutators.specs.Sanitize.{with_flag_if, has_sanitized, with_sanitizer, sanitized_record}
+use Rattle.info_mutators.specs.Sanitize.{sanitize_meant}
+use Rattle.info_mutators.specs.SdkLevel.{level_meant}
+use Rattle.build_actions.specs.Variants.{stands_on}
+use Rattle.output_forms.specs.Texts.{IsShown, AreShown, IsSound}
+use Rattle.output_forms.specs.Forms.{HasForm, HaveForms}
+use Rattle.output_forms.proofs.Each.{all_append, all_image, all_flat, all_reversed, if_cond}
+use Rattle.output_forms.proofs.Fits.{IsFit, Keeps, at_nodes}
+use Rattle.output_forms.proofs.Outs.{IfResult}
+use Rattle.output_forms.proofs.Records.{empty_sound}
+
+-- a variation of the sanitizer's axis
+abbrev pub IsOnSanitize : Variation → Type 0
+IsOnSanitize v = IsTrue (stands_on Sanitize v)
+
+-- the record at a number is sound, also beyond the nodes
+pub sound_at : (nodes : List (Node Props)) → HaveForms nodes → (n : ℕ) → IsSound (node_at nodes n).payload
+sound_at [] h n = empty_sound
+sound_at (x ∷ xs) h zero = h.0.texts
+sound_at (x ∷ xs) h (suc n) = sound_at xs h.1 n
+
+-- `sanitize`: which variations there are
+
+asan_on : (other : Variation) (p : Props) → IsOnSanitize other → IsOnSanitize (asan_or other p)
+asan_on other p h = if_cond IsOnSanitize (is_on p) Asan other refl h
+
+incoming_on : (p : Props) (w : Variation) → IsOnSanitize w → IsOnSanitize (incoming_of p w)
+incoming_on p w h = if_cond IsOnSanitize (is_never p) Empty (asan_or w p) refl (asan_on w p h)
+
+outgoing_on : (kind : EdgeKind) (v : Variation) → IsOnSanitize v → IsOnSanitize (outgoing_of kind v)
+outgoing_on kind v h = if_cond IsOnSanitize (is_archived kind) v Empty h refl
+
+inserted_on : (w : Variation) (others : List Variation) → IsOnSanitize w → AllByRecursion IsOnSanitize others
+    → AllByRecursion IsOnSanitize (inserted w others)
+inserted_on w [] h k = (h, tt)
+inserted_on w (v ∷ vs) h k =
+    if_cond (AllByRecursion IsOnSanitize) (is_spelled_before w v) (w ∷ v ∷ vs) (v ∷ inserted w vs) (h, k)
+    (k.0, inserted_on w vs h k.1)
+
+added_on : (own others : List Variation) (w : Variation) → AllByRecursion IsOnSanitize others → IsOnSanitize w
+    → AllByRecursion IsOnSanitize (added own others w)
+added_on own others w h k =
+    if_cond (AllByRecursion IsOnSanitize) (list_any (same w) own || list_any (same w) others) others
+    (inserted w others) h (inserted_on w others k h)
+
+others_on : (own others ws : List Variation) → AllByRecursion IsOnSanitize others
+    → AllByRecursion IsOnSanitize ws → AllByRecursion IsOnSanitize (fold (added own) others ws)
+others_on own others [] h k = h
+others_on own others (w ∷ ws) h k = others_on own (added own others w) ws (added_on own others w h k.0) k.1
+
+module _ (nodes : List (Node Props)) where
+  all_handed : (n : ℕ) (a : NodeId × EdgeKind) (vs : List Variation) → AllByRecursion IsOnSanitize vs
+      → AllByRecursion IsOnSanitize (map (handed sanitize_meant nodes n a) vs)
+  all_handed n a vs h =
+      all_image IsOnSanitize IsOnSanitize (handed sanitize_meant nodes n a)
+      (λ v on. incoming_on (node_at nodes n).payload (outgoing_of a.1 v) (outgoing_on a.1 v on)) vs h
+
+  wanted_on : (n : ℕ) (leading : List (NodeId × EdgeKind)) (lists : List (List Variation))
+      → AllByRecursion (AllByRecursion IsOnSanitize) lists
+      → AllByRecursion IsOnSanitize (wanted sanitize_meant nodes n leading lists)
+  wanted_on n [] lists h = tt
+  wanted_on n (a ∷ rest) [] h = tt
+  wanted_on n (a ∷ rest) (vs ∷ lists) h =
+      all_append IsOnSanitize (map (handed sanitize_meant nodes n a) vs) (wanted sanitize_meant nodes n rest lists)
+      (all_handed n a vs h.0) (wanted_on n rest lists h.1)
+
+  -- the variations of a node, given those of the nodes that lead to it
+  pub variations_on : (n : ℕ) (lists : List (List Variation)) → AllByRecursion (AllByRecursion IsOnSanitize) lists
+      → IfResult (AllByRecursion IsOnSanitize) (variations_meant sanitize_meant nodes n lists)
+  variations_on n lists h =
+      let own = asan_or Empty (node_at nodes n).payload ∷ [] in
+      let ws = wanted sanitize_meant nodes n (arrivals nodes n) lists in
+      all_append IsOnSanitize own (others_of own ws)
+      (asan_on Empty (node_at nodes n).payload refl, tt)
+      (others_on own [] ws tt (wanted_on n (arrivals nodes n) lists h))
+
+-- `sanitize`: the records
+
+flag_shown : (needed : Bool) (list : Listed (List ℕ)) → AreShown list.items → AreShown (with_flag_if needed list).items
+flag_shown needed list h =
+    all_append IsShown list.items (if needed then sanitizer_flag ∷ [] else []) h
+    (if_cond AreShown needed (sanitizer_flag ∷ []) [] (refl, tt) tt)
+
+sanitizer_sound : (compiles has : Bool) (p : Props) → IsSound p → IsSound (with_sanitizer compiles has p)
+sanitizer_sound compiles has p h = record {
+  base = record {
+    srcs = h.base.srcs;
+    cflags = flag_shown compiles p.base.cflags h.base.cflags;
+    conlyflags = h.base.conlyflags;
+    cppflags = h.base.cppflags;
+    asflags = h.base.asflags;
+    ldflags = flag_shown has p.base.ldflags h.base.ldflags;
+    local_include_dirs = h.base.local_include_dirs;
+    include_dirs = h.base.include_dirs;
+    export_include_dirs = h.base.export_include_dirs;
+  };
+  groups = h.groups;
+  exports = h.exports;
+  includes = h.includes;
+}
+
+sanitized_sound : (x : Node Props) (ins : List Props) → IsSound x.payload → IsSound (sanitized_record x ins)
+sanitized_sound x ins h =
+    let compiles = is_asan (variation_on Sanitize x.vars) in
+    sanitizer_sound compiles (x.payload.asan || (compiles || has_sanitized x.edges ins)) x.payload h
+
+-- the record that the rule gives a node
+pub mutated_sound : (nodes : List (Node Props)) → HaveForms nodes → (n : ℕ) (ins : List Props)
+    → AllByRecursion IsSound ins → IfResult IsSound (sanitize_meant.mutate nodes n ins)
+mutated_sound nodes forms n ins h = sanitized_sound (node_at nodes n) ins (sound_at nodes forms n)
+
+-- `sdk`
+
+pub level_sound : (nodes : List (Node Props)) → HaveForms nodes → (n : ℕ) (kinds : List EdgeKind) (ins : List Props)
+    → IfResult IsSound (level_meant nodes n kinds ins)
+level_sound nodes forms n kinds ins =
+    let h = sound_at nodes forms n in
+    record { base = h.base; groups = h.groups; exports = h.exports; includes = h.includes }
+
+-- `info`
+
+last_shown : (texts : List (List ℕ)) → AreShown texts → AreShown (last_of_each bytes_eq texts)
+last_shown [] h = tt
+last_shown (x ∷ xs) h =
+    if_cond AreShown (list_any (bytes_eq x) xs) (last_of_each bytes_eq xs) (x ∷ last_of_each bytes_eq xs)
+    (last_shown xs h.1) (h.0, last_shown xs h.1)
+
+first_shown : (texts : List (List ℕ)) → AreShown texts → AreShown (first_of_each bytes_eq texts)
+first_shown texts h =
+    all_reversed IsShown (last_of_each bytes_eq (reverse texts))
+    (last_shown (reverse texts) (all_reversed IsShown texts h))
+
+-- The record of a dependency is sound.
+abbrev HasSound : Dependency → Type 0
+HasSound d = IsSound d.props
+
+made_sound : (made : Split Props) → IsFit None made → IsSound (record_made made)
+made_sound made h = by made.variants h
+  where
+    by : (variants : List (Variation × Props)) → AllByRecursion (λ (b : Variation × Props). IsSound b.1) variants
+        → IsSound (unwrap_or (record_in variants) props_empty)
+    by [] k = empty_sound
+    by (b ∷ bs) k = k.0
+
+dependencies_sound : (mods : List Module) (nodes : List (Node Props)) (edges : List Edge) (ins : List (Split Props))
+    → AllByRecursion (IsFit None) ins → AllByRecursion HasSound (dependencies_of mods nodes edges ins)
+dependencies_sound mods nodes [] ins h = tt
+dependencies_sound mods nodes (e ∷ es) [] h = tt
+dependencies_sound mods nodes (e ∷ es) (made ∷ ins) h =
+    (made_sound made h.0, dependencies_sound mods nodes es ins h.1)
+
+lists_sound : (own : Props) (ds : List Dependency) → IsSound own → AllByRecursion HasSound ds
+    → IsSound (with_lists own ds)
+lists_sound own ds h k = record {
+  base = h.base;
+  groups = h.groups;
+  exports =
+      first_shown (own.base.export_include_dirs.items ++ flat_map (export_part own) ds)
+      (all_append IsShown own.base.export_include_dirs.items (flat_map (export_part own) ds)
+      h.base.export_include_dirs
+      (all_flat HasSound IsShown (export_part own)
+      (λ d s. if_cond AreShown (is_handed_on own d.kind d.name) d.props.exports [] s.exports tt) ds k));
+  includes =
+      first_shown (own_includes own ++ flat_map include_part ds)
+      (all_append IsShown (own_includes own) (flat_map include_part ds)
+      (all_append IsShown own.base.local_include_dirs.items
+      (own.base.export_include_dirs.items ++ own.base.include_dirs.items) h.base.local_include_dirs
+      (all_append IsShown own.base.export_include_dirs.items own.base.include_dirs.items h.base.export_include_dirs
+      h.base.include_dirs))
+      (all_flat HasSound IsShown include_part
+      (λ d s. if_cond AreShown (is_linked_against d.kind) d.props.exports [] s.exports tt) ds k));
+}
+
+info_fit : (m : Module) (x : Node Props) (ds : List Dependency) → HasForm x → AllByRecursion HasSound ds
+    → IfResult (IsFit None) (info_over m x ds)
+info_fit m x ds form h =
+    if_cond (IfResult (IsFit None)) (has_short_lists x.payload ds) (Ok (one_variant (with_lists x.payload ds) []))
+    (Err (too_long m x.vars)) (lists_sound x.payload ds form.texts h, tt) tt
+
+pub info_keeps : (mods : List Module) → Keeps None (info_meant mods)
+info_keeps mods nodes forms n ins fit =
+    at_nodes None (λ m x made. info_over m x (dependencies_of mods nodes x.edges made))
+    (λ m x made form all. info_fit m x (dependencies_of mods nodes x.edges made) form
+    (dependencies_sound mods nodes x.edges made all))
+    mods nodes forms n ins fit

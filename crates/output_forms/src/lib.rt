@@ -1,0 +1,4 @@
+//! What is generated of modules is well formed, and is read back.
+#![tactic(auto)]
+
+pub mod laws;
