@@ -1,0 +1,56 @@
+-- What holds of formatting and of editing.
+use Rattle.std.specs.Prelude.{◌≡◌, false, ℕ, List, Result, Ok}
+use Rattle.bp_faults.specs.declared.fault.Fault.{Fault}
+use Rattle.bp_lexer.specs.declared.token.Token.{Token}
+use Rattle.bp_lexer.specs.Meaning.{IsTokenList}
+use Rattle.bp_lexer.specs.Strings.{unescaped}
+use Rattle.bp_parser.specs.Meaning.{IsTree}
+use Rattle.bp_parser.specs.Trees.{File}
+use Rattle.bp_parser.specs.Words.{words_of}
+use Rattle.bp_format.specs.Bare.{bare_tokens, bare_defs}
+use Rattle.bp_format.specs.Editing.{Wanted, EditMeans}
+use Rattle.bp_format.specs.Meaning.{FormatMeans}
+use Rattle.bp_format.specs.Quotes.{all_escaped}
+
+-- A formatted text has tokens.
+abbrev pub LayoutsHaveTokens : Type 0
+LayoutsHaveTokens = (file : ℕ) (text out : List ℕ) → FormatMeans file text (Ok out)
+    → (us : List Token) × IsTokenList file out us
+
+-- They have the kinds and the texts of those of the text.
+abbrev pub LayoutsKeepTokens : Type 0
+LayoutsKeepTokens = (file : ℕ) (text out : List ℕ) (ts us : List Token) → FormatMeans file text (Ok out)
+    → IsTokenList file text ts → IsTokenList file out us → bare_tokens out us ≡ bare_tokens text ts
+
+-- The tree of a formatted text is that of the text, but for places.
+abbrev pub LayoutsKeepTrees : Type 0
+LayoutsKeepTrees = (file : ℕ) (text out : List ℕ) (ts us : List Token) (tree : File) → FormatMeans file text (Ok out)
+    → IsTokenList file text ts → IsTree (words_of text ts) tree → IsTokenList file out us
+    → (other : File) × IsTree (words_of out us) other × (bare_defs tree.defs ≡ bare_defs other.defs)
+
+-- A formatted text is its own layout.
+abbrev pub LayoutsAreKept : Type 0
+LayoutsAreKept = (file : ℕ) (text out : List ℕ) → FormatMeans file text (Ok out) → FormatMeans file out (Ok out)
+
+-- Formatting a text comes to at most one thing.
+abbrev pub OneFormat : Type 0
+OneFormat = (file : ℕ) (text : List ℕ) (a b : Result (List ℕ) Fault) → FormatMeans file text a
+    → FormatMeans file text b → a ≡ b
+
+-- Formatting a text comes to something.
+abbrev pub SomeFormat : Type 0
+SomeFormat = (file : ℕ) (text : List ℕ) → (outcome : Result (List ℕ) Fault) × FormatMeans file text outcome
+
+-- Setting a list in a text comes to at most one thing.
+abbrev pub OneEdit : Type 0
+OneEdit = (file : ℕ) (text : List ℕ) (wanted : Wanted) (a b : Result (List ℕ) Fault) → EditMeans file text wanted a
+    → EditMeans file text wanted b → a ≡ b
+
+-- Setting a list in a text comes to something.
+abbrev pub SomeEdit : Type 0
+SomeEdit = (file : ℕ) (text : List ℕ) (wanted : Wanted)
+    → (outcome : Result (List ℕ) Fault) × EditMeans file text wanted outcome
+
+-- Characters that are escaped stand for themselves again.
+abbrev pub EscapesAreUndone : Type 0
+EscapesAreUndone = (cs : List ℕ) → unescaped false (all_escaped cs) ≡ cs

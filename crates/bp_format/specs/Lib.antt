@@ -1,0 +1,12 @@
+pub mod Kinds
+pub mod Gaps
+pub mod Layout
+pub mod Bare
+pub mod Pieces
+pub mod Spots
+pub mod Quotes
+pub mod Spans
+pub mod Editing
+pub mod Meaning
+pub mod Laws
+pub mod Ends
