@@ -12,3 +12,4 @@ mod Tracks
 mod Distinct
 mod SomeMeaning
 mod Integers
+mod Fresh

@@ -1,10 +1,12 @@
 -- What holds of all words and of all trees.
-use Rattle.std.specs.Prelude.{◌≡◌, ◌⊎◌, ℕ, List, Result}
+use Rattle.std.specs.Prelude.{◌≡◌, ◌⊎◌, ℕ, List, All, Result}
 use Rattle.bp_faults.specs.declared.fault.Fault.{Fault}
 use Rattle.bp_lexer.specs.declared.token.Token.{Token}
-use Rattle.bp_parser.specs.Meaning.{IsTree, IsFirstFault, ParseMeans}
-use Rattle.bp_parser.specs.Names.{FileHasDistinctNames}
-use Rattle.bp_parser.specs.Trees.{File}
+use Rattle.bp_parser.specs.Flaws.{IsTooNested}
+use Rattle.bp_parser.specs.Grammar.{SpellsFile}
+use Rattle.bp_parser.specs.Meaning.{IsTree, IsFirstFault, ParseMeans, file_of}
+use Rattle.bp_parser.specs.Names.{DefinitionHasDistinctNames, FileHasDistinctNames}
+use Rattle.bp_parser.specs.Trees.{Definition, File}
 use Rattle.bp_parser.specs.Words.{Word}
 
 -- Words have at most one tree.
@@ -32,3 +34,9 @@ OneMeaning = (text : List ℕ) (ts : List Token) (a b : Result File Fault) → P
 -- The names of each map differ in the tree of any words.
 abbrev pub TreesHaveDistinctNames : Type 0
 TreesHaveDistinctNames = (ws : List Word) (tree : File) → IsTree ws tree → FileHasDistinctNames tree
+
+-- Words that spell definitions have them as their tree, where the names of each map differ and no bracket is nested too
+-- deeply.
+abbrev pub SpelledDefinitionsAreTrees : Type 0
+SpelledDefinitionsAreTrees = (ws : List Word) (ds : List Definition) → SpellsFile ds ws → All DefinitionHasDistinctNames ds
+    → ((k : ℕ) → IsTooNested ws k → ⊥) → IsTree ws (record { file = file_of ws; defs = ds })

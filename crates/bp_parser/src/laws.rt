@@ -1,6 +1,7 @@
 //! What makes the meaning of words believable: each law is the contract of a function that does nothing.
 
 ghost use Rattle.bp_parser.specs.Laws.{OneTree, SomeTreeOrFault, NotTreeAndFault, OneFault, OneMeaning, TreesHaveDistinctNames};
+ghost use Rattle.bp_parser.specs.Laws.{SpelledDefinitionsAreTrees};
 
 /// The words of a file have at most one tree.
 pub fn one_tree()
@@ -26,4 +27,10 @@ pub fn one_meaning()
 /// In the tree of words no map has a name twice, however deep it is.
 pub fn names_of_a_map_differ()
     ensures { TreesHaveDistinctNames }
+{}
+
+/// Words that spell definitions have them as their tree, where the names of each map differ and no bracket is
+/// nested too deeply.
+pub fn spelled_definitions_are_trees()
+    ensures { SpelledDefinitionsAreTrees }
 {}
