@@ -1,7 +1,9 @@
 -- What is spelled opens and closes its own brackets, and no definition begins inside of another.
 use Rattle.std.proofs.Common.{◌≡◌, ℕ, ◌+◌, ◌-◌, ◌<◌, ◌≤◌, Bool, true, false, List, [], ◌∷◌, ◌++◌, length, take, Some, sym, refl, ap, ◌∙◌, subst, ⊎_elim, inl, inr, append_assoc, append-nil, arith, length-append}
-use Rattle.std.specs.Prelude.{◌⊎◌, ⊤}
+use Rattle.std.specs.Prelude.{◌⊎◌, ⊤, cond}
+use Rattle.std.specs.List.{count_by}
 use Rattle.std.proofs.Math.Seq.{take-append_seam}
+use Rattle.std.proofs.lemmas.List.Sums.{sum_by-append, sum_by-cons}
 use Rattle.std.proofs.lemmas.Bool.{cond-true, cond-false, false≢true}
 use Rattle.bp_faults.specs.declared.place.Place.{Place}
 use Rattle.bp_lexer.specs.declared.token.Punct.{Punct}
@@ -10,6 +12,7 @@ use Rattle.bp_lexer.specs.declared.token.TokenKind.{TokenKind}
 use Rattle.bp_lexer.specs.declared.token.TokenKind.TheVariants.{Ident, Int, Quoted, Raw, Punct as Mark}
 use Rattle.bp_parser.specs.Trees.{Atom, Tree, Leaf, Items, Body, Sum, Trees, no_tree, tree_and, Terms, no_term, term_and, Entries, no_entry, entry_and, Definition, Assigns, Extends, Declares}
 use Rattle.bp_parser.specs.Words.{Word, atom_of}
+use Rattle.bp_parser.specs.Flaws.{opens as opens_bracket, closes as closes_bracket}
 use Rattle.bp_parser.specs.Grammar.{IsWord, IsMark, Spells, SpellsTerms, SpellsItems, SpellsMoreItems, SpellsEntries, SpellsMoreEntries, SpellsDef}
 use Rattle.bp_format.specs.Kinds.{is_ident, wants_value}
 use Rattle.bp_format.specs.Layout.{opens, closes, turned}
@@ -23,13 +26,58 @@ pub nest_append : (n : List TokenKind) (a b : List Word) → nest_of n (a ++ b) 
 nest_append n [] b = refl
 nest_append n (w ∷ a) b = nest_append (turned n w.kind) a b
 
+-- how many brackets open and close, as the limit on nesting counts them
+abbrev pub opens_word : Word → ℕ
+opens_word w = cond (opens_bracket w.kind) 1 0
+
+abbrev pub closes_word : Word → ℕ
+closes_word w = cond (closes_bracket w.kind) 1 0
+
+abbrev pub opened : List Word → ℕ
+opened ws = count_by (λ w. opens_bracket w.kind) ws
+
+abbrev pub shut : List Word → ℕ
+shut ws = count_by (λ w. closes_bracket w.kind) ws
+
+pub opened_append : (a b : List Word) → opened (a ++ b) ≡ opened a + opened b
+opened_append a b = sum_by-append opens_word a b
+
+pub shut_append : (a b : List Word) → shut (a ++ b) ≡ shut a + shut b
+shut_append a b = sum_by-append closes_word a b
+
+pub opened_cons : (w : Word) (ws : List Word) → opened (w ∷ ws) ≡ opens_word w + opened ws
+opened_cons w ws = sum_by-cons opens_word w ws
+
+pub shut_cons : (w : Word) (ws : List Word) → shut (w ∷ ws) ≡ closes_word w + shut ws
+shut_cons w ws = sum_by-cons closes_word w ws
+
+-- what is no bracket isn't counted
+plain_opens : (k : TokenKind) → opens k ≡ false → opens_bracket k ≡ false
+plain_opens (Mark OpenBrace) is = absurd cc
+plain_opens (Mark OpenBracket) is = absurd cc
+plain_opens _ is = refl
+
+plain_closes : (k : TokenKind) → closes k ≡ false → closes_bracket k ≡ false
+plain_closes (Mark CloseBrace) is = absurd cc
+plain_closes (Mark CloseBracket) is = absurd cc
+plain_closes _ is = refl
+
+pub plain_counts : (w : Word) → opens w.kind ≡ false → closes w.kind ≡ false → (opens_word w ≡ 0) × (closes_word w ≡ 0)
+plain_counts w o c = (cond-false (opens_bracket w.kind) 1 0 (plain_opens w.kind o), cond-false (closes_bracket w.kind) 1 0 (plain_closes w.kind c))
+
+-- a bracket that opens and one that closes are counted
+abbrev IsPair : TokenKind → TokenKind → Type 0
+IsPair j k = (opens_bracket j ≡ true) × (closes_bracket j ≡ false) × (opens_bracket k ≡ false) × (closes_bracket k ≡ true)
+
 -- words that close what they open, and nothing else
 pub record Keeps (front : List Word) : Type 0 where
+  pub counts : opened front ≡ shut front
   pub whole : (n : List TokenKind) → nest_of n front ≡ n
   pub within : (n : List TokenKind) (b c : List Word) → front ≡ b ++ c → length n ≤ length (nest_of n b)
 
 keeps_nil : Keeps []
 keeps_nil = record {
+  counts = refl;
   whole = λ n. refl;
   within = λ n b c is. within_nil n b c is;
 } where
@@ -51,6 +99,7 @@ two_cuts (x ∷ f) g (y ∷ b) c is =
 
 keeps_append : (f g : List Word) → Keeps f → Keeps g → Keeps (f ++ g)
 keeps_append f g k l = record {
+  counts = opened_append f g ∙ (λ i. k.counts i + l.counts i) ∙ sym (shut_append f g);
   whole = λ n. nest_append n f g ∙ ap (λ m. nest_of m g) (k.whole n) ∙ l.whole n;
   within = λ n b c is. ⊎_elim
       (λ p. k.within n b p.0 p.1)
@@ -63,6 +112,7 @@ turned_plain n k o c = cond-false (opens k) _ _ o ∙ cond-false (closes k) _ _ 
 
 keeps_word : (w : Word) → opens w.kind ≡ false → closes w.kind ≡ false → Keeps (w ∷ [])
 keeps_word w o c = record {
+  counts = let p = plain_counts w o c in opened_cons w [] ∙ ap (λ n. n + 0) (p.0 ∙ sym p.1) ∙ sym (shut_cons w []);
   whole = λ n. turned_plain n w.kind o c;
   within = λ n b d is. at n b d is;
 } where
@@ -101,14 +151,36 @@ inside_bracket n o e inner b c opening k is some =
     ends_there [] c e is some = refl
     ends_there (x ∷ d) c e is some = absurd (omega (arith, ap length is, length-append d c))
 
-keeps_bracket : (o e : Word) (inner : List Word) → opens o.kind ≡ true → opens e.kind ≡ false → closes e.kind ≡ true → Keeps inner → Keeps (bracket o inner e)
-keeps_bracket o e inner opening shut closing k = record {
+keeps_bracket : (o e : Word) (inner : List Word) → IsPair o.kind e.kind → opens o.kind ≡ true → opens e.kind ≡ false → closes e.kind ≡ true → Keeps inner → Keeps (bracket o inner e)
+keeps_bracket o e inner pair opening shut_one closing k = record {
+  counts = counted;
   whole = all;
   within = λ n b c is. at n b c is;
 } where
+  counted : opened (bracket o inner e) ≡ shut (bracket o inner e)
+  counted =
+      let one : opens_word o ≡ 1 = cond-true (opens_bracket o.kind) 1 0 pair.0 in
+      let none : closes_word o ≡ 0 = cond-false (closes_bracket o.kind) 1 0 pair.1 in
+      let last_none : opens_word e ≡ 0 = cond-false (opens_bracket e.kind) 1 0 pair.2 in
+      let last_one : closes_word e ≡ 1 = cond-true (closes_bracket e.kind) 1 0 pair.3 in
+      omega (
+        arith,
+        one,
+        none,
+        last_none,
+        last_one,
+        k.counts,
+        opened_cons o (inner ++ e ∷ []),
+        shut_cons o (inner ++ e ∷ []),
+        opened_append inner (e ∷ []),
+        shut_append inner (e ∷ []),
+        opened_cons e [],
+        shut_cons e [],
+      )
+
   all : (n : List TokenKind) → nest_of n (bracket o inner e) ≡ n
   all n =
-      nest_append (turned n o.kind) inner (e ∷ []) ∙ ap (λ m. turned m e.kind) (k.whole (turned n o.kind) ∙ turned_open n o.kind opening) ∙ turned_close n o.kind e.kind shut closing
+      nest_append (turned n o.kind) inner (e ∷ []) ∙ ap (λ m. turned m e.kind) (k.whole (turned n o.kind) ∙ turned_open n o.kind opening) ∙ turned_close n o.kind e.kind shut_one closing
 
   at : (n : List TokenKind) (b c : List Word) → bracket o inner e ≡ b ++ c → length n ≤ length (nest_of n b)
   at n [] c is = omega arith
@@ -219,7 +291,7 @@ wants_behind w [] some ends = absurd (omega arith)
 wants_behind w (v ∷ g) some ends = ends
 
 -- one word that is no bracket
-plain_atom : (k : TokenKind) (text : List ℕ) (atom : Atom) → atom_of k text ≡ Some atom → (opens k ≡ false) × (closes k ≡ false) × (wants_value k ≡ false)
+pub plain_atom : (k : TokenKind) (text : List ℕ) (atom : Atom) → atom_of k text ≡ Some atom → (opens k ≡ false) × (closes k ≡ false) × (wants_value k ≡ false)
 plain_atom Ident text atom is = (refl, refl, refl)
 plain_atom Int text atom is = (refl, refl, refl)
 plain_atom Quoted text atom is = (refl, refl, refl)
@@ -236,14 +308,14 @@ framed_word w ts rest is plain = record {
   ends = plain.2;
 }
 
-framed_bracket : (j k : Punct) (at : Place) (text : List ℕ) (ts inner rest : List Word) → opens (Mark j) ≡ true → opens (Mark k) ≡ false → closes (Mark k) ≡ true → wants_value (Mark k) ≡ false → ts ≡ record { kind = Mark j; at = at; text = text } ∷ inner → IsWithin k inner rest → IsFramed ts rest
-framed_bracket j k at text ts inner rest opening shut closing ends is w =
+framed_bracket : (j k : Punct) (at : Place) (text : List ℕ) (ts inner rest : List Word) → IsPair (Mark j) (Mark k) → opens (Mark j) ≡ true → opens (Mark k) ≡ false → closes (Mark k) ≡ true → wants_value (Mark k) ≡ false → ts ≡ record { kind = Mark j; at = at; text = text } ∷ inner → IsWithin k inner rest → IsFramed ts rest
+framed_bracket j k at text ts inner rest pair opening shut_one closing ends is w =
     let o : Word = record { kind = Mark j; at = at; text = text } in
     let front = bracket o w.inner w.end in
     record {
       front = front;
       split = is ∙ ap (λ l. o ∷ l) (w.split ∙ sym (append_assoc w.inner (w.end ∷ []) rest));
-      keeps = keeps_bracket o w.end w.inner opening (ap opens w.kind ∙ shut) (ap closes w.kind ∙ closing) w.keeps;
+      keeps = keeps_bracket o w.end w.inner (subst (IsPair (Mark j)) (sym w.kind) pair) opening (ap opens w.kind ∙ shut_one) (ap closes w.kind ∙ closing) w.keeps;
       quiet = quiet_bracket o w.end w.inner opening w.keeps;
       some = omega arith;
       ends = wants_append (o ∷ w.inner) w.end [] ∙ ap wants_value w.kind ∙ ends;
@@ -278,8 +350,8 @@ within_tree close ts mid rest f w = within_more close ts mid rest f.front f.spli
 mutual
   pub framed : (x : Tree) (ts rest : List Word) → Spells x ts rest → IsFramed ts rest
   framed (Leaf at atom) ts rest s = framed_word (record { kind = s.0; at = at; text = s.1 }) ts rest s.2 (plain_atom s.0 s.1 atom s.3)
-  framed (Items at xs) ts rest s = framed_bracket OpenBracket CloseBracket at s.1.0 ts s.0 rest refl refl refl refl s.1.1 (items_within xs s.0 rest s.2)
-  framed (Body at es) ts rest s = framed_bracket OpenBrace CloseBrace at s.1.0 ts s.0 rest refl refl refl refl s.1.1 (entries_within es s.0 rest s.2)
+  framed (Items at xs) ts rest s = framed_bracket OpenBracket CloseBracket at s.1.0 ts s.0 rest (refl, refl, refl, refl) refl refl refl refl s.1.1 (items_within xs s.0 rest s.2)
+  framed (Body at es) ts rest s = framed_bracket OpenBrace CloseBrace at s.1.0 ts s.0 rest (refl, refl, refl, refl) refl refl refl refl s.1.1 (entries_within es s.0 rest s.2)
   framed (Sum x terms) ts rest s =
       let f = framed x ts s.0 s.3 in
       let t = terms_framed terms s.0 rest s.4 in
@@ -363,4 +435,4 @@ framed_def (Extends name at x) ts rest s =
     let f = framed_mark PlusEqual s.0 s.1 rest refl refl refl s.3 (framed x s.1 rest s.4) in
     framed_named at name ts s.0 rest s.2.0 f.0 f.1
 framed_def (Declares kind at m) ts rest s =
-    framed_named at kind ts s.0 rest s.1.0 (framed_bracket OpenBrace CloseBrace m.at s.2.1.0 s.0 s.2.0 rest refl refl refl refl s.2.1.1 (entries_within m.entries s.2.0 rest s.2.2)) refl
+    framed_named at kind ts s.0 rest s.1.0 (framed_bracket OpenBrace CloseBrace m.at s.2.1.0 s.0 s.2.0 rest (refl, refl, refl, refl) refl refl refl refl s.2.1.1 (entries_within m.entries s.2.0 rest s.2.2)) refl

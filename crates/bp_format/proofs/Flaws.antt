@@ -113,7 +113,7 @@ first_moves (entry_and name at x es) ts rest s =
     (λ y e us other r. (r.0, r.2.0, r.2.2.0, r.2.2.2.0, r.1, (y.1.0, r.2.1), r.2.2.1, (y.1.1.1.0, r.2.2.2.1), r.2.2.2.2))
     (both (word Ident at name ts s.0 s.4) (both (mark Colon s.5.0 s.0 s.1 s.5.1) (both (moves x s.1 s.2 s.6) (both (mark Comma s.7.0 s.2 s.3 s.7.1) (first_moves es s.3 rest s.8)))))
 
-names_bare : (es : Entries) → names_of (bare_entries es) ≡ names_of es
+pub names_bare : (es : Entries) → names_of (bare_entries es) ≡ names_of es
 names_bare no_entry = refl
 names_bare (entry_and name at x es) = ap (λ l. name ∷ l) (names_bare es)
 

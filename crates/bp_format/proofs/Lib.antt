@@ -17,3 +17,13 @@ pub mod Located
 pub mod HasSpan
 pub mod OneFormat
 pub mod OneEdit
+pub mod Parts
+pub mod Strings
+pub mod Holes
+pub mod Bits
+pub mod Splice
+pub mod Reset
+pub mod Nests
+pub mod Distinct
+pub mod SetLists
+pub mod Written

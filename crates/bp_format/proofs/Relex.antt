@@ -41,7 +41,7 @@ AreSound [] = ⊤
 AreSound (a ∷ more) = IsSound a × BreaksLine a more × AreSound more
 
 -- white bytes
-abbrev White : List ℕ → Type 0
+abbrev pub White : List ℕ → Type 0
 White g = (i : ℕ) → i < length g → is_white (get_or g i 0) ≡ true
 
 white_run : (n b i : ℕ) → is_white b ≡ true → i < length (replicate n b) → is_white (get_or (replicate n b) i 0) ≡ true
@@ -57,7 +57,7 @@ white_gap EmptyLine (suc (suc i)) within = absurd (omega arith)
 white_gap (Line d) zero within = refl
 white_gap (Line d) (suc i) within = white_run (4 * d) 32 i refl (omega arith)
 
-blank_gap : (text : List ℕ) (j : ℕ) (g rest : List ℕ) → drop j text ≡ g ++ rest → White g → IsBlank text j (j + length g)
+pub blank_gap : (text : List ℕ) (j : ℕ) (g rest : List ℕ) → drop j text ≡ g ++ rest → White g → IsBlank text j (j + length g)
 blank_gap text j g rest is white = (
   omega arith,
   λ k low high.

@@ -50,7 +50,7 @@ covers_from file text place i j (t ∷ ts) covers =
     (λ other. let r = covers_from file text place t.end j ts covers.2 in (r.0, subst (Covers file text r.0 j) (sym (cond-false (is_at place t) (t ∷ ts) (from_place place ts) other)) r.1))
     (cases_Bool (is_at place t))
 
-pair_one : (a b : ℕ × ℕ) → Some a ≡ Some b → a ≡ b
+pub pair_one : (a b : ℕ × ℕ) → Some a ≡ Some b → a ≡ b
 pair_one a b e = cc
 
 list_facts : TokensStandWithin → (file : ℕ) (text : List ℕ) (k j : ℕ) (ts : List Token) (b : ℕ × ℕ) → Covers file text k j ts → list_span ts ≡ Some b → IsSpan text b.0 b.1

@@ -55,7 +55,7 @@ word_more text out t u x y false true is head rest = absurd cc
 word_more text out t u x y false false is head rest = rest
 
 -- tokens that are the same but for places have like words
-words_alike : (text out : List ℕ) (ts us : List Token) → bare_tokens text ts ≡ bare_tokens out us → Alike (words_of text ts) (words_of out us)
+pub words_alike : (text out : List ℕ) (ts us : List Token) → bare_tokens text ts ≡ bare_tokens out us → Alike (words_of text ts) (words_of out us)
 words_alike text out [] [] same = refl
 words_alike text out [] (u ∷ us) same = absurd cc
 words_alike text out (t ∷ ts) [] same = absurd cc

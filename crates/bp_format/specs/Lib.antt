@@ -7,6 +7,7 @@ pub mod Spots
 pub mod Quotes
 pub mod Spans
 pub mod Editing
+pub mod Setting
 pub mod Meaning
 pub mod Laws
 pub mod Ends

@@ -1,13 +1,17 @@
 //! What holds of formatting and of editing: each law is the contract of a function that does nothing.
 
 ghost use Rattle.bp_format.specs.Laws.{LayoutsHaveTokens, LayoutsKeepTokens, LayoutsKeepTrees, LayoutsAreKept};
-ghost use Rattle.bp_format.specs.Laws.{OneFormat, SomeFormat, OneEdit, SomeEdit, EscapesAreUndone};
+ghost use Rattle.bp_format.specs.Laws.{ListsGiveWay, EntriesStandBehindNames};
+ghost use Rattle.bp_format.specs.Laws.{OneFormat, SomeFormat, OneEdit, SomeEdit, EditsSetLists, EscapesAreUndone};
 
 use bp_lexer::laws::{
     forms_have_bytes, forms_stand_apart, list_or_fault, one_fault, one_token_list, places_rise,
     tokens_stand_within,
 };
-use bp_parser::laws::{one_fault as one_tree_fault, one_tree, tree_or_fault};
+use bp_parser::laws::{
+    names_of_a_map_differ, one_fault as one_tree_fault, one_tree, spelled_definitions_are_trees,
+    tree_or_fault,
+};
 
 /// A formatted text has tokens.
 pub fn layouts_have_tokens()
@@ -85,3 +89,27 @@ pub fn one_edit()
 pub fn escapes_are_undone()
     ensures { EscapesAreUndone }
 {}
+
+/// The tree of an edited text is that of the text with the list set, but for places.
+pub fn edits_set_lists()
+    ensures { EditsSetLists }
+{
+    one_tree();
+    names_of_a_map_differ();
+    spelled_definitions_are_trees();
+    one_token_list();
+    forms_have_bytes();
+    forms_stand_apart();
+    tokens_stand_within();
+    places_rise();
+}
+
+/// The span of an edit is the tokens of the old list, from the first to the last; or there is no old list, and it is
+/// nothing, behind the name.
+pub fn spans_are_values()
+    ensures list { ListsGiveWay }
+    ensures name { EntriesStandBehindNames }
+{
+    tokens_stand_within();
+    places_rise();
+}

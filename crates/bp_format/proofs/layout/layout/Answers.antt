@@ -1,7 +1,4 @@
-use Rattle.std.proofs.Common.{◌++◌, ◌∙◌, ap, arith, length, length-append}
-use Rattle.std.specs.Prelude.{string_bytes}
 use Rattle.bp_format.proofs.Listed.{token_of}
-use Rattle.bp_format.proofs.Seen.{laid_step}
 use Rattle.bp_format.proofs.layout.layout.Goals as goal
 
 pub text-requires : goal.text-requires
