@@ -11,9 +11,9 @@ use Rattle.bp_parser.specs.Words.{is_comment}
 use Rattle.bp_format.specs.declared.gap.Seam.{Seam}
 use Rattle.bp_format.specs.Kinds.{wants_value}
 use Rattle.bp_format.specs.Gaps.{gap, gap_text}
-use Rattle.bp_format.specs.Layout.{Piece, gap_behind, laid, turned, first_kind, depth_of, in_call}
+use Rattle.bp_format.specs.Layout.{Piece, gap_behind, laid, nest_behind, first_kind, nest_depth, in_call}
 use Rattle.bp_format.specs.Ends.{piece, pieces, is_end, is_none_open, next_word, begins_definition}
-use Rattle.bp_format.specs.Pieces.{between, has_line_end}
+use Rattle.bp_format.specs.Pieces.{text_between, has_line_end}
 use Rattle.bp_format.proofs.GapLaws.{gap_again}
 use Rattle.bp_format.proofs.Relex.{retold}
 
@@ -28,7 +28,7 @@ gap_breaks nest before a (b ∷ more) = has_line_end (gap_text (gap_behind nest 
 abbrev pub again : List TokenKind → Option TokenKind → List Piece → List Piece
 again nest before [] = []
 again nest before (a ∷ more) =
-    record a { broken = gap_breaks (turned nest a.kind) before a more } ∷ again (turned nest a.kind) (Some a.kind) more
+    record a { broken = gap_breaks (nest_behind nest a.kind) before a more } ∷ again (nest_behind nest a.kind) (Some a.kind) more
 
 first_again : (nest : List TokenKind) (before : Option TokenKind) (ps : List Piece) → first_kind (again nest before ps) ≡ first_kind ps
 first_again nest before [] = refl
@@ -38,20 +38,20 @@ first_again nest before (a ∷ more) = refl
 behind_again : (nest : List TokenKind) (before : Option TokenKind) (a : Piece) (more : List Piece) → gap_behind nest before (record a { broken = gap_breaks nest before a more }) (again nest (Some a.kind) more) ≡ gap_behind nest before a more
 behind_again nest before a [] = refl
 behind_again nest before a (b ∷ more) =
-    let s : Seam = record { before = before; left = a.kind; broken = a.broken; ends = a.ends; right = b.kind; after = first_kind more; depth = depth_of nest; in_call = in_call nest } in
-    ap (λ k. gap (record s { broken = has_line_end (gap_text (gap s)); after = k })) (first_again (turned nest b.kind) (Some b.kind) more) ∙ gap_again s
+    let s : Seam = record { before = before; left = a.kind; broken = a.broken; ends = a.ends; right = b.kind; after = first_kind more; depth = nest_depth nest; in_call = in_call nest } in
+    ap (λ k. gap (record s { broken = has_line_end (gap_text (gap s)); after = k })) (first_again (nest_behind nest b.kind) (Some b.kind) more) ∙ gap_again s
 
 pub laid_again : (nest : List TokenKind) (before : Option TokenKind) (ps : List Piece) → laid nest before (again nest before ps) ≡ laid nest before ps
 laid_again nest before [] = refl
 laid_again nest before (a ∷ more) =
-    let now = turned nest a.kind in
+    let now = nest_behind nest a.kind in
     (λ i. a.text ++ (gap_text (behind_again now before a more i) ++ laid_again now (Some a.kind) more i))
 
 -- the kinds of the layout's tokens are those of the pieces
 pub kinds_again : (file : ℕ) (out : List ℕ) (at : ℕ) (nest : List TokenKind) (before : Option TokenKind) (text : List ℕ) (ts : List Token) → kinds (retold file out at nest before (pieces nest text ts)) ≡ kinds ts
 kinds_again file out at nest before text [] = refl
 kinds_again file out at nest before text (t ∷ ts) =
-    let now = turned nest t.kind in
+    let now = nest_behind nest t.kind in
     (λ i. t.kind ∷ kinds_again file out (at + length (word_of text t) + length (gap_text (gap_behind now before (piece now text t ts) (pieces now text ts)))) now (Some t.kind) text ts i)
 
 next_by_kinds : (ts us : List Token) → kinds ts ≡ kinds us → next_word ts ≡ next_word us
@@ -67,7 +67,7 @@ end_by_kinds : (nest : List TokenKind) (k : TokenKind) (ts us : List Token) → 
 end_by_kinds nest k ts us same = ap (λ w. is_none_open nest && not (is_comment k || wants_value k) && begins_definition w) (next_by_kinds ts us same)
 
 -- what lies behind a token of the layout is the gap
-lines_again : (file : ℕ) (out : List ℕ) (nest : List TokenKind) (before : Option TokenKind) (a : Piece) (ps : List Piece) (t : Token) (tail : List ℕ) → drop t.end out ≡ gap_text (gap_behind nest before a ps) ++ tail → has_line_end (between out t (retold file out (t.end + length (gap_text (gap_behind nest before a ps))) nest (Some a.kind) ps)) ≡ gap_breaks nest before a ps
+lines_again : (file : ℕ) (out : List ℕ) (nest : List TokenKind) (before : Option TokenKind) (a : Piece) (ps : List Piece) (t : Token) (tail : List ℕ) → drop t.end out ≡ gap_text (gap_behind nest before a ps) ++ tail → has_line_end (text_between out t (retold file out (t.end + length (gap_text (gap_behind nest before a ps))) nest (Some a.kind) ps)) ≡ gap_breaks nest before a ps
 lines_again file out nest before a [] t tail is = refl
 lines_again file out nest before a (b ∷ more) t tail is =
     let next = gap_text (gap_behind nest before a (b ∷ more)) in
@@ -78,7 +78,7 @@ lines_again file out nest before a (b ∷ more) t tail is =
 pub pieces_again : (file : ℕ) (out : List ℕ) (at : ℕ) (nest : List TokenKind) (before : Option TokenKind) (text : List ℕ) (ts : List Token) → drop at out ≡ laid nest before (pieces nest text ts) → pieces nest out (retold file out at nest before (pieces nest text ts)) ≡ again nest before (pieces nest text ts)
 pieces_again file out at nest before text [] is = refl
 pieces_again file out at nest before text (t ∷ ts) is =
-    let now = turned nest t.kind in
+    let now = nest_behind nest t.kind in
     let ps = pieces now text ts in
     let a = piece now text t ts in
     let next = gap_text (gap_behind now before a ps) in

@@ -15,9 +15,9 @@ use Rattle.bp_lexer.specs.Places.{place_at}
 use Rattle.bp_parser.specs.Trees.{Leaf, Str}
 use Rattle.bp_parser.specs.Words.{Word, words_of, is_comment}
 use Rattle.bp_parser.specs.Grammar.{Spells, SpellsItems, SpellsMoreItems}
-use Rattle.bp_format.specs.Bare.{origin, bare_word}
-use Rattle.bp_format.specs.Quotes.{quoted, all_items, more_items, list_text}
-use Rattle.bp_format.specs.Setting.{list_of, strings_of}
+use Rattle.bp_format.specs.WithoutPlaces.{origin, word_content}
+use Rattle.bp_format.specs.Quotes.{quotation, items_text, more_items_text, list_text}
+use Rattle.bp_format.specs.Setting.{list_expression, string_items}
 use Rattle.bp_format.proofs.Cuts.{word_alone}
 use Rattle.bp_format.proofs.Frames.{Alike}
 use Rattle.bp_format.proofs.Holes.{plain_word}
@@ -87,7 +87,7 @@ told lex file text j g (b ∷ bs) tail white are inside is =
         token_where lex file text b.kind at end b.text rest are.0.form are.0.stops (λ int. absurd (are.0.no_number int)) bound refl here,
         subst (λ n. Covers file text end n r.tokens) to r.covered,
       );
-      alike = (λ i. (b.kind, sym word i) ∷ r.alike i) ∙ sym (ap (map bare_word) (word_alone text t r.tokens are.0.word));
+      alike = (λ i. (b.kind, sym word i) ∷ r.alike i) ∙ sym (ap (map word_content) (word_alone text t r.tokens are.0.word));
     }
 
 -- a form that ends by itself
@@ -106,7 +106,7 @@ abbrev mark : Punct → List ℕ → Bit
 mark m gap = record { kind = Mark m; text = punct_text m; gap = gap }
 
 abbrev string : List ℕ → Bit
-string x = record { kind = Quoted; text = quoted x; gap = [] }
+string x = record { kind = Quoted; text = quotation x; gap = [] }
 
 abbrev pub more_bits : List (List ℕ) → List Bit
 more_bits [] = mark CloseBracket [] ∷ []
@@ -128,13 +128,13 @@ lead_bits property more = mark Comma (codes " ") ∷ record { kind = Ident; text
 abbrev pub kept_bit : Token → List ℕ → Bit
 kept_bit t text = record { kind = t.kind; text = text; gap = [] }
 
-more_text : (xs : List (List ℕ)) → bits_text (more_bits xs) ≡ more_items xs ++ codes "]"
+more_text : (xs : List (List ℕ)) → bits_text (more_bits xs) ≡ more_items_text xs ++ codes "]"
 more_text [] = refl
-more_text (x ∷ xs) = ap (λ l. codes ", " ++ (quoted x ++ l)) (more_text xs) ∙ ap (λ l. codes ", " ++ l) (sym (append_assoc (quoted x) (more_items xs) (codes "]")))
+more_text (x ∷ xs) = ap (λ l. codes ", " ++ (quotation x ++ l)) (more_text xs) ∙ ap (λ l. codes ", " ++ l) (sym (append_assoc (quotation x) (more_items_text xs) (codes "]")))
 
-inner_text : (xs : List (List ℕ)) → bits_text (inner_bits xs) ≡ all_items xs ++ codes "]"
+inner_text : (xs : List (List ℕ)) → bits_text (inner_bits xs) ≡ items_text xs ++ codes "]"
 inner_text [] = refl
-inner_text (x ∷ xs) = ap (λ l. quoted x ++ l) (more_text xs) ∙ sym (append_assoc (quoted x) (more_items xs) (codes "]"))
+inner_text (x ∷ xs) = ap (λ l. quotation x ++ l) (more_text xs) ∙ sym (append_assoc (quotation x) (more_items_text xs) (codes "]"))
 
 pub text_of_list : (xs : List (List ℕ)) → bits_text (list_bits xs) ≡ list_text xs
 text_of_list xs = ap (λ l. codes "[" ++ l) (inner_text xs)
@@ -166,20 +166,20 @@ lead_are property more tail form are = (
 )
 
 -- the words of a list spell it
-leaf : (x : List ℕ) (rest : List Word) → IsUtf8 x → Spells (Leaf origin (Str x)) (plain_word Quoted (quoted x) ∷ rest) rest
-leaf x rest utf8 = (Quoted, quoted x, refl, ap (λ s. Some (Str s)) (quoted_string x utf8))
+leaf : (x : List ℕ) (rest : List Word) → IsUtf8 x → Spells (Leaf origin (Str x)) (plain_word Quoted (quotation x) ∷ rest) rest
+leaf x rest utf8 = (Quoted, quotation x, refl, ap (λ s. Some (Str s)) (quoted_string x utf8))
 
-more_spelled : (xs : List (List ℕ)) (rest : List Word) → All IsUtf8 xs → SpellsMoreItems (strings_of xs) (bit_words (more_bits xs) ++ rest) rest
+more_spelled : (xs : List (List ℕ)) (rest : List Word) → All IsUtf8 xs → SpellsMoreItems (string_items xs) (bit_words (more_bits xs) ++ rest) rest
 more_spelled [] rest utf8 = inl (origin, (codes "]", refl))
 more_spelled (x ∷ xs) rest utf8 =
     let behind = bit_words (more_bits xs) ++ rest in
-    (plain_word Quoted (quoted x) ∷ behind, behind, (origin, (codes ",", refl)), leaf x behind (utf8 0 x (omega arith)), more_spelled xs rest (λ i d within. utf8 (suc i) d (omega arith)))
+    (plain_word Quoted (quotation x) ∷ behind, behind, (origin, (codes ",", refl)), leaf x behind (utf8 0 x (omega arith)), more_spelled xs rest (λ i d within. utf8 (suc i) d (omega arith)))
 
-inner_spelled : (xs : List (List ℕ)) (rest : List Word) → All IsUtf8 xs → SpellsItems (strings_of xs) (bit_words (inner_bits xs) ++ rest) rest
+inner_spelled : (xs : List (List ℕ)) (rest : List Word) → All IsUtf8 xs → SpellsItems (string_items xs) (bit_words (inner_bits xs) ++ rest) rest
 inner_spelled [] rest utf8 = (origin, (codes "]", refl))
 inner_spelled (x ∷ xs) rest utf8 =
     let behind = bit_words (more_bits xs) ++ rest in
     (behind, leaf x behind (utf8 0 x (omega arith)), more_spelled xs rest (λ i d within. utf8 (suc i) d (omega arith)))
 
-pub list_spelled : (xs : List (List ℕ)) (rest : List Word) → All IsUtf8 xs → Spells (list_of xs) (bit_words (list_bits xs) ++ rest) rest
+pub list_spelled : (xs : List (List ℕ)) (rest : List Word) → All IsUtf8 xs → Spells (list_expression xs) (bit_words (list_bits xs) ++ rest) rest
 list_spelled xs rest utf8 = (bit_words (inner_bits xs) ++ rest, (codes "[", refl), inner_spelled xs rest utf8)

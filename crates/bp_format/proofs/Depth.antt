@@ -15,16 +15,16 @@ use Rattle.bp_parser.specs.Words.{Word, atom_of}
 use Rattle.bp_parser.specs.Flaws.{opens as opens_bracket, closes as closes_bracket}
 use Rattle.bp_parser.specs.Grammar.{IsWord, IsMark, Spells, SpellsTerms, SpellsItems, SpellsMoreItems, SpellsEntries, SpellsMoreEntries, SpellsDef}
 use Rattle.bp_format.specs.Kinds.{is_ident, wants_value}
-use Rattle.bp_format.specs.Layout.{opens, closes, turned}
+use Rattle.bp_format.specs.Layout.{opens, closes, nest_behind}
 
 -- the brackets that are open behind words
 abbrev pub nest_of : List TokenKind → List Word → List TokenKind
 nest_of n [] = n
-nest_of n (w ∷ ws) = nest_of (turned n w.kind) ws
+nest_of n (w ∷ ws) = nest_of (nest_behind n w.kind) ws
 
 pub nest_append : (n : List TokenKind) (a b : List Word) → nest_of n (a ++ b) ≡ nest_of (nest_of n a) b
 nest_append n [] b = refl
-nest_append n (w ∷ a) b = nest_append (turned n w.kind) a b
+nest_append n (w ∷ a) b = nest_append (nest_behind n w.kind) a b
 
 -- how many brackets open and close, as the limit on nesting counts them
 abbrev pub opens_word : Word → ℕ
@@ -107,7 +107,7 @@ keeps_append f g k l = record {
       (two_cuts f g b c is);
 }
 
-pub turned_plain : (n : List TokenKind) (k : TokenKind) → opens k ≡ false → closes k ≡ false → turned n k ≡ n
+pub turned_plain : (n : List TokenKind) (k : TokenKind) → opens k ≡ false → closes k ≡ false → nest_behind n k ≡ n
 turned_plain n k o c = cond-false (opens k) _ _ o ∙ cond-false (closes k) _ _ c
 
 keeps_word : (w : Word) → opens w.kind ≡ false → closes w.kind ≡ false → Keeps (w ∷ [])
@@ -120,13 +120,13 @@ keeps_word w o c = record {
   at n [] d is = omega arith
   at n (x ∷ []) d is =
       let same : w ≡ x = cc in
-      omega (arith, ap length (ap (λ (v : Word). turned n v.kind) (sym same) ∙ turned_plain n w.kind o c))
+      omega (arith, ap length (ap (λ (v : Word). nest_behind n v.kind) (sym same) ∙ turned_plain n w.kind o c))
   at n (x ∷ y ∷ b) d is = absurd (omega (arith, ap length is))
 
-pub turned_open : (n : List TokenKind) (k : TokenKind) → opens k ≡ true → turned n k ≡ n ++ k ∷ []
+pub turned_open : (n : List TokenKind) (k : TokenKind) → opens k ≡ true → nest_behind n k ≡ n ++ k ∷ []
 turned_open n k o = cond-true (opens k) _ _ o
 
-turned_close : (n : List TokenKind) (j k : TokenKind) → opens k ≡ false → closes k ≡ true → turned (n ++ j ∷ []) k ≡ n
+turned_close : (n : List TokenKind) (j k : TokenKind) → opens k ≡ false → closes k ≡ true → nest_behind (n ++ j ∷ []) k ≡ n
 turned_close n j k o c =
     let len : length (n ++ j ∷ []) - 1 ≡ length n = omega (arith, length-append n (j ∷ [])) in
     cond-false (opens k) _ _ o ∙ cond-true (closes k) _ _ c ∙ ap (λ i. take i (n ++ j ∷ [])) len ∙ take-append_seam n (j ∷ [])
@@ -136,15 +136,15 @@ abbrev pub bracket : Word → List Word → Word → List Word
 bracket o inner e = o ∷ (inner ++ e ∷ [])
 
 -- what begins with the bracket and isn't all of it is within
-pub inside_bracket : (n : List TokenKind) (o e : Word) (inner b c : List Word) → opens o.kind ≡ true → Keeps inner → inner ++ e ∷ [] ≡ b ++ c → 0 < length c → length n < length (nest_of (turned n o.kind) b)
+pub inside_bracket : (n : List TokenKind) (o e : Word) (inner b c : List Word) → opens o.kind ≡ true → Keeps inner → inner ++ e ∷ [] ≡ b ++ c → 0 < length c → length n < length (nest_of (nest_behind n o.kind) b)
 inside_bracket n o e inner b c opening k is some =
-    let deeper : length (turned n o.kind) ≡ length n + 1 = ap length (turned_open n o.kind opening) ∙ length-append n (o.kind ∷ []) in
+    let deeper : length (nest_behind n o.kind) ≡ length n + 1 = ap length (turned_open n o.kind opening) ∙ length-append n (o.kind ∷ []) in
     ⊎_elim
-    (λ p. omega (arith, k.within (turned n o.kind) b p.0 p.1, deeper))
+    (λ p. omega (arith, k.within (nest_behind n o.kind) b p.0 p.1, deeper))
     (λ p.
     let none : p.0 ≡ [] = ends_there p.0 c e p.2 some in
     let same : b ≡ inner = p.1 ∙ ap (λ l. inner ++ l) none ∙ append-nil inner in
-    omega (arith, deeper, ap length (ap (nest_of (turned n o.kind)) same ∙ k.whole (turned n o.kind))))
+    omega (arith, deeper, ap length (ap (nest_of (nest_behind n o.kind)) same ∙ k.whole (nest_behind n o.kind))))
     (two_cuts inner (e ∷ []) b c is)
   where
     ends_there : (d c : List Word) (e : Word) → e ∷ [] ≡ d ++ c → 0 < length c → d ≡ []
@@ -180,7 +180,7 @@ keeps_bracket o e inner pair opening shut_one closing k = record {
 
   all : (n : List TokenKind) → nest_of n (bracket o inner e) ≡ n
   all n =
-      nest_append (turned n o.kind) inner (e ∷ []) ∙ ap (λ m. turned m e.kind) (k.whole (turned n o.kind) ∙ turned_open n o.kind opening) ∙ turned_close n o.kind e.kind shut_one closing
+      nest_append (nest_behind n o.kind) inner (e ∷ []) ∙ ap (λ m. nest_behind m e.kind) (k.whole (nest_behind n o.kind) ∙ turned_open n o.kind opening) ∙ turned_close n o.kind e.kind shut_one closing
 
   at : (n : List TokenKind) (b c : List Word) → bracket o inner e ≡ b ++ c → length n ≤ length (nest_of n b)
   at n [] c is = omega arith
@@ -188,7 +188,7 @@ keeps_bracket o e inner pair opening shut_one closing k = record {
   at n (x ∷ b) (y ∷ c) is =
       let head : o ≡ x = cc in
       let rest : inner ++ e ∷ [] ≡ b ++ (y ∷ c) = cc in
-      omega (arith, inside_bracket n o e inner b (y ∷ c) opening k rest (omega arith), ap length (ap (λ (v : Word). nest_of (turned n v.kind) b) (sym head)))
+      omega (arith, inside_bracket n o e inner b (y ∷ c) opening k rest (omega arith), ap length (ap (λ (v : Word). nest_of (nest_behind n v.kind) b) (sym head)))
 
 -- a value has to follow the last of the words
 abbrev pub wants_more : List Word → Bool
@@ -220,7 +220,7 @@ quiet_bracket o e inner opening k = record { quiet = at } where
   at (y ∷ b) x c is some none wants ident =
       let head : o ≡ y = cc in
       let rest : inner ++ e ∷ [] ≡ b ++ (x ∷ c) = cc in
-      omega (arith, inside_bracket [] o e inner b (x ∷ c) opening k rest (omega arith), ap length (ap (λ (v : Word). nest_of (turned [] v.kind) b) head ∙ none))
+      omega (arith, inside_bracket [] o e inner b (x ∷ c) opening k rest (omega arith), ap length (ap (λ (v : Word). nest_of (nest_behind [] v.kind) b) head ∙ none))
 
 -- behind `=`, `+=` and `+`
 quiet_wanting : (w : Word) (g : List Word) → wants_value w.kind ≡ true → opens w.kind ≡ false → closes w.kind ≡ false → IsQuiet g → IsQuiet (w ∷ g)
@@ -233,7 +233,7 @@ quiet_wanting w g wants_one no_open no_close q = record { quiet = at } where
   at (y ∷ z ∷ b) x c is some none wants ident =
       let head : w ≡ y = cc in
       let rest : g ≡ z ∷ (b ++ x ∷ c) = cc in
-      q.quiet (z ∷ b) x c rest (omega arith) (ap (λ n. nest_of n (z ∷ b)) (sym (turned_plain [] w.kind no_open no_close)) ∙ ap (λ (v : Word). nest_of (turned [] v.kind) (z ∷ b)) head ∙ none) wants ident
+      q.quiet (z ∷ b) x c rest (omega arith) (ap (λ n. nest_of n (z ∷ b)) (sym (turned_plain [] w.kind no_open no_close)) ∙ ap (λ (v : Word). nest_of (nest_behind [] v.kind) (z ∷ b)) head ∙ none) wants ident
 
 quiet_append : (f g : List Word) → Keeps f → IsQuiet f → IsQuiet g → NoIdent g → IsQuiet (f ++ g)
 quiet_append f g k q r starts = record { quiet = at } where

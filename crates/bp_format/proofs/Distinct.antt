@@ -9,57 +9,57 @@ use Rattle.std.proofs.lemmas.List.Kept.{AllPairs-cons}
 use Rattle.std.proofs.lemmas.Slice.Eq.{bytes_eq-Decides}
 use Rattle.bp_parser.specs.Names.{names_of, AreDistinct, HasDistinctNames, ItemsHaveDistinctNames, TermsHaveDistinctNames, ValuesHaveDistinctNames, DefinitionHasDistinctNames}
 use Rattle.bp_parser.specs.Trees.{Tree, Leaf, Items, Body, Sum, Trees, no_tree, tree_and, Terms, no_term, term_and, Entries, no_entry, entry_and, Definition, Assigns, Extends, Declares}
-use Rattle.bp_format.specs.Bare.{bare, bare_items, bare_terms, bare_entries, bare_def, bare_defs}
+use Rattle.bp_format.specs.WithoutPlaces.{tree_without_places, items_without_places, terms_without_places, entries_without_places, definition_without_places, definitions_without_places}
 use Rattle.bp_format.specs.Editing.{Wanted}
-use Rattle.bp_format.specs.Setting.{list_of, strings_of, with_value, with_entry, set_by, set_entry, is_named, set_in_definition, first_or, set_in}
+use Rattle.bp_format.specs.Setting.{list_expression, string_items, with_value, with_entry, set_by, set_entry, has_module_name, set_in_definition, first_definition, set_in}
 use Rattle.bp_format.specs.Spots.{lookup}
 use Rattle.bp_format.proofs.Flaws.{names_bare}
 
 -- whether names differ has nothing to do with places
 mutual
-  to_bare : (x : Tree) → HasDistinctNames x → HasDistinctNames (bare x)
+  to_bare : (x : Tree) → HasDistinctNames x → HasDistinctNames (tree_without_places x)
   to_bare (Leaf at a) d = d
   to_bare (Items at xs) d = to_bare_items xs d
   to_bare (Body at es) d = (subst AreDistinct (sym (names_bare es)) d.0, to_bare_values es d.1)
   to_bare (Sum x terms) d = (to_bare x d.0, to_bare_terms terms d.1)
 
-  to_bare_items : (xs : Trees) → ItemsHaveDistinctNames xs → ItemsHaveDistinctNames (bare_items xs)
+  to_bare_items : (xs : Trees) → ItemsHaveDistinctNames xs → ItemsHaveDistinctNames (items_without_places xs)
   to_bare_items no_tree d = d
   to_bare_items (tree_and x xs) d = (to_bare x d.0, to_bare_items xs d.1)
 
-  to_bare_terms : (xs : Terms) → TermsHaveDistinctNames xs → TermsHaveDistinctNames (bare_terms xs)
+  to_bare_terms : (xs : Terms) → TermsHaveDistinctNames xs → TermsHaveDistinctNames (terms_without_places xs)
   to_bare_terms no_term d = d
   to_bare_terms (term_and at x xs) d = (to_bare x d.0, to_bare_terms xs d.1)
 
-  to_bare_values : (es : Entries) → ValuesHaveDistinctNames es → ValuesHaveDistinctNames (bare_entries es)
+  to_bare_values : (es : Entries) → ValuesHaveDistinctNames es → ValuesHaveDistinctNames (entries_without_places es)
   to_bare_values no_entry d = d
   to_bare_values (entry_and name at x es) d = (to_bare x d.0, to_bare_values es d.1)
 
 mutual
-  of_bare : (x : Tree) → HasDistinctNames (bare x) → HasDistinctNames x
+  of_bare : (x : Tree) → HasDistinctNames (tree_without_places x) → HasDistinctNames x
   of_bare (Leaf at a) d = d
   of_bare (Items at xs) d = of_bare_items xs d
   of_bare (Body at es) d = (subst AreDistinct (names_bare es) d.0, of_bare_values es d.1)
   of_bare (Sum x terms) d = (of_bare x d.0, of_bare_terms terms d.1)
 
-  of_bare_items : (xs : Trees) → ItemsHaveDistinctNames (bare_items xs) → ItemsHaveDistinctNames xs
+  of_bare_items : (xs : Trees) → ItemsHaveDistinctNames (items_without_places xs) → ItemsHaveDistinctNames xs
   of_bare_items no_tree d = d
   of_bare_items (tree_and x xs) d = (of_bare x d.0, of_bare_items xs d.1)
 
-  of_bare_terms : (xs : Terms) → TermsHaveDistinctNames (bare_terms xs) → TermsHaveDistinctNames xs
+  of_bare_terms : (xs : Terms) → TermsHaveDistinctNames (terms_without_places xs) → TermsHaveDistinctNames xs
   of_bare_terms no_term d = d
   of_bare_terms (term_and at x xs) d = (of_bare x d.0, of_bare_terms xs d.1)
 
-  of_bare_values : (es : Entries) → ValuesHaveDistinctNames (bare_entries es) → ValuesHaveDistinctNames es
+  of_bare_values : (es : Entries) → ValuesHaveDistinctNames (entries_without_places es) → ValuesHaveDistinctNames es
   of_bare_values no_entry d = d
   of_bare_values (entry_and name at x es) d = (of_bare x d.0, of_bare_values es d.1)
 
-def_to_bare : (d : Definition) → DefinitionHasDistinctNames d → DefinitionHasDistinctNames (bare_def d)
+def_to_bare : (d : Definition) → DefinitionHasDistinctNames d → DefinitionHasDistinctNames (definition_without_places d)
 def_to_bare (Assigns name at x) h = to_bare x h
 def_to_bare (Extends name at x) h = to_bare x h
 def_to_bare (Declares kind at m) h = to_bare (Body m.at m.entries) h
 
-def_of_bare : (d : Definition) → DefinitionHasDistinctNames (bare_def d) → DefinitionHasDistinctNames d
+def_of_bare : (d : Definition) → DefinitionHasDistinctNames (definition_without_places d) → DefinitionHasDistinctNames d
 def_of_bare (Assigns name at x) h = of_bare x h
 def_of_bare (Extends name at x) h = of_bare x h
 def_of_bare (Declares kind at m) h = of_bare (Body m.at m.entries) h
@@ -71,18 +71,18 @@ others_of : (d : Definition) (ds : List Definition) → All DefinitionHasDistinc
 others_of d ds h = λ i e within. h (suc i) e (omega arith)
 
 -- definitions that are the same but for places
-pub distinct_alike : (ds es : List Definition) → bare_defs ds ≡ bare_defs es → All DefinitionHasDistinctNames ds → All DefinitionHasDistinctNames es
+pub distinct_alike : (ds es : List Definition) → definitions_without_places ds ≡ definitions_without_places es → All DefinitionHasDistinctNames ds → All DefinitionHasDistinctNames es
 distinct_alike ds [] same h = All-nil DefinitionHasDistinctNames
 distinct_alike [] (e ∷ es) same h = absurd cc
 distinct_alike (d ∷ ds) (e ∷ es) same h =
-    let head : bare_def d ≡ bare_def e = cc in
-    let rest : bare_defs ds ≡ bare_defs es = cc in
+    let head : definition_without_places d ≡ definition_without_places e = cc in
+    let rest : definitions_without_places ds ≡ definitions_without_places es = cc in
     All-cons DefinitionHasDistinctNames e es
     (def_of_bare e (subst DefinitionHasDistinctNames head (def_to_bare d (first_of d ds h))))
     (distinct_alike ds es rest (others_of d ds h))
 
 -- a list of strings has no map
-strings_distinct : (xs : List (List ℕ)) → ItemsHaveDistinctNames (strings_of xs)
+strings_distinct : (xs : List (List ℕ)) → ItemsHaveDistinctNames (string_items xs)
 strings_distinct [] = tt
 strings_distinct (x ∷ xs) = (tt, strings_distinct xs)
 
@@ -168,12 +168,12 @@ def_distinct : (w : Wanted) (d e : Definition) → set_in_definition w d ≡ Som
 def_distinct w (Assigns name at x) e is h = absurd cc
 def_distinct w (Extends name at x) e is h = absurd cc
 def_distinct w (Declares kind at m) e is h =
-    let new : Definition = Declares kind at (record { at = m.at; entries = set_entry w.property (list_of w.items) m.entries }) in
-    let here : DefinitionHasDistinctNames new = set_by_distinct w.property (list_of w.items) m.entries (lookup w.property m.entries) refl (strings_distinct w.items) h in
+    let new : Definition = Declares kind at (record { at = m.at; entries = set_entry w.property (list_expression w.items) m.entries }) in
+    let here : DefinitionHasDistinctNames new = set_by_distinct w.property (list_expression w.items) m.entries (lookup w.property m.entries) refl (strings_distinct w.items) h in
     ⊎_elim
-    (λ yes. subst DefinitionHasDistinctNames (one new e (sym (cond-true (is_named w.name m.entries) _ _ yes) ∙ is)) here)
-    (λ other. absurd (never e (sym (cond-false (is_named w.name m.entries) _ _ other) ∙ is)))
-    (cases_Bool (is_named w.name m.entries))
+    (λ yes. subst DefinitionHasDistinctNames (one new e (sym (cond-true (has_module_name w.name m.entries) _ _ yes) ∙ is)) here)
+    (λ other. absurd (never e (sym (cond-false (has_module_name w.name m.entries) _ _ other) ∙ is)))
+    (cases_Bool (has_module_name w.name m.entries))
   where
     one : (a b : Definition) → Some a ≡ Some b → a ≡ b
     one a b e' = cc
@@ -181,7 +181,7 @@ def_distinct w (Declares kind at m) e is h =
     never : (b : Definition) → None ≡ Some b → ⊥
     never b e' = cc
 
-first_distinct : (w : Wanted) (d : Definition) (ds : List Definition) (o : Option Definition) → set_in_definition w d ≡ o → All DefinitionHasDistinctNames (d ∷ ds) → All DefinitionHasDistinctNames (set_in w ds) → All DefinitionHasDistinctNames (first_or o d ds (set_in w ds))
+first_distinct : (w : Wanted) (d : Definition) (ds : List Definition) (o : Option Definition) → set_in_definition w d ≡ o → All DefinitionHasDistinctNames (d ∷ ds) → All DefinitionHasDistinctNames (set_in w ds) → All DefinitionHasDistinctNames (first_definition o d ds (set_in w ds))
 first_distinct w d ds None is h more = All-cons DefinitionHasDistinctNames d (set_in w ds) (first_of d ds h) more
 first_distinct w d ds (Some e) is h more = All-cons DefinitionHasDistinctNames e ds (def_distinct w d e is (first_of d ds h)) (others_of d ds h)
 

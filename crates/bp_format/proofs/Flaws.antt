@@ -15,22 +15,22 @@ use Rattle.bp_parser.specs.Names.{names_of}
 use Rattle.bp_parser.specs.declared.flaw.Flaw.{Flaw}
 use Rattle.bp_parser.specs.declared.flaw.Flaw.TheVariants.{Unexpected, TooNested, Duplicate}
 use Rattle.bp_parser.specs.Meaning.{IsTree, file_of}
-use Rattle.bp_format.specs.Bare.{bare_entries, bare_defs, bare_word, bare_words, origin}
+use Rattle.bp_format.specs.WithoutPlaces.{entries_without_places, definitions_without_places, word_content, word_contents, origin}
 use Rattle.bp_format.proofs.Frames.{Alike, Moves, alike_parts, both, change, mark, word, moves, moves_def, no_word, SameEntries}
 
 -- the definitions of like words
-pub file_moves : (ds : List Definition) (ts us : List Word) → SpellsFile ds ts → Alike ts us → (es : List Definition) × SpellsFile es us × (bare_defs ds ≡ bare_defs es)
+pub file_moves : (ds : List Definition) (ts us : List Word) → SpellsFile ds ts → Alike ts us → (es : List Definition) × SpellsFile es us × (definitions_without_places ds ≡ definitions_without_places es)
 file_moves [] ts us s same = ([], no_word us (subst (λ l. Alike l us) s same), refl)
 file_moves (d ∷ ds) ts us s same =
     let m = moves_def d ts s.0 s.1 in
-    let p = alike_parts m.front s.0 us (sym (ap bare_words m.split) ∙ same) in
+    let p = alike_parts m.front s.0 us (sym (ap word_contents m.split) ∙ same) in
     let e = m.again p.0 p.3 in
     let es = file_moves ds s.0 p.1 s.2 p.4 in
     (e.0 ∷ es.0, (p.1, subst (λ l. SpellsDef e.0 l p.1) (sym p.2) (e.2 p.1), es.1), λ i. e.1 i ∷ es.2 i)
 
 -- those that are a file's begin like those that are
 alike_append : (a b c : List Word) → Alike a b → Alike (a ++ c) (b ++ c)
-alike_append a b c same = map-append bare_word a c ∙ ap (λ l. l ++ bare_words c) same ∙ sym (map-append bare_word b c)
+alike_append a b c same = map-append word_content a c ∙ ap (λ l. l ++ word_contents c) same ∙ sym (map-append word_content b c)
 
 begins_alike : (a b : List Word) → Alike a b → BeginsAFile a → BeginsAFile b
 begins_alike a b same s =
@@ -43,15 +43,15 @@ alike_take (suc k) [] [] same = refl
 alike_take (suc k) [] (y ∷ b) same = absurd cc
 alike_take (suc k) (x ∷ a) [] same = absurd cc
 alike_take (suc k) (x ∷ a) (y ∷ b) same =
-    let head : bare_word x ≡ bare_word y = cc in
+    let head : word_content x ≡ word_content y = cc in
     let rest : Alike a b = cc in
     (λ i. head i ∷ alike_take k a b rest i)
 
 alike_drop : (k : ℕ) (a b : List Word) → Alike a b → Alike (drop k a) (drop k b)
-alike_drop k a b same = sym (drop-map bare_word k a) ∙ ap (drop k) same ∙ drop-map bare_word k b
+alike_drop k a b same = sym (drop-map word_content k a) ∙ ap (drop k) same ∙ drop-map word_content k b
 
 alike_length : (a b : List Word) → Alike a b → length a ≡ length b
-alike_length a b same = sym (length-map a bare_word) ∙ ap length same ∙ length-map b bare_word
+alike_length a b same = sym (length-map a word_content) ∙ ap length same ∙ length-map b word_content
 
 alike_sym : (a b : List Word) → Alike a b → Alike b a
 alike_sym a b same = sym same
@@ -71,7 +71,7 @@ fold_alike p n [] [] same = refl
 fold_alike p n [] (y ∷ b) same = absurd cc
 fold_alike p n (x ∷ a) [] same = absurd cc
 fold_alike p n (x ∷ a) (y ∷ b) same =
-    let head : bare_word x ≡ bare_word y = cc in
+    let head : word_content x ≡ word_content y = cc in
     let rest : Alike a b = cc in
     fold_alike p (n + cond (p x.kind) 1 0) a b rest ∙ ap (λ k. fold (λ s (w : Word). s + cond (p w.kind) 1 0) (n + cond (p k) 1 0) b) (ap (λ q. q.0) head)
 
@@ -79,10 +79,10 @@ count_alike : (p : TokenKind → Bool) (a b : List Word) → Alike a b → count
 count_alike p a b same = fold_alike p 0 a b same
 
 -- like words have a like first word, and like ones behind it
-first_alike : (w : Word) (rest b : List Word) → Alike (w ∷ rest) b → (v : Word) × (more : List Word) × (b ≡ v ∷ more) × (bare_word w ≡ bare_word v) × Alike rest more
+first_alike : (w : Word) (rest b : List Word) → Alike (w ∷ rest) b → (v : Word) × (more : List Word) × (b ≡ v ∷ more) × (word_content w ≡ word_content v) × Alike rest more
 first_alike w rest [] same = absurd cc
 first_alike w rest (v ∷ more) same =
-    let head : bare_word w ≡ bare_word v = cc in
+    let head : word_content w ≡ word_content v = cc in
     let behind : Alike rest more = cc in
     (v, more, refl, head, behind)
 
@@ -92,7 +92,7 @@ behind_first b k v more is = ap (drop 1) (sym is) ∙ drop-drop 1 k b
 
 nested_alike : (a b : List Word) (k : ℕ) → Alike a b → IsTooNested a k → IsTooNested b k
 nested_alike a b k same is =
-    let f = first_alike is.bracket (drop (k + 1) a) (drop k b) (sym (ap bare_words is.at) ∙ alike_drop k a b same) in
+    let f = first_alike is.bracket (drop (k + 1) a) (drop k b) (sym (ap word_contents is.at) ∙ alike_drop k a b same) in
     let kind : is.bracket.kind ≡ f.0.kind = ap (λ p. p.0) f.3 in
     record {
       bracket = f.0;
@@ -113,7 +113,7 @@ first_moves (entry_and name at x es) ts rest s =
     (λ y e us other r. (r.0, r.2.0, r.2.2.0, r.2.2.2.0, r.1, (y.1.0, r.2.1), r.2.2.1, (y.1.1.1.0, r.2.2.2.1), r.2.2.2.2))
     (both (word Ident at name ts s.0 s.4) (both (mark Colon s.5.0 s.0 s.1 s.5.1) (both (moves x s.1 s.2 s.6) (both (mark Comma s.7.0 s.2 s.3 s.7.1) (first_moves es s.3 rest s.8)))))
 
-pub names_bare : (es : Entries) → names_of (bare_entries es) ≡ names_of es
+pub names_bare : (es : Entries) → names_of (entries_without_places es) ≡ names_of es
 names_bare no_entry = refl
 names_bare (entry_and name at x es) = ap (λ l. name ∷ l) (names_bare es)
 
@@ -125,14 +125,14 @@ one_suffix b v n k is len some =
 
 repeated_alike : (a b : List Word) (k : ℕ) → Alike a b → IsRepeated a k → IsRepeated b k
 repeated_alike a b k same is =
-    let o = first_alike (record { kind = Mark OpenBrace; at = is.opened.0; text = is.opened.1.0 }) is.inner (drop is.brace b) (sym (ap bare_words is.opened.1.1) ∙ alike_drop is.brace a b same) in
+    let o = first_alike (record { kind = Mark OpenBrace; at = is.opened.0; text = is.opened.1.0 }) is.inner (drop is.brace b) (sym (ap word_contents is.opened.1.1) ∙ alike_drop is.brace a b same) in
     let kind : o.0.kind ≡ Mark OpenBrace = sym (ap (λ p. p.0) o.3) in
     let m = first_moves is.before is.inner (drop k a) is.spelled in
-    let p = alike_parts m.front (drop k a) o.1 (sym (ap bare_words m.split) ∙ o.4) in
+    let p = alike_parts m.front (drop k a) o.1 (sym (ap word_contents m.split) ∙ o.4) in
     let e = m.again p.0 p.3 in
     let inner : o.1 ≡ drop (is.brace + 1) b = behind_first b is.brace o.0 o.1 o.2 in
     let behind : p.1 ≡ drop (is.brace + 1 + length p.0) b = sym (drop-append_seam p.0 p.1) ∙ ap (drop (length p.0)) (sym p.2 ∙ inner) ∙ drop-drop (length p.0) (is.brace + 1) b in
-    let w = first_alike (record { kind = Ident; at = is.place; text = is.name }) (drop (k + 1) a) p.1 (sym (ap bare_words is.at) ∙ p.4) in
+    let w = first_alike (record { kind = Ident; at = is.place; text = is.name }) (drop (k + 1) a) p.1 (sym (ap word_contents is.at) ∙ p.4) in
     let rest : p.1 ≡ drop k b = one_suffix b p.1 (is.brace + 1 + length p.0) k behind (sym (alike_length (drop k a) p.1 p.4) ∙ alike_length (drop k a) (drop k b) (alike_drop k a b same)) (omega (arith, ap length w.2)) in
     let here : drop k b ≡ w.0 ∷ w.1 = sym rest ∙ w.2 in
     record {
@@ -159,7 +159,7 @@ flaw_alike a b (TooNested k) same is = nested_alike a b k same is
 flaw_alike a b (Duplicate k) same is = duplicate_alike a b k same is
 
 -- Like words have a tree that is the same but for places.
-pub tree_alike : (a b : List Word) (tree : File) → Alike a b → IsTree a tree → (other : File) × IsTree b other × (bare_defs tree.defs ≡ bare_defs other.defs)
+pub tree_alike : (a b : List Word) (tree : File) → Alike a b → IsTree a tree → (other : File) × IsTree b other × (definitions_without_places tree.defs ≡ definitions_without_places other.defs)
 tree_alike a b tree same is =
     let m = file_moves tree.defs a b is.spelled same in (
       record { file = file_of b; defs = m.0 },

@@ -9,11 +9,11 @@ use Rattle.bp_lexer.specs.declared.token.TokenKind.TheVariants.{Ident, Punct as 
 use Rattle.bp_parser.specs.Trees.{Tree, Leaf, Items, Body, Sum, Trees, no_tree, tree_and, Terms, no_term, term_and, Entries, no_entry, entry_and, Definition, Assigns, Extends, Declares}
 use Rattle.bp_parser.specs.Words.{Word}
 use Rattle.bp_parser.specs.Grammar.{IsWord, IsMarkAt, IsMark, IsPrim, HasTerm, Spells, SpellsTerms, SpellsItems, SpellsMoreItems, SpellsEntries, SpellsMoreEntries, SpellsDef}
-use Rattle.bp_format.specs.Bare.{bare, bare_items, bare_terms, bare_entries, bare_def, bare_word, bare_words, origin}
+use Rattle.bp_format.specs.WithoutPlaces.{tree_without_places, items_without_places, terms_without_places, entries_without_places, definition_without_places, word_content, word_contents, origin}
 
 -- the words are the same but for places
 abbrev pub Alike : List Word → List Word → Type 0
-Alike ts us = bare_words ts ≡ bare_words us
+Alike ts us = word_contents ts ≡ word_contents us
 
 -- R says that x is spelled by ts up to rest: then it is spelled by a front, and what is like that front spells the same but for places.
 pub record Moves {A : Type 0} (R : A → List Word → List Word → Type 0) (Same : A → A → Type 0) (x : A) (ts rest : List Word) : Type 0 where
@@ -26,7 +26,7 @@ pub alike_parts : (a b us : List Word) → Alike (a ++ b) us → (u v : List Wor
 alike_parts [] b us same = ([], us, refl, refl, same)
 alike_parts (w ∷ a) b [] same = absurd cc
 alike_parts (w ∷ a) b (x ∷ us) same =
-    let head : bare_word w ≡ bare_word x = cc in
+    let head : word_content w ≡ word_content x = cc in
     let rest : Alike (a ++ b) us = cc in
     let p = alike_parts a b us rest in
     (x ∷ p.0, p.1, ap (λ l. x ∷ l) p.2, (λ i. head i ∷ p.3 i), p.4)
@@ -62,7 +62,7 @@ like_word : (kind : TokenKind) (at : Place) (text : List ℕ) (us : List Word) �
 like_word kind at text [] same = absurd cc
 like_word kind at text (u ∷ v ∷ us) same = absurd cc
 like_word kind at text (u ∷ []) same =
-    let head : (kind, text) ≡ bare_word u = cc in
+    let head : (kind, text) ≡ word_content u = cc in
     (u.at, λ i. record { kind = (sym head i).0; at = u.at; text = (sym head i).1 } ∷ [])
 
 pub word : (kind : TokenKind) (at : Place) (text : List ℕ) (ts rest : List Word) → IsWord kind at text ts rest → Moves (HasWord kind text) Any at ts rest
@@ -78,24 +78,24 @@ pub mark : (m : Punct) (at : Place) (ts rest : List Word) → IsMarkAt m at ts r
 mark m at ts rest is = change (λ p. p) (λ y s. s) (λ y s us other w. (is.0, w)) (word (Mark m) at is.0 ts rest is.1)
 
 abbrev pub SameTree : Tree → Tree → Type 0
-SameTree x y = bare x ≡ bare y
+SameTree x y = tree_without_places x ≡ tree_without_places y
 
 abbrev pub SameTerms : Terms → Terms → Type 0
-SameTerms x y = bare_terms x ≡ bare_terms y
+SameTerms x y = terms_without_places x ≡ terms_without_places y
 
 abbrev pub SameItems : Trees → Trees → Type 0
-SameItems x y = bare_items x ≡ bare_items y
+SameItems x y = items_without_places x ≡ items_without_places y
 
 abbrev pub SameEntries : Entries → Entries → Type 0
-SameEntries x y = bare_entries x ≡ bare_entries y
+SameEntries x y = entries_without_places x ≡ entries_without_places y
 
-prim_bare : (x : Tree) → IsPrim x → IsPrim (bare x)
+prim_bare : (x : Tree) → IsPrim x → IsPrim (tree_without_places x)
 prim_bare (Leaf at atom) is = tt
 prim_bare (Items at xs) is = tt
 prim_bare (Body at es) is = tt
 prim_bare (Sum x terms) is = is
 
-bare_prim : (x : Tree) → IsPrim (bare x) → IsPrim x
+bare_prim : (x : Tree) → IsPrim (tree_without_places x) → IsPrim x
 bare_prim (Leaf at atom) is = tt
 bare_prim (Items at xs) is = tt
 bare_prim (Body at es) is = tt
@@ -104,11 +104,11 @@ bare_prim (Sum x terms) is = is
 prim_kept : (x y : Tree) → SameTree x y → IsPrim x → IsPrim y
 prim_kept x y same is = bare_prim y (subst IsPrim same (prim_bare x is))
 
-term_bare : (x : Terms) → HasTerm x → HasTerm (bare_terms x)
+term_bare : (x : Terms) → HasTerm x → HasTerm (terms_without_places x)
 term_bare no_term is = is
 term_bare (term_and at x terms) is = tt
 
-bare_term : (x : Terms) → HasTerm (bare_terms x) → HasTerm x
+bare_term : (x : Terms) → HasTerm (terms_without_places x) → HasTerm x
 bare_term no_term is = is
 bare_term (term_and at x terms) is = tt
 
@@ -170,7 +170,7 @@ mutual
       (both (mark Comma s.4.0 ts s.0 s.4.1) (both (word Ident at name s.0 s.1 s.5) (both (mark Colon s.6.0 s.1 s.2 s.6.1) (both (moves x s.2 s.3 s.7) (moves_more_entries es s.3 rest s.8)))))
 
 abbrev pub SameDef : Definition → Definition → Type 0
-SameDef d e = bare_def d ≡ bare_def e
+SameDef d e = definition_without_places d ≡ definition_without_places e
 
 pub moves_def : (d : Definition) (ts rest : List Word) → SpellsDef d ts rest → Moves SpellsDef SameDef d ts rest
 moves_def (Assigns name at x) ts rest s =

@@ -14,7 +14,7 @@ use Rattle.bp_parser.specs.Words.{Word, words_of, as_word, is_comment}
 use Rattle.bp_parser.specs.Grammar.{Spells, SpellsFile}
 use Rattle.bp_format.specs.declared.spot.Spot.{Spot}
 use Rattle.bp_format.specs.declared.spot.Spot.TheVariants.{Instead, Behind}
-use Rattle.bp_format.specs.Layout.{opens, closes, turned}
+use Rattle.bp_format.specs.Layout.{opens, closes, nest_behind}
 use Rattle.bp_format.specs.Spots.{spot}
 use Rattle.bp_format.specs.Spans.{from_place, closing, up_to, list_span, end_span, span}
 use Rattle.bp_format.proofs.Depth.{nest_of, IsWithin, items_within, turned_open, turned_plain}
@@ -97,7 +97,7 @@ record IsInside (base n : List TokenKind) (b : List Word) (d : ℕ) : Type 0 whe
   pub end : length (nest_of n b) ≡ length base
   pub depth : length n ≡ length base + d
 
-next_inside : (base n : List TokenKind) (w : Word) (b : List Word) (d e : ℕ) → IsInside base n (w ∷ b) d → length (turned n w.kind) ≡ length base + e → IsInside base (turned n w.kind) b e
+next_inside : (base n : List TokenKind) (w : Word) (b : List Word) (d e : ℕ) → IsInside base n (w ∷ b) d → length (nest_behind n w.kind) ≡ length base + e → IsInside base (nest_behind n w.kind) b e
 next_inside base n w b d e is deep = record {
   some = is.some;
   above = λ b1 b2 split. is.above (w ∷ b1) b2 (ap (λ l. w ∷ l) split);
@@ -123,14 +123,14 @@ closed text base n d (t ∷ ts) b e rest is shut closing_one inside =
         let behind : words_of text ts ≡ c ++ e ∷ rest = cc in
         let kind : t.kind ≡ w.kind = ap (λ (v : Word). v.kind) first in
         ⊎_elim
-        (λ o. closes_open text d t ts rest o (again (turned n w.kind) (d + 1) c behind (next_inside base n w c d (d + 1) i (omega (arith, i.depth, ap length (turned_open n w.kind (sym (ap opens kind) ∙ o)), length-append n (w.kind ∷ []))))))
+        (λ o. closes_open text d t ts rest o (again (nest_behind n w.kind) (d + 1) c behind (next_inside base n w c d (d + 1) i (omega (arith, i.depth, ap length (turned_open n w.kind (sym (ap opens kind) ∙ o)), length-append n (w.kind ∷ []))))))
         (λ o. ⊎_elim
         (λ cl.
-        let cut : turned n w.kind ≡ take (length n - 1) n = cond-false (opens w.kind) _ _ (sym (ap opens kind) ∙ o) ∙ cond-true (closes w.kind) _ _ (sym (ap closes kind) ∙ cl) in
-        let less : length (turned n w.kind) ≡ length n - 1 = ap length cut ∙ length-take-le (length n - 1) n (omega arith) in
-        let low : length base ≤ length (turned n w.kind) = i.above (w ∷ []) c refl in
-        closes_deep text d t ts rest o cl (λ none. omega (arith, low, less, i.depth, i.some)) (again (turned n w.kind) (d - 1) c behind (next_inside base n w c d (d - 1) i (omega (arith, low, less, i.depth, i.some)))))
-        (λ cl. closes_plain text d t ts rest o cl (again (turned n w.kind) d c behind (next_inside base n w c d d i (omega (arith, i.depth, ap length (turned_plain n w.kind (sym (ap opens kind) ∙ o) (sym (ap closes kind) ∙ cl)))))))
+        let cut : nest_behind n w.kind ≡ take (length n - 1) n = cond-false (opens w.kind) _ _ (sym (ap opens kind) ∙ o) ∙ cond-true (closes w.kind) _ _ (sym (ap closes kind) ∙ cl) in
+        let less : length (nest_behind n w.kind) ≡ length n - 1 = ap length cut ∙ length-take-le (length n - 1) n (omega arith) in
+        let low : length base ≤ length (nest_behind n w.kind) = i.above (w ∷ []) c refl in
+        closes_deep text d t ts rest o cl (λ none. omega (arith, low, less, i.depth, i.some)) (again (nest_behind n w.kind) (d - 1) c behind (next_inside base n w c d (d - 1) i (omega (arith, low, less, i.depth, i.some)))))
+        (λ cl. closes_plain text d t ts rest o cl (again (nest_behind n w.kind) d c behind (next_inside base n w c d d i (omega (arith, i.depth, ap length (turned_plain n w.kind (sym (ap opens kind) ∙ o) (sym (ap closes kind) ∙ cl)))))))
         (cases_Bool (closes t.kind)))
         (cases_Bool (opens t.kind))
 

@@ -14,9 +14,9 @@ use Rattle.bp_parser.specs.Words.{Word}
 use Rattle.bp_parser.specs.Grammar.{Spells, SpellsEntries, SpellsMoreEntries, SpellsDef, SpellsFile}
 use Rattle.bp_format.specs.declared.spot.Spot.{Spot}
 use Rattle.bp_format.specs.declared.spot.Spot.TheVariants.{Instead, Behind}
-use Rattle.bp_format.specs.Bare.{bare_defs, origin}
+use Rattle.bp_format.specs.WithoutPlaces.{definitions_without_places, origin}
 use Rattle.bp_format.specs.Editing.{Wanted}
-use Rattle.bp_format.specs.Setting.{list_of, headed, changed_at, set_by, set_entry, set_in_definition, first_or, set_in}
+use Rattle.bp_format.specs.Setting.{list_expression, entry_with, changed_at, set_by, set_entry, set_in_definition, first_definition, set_in}
 use Rattle.bp_format.specs.Spots.{lookup, string_place, value_spot, spot_in, named_spot, or_else, spot}
 use Rattle.bp_format.proofs.Cuts.{same_front}
 use Rattle.bp_format.proofs.Depth.{opened, shut, opened_append, shut_append, framed, framed_def}
@@ -118,7 +118,7 @@ more_hole name x lead change begins (entry_and other at v es) ts rest s found =
     let h = values_hole name x lead change begins other v es s.2 s.3 rest s.7 s.8 found (λ e. more_hole name x lead change begins es s.3 rest s.8 e) in
     hole_behind Values SameValues SpellsMoreEntries SameEntries (λ y. if bytes_eq other name then change y v es else (v, changed_at name (change y) es)) (λ y. changed_at name (change y) (entry_and other at v es)) x lead (c ∷ n ∷ k ∷ []) ts s.2 rest rest 0 0
     (s.4.1.1 ∙ ap (λ l. c ∷ l) (s.5 ∙ ap (λ l. n ∷ l) s.6.1.1)) refl h
-    (λ y z eq us r. (headed other at z, (λ i. entry_and other origin (eq.0 i) (eq.1 i)), (n ∷ k ∷ us, k ∷ us, us, r.0, (s.4.0, (s.4.1.0, refl)), refl, (s.6.0, (s.6.1.0, refl)), r.1, r.2)))
+    (λ y z eq us r. (entry_with other at z, (λ i. entry_and other origin (eq.0 i) (eq.1 i)), (n ∷ k ∷ us, k ∷ us, us, r.0, (s.4.0, (s.4.1.0, refl)), refl, (s.6.0, (s.6.1.0, refl)), r.1, r.2)))
 
 pub entry_hole : (name : List ℕ) (x : Tree) (lead : List Word) (change : Tree → Tree → Entries → Tree × Entries) → Begins x lead change → (es : Entries) (ts rest : List Word) → SpellsEntries es ts rest → lookup name es ≡ Some x → IsHole SpellsEntries SameEntries (λ y. changed_at name (change y) es) x lead 0 ts rest
 entry_hole name x lead change begins no_entry ts rest s found = absurd cc
@@ -128,7 +128,7 @@ entry_hole name x lead change begins (entry_and other at v es) ts rest s found =
     let h = values_hole name x lead change begins other v es s.1 s.2 rest s.5 s.6 found (λ e. more_hole name x lead change begins es s.2 rest s.6 e) in
     hole_behind Values SameValues SpellsEntries SameEntries (λ y. if bytes_eq other name then change y v es else (v, changed_at name (change y) es)) (λ y. changed_at name (change y) (entry_and other at v es)) x lead (n ∷ k ∷ []) ts s.1 rest rest 0 0
     (s.3 ∙ ap (λ l. n ∷ l) s.4.1.1) refl h
-    (λ y z eq us r. (headed other at z, (λ i. entry_and other origin (eq.0 i) (eq.1 i)), (k ∷ us, us, r.0, refl, (s.4.0, (s.4.1.0, refl)), r.1, r.2)))
+    (λ y z eq us r. (entry_with other at z, (λ i. entry_and other origin (eq.0 i) (eq.1 i)), (k ∷ us, us, r.0, refl, (s.4.0, (s.4.1.0, refl)), r.1, r.2)))
 
 -- a word at no place
 abbrev pub plain_word : TokenKind → List ℕ → Word
@@ -180,15 +180,15 @@ added property at text es ts mid rest s more =
 -- The words have a hole at a spot, and with the list they spell the target.
 pub record IsSet {A : Type 0} (R : A → List Word → List Word → Type 0) (Same : A → A → Type 0) (w : Wanted) (target : A) (place : Spot) (depth : ℕ) (ts rest : List Word) : Type 0 where
   pub new : Tree → A
-  pub is : new (list_of w.items) ≡ target
+  pub is : new (list_expression w.items) ≡ target
   pub value : Tree
   pub at : IsTreeAt place value
   pub hole : IsHole R Same new value (lead_of w.property place) depth ts rest
 
-behind_name : (w : Wanted) (es : Entries) (ts rest : List Word) (p : Place) (x : Tree) → SpellsEntries es ts rest → IsTreeAt (Behind p) x → lookup (codes "name") es ≡ Some x → lookup w.property es ≡ None → IsSet SpellsEntries SameEntries w (set_entry w.property (list_of w.items) es) (Behind p) 0 ts rest
+behind_name : (w : Wanted) (es : Entries) (ts rest : List Word) (p : Place) (x : Tree) → SpellsEntries es ts rest → IsTreeAt (Behind p) x → lookup (codes "name") es ≡ Some x → lookup w.property es ≡ None → IsSet SpellsEntries SameEntries w (set_entry w.property (list_expression w.items) es) (Behind p) 0 ts rest
 behind_name w es ts rest p (Leaf q (Str t)) s here named none = record {
   new = λ y. set_by w.property y None es;
-  is = ap (λ o. set_by w.property (list_of w.items) o es) (sym none);
+  is = ap (λ o. set_by w.property (list_expression w.items) o es) (sym none);
   value = Leaf q (Str t);
   at = here;
   hole = entry_hole (codes "name") (Leaf q (Str t)) (lead_words w.property) (λ y value more. (value, entry_and w.property origin y more)) (added w.property q t) es ts rest s named;
@@ -200,23 +200,23 @@ behind_name w es ts rest p (Items q xs) s here named none = absurd here
 behind_name w es ts rest p (Body q xs) s here named none = absurd here
 behind_name w es ts rest p (Sum x terms) s here named none = absurd here
 
-in_place : (w : Wanted) (es : Entries) (ts rest : List Word) (at : Place) (xs : Trees) → SpellsEntries es ts rest → lookup w.property es ≡ Some (Items at xs) → IsSet SpellsEntries SameEntries w (set_entry w.property (list_of w.items) es) (Instead at) 0 ts rest
+in_place : (w : Wanted) (es : Entries) (ts rest : List Word) (at : Place) (xs : Trees) → SpellsEntries es ts rest → lookup w.property es ≡ Some (Items at xs) → IsSet SpellsEntries SameEntries w (set_entry w.property (list_expression w.items) es) (Instead at) 0 ts rest
 in_place w es ts rest at xs s found = record {
   new = λ y. set_by w.property y (Some (Items at xs)) es;
-  is = ap (λ o. set_by w.property (list_of w.items) o es) (sym found);
+  is = ap (λ o. set_by w.property (list_expression w.items) o es) (sym found);
   value = Items at xs;
   at = refl;
   hole = entry_hole w.property (Items at xs) [] (λ y old more. (y, more)) (replaced at xs) es ts rest s found;
 }
 
-by_value : (w : Wanted) (es : Entries) (ts rest : List Word) (p : Place) (x : Tree) (place : Spot) (o : Option Tree) → SpellsEntries es ts rest → IsTreeAt (Behind p) x → lookup (codes "name") es ≡ Some x → lookup w.property es ≡ o → value_spot w.property p o ≡ Ok place → IsSet SpellsEntries SameEntries w (set_entry w.property (list_of w.items) es) place 0 ts rest
-by_value w es ts rest p x place None s here named is found = subst (λ q. IsSet SpellsEntries SameEntries w (set_entry w.property (list_of w.items) es) q 0 ts rest) (same_ok (Behind p) place found) (behind_name w es ts rest p x s here named is)
-by_value w es ts rest p x place (Some (Items at xs)) s here named is found = subst (λ q. IsSet SpellsEntries SameEntries w (set_entry w.property (list_of w.items) es) q 0 ts rest) (same_ok (Instead at) place found) (in_place w es ts rest at xs s is)
+by_value : (w : Wanted) (es : Entries) (ts rest : List Word) (p : Place) (x : Tree) (place : Spot) (o : Option Tree) → SpellsEntries es ts rest → IsTreeAt (Behind p) x → lookup (codes "name") es ≡ Some x → lookup w.property es ≡ o → value_spot w.property p o ≡ Ok place → IsSet SpellsEntries SameEntries w (set_entry w.property (list_expression w.items) es) place 0 ts rest
+by_value w es ts rest p x place None s here named is found = subst (λ q. IsSet SpellsEntries SameEntries w (set_entry w.property (list_expression w.items) es) q 0 ts rest) (same_ok (Behind p) place found) (behind_name w es ts rest p x s here named is)
+by_value w es ts rest p x place (Some (Items at xs)) s here named is found = subst (λ q. IsSet SpellsEntries SameEntries w (set_entry w.property (list_expression w.items) es) q 0 ts rest) (same_ok (Instead at) place found) (in_place w es ts rest at xs s is)
 by_value w es ts rest p x place (Some (Leaf at a)) s here named is found = absurd cc
 by_value w es ts rest p x place (Some (Body at a)) s here named is found = absurd cc
 by_value w es ts rest p x place (Some (Sum a terms)) s here named is found = absurd cc
 
-by_name : (w : Wanted) (es : Entries) (ts rest : List Word) (place : Spot) (q : Option Place) → SpellsEntries es ts rest → q ≡ string_place w.name (lookup (codes "name") es) → spot_in w.property q es ≡ Ok (Some place) → (is_some q ≡ true) × IsSet SpellsEntries SameEntries w (set_entry w.property (list_of w.items) es) place 0 ts rest
+by_name : (w : Wanted) (es : Entries) (ts rest : List Word) (place : Spot) (q : Option Place) → SpellsEntries es ts rest → q ≡ string_place w.name (lookup (codes "name") es) → spot_in w.property q es ≡ Ok (Some place) → (is_some q ≡ true) × IsSet SpellsEntries SameEntries w (set_entry w.property (list_expression w.items) es) place 0 ts rest
 by_name w es ts rest place None s is found = absurd cc
 by_name w es ts rest place (Some p) s is found =
     let x = string_found w.name (lookup (codes "name") es) p (sym is) in
@@ -238,7 +238,7 @@ def_set w (Declares kind at m) ts rest place s found =
     let b : Word = record { kind = Mark OpenBrace; at = m.at; text = s.2.1.0 } in
     let r = by_name w m.entries s.2.0 rest place (string_place w.name (lookup (codes "name") m.entries)) s.2.2 refl found in
     let h = r.1 in (
-      Declares kind at (record { at = m.at; entries = set_entry w.property (list_of w.items) m.entries }),
+      Declares kind at (record { at = m.at; entries = set_entry w.property (list_expression w.items) m.entries }),
       cond-true (is_some (string_place w.name (lookup (codes "name") m.entries))) _ _ r.0,
       record {
         new = λ y. Declares kind at (record { at = m.at; entries = h.new y });
@@ -266,7 +266,7 @@ abbrev pub Files : List Definition → List Word → List Word → Type 0
 Files ds ts rest = SpellsFile ds ts
 
 abbrev pub SameDefs : List Definition → List Definition → Type 0
-SameDefs ds es = bare_defs ds ≡ bare_defs es
+SameDefs ds es = definitions_without_places ds ≡ definitions_without_places es
 
 pub file_set : (file : ℕ) (w : Wanted) (ds : List Definition) (ws : List Word) (place : Spot) → SpellsFile ds ws → spot file w.name w.property ds ≡ Ok place → IsSet Files SameDefs w (set_in w ds) place 1 ws []
 file_set file w [] ws place s found = absurd cc
@@ -277,11 +277,11 @@ file_set file w (d ∷ ds) ws place s found =
     let h = r.2 in
     record {
       new = λ y. h.new y ∷ ds;
-      is = ap (λ e. e ∷ ds) h.is ∙ ap (λ o. first_or o d ds (set_in w ds)) (sym r.1);
+      is = ap (λ e. e ∷ ds) h.is ∙ ap (λ o. first_definition o d ds (set_in w ds)) (sym r.1);
       value = h.value;
       at = h.at;
       hole = hole_behind SpellsDef SameDef Files SameDefs h.new (λ y. h.new y ∷ ds) h.value (lead_of w.property place) [] ws ws s.0 [] 1 0 refl refl h.hole
-          (λ y z eq us t. (z ∷ ds, (λ i. eq i ∷ bare_defs ds), (s.0, t, s.2)));
+          (λ y z eq us t. (z ∷ ds, (λ i. eq i ∷ definitions_without_places ds), (s.0, t, s.2)));
     })
     (λ later.
     let h = file_set file w ds s.0 place s.2 later.1 in
@@ -289,7 +289,7 @@ file_set file w (d ∷ ds) ws place s found =
     let a = f.again f.front refl in
     record {
       new = λ y. d ∷ h.new y;
-      is = ap (λ es. d ∷ es) h.is ∙ ap (λ o. first_or o d ds (set_in w ds)) (sym (def_other w d later.0));
+      is = ap (λ es. d ∷ es) h.is ∙ ap (λ o. first_definition o d ds (set_in w ds)) (sym (def_other w d later.0));
       value = h.value;
       at = h.at;
       hole = hole_behind Files SameDefs Files SameDefs h.new (λ y. d ∷ h.new y) h.value (lead_of w.property place) f.front ws s.0 [] [] 1 0 f.split (counted_def d ws s.0 s.1) h.hole

@@ -17,7 +17,7 @@ use Rattle.bp_lexer.specs.Faults.{IsInRange}
 use Rattle.bp_lexer.specs.Forms.{IsForm, IsLongest}
 use Rattle.bp_lexer.specs.Meaning.{IsBlank, IsToken, Covers, word_of}
 use Rattle.bp_lexer.specs.Places.{place_at, begins_char, last_line}
-use Rattle.bp_format.specs.Bare.{bare_tokens}
+use Rattle.bp_format.specs.WithoutPlaces.{token_contents}
 use Rattle.bp_format.proofs.Lexing.{Lexing}
 
 -- a form that a byte goes on with is the front of a longer one
@@ -133,7 +133,7 @@ covers_le lex file text i j [] covers = covers.0
 covers_le lex file text i j (t ∷ ts) covers = omega (arith, covers_le lex file text t.end j ts covers.2, covers.0.0, (lex.within file text t covers.1).nonempty)
 
 -- a front of a text has the same words
-pub bare_front : Lexing → (file : ℕ) (a : List ℕ) (c d : List ℕ) (i : ℕ) (ts : List Token) → Covers file (a ++ c) i (length a) ts → bare_tokens (a ++ d) ts ≡ bare_tokens (a ++ c) ts
+pub bare_front : Lexing → (file : ℕ) (a : List ℕ) (c d : List ℕ) (i : ℕ) (ts : List Token) → Covers file (a ++ c) i (length a) ts → token_contents (a ++ d) ts ≡ token_contents (a ++ c) ts
 bare_front lex file a c d i [] covers = refl
 bare_front lex file a c d i (t ∷ ts) covers =
     let s = lex.within file (a ++ c) t covers.1 in
@@ -167,7 +167,7 @@ covers_front lex file a b c d i (t ∷ ts) covers =
     )
 
 -- The tokens behind a place are those behind another, where the same text follows.
-pub covers_tail : Lexing → (file : ℕ) (a b : List ℕ) (i j : ℕ) (ts : List Token) → i ≤ length a → j ≤ length b → drop i a ≡ drop j b → Covers file a i (length a) ts → (us : List Token) × Covers file b j (length b) us × (bare_tokens b us ≡ bare_tokens a ts)
+pub covers_tail : Lexing → (file : ℕ) (a b : List ℕ) (i j : ℕ) (ts : List Token) → i ≤ length a → j ≤ length b → drop i a ≡ drop j b → Covers file a i (length a) ts → (us : List Token) × Covers file b j (length b) us × (token_contents b us ≡ token_contents a ts)
 covers_tail lex file a b i j [] within_a within_b same covers =
     let len : length a - i ≡ length b - j = sym (length-drop i a) ∙ ap length same ∙ length-drop j b in
     ([], subst (IsBlank b j) (omega (arith, len)) (blank_tail a b i j (length a - i) same (subst (IsBlank a i) (omega arith) covers)), refl)

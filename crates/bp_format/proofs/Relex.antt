@@ -20,7 +20,7 @@ use Rattle.bp_format.specs.declared.gap.Gap.TheVariants.{Nothing, Space, EmptyLi
 use Rattle.bp_format.specs.declared.gap.Seam.{Seam}
 use Rattle.bp_format.specs.Kinds.{is_line_comment}
 use Rattle.bp_format.specs.Gaps.{gap, gap_text}
-use Rattle.bp_format.specs.Layout.{Piece, gap_behind, laid, turned, first_kind, depth_of, in_call}
+use Rattle.bp_format.specs.Layout.{Piece, gap_behind, laid, nest_behind, first_kind, nest_depth, in_call}
 use Rattle.bp_format.specs.Ends.{piece, pieces}
 use Rattle.bp_format.specs.Pieces.{has_line_end}
 use Rattle.bp_format.proofs.Lexing.{Lexing}
@@ -77,15 +77,15 @@ apart k word tail (Line d) stops some = inr (line_end_stops k)
 stops_behind : Lexing → (nest : List TokenKind) (before : Option TokenKind) (a : Piece) (more : List Piece) → BreaksLine a more → AreSound more → StopsAt (goes_on a.kind) (gap_text (gap_behind nest before a more) ++ laid nest (Some a.kind) more)
 stops_behind lex nest before a [] line sound = inr (line_end_stops a.kind)
 stops_behind lex nest before a (b ∷ more) line sound =
-    let s : Seam = record { before = before; left = a.kind; broken = a.broken; ends = a.ends; right = b.kind; after = first_kind more; depth = depth_of nest; in_call = in_call nest } in
-    apart a.kind b.text (gap_text (gap_behind (turned nest b.kind) (Some a.kind) b more) ++ laid (turned nest b.kind) (Some b.kind) more) (gap s) (parts s b.text line sound.0.form) (lex.bytes b.kind b.text sound.0.form).0
+    let s : Seam = record { before = before; left = a.kind; broken = a.broken; ends = a.ends; right = b.kind; after = first_kind more; depth = nest_depth nest; in_call = in_call nest } in
+    apart a.kind b.text (gap_text (gap_behind (nest_behind nest b.kind) (Some a.kind) b more) ++ laid (nest_behind nest b.kind) (Some b.kind) more) (gap s) (parts s b.text line sound.0.form) (lex.bytes b.kind b.text sound.0.form).0
 
 -- the tokens of the layout, from a place on
 abbrev pub retold : ℕ → List ℕ → ℕ → List TokenKind → Option TokenKind → List Piece → List Token
 retold file out at nest before [] = []
 retold file out at nest before (a ∷ more) =
     record { kind = a.kind; start = at; end = at + length a.text; place = place_at file out at }
-    ∷ retold file out (at + length a.text + length (gap_text (gap_behind (turned nest a.kind) before a more))) (turned nest a.kind) (Some a.kind) more
+    ∷ retold file out (at + length a.text + length (gap_text (gap_behind (nest_behind nest a.kind) before a more))) (nest_behind nest a.kind) (Some a.kind) more
 
 -- the token that a piece is again, with what stands behind it
 retold_token : Lexing → (file : ℕ) (out : List ℕ) (at : ℕ) (a : Piece) (tail : List ℕ) → IsSound a → StopsAt (goes_on a.kind) tail → at ≤ length out → drop at out ≡ a.text ++ tail → IsToken file out (record { kind = a.kind; start = at; end = at + length a.text; place = place_at file out at })
@@ -103,7 +103,7 @@ covers_laid lex file out j g nest before [] white sound inside is =
     let len : length out ≡ j + length g = omega (arith, length-drop j out, ap length is, length-append g []) in
     rw len (blank_gap out j g [] is white)
 covers_laid lex file out j g nest before (a ∷ more) white sound inside is =
-    let now = turned nest a.kind in
+    let now = nest_behind nest a.kind in
     let next = gap_text (gap_behind now before a more) in
     let behind = laid now (Some a.kind) more in
     let at = j + length g in
@@ -168,7 +168,7 @@ breaks_line lex file text j nest t (u ∷ us) token covers = λ line. lf_behind 
 pub sound_pieces : Lexing → (file : ℕ) (text : List ℕ) (i j : ℕ) (nest : List TokenKind) (ts : List Token) → Covers file text i j ts → AreSound (pieces nest text ts)
 sound_pieces lex file text i j nest [] covers = tt
 sound_pieces lex file text i j nest (t ∷ ts) covers =
-    let now = turned nest t.kind in (
+    let now = nest_behind nest t.kind in (
       record { form = covers.1.longest.form; number = covers.1.number },
       breaks_line lex file text j now t ts covers.1 covers.2,
       sound_pieces lex file text t.end j now ts covers.2,

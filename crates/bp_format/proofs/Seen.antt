@@ -11,7 +11,7 @@ use Rattle.bp_format.specs.declared.gap.Seam.{Seam}
 use Rattle.bp_lexer.specs.Meaning.{word_of}
 use Rattle.bp_format.specs.declared.gap.Gap.{Gap}
 use Rattle.bp_format.specs.Gaps.{gap, gap_text}
-use Rattle.bp_format.specs.Layout.{gap_behind, depth_of, in_call, first_kind, turned, laid}
+use Rattle.bp_format.specs.Layout.{gap_behind, nest_depth, in_call, first_kind, nest_behind, laid}
 use Rattle.bp_format.specs.Ends.{piece, pieces, kind_at, is_end}
 use Rattle.bp_format.specs.Pieces.{has_line_end}
 
@@ -28,16 +28,16 @@ seam nest before text t u more = record {
   ends = is_end nest t.kind (u ∷ more);
   right = u.kind;
   after = kind_at more;
-  depth = depth_of nest;
+  depth = nest_depth nest;
   in_call = in_call nest;
 }
 
 gap_seen : (nest : List TokenKind) (before : Option TokenKind) (text : List ℕ) (t u : Token) (more : List Token) → gap_behind nest before (piece nest text t (u ∷ more)) (pieces nest text (u ∷ more)) ≡ gap (seam nest before text t u more)
-gap_seen nest before text t u more = ap (λ a. gap (record (seam nest before text t u more) { after = a })) (kinds_kept (turned nest u.kind) text more)
+gap_seen nest before text t u more = ap (λ a. gap (record (seam nest before text t u more) { after = a })) (kinds_kept (nest_behind nest u.kind) text more)
 
 pub gap_here : (nest : List TokenKind) (before : Option TokenKind) (text : List ℕ) (ts : List Token) (at : ℕ) (d e : Token) (broken ends : Bool) (after : Option TokenKind) (depth : ℕ) (call : Bool) → at + 1 < length ts →
     broken ≡ has_line_end (take ((get_or ts (at + 1) e).start - (get_or ts at e).end) (drop (get_or ts at e).end text)) →
-    ends ≡ is_end nest (get_or ts at e).kind (drop (at + 1) ts) → after ≡ kind_at (drop (at + 2) ts) → depth ≡ depth_of nest → call ≡ in_call nest →
+    ends ≡ is_end nest (get_or ts at e).kind (drop (at + 1) ts) → after ≡ kind_at (drop (at + 2) ts) → depth ≡ nest_depth nest → call ≡ in_call nest →
     gap record { before = before; left = (get_or ts at e).kind; broken = broken; ends = ends; right = (get_or ts (at + 1) e).kind; after = after; depth = depth; in_call = call }
     ≡ gap_behind nest before (piece nest text (get_or ts at d) (drop (at + 1) ts)) (pieces nest text (drop (at + 1) ts))
 gap_here nest before text ts at d e broken ends after depth call within b n a h l =
@@ -52,7 +52,7 @@ gap_here nest before text ts at d e broken ends after depth call within b n a h 
 
 -- one token further
 pub laid_step : (nest turned_nest seen_nest : List TokenKind) (before : Option TokenKind) (text : List ℕ) (ts : List Token) (at : ℕ) (d : Token) (whole out more all : List ℕ) (g : Gap) → at < length ts →
-    turned_nest ≡ turned nest (get_or ts at d).kind →
+    turned_nest ≡ nest_behind nest (get_or ts at d).kind →
     whole ≡ out ++ laid nest before (pieces nest text (drop at ts)) →
     more ≡ out ++ word_of text (get_or ts at d) →
     all ≡ more ++ gap_text g →

@@ -10,9 +10,9 @@ use Rattle.bp_parser.specs.Laws.{OneTree, SpelledDefinitionsAreTrees, TreesHaveD
 use Rattle.bp_parser.specs.Meaning.{IsTree, file_of}
 use Rattle.bp_parser.specs.Trees.{File, Definition}
 use Rattle.bp_parser.specs.Words.{words_of}
-use Rattle.bp_format.specs.Bare.{bare_defs}
+use Rattle.bp_format.specs.WithoutPlaces.{definitions_without_places}
 use Rattle.bp_format.specs.Editing.{Wanted, IsEdited}
-use Rattle.bp_format.specs.Setting.{list_of, set_in}
+use Rattle.bp_format.specs.Setting.{list_expression, set_in}
 use Rattle.bp_format.proofs.Bits.{bit_words, list_bits, list_spelled}
 use Rattle.bp_format.proofs.Distinct.{set_distinct, distinct_alike}
 use Rattle.bp_format.proofs.Flaws.{tree_alike}
@@ -28,7 +28,7 @@ pub record Parsing : Type 0 where
 
 -- the new text has a tree, which is this one but for places
 abbrev pub HasTree : ℕ → List ℕ → List Definition → Type 0
-HasTree file out ds = (us : List Token) × IsTokenList file out us × (other : File) × IsTree (words_of out us) other × (bare_defs other.defs ≡ bare_defs ds)
+HasTree file out ds = (us : List Token) × IsTokenList file out us × (other : File) × IsTree (words_of out us) other × (definitions_without_places other.defs ≡ definitions_without_places ds)
 
 set_tree : Lexing → Parsing → (file : ℕ) (text out : List ℕ) (w : Wanted) → IsForm Ident w.property → All IsUtf8 w.items → (e : IsEdited file text w out) → HasTree file out (set_in w e.read.tree.defs)
 set_tree lex law file text out w name items e =
@@ -37,8 +37,8 @@ set_tree lex law file text out w name items e =
     let list = bit_words (list_bits w.items) in
     let ws = new_words w r.place h.before h.kept h.after in
     let ds = set_in w e.read.tree.defs in
-    let put = h.put (list_of w.items) list (list_spelled w.items h.after items) in
-    let same : bare_defs ds ≡ bare_defs put.0 = ap bare_defs (sym r.set.is) ∙ put.1 in
+    let put = h.put (list_expression w.items) list (list_spelled w.items h.after items) in
+    let same : definitions_without_places ds ≡ definitions_without_places put.0 = ap definitions_without_places (sym r.set.is) ∙ put.1 in
     let distinct = distinct_alike ds put.0 same (set_distinct w e.read.tree.defs (law.distinct (words_of text e.read.tokens) e.read.tree e.read.parsed)) in
     let parsed = law.trees ws put.0 put.2 distinct (shallow w r.place r.set.value r.set.new (words_of text e.read.tokens) e.read.tree e.read.parsed r.set.at h) in
     let t = tree_alike ws (words_of out r.tokens) (record { file = file_of ws; defs = put.0 }) r.alike parsed in

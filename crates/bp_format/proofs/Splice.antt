@@ -5,7 +5,7 @@ use Rattle.std.proofs.lemmas.List.{drop-drop, map-append}
 use Rattle.bp_lexer.specs.declared.token.Token.{Token}
 use Rattle.bp_lexer.specs.Meaning.{Covers, IsTokenList}
 use Rattle.bp_parser.specs.Words.{Word, words_of}
-use Rattle.bp_format.specs.Bare.{bare_tokens, bare_word, bare_words}
+use Rattle.bp_format.specs.WithoutPlaces.{token_contents, word_content, word_contents}
 use Rattle.bp_format.proofs.Bits.{Bit, bits_text, bit_words, AreBits, told}
 use Rattle.bp_format.proofs.Cuts.{words_append}
 use Rattle.bp_format.proofs.Frames.{Alike}
@@ -14,7 +14,7 @@ use Rattle.bp_format.proofs.Parts.{covers_front, covers_tail, covers_append, bar
 use Rattle.bp_format.proofs.Theorem.{words_alike}
 
 pub alike_both : (a b c d : List Word) → Alike a c → Alike b d → Alike (a ++ b) (c ++ d)
-alike_both a b c d x y = map-append bare_word a b ∙ (λ i. x i ++ y i) ∙ sym (map-append bare_word c d)
+alike_both a b c d x y = map-append word_content a b ∙ (λ i. x i ++ y i) ∙ sym (map-append word_content c d)
 
 -- The tokens before the place `start` and those from `to` on stay, with the bits between them.
 pub splice : Lexing → (file : ℕ) (text out : List ℕ) (start to b : ℕ) (c d : List ℕ) (front behind : List Token) (bits : List Bit) → drop start text ≡ b ∷ c → to ≤ length text → bits_text bits ≡ b ∷ d → AreBits bits (drop to text)
@@ -42,8 +42,8 @@ splice lex file text out start to b c d front behind bits at within first are co
       alike_both (words_of text front) (bit_words bits ++ words_of text behind) (words_of out front) (words_of out m.tokens ++ words_of out t.0)
           (words_alike text out front front (front_words a (b ∷ c) (b ∷ (d ++ rest)) old new before))
           (alike_both (bit_words bits) (words_of text behind) (words_of out m.tokens) (words_of out t.0) m.alike (words_alike text out behind t.0 (sym t.2)))
-          ∙ ap bare_words (sym (words_append out front (m.tokens ++ t.0) ∙ ap (λ l. words_of out front ++ l) (words_append out m.tokens t.0))),
+          ∙ ap word_contents (sym (words_append out front (m.tokens ++ t.0) ∙ ap (λ l. words_of out front ++ l) (words_append out m.tokens t.0))),
     )
   where
-    front_words : (a x y : List ℕ) → text ≡ a ++ x → out ≡ a ++ y → Covers file (a ++ x) 0 (length a) front → bare_tokens text front ≡ bare_tokens out front
-    front_words a x y old new covers = ap (λ l. bare_tokens l front) old ∙ sym (bare_front lex file a x y 0 front covers) ∙ ap (λ l. bare_tokens l front) (sym new)
+    front_words : (a x y : List ℕ) → text ≡ a ++ x → out ≡ a ++ y → Covers file (a ++ x) 0 (length a) front → token_contents text front ≡ token_contents out front
+    front_words a x y old new covers = ap (λ l. token_contents l front) old ∙ sym (bare_front lex file a x y 0 front covers) ∙ ap (λ l. token_contents l front) (sym new)

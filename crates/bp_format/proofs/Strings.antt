@@ -9,7 +9,7 @@ use Rattle.bp_lexer.specs.declared.token.TokenKind.TheVariants.{Quoted}
 use Rattle.bp_lexer.specs.Forms.{IsForm}
 use Rattle.bp_lexer.specs.Meaning.{inner_of, string_of}
 use Rattle.bp_lexer.specs.Strings.{is_body, is_escape, unescaped}
-use Rattle.bp_format.specs.Quotes.{escape_letter, escaped_by, escaped, all_escaped, quoted}
+use Rattle.bp_format.specs.Quotes.{escape_letter, escape_by, character_in_quotes, characters_in_quotes, quotation}
 use Rattle.bp_format.proofs.Quoting.{encode_append, unescaped_back}
 
 abbrev IsBody : List ℕ → List ℕ → Type 0
@@ -57,29 +57,29 @@ backslash : encode 92 ≡ 92 ∷ []
 unfolding encode
 backslash = refl
 
-body_by : (c : ℕ) (o : Option ℕ) (rest : List ℕ) → IsLetter c o → IsBody (encode_utf8_all (escaped_by c o)) rest
+body_by : (c : ℕ) (o : Option ℕ) (rest : List ℕ) → IsLetter c o → IsBody (encode_utf8_all (escape_by c o)) rest
 body_by c None rest is =
     ap (λ l. is_body is_escape false (l ++ rest)) (append-nil (encode c)) ∙ plain_char c rest is.0 is.1 is.2
 body_by c (Some l) rest is =
     ap (λ w. is_body is_escape false (w ++ rest)) ((λ i. backslash i ++ (is.0 i ++ []))) ∙ ap (λ t. t && is_body is_escape false rest) is.1
 
-body_all : (cs : List ℕ) → is_body is_escape false (encode_utf8_all (all_escaped cs)) ≡ true
+body_all : (cs : List ℕ) → is_body is_escape false (encode_utf8_all (characters_in_quotes cs)) ≡ true
 body_all [] = refl
 body_all (c ∷ cs) =
-    ap (is_body is_escape false) (encode_append (escaped c) (all_escaped cs)) ∙ body_by c (escape_letter c) (encode_utf8_all (all_escaped cs)) (letter c) ∙ body_all cs
+    ap (is_body is_escape false) (encode_append (character_in_quotes c) (characters_in_quotes cs)) ∙ body_by c (escape_letter c) (encode_utf8_all (characters_in_quotes cs)) (letter c) ∙ body_all cs
 
-pub quoted_form : (text : List ℕ) → IsForm Quoted (quoted text)
-quoted_form text = (encode_utf8_all (all_escaped (chars text)), refl, body_all (chars text))
+pub quoted_form : (text : List ℕ) → IsForm Quoted (quotation text)
+quoted_form text = (encode_utf8_all (characters_in_quotes (chars text)), refl, body_all (chars text))
 
-scalars_by : (c : ℕ) (o : Option ℕ) (rest : List ℕ) → IsLetter c o → scalar c ≡ true → scalars rest ≡ true → scalars (escaped_by c o ++ rest) ≡ true
+scalars_by : (c : ℕ) (o : Option ℕ) (rest : List ℕ) → IsLetter c o → scalar c ≡ true → scalars rest ≡ true → scalars (escape_by c o ++ rest) ≡ true
 scalars_by c None rest is good more = and_from _ _ good more
 scalars_by c (Some l) rest is good more = and_from (scalar l) (scalars rest) is.2 more
 
-scalars_all : (cs : List ℕ) → scalars cs ≡ true → scalars (all_escaped cs) ≡ true
+scalars_all : (cs : List ℕ) → scalars cs ≡ true → scalars (characters_in_quotes cs) ≡ true
 scalars_all [] good = refl
 scalars_all (c ∷ cs) good =
     let p = and_parts (scalar c) (scalars cs) good in
-    scalars_by c (escape_letter c) (all_escaped cs) (letter c) p.0 (scalars_all cs p.1)
+    scalars_by c (escape_letter c) (characters_in_quotes cs) (letter c) p.0 (scalars_all cs p.1)
 
 inner_quoted : (inner : List ℕ) → inner_of (34 ∷ (inner ++ 34 ∷ [])) ≡ inner
 inner_quoted inner =
@@ -89,10 +89,10 @@ inner_quoted inner =
     one : length (inner ++ 34 ∷ []) + 1 - 2 ≡ length (34 ∷ (inner ++ 34 ∷ [])) - 2
     one = omega arith
 
-pub quoted_string : (text : List ℕ) → IsUtf8 text → string_of Quoted (quoted text) ≡ text
+pub quoted_string : (text : List ℕ) → IsUtf8 text → string_of Quoted (quotation text) ≡ text
 quoted_string text utf8 =
     let cs = utf8.0 in
     let same : chars text ≡ cs = ap chars (sym utf8.1.1) ∙ chars-encodes cs utf8.1.0 in
-    let back : chars (encode_utf8_all (all_escaped (chars text))) ≡ all_escaped cs = ap (λ l. chars (encode_utf8_all (all_escaped l))) same ∙ chars-encodes (all_escaped cs) (scalars_all cs utf8.1.0) in
-    ap (λ l. encode_utf8_all (unescaped false (chars l))) (inner_quoted (encode_utf8_all (all_escaped (chars text))))
+    let back : chars (encode_utf8_all (characters_in_quotes (chars text))) ≡ characters_in_quotes cs = ap (λ l. chars (encode_utf8_all (characters_in_quotes l))) same ∙ chars-encodes (characters_in_quotes cs) (scalars_all cs utf8.1.0) in
+    ap (λ l. encode_utf8_all (unescaped false (chars l))) (inner_quoted (encode_utf8_all (characters_in_quotes (chars text))))
     ∙ ap (λ l. encode_utf8_all (unescaped false l)) back ∙ ap encode_utf8_all (unescaped_back cs) ∙ utf8.1.1

@@ -7,9 +7,9 @@ use Rattle.bp_lexer.specs.Meaning.{IsTokenList}
 use Rattle.bp_parser.specs.Meaning.{IsTree}
 use Rattle.bp_parser.specs.Trees.{File}
 use Rattle.bp_parser.specs.Words.{words_of, is_comment, as_word, without_comments}
-use Rattle.bp_format.specs.Layout.{Piece, layout, turned}
+use Rattle.bp_format.specs.Layout.{Piece, layout, nest_behind}
 use Rattle.bp_format.specs.Ends.{pieces}
-use Rattle.bp_format.specs.Bare.{bare_token, bare_tokens, bare_defs}
+use Rattle.bp_format.specs.WithoutPlaces.{token_content, token_contents, definitions_without_places}
 use Rattle.bp_format.specs.Meaning.{HasLayout}
 use Rattle.bp_format.proofs.Lexing.{Lexing}
 use Rattle.bp_format.proofs.Relex.{retold, sound_pieces, layout_listed}
@@ -22,13 +22,13 @@ use Rattle.bp_format.proofs.Cuts.{pieces_are, pieces_only}
 abbrev bare_piece : Piece → TokenKind × List ℕ
 bare_piece a = (a.kind, a.text)
 
-bare_of_pieces : (nest : List TokenKind) (text : List ℕ) (ts : List Token) → map bare_piece (pieces nest text ts) ≡ bare_tokens text ts
+bare_of_pieces : (nest : List TokenKind) (text : List ℕ) (ts : List Token) → map bare_piece (pieces nest text ts) ≡ token_contents text ts
 bare_of_pieces nest text [] = refl
-bare_of_pieces nest text (t ∷ ts) = ap (λ l. bare_token text t ∷ l) (bare_of_pieces (turned nest t.kind) text ts)
+bare_of_pieces nest text (t ∷ ts) = ap (λ l. token_content text t ∷ l) (bare_of_pieces (nest_behind nest t.kind) text ts)
 
 bare_again : (nest : List TokenKind) (before : Option TokenKind) (ps : List Piece) → map bare_piece (again nest before ps) ≡ map bare_piece ps
 bare_again nest before [] = refl
-bare_again nest before (a ∷ more) = ap (λ l. bare_piece a ∷ l) (bare_again (turned nest a.kind) (Some a.kind) more)
+bare_again nest before (a ∷ more) = ap (λ l. bare_piece a ∷ l) (bare_again (nest_behind nest a.kind) (Some a.kind) more)
 
 -- the tokens of the layout
 abbrev told : ℕ → List ℕ → List Token → List Token
@@ -40,7 +40,7 @@ told_listed lex file text ts listed = layout_listed lex file (pieces [] text ts)
 told_pieces : (file : ℕ) (text : List ℕ) (ts : List Token) → pieces [] (layout (pieces [] text ts)) (told file text ts) ≡ again [] None (pieces [] text ts)
 told_pieces file text ts = pieces_again file (layout (pieces [] text ts)) 0 [] None text ts refl
 
-told_bare : (file : ℕ) (text : List ℕ) (ts : List Token) → bare_tokens (layout (pieces [] text ts)) (told file text ts) ≡ bare_tokens text ts
+told_bare : (file : ℕ) (text : List ℕ) (ts : List Token) → token_contents (layout (pieces [] text ts)) (told file text ts) ≡ token_contents text ts
 told_bare file text ts =
     sym (bare_of_pieces [] (layout (pieces [] text ts)) (told file text ts)) ∙ ap (map bare_piece) (told_pieces file text ts) ∙ bare_again [] None (pieces [] text ts) ∙ bare_of_pieces [] text ts
 
@@ -48,20 +48,20 @@ told_layout : (file : ℕ) (text : List ℕ) (ts : List Token) → layout (piece
 told_layout file text ts = ap layout (told_pieces file text ts) ∙ laid_again [] None (pieces [] text ts)
 
 -- a token more, where it is a word
-word_more : (text out : List ℕ) (t u : Token) (x y : List Token) (b c : Bool) → b ≡ c → bare_token text t ≡ bare_token out u → Alike (map (as_word text) x) (map (as_word out) y) → Alike (map (as_word text) (cond b (t ∷ x) x)) (map (as_word out) (cond c (u ∷ y) y))
+word_more : (text out : List ℕ) (t u : Token) (x y : List Token) (b c : Bool) → b ≡ c → token_content text t ≡ token_content out u → Alike (map (as_word text) x) (map (as_word out) y) → Alike (map (as_word text) (cond b (t ∷ x) x)) (map (as_word out) (cond c (u ∷ y) y))
 word_more text out t u x y true true is head rest = λ i. head i ∷ rest i
 word_more text out t u x y true false is head rest = absurd cc
 word_more text out t u x y false true is head rest = absurd cc
 word_more text out t u x y false false is head rest = rest
 
 -- tokens that are the same but for places have like words
-pub words_alike : (text out : List ℕ) (ts us : List Token) → bare_tokens text ts ≡ bare_tokens out us → Alike (words_of text ts) (words_of out us)
+pub words_alike : (text out : List ℕ) (ts us : List Token) → token_contents text ts ≡ token_contents out us → Alike (words_of text ts) (words_of out us)
 words_alike text out [] [] same = refl
 words_alike text out [] (u ∷ us) same = absurd cc
 words_alike text out (t ∷ ts) [] same = absurd cc
 words_alike text out (t ∷ ts) (u ∷ us) same =
-    let head : bare_token text t ≡ bare_token out u = cc in
-    let rest : bare_tokens text ts ≡ bare_tokens out us = cc in
+    let head : token_content text t ≡ token_content out u = cc in
+    let rest : token_contents text ts ≡ token_contents out us = cc in
     word_more text out t u (without_comments ts) (without_comments us) (not (is_comment t.kind)) (not (is_comment u.kind)) (ap (λ p. not (is_comment p.0)) head) head (words_alike text out ts us rest)
 
 pub one_tokens : Lexing → (file : ℕ) (text : List ℕ) (ts us : List Token) → IsTokenList file text ts → IsTokenList file text us → ts ≡ us
@@ -100,13 +100,13 @@ told_out lex file text out h = subst (λ o. IsTokenList file o (told file text h
 pub layout_tokens : Lexing → (file : ℕ) (text out : List ℕ) → HasLayout file text out → (us : List Token) × IsTokenList file out us
 layout_tokens lex file text out h = (told file text h.tokens, told_out lex file text out h)
 
-pub tokens_same : Lexing → (file : ℕ) (text out : List ℕ) (ts us : List Token) → HasLayout file text out → IsTokenList file text ts → IsTokenList file out us → bare_tokens out us ≡ bare_tokens text ts
+pub tokens_same : Lexing → (file : ℕ) (text out : List ℕ) (ts us : List Token) → HasLayout file text out → IsTokenList file text ts → IsTokenList file out us → token_contents out us ≡ token_contents text ts
 tokens_same lex file text out ts us h listed told_of =
     let old : h.tokens ≡ ts = one_tokens lex file text h.tokens ts h.listed listed in
     let new : us ≡ told file text h.tokens = one_tokens lex file out us (told file text h.tokens) told_of (told_out lex file text out h) in
-    (λ i. bare_tokens (laid_by file text out h i) (new i)) ∙ told_bare file text h.tokens ∙ ap (bare_tokens text) old
+    (λ i. token_contents (laid_by file text out h i) (new i)) ∙ told_bare file text h.tokens ∙ ap (token_contents text) old
 
-pub tree_same : Lexing → (file : ℕ) (text out : List ℕ) (ts us : List Token) (tree : File) → HasLayout file text out → IsTokenList file text ts → IsTree (words_of text ts) tree → IsTokenList file out us → (other : File) × IsTree (words_of out us) other × (bare_defs tree.defs ≡ bare_defs other.defs)
+pub tree_same : Lexing → (file : ℕ) (text out : List ℕ) (ts us : List Token) (tree : File) → HasLayout file text out → IsTokenList file text ts → IsTree (words_of text ts) tree → IsTokenList file out us → (other : File) × IsTree (words_of out us) other × (definitions_without_places tree.defs ≡ definitions_without_places other.defs)
 tree_same lex file text out ts us tree h listed parsed told_of =
     tree_alike (words_of text ts) (words_of out us) tree (words_alike text out ts us (sym (tokens_same lex file text out ts us h listed told_of))) parsed
 

@@ -52,4 +52,5 @@ EditMeans file text w (Err fault) =
     IsLexFault file text fault
     ⊎ (((tokens : List Token) × IsTokenList file text tokens × IsTreeFault text (words_of text tokens) fault)
     ⊎ (((read : IsFile file text) × (spot file w.name w.property read.tree.defs ≡ Err fault))
-    ⊎ ((out : List ℕ) × IsEdited file text w out × (2 ^ 20 < length out) × (fault ≡ fault_at TextTooLong (file_start file)))))
+    ⊎ ((out : List ℕ) × IsEdited file text w out × (2 ^ 20 < length out)
+    × (fault ≡ fault_at TextTooLong (file_start file)))))

@@ -27,7 +27,8 @@ new_line s = Line (if closes_map s.right || closes_list s.right then s.depth - 1
 abbrev pub is_empty_pair : TokenKind → TokenKind → Bool
 is_empty_pair left right = (opens_list left && closes_list right) || (opens_map left && closes_map right)
 
--- Nothing stands between: in an empty list or map, inside of parentheses, before `,` and `:`, and between a name and its `(`.
+-- Nothing stands between: in an empty list or map, inside of parentheses, before `,` and `:`, and between a name and
+-- its `(`.
 abbrev pub touches : Seam → Bool
 touches s =
     is_empty_pair s.left s.right || opens_call s.left || closes_call s.right || is_comma s.right || is_colon s.right
@@ -35,11 +36,14 @@ touches s =
 
 -- A list of one token stays on its line.
 abbrev pub is_lone_item : Seam → Bool
-is_lone_item s = (opens_list s.left && some_is closes_list s.after) || (closes_list s.right && some_is opens_list s.before)
+is_lone_item s =
+    (opens_list s.left && some_is closes_list s.after) || (closes_list s.right && some_is opens_list s.before)
 
 -- A new line begins behind `{`, `[` and `,`, and before `}` and `]`.
 abbrev pub breaks : Seam → Bool
-breaks s = opens_map s.left || opens_list s.left || closes_map s.right || closes_list s.right || (is_comma s.left && not s.in_call)
+breaks s =
+    opens_map s.left || opens_list s.left || closes_map s.right || closes_list s.right
+    || (is_comma s.left && not s.in_call)
 
 -- Between two tokens that are no comments.
 abbrev pub word_gap : Seam → Gap

@@ -11,12 +11,12 @@ use Rattle.bp_parser.specs.Grammar.{Spells}
 use Rattle.bp_parser.specs.Meaning.{IsTree}
 use Rattle.bp_parser.specs.Trees.{Tree, Leaf, Items, Str, Trees, File}
 use Rattle.bp_parser.specs.Words.{words_of}
-use Rattle.bp_format.specs.Bare.{bare_tokens, bare_defs}
+use Rattle.bp_format.specs.WithoutPlaces.{token_contents, definitions_without_places}
 use Rattle.bp_format.specs.declared.spot.Spot.TheVariants.{Instead, Behind}
 use Rattle.bp_format.specs.Editing.{Wanted, IsEdited, EditMeans}
 use Rattle.bp_format.specs.Meaning.{FormatMeans}
 use Rattle.bp_format.specs.Setting.{set_in}
-use Rattle.bp_format.specs.Quotes.{all_escaped}
+use Rattle.bp_format.specs.Quotes.{characters_in_quotes}
 
 -- A formatted text has tokens.
 abbrev pub LayoutsHaveTokens : Type 0
@@ -26,13 +26,14 @@ LayoutsHaveTokens = (file : ℕ) (text out : List ℕ) → FormatMeans file text
 -- They have the kinds and the texts of those of the text.
 abbrev pub LayoutsKeepTokens : Type 0
 LayoutsKeepTokens = (file : ℕ) (text out : List ℕ) (ts us : List Token) → FormatMeans file text (Ok out)
-    → IsTokenList file text ts → IsTokenList file out us → bare_tokens out us ≡ bare_tokens text ts
+    → IsTokenList file text ts → IsTokenList file out us → token_contents out us ≡ token_contents text ts
 
 -- The tree of a formatted text is that of the text, but for places.
 abbrev pub LayoutsKeepTrees : Type 0
 LayoutsKeepTrees = (file : ℕ) (text out : List ℕ) (ts us : List Token) (tree : File) → FormatMeans file text (Ok out)
     → IsTokenList file text ts → IsTree (words_of text ts) tree → IsTokenList file out us
-    → (other : File) × IsTree (words_of out us) other × (bare_defs tree.defs ≡ bare_defs other.defs)
+    → (other : File) × IsTree (words_of out us) other
+    × (definitions_without_places tree.defs ≡ definitions_without_places other.defs)
 
 -- A formatted text is its own layout.
 abbrev pub LayoutsAreKept : Type 0
@@ -59,7 +60,7 @@ SomeEdit = (file : ℕ) (text : List ℕ) (wanted : Wanted)
 
 -- Characters that are escaped stand for themselves again.
 abbrev pub EscapesAreUndone : Type 0
-EscapesAreUndone = (cs : List ℕ) → unescaped false (all_escaped cs) ≡ cs
+EscapesAreUndone = (cs : List ℕ) → unescaped false (characters_in_quotes cs) ≡ cs
 
 -- The tree of an edited text is that of the text with the list set, but for places.
 abbrev pub EditsSetLists : Type 0
@@ -67,7 +68,8 @@ EditsSetLists = (file : ℕ) (text out : List ℕ) (wanted : Wanted) (ts : List 
     → IsForm Ident wanted.property → All IsUtf8 wanted.items → EditMeans file text wanted (Ok out)
     → IsTokenList file text ts → IsTree (words_of text ts) tree
     → (us : List Token) × IsTokenList file out us
-    × (other : File) × IsTree (words_of out us) other × (bare_defs other.defs ≡ bare_defs (set_in wanted tree.defs))
+    × (other : File) × IsTree (words_of out us) other
+    × (definitions_without_places other.defs ≡ definitions_without_places (set_in wanted tree.defs))
 
 -- The tokens of an expression, and the bytes from the first of them to the end of the last.
 pub record IsWritten (text : List ℕ) (tokens : List Token) (x : Tree) (from to : ℕ) : Type 0 where
@@ -92,6 +94,7 @@ ListsGiveWay = (file : ℕ) (text out : List ℕ) (wanted : Wanted) (edit : IsEd
 
 -- Where nothing gives way, the entry is put behind the last token of the name.
 abbrev pub EntriesStandBehindNames : Type 0
-EntriesStandBehindNames = (file : ℕ) (text out : List ℕ) (wanted : Wanted) (edit : IsEdited file text wanted out) (at : Place)
-    → edit.place ≡ Behind at
-    → (edit.from ≡ edit.to) × (name : List ℕ) × (start : ℕ) × IsWritten text edit.read.tokens (Leaf at (Str name)) start edit.to
+EntriesStandBehindNames = (file : ℕ) (text out : List ℕ) (wanted : Wanted) (edit : IsEdited file text wanted out)
+    (at : Place) → edit.place ≡ Behind at
+    → (edit.from ≡ edit.to) × (name : List ℕ) × (start : ℕ)
+    × IsWritten text edit.read.tokens (Leaf at (Str name)) start edit.to

@@ -25,12 +25,13 @@ abbrev pub closes : TokenKind → Bool
 closes kind = closes_list kind || closes_map kind || closes_call kind
 
 -- The brackets that are open behind a token, the innermost last.
-abbrev pub turned : List TokenKind → TokenKind → List TokenKind
-turned nest kind = if opens kind then nest ++ kind ∷ [] else (if closes kind then take (length nest - 1) nest else nest)
+abbrev pub nest_behind : List TokenKind → TokenKind → List TokenKind
+nest_behind nest kind =
+    if opens kind then nest ++ kind ∷ [] else (if closes kind then take (length nest - 1) nest else nest)
 
 -- How many braces and brackets are open.
-abbrev pub depth_of : List TokenKind → ℕ
-depth_of nest = count_by (λ kind. not (opens_call kind)) nest
+abbrev pub nest_depth : List TokenKind → ℕ
+nest_depth nest = count_by (λ kind. not (opens_call kind)) nest
 
 -- Whether the innermost is a parenthesis.
 abbrev pub in_call : List TokenKind → Bool
@@ -51,14 +52,16 @@ gap_behind nest before a (b ∷ more) = gap record {
   ends = a.ends;
   right = b.kind;
   after = first_kind more;
-  depth = depth_of nest;
+  depth = nest_depth nest;
   in_call = in_call nest;
 }
 
 -- The pieces from one on.
 abbrev pub laid : List TokenKind → Option TokenKind → List Piece → List ℕ
 laid nest before [] = []
-laid nest before (a ∷ more) = a.text ++ (gap_text (gap_behind (turned nest a.kind) before a more) ++ laid (turned nest a.kind) (Some a.kind) more)
+laid nest before (a ∷ more) =
+    a.text ++ (gap_text (gap_behind (nest_behind nest a.kind) before a more)
+    ++ laid (nest_behind nest a.kind) (Some a.kind) more)
 
 -- The layout of a whole file. No pieces have the empty layout.
 abbrev pub layout : List Piece → List ℕ

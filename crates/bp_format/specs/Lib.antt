@@ -1,7 +1,7 @@
 pub mod Kinds
 pub mod Gaps
 pub mod Layout
-pub mod Bare
+pub mod WithoutPlaces
 pub mod Pieces
 pub mod Spots
 pub mod Quotes

@@ -28,4 +28,5 @@ FormatMeans file text (Ok out) = HasLayout file text out × (length out ≤ 2 ^ 
 FormatMeans file text (Err fault) =
     IsLexFault file text fault
     ⊎ (((tokens : List Token) × IsTokenList file text tokens × IsTreeFault text (words_of text tokens) fault)
-    ⊎ ((out : List ℕ) × HasLayout file text out × (2 ^ 20 < length out) × (fault ≡ fault_at TextTooLong (file_start file))))
+    ⊎ ((out : List ℕ) × HasLayout file text out × (2 ^ 20 < length out)
+    × (fault ≡ fault_at TextTooLong (file_start file))))

@@ -9,33 +9,33 @@ escape_letter c =
     else if c == 11 then Some 118 else if c == 92 then Some 92 else if c == 34 then Some 34 else None
 
 -- A character, or its escape.
-abbrev pub escaped_by : ℕ → Option ℕ → List ℕ
-escaped_by c None = c ∷ []
-escaped_by c (Some letter) = 92 ∷ letter ∷ []
+abbrev pub escape_by : ℕ → Option ℕ → List ℕ
+escape_by c None = c ∷ []
+escape_by c (Some letter) = 92 ∷ letter ∷ []
 
 -- A character between quotes.
-abbrev pub escaped : ℕ → List ℕ
-escaped c = escaped_by c (escape_letter c)
+abbrev pub character_in_quotes : ℕ → List ℕ
+character_in_quotes c = escape_by c (escape_letter c)
 
 -- The characters of a text between quotes.
-abbrev pub all_escaped : List ℕ → List ℕ
-all_escaped [] = []
-all_escaped (c ∷ cs) = escaped c ++ all_escaped cs
+abbrev pub characters_in_quotes : List ℕ → List ℕ
+characters_in_quotes [] = []
+characters_in_quotes (c ∷ cs) = character_in_quotes c ++ characters_in_quotes cs
 
 -- A text as a string, in its quotes.
-abbrev pub quoted : List ℕ → List ℕ
-quoted text = 34 ∷ (encode_utf8_all (all_escaped (chars text)) ++ 34 ∷ [])
+abbrev pub quotation : List ℕ → List ℕ
+quotation text = 34 ∷ (encode_utf8_all (characters_in_quotes (chars text)) ++ 34 ∷ [])
 
 -- What stands behind the first item of a list.
-abbrev pub more_items : List (List ℕ) → List ℕ
-more_items [] = []
-more_items (x ∷ xs) = codes ", " ++ (quoted x ++ more_items xs)
+abbrev pub more_items_text : List (List ℕ) → List ℕ
+more_items_text [] = []
+more_items_text (x ∷ xs) = codes ", " ++ (quotation x ++ more_items_text xs)
 
 -- The items of a list.
-abbrev pub all_items : List (List ℕ) → List ℕ
-all_items [] = []
-all_items (x ∷ xs) = quoted x ++ more_items xs
+abbrev pub items_text : List (List ℕ) → List ℕ
+items_text [] = []
+items_text (x ∷ xs) = quotation x ++ more_items_text xs
 
 -- A list of strings.
 abbrev pub list_text : List (List ℕ) → List ℕ
-list_text items = codes "[" ++ (all_items items ++ codes "]")
+list_text items = codes "[" ++ (items_text items ++ codes "]")

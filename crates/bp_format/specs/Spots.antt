@@ -40,7 +40,8 @@ spot_in property (Some name) es = then_do (value_spot property name (lookup prop
 
 -- Where a list is set in a definition, if it is the module with this name.
 abbrev pub named_spot : List ℕ → List ℕ → Definition → Result (Option Spot) Fault
-named_spot wanted property (Declares kind at m) = spot_in property (string_place wanted (lookup (codes "name") m.entries)) m.entries
+named_spot wanted property (Declares kind at m) =
+    spot_in property (string_place wanted (lookup (codes "name") m.entries)) m.entries
 named_spot wanted property (Assigns name at x) = Ok None
 named_spot wanted property (Extends name at x) = Ok None
 
@@ -52,4 +53,5 @@ or_else (Some s) others = Ok s
 -- That of the first module with this name.
 abbrev pub spot : ℕ → List ℕ → List ℕ → List Definition → Result Spot Fault
 spot file wanted property [] = Err (fault_on NoModule (file_start file) wanted)
-spot file wanted property (d ∷ ds) = then_do (named_spot wanted property d) (λ s. or_else s (spot file wanted property ds))
+spot file wanted property (d ∷ ds) =
+    then_do (named_spot wanted property d) (λ s. or_else s (spot file wanted property ds))

@@ -50,7 +50,8 @@ fn edited(
 ) -> Result<String, OutOfMemory>
     requires listed { (file : ℕ) × IsTokenList file text.now tokens.now }
     requires spanned { span spot tokens.now ≡ Some bounds }
-    ensures { IfOk result (λ out. string_bytes out ≡ take bounds.0 text.now ++ (put_in property.now items.now spot ++ drop bounds.1 text.now)) }
+    ensures { IfOk result (λ out. string_bytes out
+        ≡ take bounds.0 text.now ++ (put_in property.now items.now spot ++ drop bounds.1 text.now)) }
 {
     tokens_stand_within();
     let mut out = String::new(alloc);
@@ -76,7 +77,8 @@ pub fn set_list(
 ) -> Result<String, EditError>
     requires short { length text.now ≤ 2 ^ 20 }
     requires name { IsForm Ident property.now }
-    ensures { Tells string_bytes (EditMeans file text.now record { name = name.now; property = property.now; items = items.now }) result }
+    ensures { Tells string_bytes
+        (EditMeans file text.now record { name = name.now; property = property.now; items = items.now }) result }
 {
     tokens_stand_within();
     places_rise();

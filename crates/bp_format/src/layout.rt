@@ -5,7 +5,7 @@ ghost use Rattle.bp_format.specs.Gaps.{gap_text};
 ghost use Rattle.bp_format.specs.Layout.{gap_behind, layout};
 ghost use Rattle.bp_format.specs.Ends.{piece, pieces, kind_at};
 
-use crate::brackets::{depth_of, in_call, turn};
+use crate::brackets::{in_call, nest_depth, turn};
 use crate::ends::{has_line_end, is_end};
 use crate::gap::{Gap, Seam};
 use bp_faults::OutOfMemory;
@@ -33,7 +33,9 @@ fn gap_behind(
 ) -> Gap
     requires listed { (file : ℕ) × IsTokenList file text.now tokens.now }
     requires within { at < length tokens.now }
-    ensures { (d : Token) → result ≡ gap_behind nest.now before (piece nest.now text.now (slice_index_or tokens.now at d) (drop (at + 1) tokens.now)) (pieces nest.now text.now (drop (at + 1) tokens.now)) }
+    ensures { (d : Token) → result ≡ gap_behind nest.now before
+        (piece nest.now text.now (slice_index_or tokens.now at d) (drop (at + 1) tokens.now))
+        (pieces nest.now text.now (drop (at + 1) tokens.now)) }
 {
     lists_have_tokens();
     let left = tokens[at];
@@ -46,7 +48,7 @@ fn gap_behind(
             ends: is_end(nest, left.kind, tokens, at + 1),
             right: right.kind,
             after: kind_at(tokens, at + 2),
-            depth: depth_of(nest),
+            depth: nest_depth(nest),
             in_call: in_call(nest),
         };
         seam.gap()

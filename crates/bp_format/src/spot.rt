@@ -34,7 +34,8 @@ fn first_place(expr: &Expr) -> Place
 
 // The value of an entry.
 fn lookup<'a>(entries: &'a [EntryExpr], name: &str) -> Option<&'a Expr>
-    ensures { option_map (λ x. tree_of x.now) result ≡ lookup name.now (entries_then (map entry_of entries.now) no_entry) }
+    ensures { option_map (λ x. tree_of x.now) result
+        ≡ lookup name.now (entries_then (map entry_of entries.now) no_entry) }
 {
     'entries: for entry in entries {
         if entry.name.as_str() == name {
