@@ -1,7 +1,7 @@
 -- The names of each map of a tree differ, where no name of the words is repeated.
 use Rattle.std.specs.Prelude.{◌≢◌}
-use Rattle.std.specs.List.{All, AllPairs, Contains}
-use Rattle.std.proofs.Common.{◌≡◌, ℕ, zero, suc, ◌+◌, ◌<◌, List, [], ◌∷◌, ◌++◌, length, take, drop, get_or, refl, sym, ap, ◌∙◌, subst, inl, inr, arith, append_assoc, length-append}
+use Rattle.std.specs.List.{All, Contains}
+use Rattle.std.proofs.Common.{◌≡◌, ℕ, zero, suc, ◌+◌, List, [], ◌∷◌, ◌++◌, length, drop, refl, sym, ap, ◌∙◌, subst, inl, inr, arith, append_assoc, length-append}
 use Rattle.std.proofs.lemmas.List.{take-append-drop}
 use Rattle.std.proofs.lemmas.List.Elements.{All-nil, All-cons, Contains-get_or, Contains-append_left, Contains-push}
 use Rattle.std.proofs.lemmas.List.Kept.{AllPairs-cons}
@@ -11,13 +11,12 @@ use Rattle.bp_lexer.specs.declared.token.Punct.{Punct}
 use Rattle.bp_lexer.specs.declared.token.Punct.TheVariants.{OpenBrace, Comma, Colon}
 use Rattle.bp_lexer.specs.declared.token.TokenKind.{TokenKind}
 use Rattle.bp_lexer.specs.declared.token.TokenKind.TheVariants.{Ident, Punct as Mark}
-use Rattle.bp_parser.specs.declared.flaw.Flaw.{Flaw}
 use Rattle.bp_parser.specs.declared.flaw.Flaw.TheVariants.{Duplicate}
 use Rattle.bp_parser.specs.Trees.{Tree, Leaf, Items, Body, Sum, Trees, no_tree, tree_and, Terms, no_term, term_and, Entries, no_entry, entry_and, Definition, Assigns, Extends, Declares, File}
 use Rattle.bp_parser.specs.Names.{names_of, AreDistinct, HasDistinctNames, ItemsHaveDistinctNames, TermsHaveDistinctNames, ValuesHaveDistinctNames, DefinitionHasDistinctNames}
 use Rattle.bp_parser.specs.Words.{Word}
-use Rattle.bp_parser.specs.Grammar.{IsWord, IsMark, IsMarkAt, Spells, SpellsTerms, SpellsItems, SpellsMoreItems, SpellsEntries, SpellsMoreEntries, SpellsDef, SpellsFile}
-use Rattle.bp_parser.specs.Flaws.{SpellsFirst, IsRepeated, IsFlaw}
+use Rattle.bp_parser.specs.Grammar.{IsWord, IsMark, Spells, SpellsTerms, SpellsItems, SpellsMoreItems, SpellsEntries, SpellsMoreEntries, SpellsDef, SpellsFile}
+use Rattle.bp_parser.specs.Flaws.{SpellsFirst, IsRepeated}
 use Rattle.bp_parser.specs.Meaning.{IsTree}
 use Rattle.bp_parser.proofs.Tracks.{and_then, names_and_then, first_and_then}
 

@@ -1,14 +1,13 @@
 -- No name is repeated in words that spell maps whose names differ.
-use Rattle.std.specs.Prelude.{◌⊎◌, ◌≢◌, cond}
-use Rattle.std.specs.List.{All, AllPairs, Contains}
-use Rattle.std.proofs.Common.{◌≡◌, ℕ, zero, suc, ◌+◌, ◌-◌, ◌<◌, ◌≤◌, length, take, drop, get_or, arith, List, [], ◌∷◌, ◌++◌, Bool, true, false, Option, Some, None, sym, refl, ap, ◌∙◌, subst, inl, inr, append_assoc, length-drop, length-append, ⊎_elim}
+use Rattle.std.specs.Prelude.{◌⊎◌}
+use Rattle.std.specs.List.{All}
+use Rattle.std.proofs.Common.{◌≡◌, ℕ, zero, suc, ◌+◌, ◌-◌, ◌≤◌, length, take, drop, arith, List, [], ◌∷◌, ◌++◌, Bool, true, false, Some, sym, refl, ap, ◌∙◌, subst, inl, inr, append_assoc, length-drop, length-append, ⊎_elim}
 use Rattle.std.proofs.Math.ListN.{get_or-append}
 use Rattle.std.proofs.Math.Seq.{get_or-append_seam}
 use Rattle.std.proofs.lemmas.Bool.{cases_Bool, cases_lt, cond-false, false≢true}
 use Rattle.std.proofs.lemmas.Cmp.{nat_list_eq_equiv}
 use Rattle.std.proofs.lemmas.List.{drop-drop, take-append-drop}
 use Rattle.std.proofs.lemmas.Map.Views.{Contains-from_any, list_any-from_Contains}
-use Rattle.bp_faults.specs.declared.place.Place.{Place}
 use Rattle.bp_lexer.specs.declared.token.Punct.{Punct}
 use Rattle.bp_lexer.specs.declared.token.Punct.TheVariants.{OpenBrace, CloseBrace, OpenBracket, CloseBracket, Colon, Comma, Equal, PlusEqual, Plus}
 use Rattle.bp_lexer.specs.declared.token.TokenKind.{TokenKind}
@@ -21,7 +20,7 @@ use Rattle.bp_parser.specs.declared.flaw.Flaw.{Flaw}
 use Rattle.bp_parser.specs.declared.flaw.Flaw.TheVariants.{Unexpected, TooNested, Duplicate}
 use Rattle.bp_parser.specs.Flaws.{BeginsAFile, IsUnexpected, IsTooNested, IsRepeated, IsFlaw}
 use Rattle.bp_parser.specs.Meaning.{IsTree, file_of}
-use Rattle.bp_parser.specs.Machine.{Part, an_expr, more_terms, items, more_items, a_colon, entries, more_entries, a_value, with_rest, begin_def, behind_all, has_name}
+use Rattle.bp_parser.specs.Machine.{Part, an_expr, more_terms, items, more_items, a_colon, entries, more_entries, a_value, with_rest, behind_all, has_name}
 use Rattle.bp_parser.proofs.Firsts.{none_some, some_same}
 use Rattle.bp_parser.proofs.Language.{atom_alone}
 use Rattle.bp_parser.proofs.PartsRead.{same_bytes}
