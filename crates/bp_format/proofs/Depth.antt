@@ -15,7 +15,7 @@ use Rattle.bp_parser.specs.Words.{Word, atom_of}
 use Rattle.bp_parser.specs.Flaws.{opens as opens_bracket, closes as closes_bracket}
 use Rattle.bp_parser.specs.Grammar.{IsWord, IsMark, Spells, SpellsTerms, SpellsItems, SpellsMoreItems, SpellsEntries, SpellsMoreEntries, SpellsDef}
 use Rattle.bp_format.specs.Kinds.{is_ident, wants_value}
-use Rattle.bp_format.specs.Layout.{opens, closes, nest_behind}
+use Rattle.bp_format.specs.Layout.{opens_any, closes_any, nest_behind}
 
 -- the brackets that are open behind words
 abbrev pub nest_of : List TokenKind → List Word → List TokenKind
@@ -52,17 +52,17 @@ pub shut_cons : (w : Word) (ws : List Word) → shut (w ∷ ws) ≡ closes_word 
 shut_cons w ws = sum_by-cons closes_word w ws
 
 -- what is no bracket isn't counted
-plain_opens : (k : TokenKind) → opens k ≡ false → opens_bracket k ≡ false
+plain_opens : (k : TokenKind) → opens_any k ≡ false → opens_bracket k ≡ false
 plain_opens (Mark OpenBrace) is = absurd cc
 plain_opens (Mark OpenBracket) is = absurd cc
 plain_opens _ is = refl
 
-plain_closes : (k : TokenKind) → closes k ≡ false → closes_bracket k ≡ false
+plain_closes : (k : TokenKind) → closes_any k ≡ false → closes_bracket k ≡ false
 plain_closes (Mark CloseBrace) is = absurd cc
 plain_closes (Mark CloseBracket) is = absurd cc
 plain_closes _ is = refl
 
-pub plain_counts : (w : Word) → opens w.kind ≡ false → closes w.kind ≡ false → (opens_word w ≡ 0) × (closes_word w ≡ 0)
+pub plain_counts : (w : Word) → opens_any w.kind ≡ false → closes_any w.kind ≡ false → (opens_word w ≡ 0) × (closes_word w ≡ 0)
 plain_counts w o c = (cond-false (opens_bracket w.kind) 1 0 (plain_opens w.kind o), cond-false (closes_bracket w.kind) 1 0 (plain_closes w.kind c))
 
 -- a bracket that opens and one that closes are counted
@@ -107,10 +107,10 @@ keeps_append f g k l = record {
       (two_cuts f g b c is);
 }
 
-pub turned_plain : (n : List TokenKind) (k : TokenKind) → opens k ≡ false → closes k ≡ false → nest_behind n k ≡ n
-turned_plain n k o c = cond-false (opens k) _ _ o ∙ cond-false (closes k) _ _ c
+pub turned_plain : (n : List TokenKind) (k : TokenKind) → opens_any k ≡ false → closes_any k ≡ false → nest_behind n k ≡ n
+turned_plain n k o c = cond-false (opens_any k) _ _ o ∙ cond-false (closes_any k) _ _ c
 
-keeps_word : (w : Word) → opens w.kind ≡ false → closes w.kind ≡ false → Keeps (w ∷ [])
+keeps_word : (w : Word) → opens_any w.kind ≡ false → closes_any w.kind ≡ false → Keeps (w ∷ [])
 keeps_word w o c = record {
   counts = let p = plain_counts w o c in opened_cons w [] ∙ ap (λ n. n + 0) (p.0 ∙ sym p.1) ∙ sym (shut_cons w []);
   whole = λ n. turned_plain n w.kind o c;
@@ -123,20 +123,20 @@ keeps_word w o c = record {
       omega (arith, ap length (ap (λ (v : Word). nest_behind n v.kind) (sym same) ∙ turned_plain n w.kind o c))
   at n (x ∷ y ∷ b) d is = absurd (omega (arith, ap length is))
 
-pub turned_open : (n : List TokenKind) (k : TokenKind) → opens k ≡ true → nest_behind n k ≡ n ++ k ∷ []
-turned_open n k o = cond-true (opens k) _ _ o
+pub turned_open : (n : List TokenKind) (k : TokenKind) → opens_any k ≡ true → nest_behind n k ≡ n ++ k ∷ []
+turned_open n k o = cond-true (opens_any k) _ _ o
 
-turned_close : (n : List TokenKind) (j k : TokenKind) → opens k ≡ false → closes k ≡ true → nest_behind (n ++ j ∷ []) k ≡ n
+turned_close : (n : List TokenKind) (j k : TokenKind) → opens_any k ≡ false → closes_any k ≡ true → nest_behind (n ++ j ∷ []) k ≡ n
 turned_close n j k o c =
     let len : length (n ++ j ∷ []) - 1 ≡ length n = omega (arith, length-append n (j ∷ [])) in
-    cond-false (opens k) _ _ o ∙ cond-true (closes k) _ _ c ∙ ap (λ i. take i (n ++ j ∷ [])) len ∙ take-append_seam n (j ∷ [])
+    cond-false (opens_any k) _ _ o ∙ cond-true (closes_any k) _ _ c ∙ ap (λ i. take i (n ++ j ∷ [])) len ∙ take-append_seam n (j ∷ [])
 
 -- a bracket, what is inside, and the bracket that closes
 abbrev pub bracket : Word → List Word → Word → List Word
 bracket o inner e = o ∷ (inner ++ e ∷ [])
 
 -- what begins with the bracket and isn't all of it is within
-pub inside_bracket : (n : List TokenKind) (o e : Word) (inner b c : List Word) → opens o.kind ≡ true → Keeps inner → inner ++ e ∷ [] ≡ b ++ c → 0 < length c → length n < length (nest_of (nest_behind n o.kind) b)
+pub inside_bracket : (n : List TokenKind) (o e : Word) (inner b c : List Word) → opens_any o.kind ≡ true → Keeps inner → inner ++ e ∷ [] ≡ b ++ c → 0 < length c → length n < length (nest_of (nest_behind n o.kind) b)
 inside_bracket n o e inner b c opening k is some =
     let deeper : length (nest_behind n o.kind) ≡ length n + 1 = ap length (turned_open n o.kind opening) ∙ length-append n (o.kind ∷ []) in
     ⊎_elim
@@ -151,7 +151,7 @@ inside_bracket n o e inner b c opening k is some =
     ends_there [] c e is some = refl
     ends_there (x ∷ d) c e is some = absurd (omega (arith, ap length is, length-append d c))
 
-keeps_bracket : (o e : Word) (inner : List Word) → IsPair o.kind e.kind → opens o.kind ≡ true → opens e.kind ≡ false → closes e.kind ≡ true → Keeps inner → Keeps (bracket o inner e)
+keeps_bracket : (o e : Word) (inner : List Word) → IsPair o.kind e.kind → opens_any o.kind ≡ true → opens_any e.kind ≡ false → closes_any e.kind ≡ true → Keeps inner → Keeps (bracket o inner e)
 keeps_bracket o e inner pair opening shut_one closing k = record {
   counts = counted;
   whole = all;
@@ -213,7 +213,7 @@ NoIdent (w ∷ ws) = is_ident w.kind ≡ false
 quiet_word : (w : Word) → IsQuiet (w ∷ [])
 quiet_word w = record { quiet = λ b x c is some none wants ident. absurd (omega (arith, ap length is, length-append b (x ∷ c))) }
 
-quiet_bracket : (o e : Word) (inner : List Word) → opens o.kind ≡ true → Keeps inner → IsQuiet (bracket o inner e)
+quiet_bracket : (o e : Word) (inner : List Word) → opens_any o.kind ≡ true → Keeps inner → IsQuiet (bracket o inner e)
 quiet_bracket o e inner opening k = record { quiet = at } where
   at : (b : List Word) (x : Word) (c : List Word) → bracket o inner e ≡ b ++ x ∷ c → 0 < length b → nest_of [] b ≡ [] → wants_more b ≡ false → is_ident x.kind ≡ true → ⊥
   at [] x c is some none wants ident = absurd (omega arith)
@@ -223,7 +223,7 @@ quiet_bracket o e inner opening k = record { quiet = at } where
       omega (arith, inside_bracket [] o e inner b (x ∷ c) opening k rest (omega arith), ap length (ap (λ (v : Word). nest_of (nest_behind [] v.kind) b) head ∙ none))
 
 -- behind `=`, `+=` and `+`
-quiet_wanting : (w : Word) (g : List Word) → wants_value w.kind ≡ true → opens w.kind ≡ false → closes w.kind ≡ false → IsQuiet g → IsQuiet (w ∷ g)
+quiet_wanting : (w : Word) (g : List Word) → wants_value w.kind ≡ true → opens_any w.kind ≡ false → closes_any w.kind ≡ false → IsQuiet g → IsQuiet (w ∷ g)
 quiet_wanting w g wants_one no_open no_close q = record { quiet = at } where
   at : (b : List Word) (x : Word) (c : List Word) → w ∷ g ≡ b ++ x ∷ c → 0 < length b → nest_of [] b ≡ [] → wants_more b ≡ false → is_ident x.kind ≡ true → ⊥
   at [] x c is some none wants ident = absurd (omega arith)
@@ -291,14 +291,14 @@ wants_behind w [] some ends = absurd (omega arith)
 wants_behind w (v ∷ g) some ends = ends
 
 -- one word that is no bracket
-pub plain_atom : (k : TokenKind) (text : List ℕ) (atom : Atom) → atom_of k text ≡ Some atom → (opens k ≡ false) × (closes k ≡ false) × (wants_value k ≡ false)
+pub plain_atom : (k : TokenKind) (text : List ℕ) (atom : Atom) → atom_of k text ≡ Some atom → (opens_any k ≡ false) × (closes_any k ≡ false) × (wants_value k ≡ false)
 plain_atom Ident text atom is = (refl, refl, refl)
 plain_atom Int text atom is = (refl, refl, refl)
 plain_atom Quoted text atom is = (refl, refl, refl)
 plain_atom Raw text atom is = (refl, refl, refl)
 plain_atom _ text atom is = absurd cc
 
-framed_word : (w : Word) (ts rest : List Word) → ts ≡ w ∷ rest → (opens w.kind ≡ false) × (closes w.kind ≡ false) × (wants_value w.kind ≡ false) → IsFramed ts rest
+framed_word : (w : Word) (ts rest : List Word) → ts ≡ w ∷ rest → (opens_any w.kind ≡ false) × (closes_any w.kind ≡ false) × (wants_value w.kind ≡ false) → IsFramed ts rest
 framed_word w ts rest is plain = record {
   front = w ∷ [];
   split = is;
@@ -308,14 +308,14 @@ framed_word w ts rest is plain = record {
   ends = plain.2;
 }
 
-framed_bracket : (j k : Punct) (at : Place) (text : List ℕ) (ts inner rest : List Word) → IsPair (Mark j) (Mark k) → opens (Mark j) ≡ true → opens (Mark k) ≡ false → closes (Mark k) ≡ true → wants_value (Mark k) ≡ false → ts ≡ record { kind = Mark j; at = at; text = text } ∷ inner → IsWithin k inner rest → IsFramed ts rest
+framed_bracket : (j k : Punct) (at : Place) (text : List ℕ) (ts inner rest : List Word) → IsPair (Mark j) (Mark k) → opens_any (Mark j) ≡ true → opens_any (Mark k) ≡ false → closes_any (Mark k) ≡ true → wants_value (Mark k) ≡ false → ts ≡ record { kind = Mark j; at = at; text = text } ∷ inner → IsWithin k inner rest → IsFramed ts rest
 framed_bracket j k at text ts inner rest pair opening shut_one closing ends is w =
     let o : Word = record { kind = Mark j; at = at; text = text } in
     let front = bracket o w.inner w.end in
     record {
       front = front;
       split = is ∙ ap (λ l. o ∷ l) (w.split ∙ sym (append_assoc w.inner (w.end ∷ []) rest));
-      keeps = keeps_bracket o w.end w.inner (subst (IsPair (Mark j)) (sym w.kind) pair) opening (ap opens w.kind ∙ shut_one) (ap closes w.kind ∙ closing) w.keeps;
+      keeps = keeps_bracket o w.end w.inner (subst (IsPair (Mark j)) (sym w.kind) pair) opening (ap opens_any w.kind ∙ shut_one) (ap closes_any w.kind ∙ closing) w.keeps;
       quiet = quiet_bracket o w.end w.inner opening w.keeps;
       some = omega arith;
       ends = wants_append (o ∷ w.inner) w.end [] ∙ ap wants_value w.kind ∙ ends;
@@ -334,7 +334,7 @@ within_more close ts mid rest front split k w = record {
 within_end : (close : Punct) (ts rest : List Word) → IsMark close ts rest → IsWithin close ts rest
 within_end close ts rest m = record { inner = []; end = record { kind = Mark close; at = m.0; text = m.1.0 }; split = m.1.1; keeps = keeps_nil; kind = refl }
 
-within_mark : (close m : Punct) (ts mid rest : List Word) → opens (Mark m) ≡ false → closes (Mark m) ≡ false → IsMark m ts mid → IsWithin close mid rest → IsWithin close ts rest
+within_mark : (close m : Punct) (ts mid rest : List Word) → opens_any (Mark m) ≡ false → closes_any (Mark m) ≡ false → IsMark m ts mid → IsWithin close mid rest → IsWithin close ts rest
 within_mark close m ts mid rest o c s w =
     let x : Word = record { kind = Mark m; at = s.0; text = s.1.0 } in
     within_more close ts mid rest (x ∷ []) s.1.1 (keeps_word x o c) w
@@ -412,7 +412,7 @@ framed_named at name ts mid rest is f starts =
       ends = wants_behind n f.front f.some f.ends;
     }
 
-framed_mark : (m : Punct) (ts mid rest : List Word) → wants_value (Mark m) ≡ true → opens (Mark m) ≡ false → closes (Mark m) ≡ false → IsMark m ts mid → IsFramed mid rest → (f : IsFramed ts rest) × NoIdent f.front
+framed_mark : (m : Punct) (ts mid rest : List Word) → wants_value (Mark m) ≡ true → opens_any (Mark m) ≡ false → closes_any (Mark m) ≡ false → IsMark m ts mid → IsFramed mid rest → (f : IsFramed ts rest) × NoIdent f.front
 framed_mark m ts mid rest wants o c is f =
     let x : Word = record { kind = Mark m; at = is.0; text = is.1.0 } in (
       record {

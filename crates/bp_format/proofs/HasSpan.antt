@@ -14,7 +14,7 @@ use Rattle.bp_parser.specs.Words.{Word, words_of, as_word, is_comment}
 use Rattle.bp_parser.specs.Grammar.{Spells, SpellsFile}
 use Rattle.bp_format.specs.declared.spot.Spot.{Spot}
 use Rattle.bp_format.specs.declared.spot.Spot.TheVariants.{Instead, Behind}
-use Rattle.bp_format.specs.Layout.{opens, closes, nest_behind}
+use Rattle.bp_format.specs.Layout.{opens_any, closes_any, nest_behind}
 use Rattle.bp_format.specs.Spots.{spot}
 use Rattle.bp_format.specs.Spans.{from_place, closing, up_to, list_span, end_span, span}
 use Rattle.bp_format.proofs.Depth.{nest_of, IsWithin, items_within, turned_open, turned_plain}
@@ -54,7 +54,7 @@ token_of_word text (t ∷ ts) pre w rest is =
         let f = again p behind in
         one_behind text t ts p (x ∷ p) w rest f (alone f.before ∙ (λ i. first i ∷ f.front i))
 
-comment_plain : (k : TokenKind) → is_comment k ≡ true → (opens k ≡ false) × (closes k ≡ false)
+comment_plain : (k : TokenKind) → is_comment k ≡ true → (opens_any k ≡ false) × (closes_any k ≡ false)
 comment_plain LineComment is = (refl, refl)
 comment_plain BlockComment is = (refl, refl)
 comment_plain _ is = absurd cc
@@ -71,21 +71,21 @@ record Closes (text : List ℕ) (d : ℕ) (ts : List Token) (rest : List Word) :
 one_before : (text : List ℕ) (d e : ℕ) (t : Token) (ts : List Token) (rest : List Word) → closing d (t ∷ ts) ≡ closing e ts → Closes text e ts rest → Closes text d (t ∷ ts) rest
 one_before text d e t ts rest step r = record { token = r.token; inside = t ∷ r.inside; more = r.more; is = step ∙ r.is; split = ap (λ l. t ∷ l) r.split; behind = r.behind }
 
-closes_open : (text : List ℕ) (d : ℕ) (t : Token) (ts : List Token) (rest : List Word) → opens t.kind ≡ true → Closes text (d + 1) ts rest → Closes text d (t ∷ ts) rest
-closes_open text d t ts rest o r = one_before text d (d + 1) t ts rest (cond-true (opens t.kind) _ _ o) r
+closes_open : (text : List ℕ) (d : ℕ) (t : Token) (ts : List Token) (rest : List Word) → opens_any t.kind ≡ true → Closes text (d + 1) ts rest → Closes text d (t ∷ ts) rest
+closes_open text d t ts rest o r = one_before text d (d + 1) t ts rest (cond-true (opens_any t.kind) _ _ o) r
 
-closes_plain : (text : List ℕ) (d : ℕ) (t : Token) (ts : List Token) (rest : List Word) → opens t.kind ≡ false → closes t.kind ≡ false → Closes text d ts rest → Closes text d (t ∷ ts) rest
-closes_plain text d t ts rest o c r = one_before text d d t ts rest (cond-false (opens t.kind) _ _ o ∙ cond-false (closes t.kind) _ _ c) r
+closes_plain : (text : List ℕ) (d : ℕ) (t : Token) (ts : List Token) (rest : List Word) → opens_any t.kind ≡ false → closes_any t.kind ≡ false → Closes text d ts rest → Closes text d (t ∷ ts) rest
+closes_plain text d t ts rest o c r = one_before text d d t ts rest (cond-false (opens_any t.kind) _ _ o ∙ cond-false (closes_any t.kind) _ _ c) r
 
-closes_deep : (text : List ℕ) (d : ℕ) (t : Token) (ts : List Token) (rest : List Word) → opens t.kind ≡ false → closes t.kind ≡ true → (d ≡ 0 → ⊥) → Closes text (d - 1) ts rest → Closes text d (t ∷ ts) rest
-closes_deep text d t ts rest o c some r = one_before text d (d - 1) t ts rest (cond-false (opens t.kind) _ _ o ∙ cond-true (closes t.kind) _ _ c ∙ cond-false (d == 0) _ _ (ne_eqb d 0 some)) r
+closes_deep : (text : List ℕ) (d : ℕ) (t : Token) (ts : List Token) (rest : List Word) → opens_any t.kind ≡ false → closes_any t.kind ≡ true → (d ≡ 0 → ⊥) → Closes text (d - 1) ts rest → Closes text d (t ∷ ts) rest
+closes_deep text d t ts rest o c some r = one_before text d (d - 1) t ts rest (cond-false (opens_any t.kind) _ _ o ∙ cond-true (closes_any t.kind) _ _ c ∙ cond-false (d == 0) _ _ (ne_eqb d 0 some)) r
 
-closes_here : (text : List ℕ) (d : ℕ) (t : Token) (ts : List Token) (rest : List Word) → opens t.kind ≡ false → closes t.kind ≡ true → d ≡ 0 → words_of text ts ≡ rest → Closes text d (t ∷ ts) rest
+closes_here : (text : List ℕ) (d : ℕ) (t : Token) (ts : List Token) (rest : List Word) → opens_any t.kind ≡ false → closes_any t.kind ≡ true → d ≡ 0 → words_of text ts ≡ rest → Closes text d (t ∷ ts) rest
 closes_here text d t ts rest o c none behind = record {
   token = t;
   inside = [];
   more = ts;
-  is = cond-false (opens t.kind) _ _ o ∙ cond-true (closes t.kind) _ _ c ∙ cond-true (d == 0) _ _ (eq-eqb d 0 none);
+  is = cond-false (opens_any t.kind) _ _ o ∙ cond-true (closes_any t.kind) _ _ c ∙ cond-true (d == 0) _ _ (eq-eqb d 0 none);
   split = refl;
   behind = behind;
 }
@@ -105,7 +105,7 @@ next_inside base n w b d e is deep = record {
   depth = deep;
 }
 
-closed : (text : List ℕ) (base n : List TokenKind) (d : ℕ) (ts : List Token) (b : List Word) (e : Word) (rest : List Word) → words_of text ts ≡ b ++ e ∷ rest → opens e.kind ≡ false → closes e.kind ≡ true → IsInside base n b d → Closes text d ts rest
+closed : (text : List ℕ) (base n : List TokenKind) (d : ℕ) (ts : List Token) (b : List Word) (e : Word) (rest : List Word) → words_of text ts ≡ b ++ e ∷ rest → opens_any e.kind ≡ false → closes_any e.kind ≡ true → IsInside base n b d → Closes text d ts rest
 closed text base n d [] b e rest is shut closing_one inside = absurd (omega (arith, ap length is, length-append b (e ∷ rest)))
 closed text base n d (t ∷ ts) b e rest is shut closing_one inside =
     ⊎_elim
@@ -117,28 +117,28 @@ closed text base n d (t ∷ ts) b e rest is shut closing_one inside =
     here [] s i again =
         let kind : t.kind ≡ e.kind = let first : as_word text t ≡ e = cc in ap (λ (w : Word). w.kind) first in
         let behind : words_of text ts ≡ rest = cc in
-        closes_here text d t ts rest (ap opens kind ∙ shut) (ap closes kind ∙ closing_one) (omega (arith, i.end, i.depth)) behind
+        closes_here text d t ts rest (ap opens_any kind ∙ shut) (ap closes_any kind ∙ closing_one) (omega (arith, i.end, i.depth)) behind
     here (w ∷ c) s i again =
         let first : as_word text t ≡ w = cc in
         let behind : words_of text ts ≡ c ++ e ∷ rest = cc in
         let kind : t.kind ≡ w.kind = ap (λ (v : Word). v.kind) first in
         ⊎_elim
-        (λ o. closes_open text d t ts rest o (again (nest_behind n w.kind) (d + 1) c behind (next_inside base n w c d (d + 1) i (omega (arith, i.depth, ap length (turned_open n w.kind (sym (ap opens kind) ∙ o)), length-append n (w.kind ∷ []))))))
+        (λ o. closes_open text d t ts rest o (again (nest_behind n w.kind) (d + 1) c behind (next_inside base n w c d (d + 1) i (omega (arith, i.depth, ap length (turned_open n w.kind (sym (ap opens_any kind) ∙ o)), length-append n (w.kind ∷ []))))))
         (λ o. ⊎_elim
         (λ cl.
-        let cut : nest_behind n w.kind ≡ take (length n - 1) n = cond-false (opens w.kind) _ _ (sym (ap opens kind) ∙ o) ∙ cond-true (closes w.kind) _ _ (sym (ap closes kind) ∙ cl) in
+        let cut : nest_behind n w.kind ≡ take (length n - 1) n = cond-false (opens_any w.kind) _ _ (sym (ap opens_any kind) ∙ o) ∙ cond-true (closes_any w.kind) _ _ (sym (ap closes_any kind) ∙ cl) in
         let less : length (nest_behind n w.kind) ≡ length n - 1 = ap length cut ∙ length-take-le (length n - 1) n (omega arith) in
         let low : length base ≤ length (nest_behind n w.kind) = i.above (w ∷ []) c refl in
         closes_deep text d t ts rest o cl (λ none. omega (arith, low, less, i.depth, i.some)) (again (nest_behind n w.kind) (d - 1) c behind (next_inside base n w c d (d - 1) i (omega (arith, low, less, i.depth, i.some)))))
-        (λ cl. closes_plain text d t ts rest o cl (again (nest_behind n w.kind) d c behind (next_inside base n w c d d i (omega (arith, i.depth, ap length (turned_plain n w.kind (sym (ap opens kind) ∙ o) (sym (ap closes kind) ∙ cl)))))))
-        (cases_Bool (closes t.kind)))
-        (cases_Bool (opens t.kind))
+        (λ cl. closes_plain text d t ts rest o cl (again (nest_behind n w.kind) d c behind (next_inside base n w c d d i (omega (arith, i.depth, ap length (turned_plain n w.kind (sym (ap opens_any kind) ∙ o) (sym (ap closes_any kind) ∙ cl)))))))
+        (cases_Bool (closes_any t.kind)))
+        (cases_Bool (opens_any t.kind))
 
 -- the bracket that closes, behind a list's
 list_closes : (text : List ℕ) (ts : List Token) (inner rest : List Word) → words_of text ts ≡ inner → IsWithin CloseBracket inner rest → Closes text 0 ts rest
 list_closes text ts inner rest is w =
     let base : List TokenKind = Mark OpenBracket ∷ [] in
-    closed text base base 0 ts w.inner w.end rest (is ∙ w.split) (ap opens w.kind) (ap closes w.kind) (record {
+    closed text base base 0 ts w.inner w.end rest (is ∙ w.split) (ap opens_any w.kind) (ap closes_any w.kind) (record {
       some = omega arith;
       above = λ b1 b2 split. w.keeps.within base b1 b2 split;
       end = ap length (w.keeps.whole base);

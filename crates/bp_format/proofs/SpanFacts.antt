@@ -8,7 +8,7 @@ use Rattle.bp_lexer.specs.Meaning.{IsToken, Covers, IsTokenList}
 use Rattle.bp_lexer.specs.Laws.{TokensStandWithin}
 use Rattle.bp_format.specs.declared.spot.Spot.{Spot}
 use Rattle.bp_format.specs.declared.spot.Spot.TheVariants.{Instead, Behind}
-use Rattle.bp_format.specs.Layout.{opens, closes}
+use Rattle.bp_format.specs.Layout.{opens_any, closes_any}
 use Rattle.bp_format.specs.Spans.{is_at, from_place, closing, up_to, list_span, end_span, span}
 
 pub record IsSpan (text : List ℕ) (from to : ℕ) : Type 0 where
@@ -27,19 +27,19 @@ closing_token law file text i j depth (t ∷ ts) u covers is =
     let span = law file text t covers.1 in
     let later : (n : ℕ) → closing n ts ≡ Some u → IsToken file text u × (i ≤ u.start) = λ n e. let r = closing_token law file text t.end j n ts u covers.2 e in (r.0, omega (arith, r.1, span.nonempty, covers.0.0)) in
     ⊎_elim
-    (λ o. later (depth + 1) (sym (cond-true (opens t.kind) _ _ o) ∙ is))
+    (λ o. later (depth + 1) (sym (cond-true (opens_any t.kind) _ _ o) ∙ is))
     (λ o.
-    let rest = sym (cond-false (opens t.kind) _ _ o) ∙ is in
+    let rest = sym (cond-false (opens_any t.kind) _ _ o) ∙ is in
     ⊎_elim
     (λ c.
-    let last = sym (cond-true (closes t.kind) _ _ c) ∙ rest in
+    let last = sym (cond-true (closes_any t.kind) _ _ c) ∙ rest in
     ⊎_elim
     (λ z. let same : t ≡ u = some_one t u (sym (cond-true (depth == 0) _ _ z) ∙ last) in (subst (IsToken file text) same covers.1, omega (arith, covers.0.0, ap (λ (x : Token). x.start) same)))
     (λ z. later (depth - 1) (sym (cond-false (depth == 0) _ _ z) ∙ last))
     (cases_Bool (depth == 0)))
-    (λ c. later depth (sym (cond-false (closes t.kind) _ _ c) ∙ rest))
-    (cases_Bool (closes t.kind)))
-    (cases_Bool (opens t.kind))
+    (λ c. later depth (sym (cond-false (closes_any t.kind) _ _ c) ∙ rest))
+    (cases_Bool (closes_any t.kind)))
+    (cases_Bool (opens_any t.kind))
 
 -- from a token on, the text is covered too
 covers_from : (file : ℕ) (text : List ℕ) (place : Place) (i j : ℕ) (ts : List Token) → Covers file text i j ts → (k : ℕ) × Covers file text k j (from_place place ts)

@@ -17,17 +17,17 @@ pub record Piece : Type 0 where
   pub ends : Bool
 
 -- An opening bracket.
-abbrev pub opens : TokenKind → Bool
-opens kind = opens_list kind || opens_map kind || opens_call kind
+abbrev pub opens_any : TokenKind → Bool
+opens_any kind = opens_list kind || opens_map kind || opens_call kind
 
 -- A closing bracket.
-abbrev pub closes : TokenKind → Bool
-closes kind = closes_list kind || closes_map kind || closes_call kind
+abbrev pub closes_any : TokenKind → Bool
+closes_any kind = closes_list kind || closes_map kind || closes_call kind
 
 -- The brackets that are open behind a token, the innermost last.
 abbrev pub nest_behind : List TokenKind → TokenKind → List TokenKind
 nest_behind nest kind =
-    if opens kind then nest ++ kind ∷ [] else (if closes kind then take (length nest - 1) nest else nest)
+    if opens_any kind then nest ++ kind ∷ [] else (if closes_any kind then take (length nest - 1) nest else nest)
 
 -- How many braces and brackets are open.
 abbrev pub nest_depth : List TokenKind → ℕ

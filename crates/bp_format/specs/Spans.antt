@@ -4,7 +4,7 @@ use Rattle.bp_faults.specs.declared.place.Place.{Place}
 use Rattle.bp_lexer.specs.declared.token.Token.{Token}
 use Rattle.bp_format.specs.declared.spot.Spot.{Spot}
 use Rattle.bp_format.specs.declared.spot.Spot.TheVariants.{Instead, Behind}
-use Rattle.bp_format.specs.Layout.{opens, closes}
+use Rattle.bp_format.specs.Layout.{opens_any, closes_any}
 
 -- The token stands at a place. All tokens of a text are in one file.
 abbrev pub is_at : Place → Token → Bool
@@ -19,8 +19,8 @@ from_place place (t ∷ ts) = if is_at place t then t ∷ ts else from_place pla
 abbrev pub closing : ℕ → List Token → Option Token
 closing depth [] = None
 closing depth (t ∷ ts) =
-    if opens t.kind then closing (depth + 1) ts
-    else if closes t.kind then (if depth == 0 then Some t else closing (depth - 1) ts)
+    if opens_any t.kind then closing (depth + 1) ts
+    else if closes_any t.kind then (if depth == 0 then Some t else closing (depth - 1) ts)
     else closing depth ts
 
 -- From a token up to the end of another.
