@@ -18,7 +18,8 @@ fn laid(alloc: Global, text: &str) -> Result<String, OutOfMemory>
     }
 }
 
-// The text with a property of the module "a" set to the items, or the line of the fault.
+// The text with a property of a module set to the items, or the line of the fault. It is empty where the
+// property is no identifier.
 fn edited(
     alloc: Global,
     text: &str,
@@ -47,6 +48,7 @@ fn edited(
 #[test]
 fn texts_are_laid_out(rt: HostRuntime) -> Result<(), Fail> {
     let alloc = rt.alloc();
+    // The first is the example *layout*, and the others show the rules, one after another.
     for (text, want) in [
         (
             "cc_binary{name:\"a\",srcs:[\"x.c\",\"y.c\"],cflags:[\"-g\"],// t\n}\n",
@@ -113,6 +115,7 @@ fn a_layout_can_be_too_long(rt: HostRuntime) -> Result<(), Fail> {
 fn lists_are_set(rt: HostRuntime) -> Result<(), Fail> {
     let alloc = rt.alloc();
     let row = "cc_binary{name:\"a\",srcs:[\"x.c\",\"y.c\"],cflags:[\"-g\"],// t\n}\n";
+    // The text of the example *layout*, edited, is the example *list_edit*.
     for (text, name, property, want) in [
         (
             row,
