@@ -2,9 +2,9 @@
 use Rattle.std.proofs.Common.{◌≡◌, ◌∙◌, ℕ, List, [], ◌∷◌, ◌++◌, append_assoc, refl, sym, ap}
 use Rattle.std.specs.List.{flat_map}
 use Rattle.ninja_write.specs.Meaning.{joined, ended, head_line, rule_lines, statement_lines, default_lines}
-use Rattle.static_links.specs.Actions.{all_path}
-use Rattle.bp_run.specs.Head.{head_rules, head_lines, compile_command, dependencies, assemble_rule, archive_rule}
-use Rattle.bp_run.specs.Head.{link_rule}
+use Rattle.build_actions.specs.File.{all_path, all_statements}
+use Rattle.build_actions.specs.Head.{head_rules, head_lines, compile_command, dependencies, assemble_rule, archive_rule}
+use Rattle.build_actions.specs.Head.{link_rule}
 use Rattle.bp_run.specs.Laws.{HeadIsText}
 
 joined-append : (xs ys : List (List ℕ)) → joined (xs ++ ys) ≡ joined xs ++ joined ys
@@ -18,8 +18,8 @@ unfolding head_line compile_command dependencies assemble_rule archive_rule link
 first_lines = refl
 
 pub head_is_text : HeadIsText
-head_is_text statements =
-    let behind = flat_map statement_lines statements ++ default_lines (all_path ∷ []) in (
+head_is_text made =
+    let behind = flat_map statement_lines (all_statements made) ++ default_lines (all_path ∷ []) in (
       joined behind,
       joined-append (head_line ∷ flat_map rule_lines head_rules) behind
           ∙ ap (λ lines. joined lines ++ joined behind) first_lines,

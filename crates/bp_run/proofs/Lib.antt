@@ -4,7 +4,6 @@ pub mod Progress
 pub mod Meeting
 pub mod Making
 pub mod OneJob
-pub mod SomeJob
 pub mod Ending
 pub mod Heads
 pub mod Names

@@ -9,10 +9,12 @@ use Rattle.bp_faults.specs.declared.refusal.Refusal.TheVariants.{Bad, OutOfMemor
 use Rattle.bp_faults.specs.Answers.{Tells}
 use Rattle.bp_faults.specs.Phases.{GoesOn, Then}
 use Rattle.bp_ports.specs.Files.{Files}
+use Rattle.bp_props.specs.declared.module.Module.{Module}
+use Rattle.bp_load.specs.Loaded.{LoadMeans}
 use Rattle.bp_load.specs.Trees.{Source}
 use Rattle.bp_run.specs.declared.stop.Stop.{Stop}
 use Rattle.bp_run.specs.declared.words.Configuration.{Configuration}
-use Rattle.bp_run.specs.Job.{SourcesGive, ListedFilesGive, sources_of}
+use Rattle.bp_run.specs.Job.{TypedModulesGive, ListedFilesLoad, ListedFilesGive, sources_of}
 use Rattle.bp_run.specs.Steps.{GivesOrStops, CannotReadOf, stop_of}
 use Rattle.bp_run.proofs.Meeting.{Never, meets, stops}
 
@@ -23,7 +25,7 @@ tells_here : {T U V W : Type 0} (view : T → V) (whole_view : U → W) (Part : 
 tells_here view whole_view Part Whole on (Bad fault) h = on fault h
 tells_here view whole_view Part Whole on NoMemory h = tt
 
-told : {T U V W : Type 0} (view : T → V) (whole_view : U → W) (Part : Result V Fault → Type 0)
+pub told : {T U V W : Type 0} (view : T → V) (whole_view : U → W) (Part : Result V Fault → Type 0)
     (Whole : Result W Fault → Type 0) → ((fault : Fault) → Part (Err fault) → Whole (Err fault))
     → (e : Refusal) (r : Result U Stop) → IsErrAnd r (λ x. x ≡ stop_of e) → Tells view Part (Err e)
     → GivesOrStops whole_view Whole Never r
@@ -54,22 +56,50 @@ module _ {T U A B : Type 0} (view : T → A) (whole_view : U → B) (First : Res
       meets whole_view (Next value) (Then First Next) Never Never (λ outcome next. (Ok value, first, next))
       (λ path never. absurd never) r h
 
--- what the files were read as, and what they gave
-read_here : (c : Configuration) (files : Files) (paths : List (List ℕ)) (sources : List Source) (r : Result (Vec ℕ Global) Stop)
-    → sources_of files paths ≡ Ok sources
-    → GivesOrStops {T = Vec ℕ Global} {V = List ℕ} (λ made. made.items) (SourcesGive c sources) Never r
-    → GivesOrStops {T = Vec ℕ Global} {V = List ℕ} (λ made. made.items) (ListedFilesGive c files paths)
-    (CannotReadOf files paths) r
-read_here c files paths sources r read h =
-    meets {T = Vec ℕ Global} (λ made. made.items) (SourcesGive c sources) (ListedFilesGive c files paths) Never
-    (CannotReadOf files paths)
-    (λ outcome tree. subst (λ s. GoesOn s (SourcesGive c) outcome) (sym read) tree) (λ path never. absurd never) r h
+module _ (paths : List (List ℕ)) where
+  -- what the files of the list load as, and what they give
+  abbrev Loads : Files → Result (Vec Module Global) Stop → Type 0
+  Loads files r =
+      GivesOrStops {T = Vec Module Global} {V = List Module} (λ typed. typed.items) (ListedFilesLoad files paths)
+      (CannotReadOf files paths) r
 
-pub job_made : (c : Configuration) (old : Option Files) (paths : List (List ℕ)) (sources : List Source) (r : Result (Vec ℕ Global) Stop)
-    → IfSome old (λ files. sources_of files paths ≡ Ok sources)
-    → GivesOrStops {T = Vec ℕ Global} {V = List ℕ} (λ made. made.items) (SourcesGive c sources) Never r
-    → IfSome old
-    (λ files. GivesOrStops {T = Vec ℕ Global} {V = List ℕ} (λ made. made.items) (ListedFilesGive c files paths)
-    (CannotReadOf files paths) r)
-job_made c None paths sources r read h = tt
-job_made c (Some files) paths sources r read h = read_here c files paths sources r read h
+  abbrev Makes : Configuration → Files → Result (Vec ℕ Global) Stop → Type 0
+  Makes c files r =
+      GivesOrStops {T = Vec ℕ Global} {V = List ℕ} (λ made. made.items) (ListedFilesGive c files paths)
+      (CannotReadOf files paths) r
+
+  -- the files were read, and loaded
+  loaded_here : (files : Files) (sources : List Source) (r : Result (Vec Module Global) Stop)
+      → sources_of files paths ≡ Ok sources
+      → GivesOrStops {T = Vec Module Global} {V = List Module} (λ typed. typed.items) (LoadMeans sources) Never r
+      → Loads files r
+  loaded_here files sources r read h =
+      meets {T = Vec Module Global} (λ typed. typed.items) (LoadMeans sources) (ListedFilesLoad files paths) Never
+      (CannotReadOf files paths)
+      (λ outcome loads. subst (λ s. GoesOn s LoadMeans outcome) (sym read) loads) (λ path never. absurd never) r h
+
+  pub tree_loaded : (old : Option Files) (sources : List Source) (r : Result (Vec Module Global) Stop)
+      → IfSome old (λ files. sources_of files paths ≡ Ok sources)
+      → GivesOrStops {T = Vec Module Global} {V = List Module} (λ typed. typed.items) (LoadMeans sources) Never r
+      → IfSome old (λ files. Loads files r)
+  tree_loaded None sources r read h = tt
+  tree_loaded (Some files) sources r read h = loaded_here files sources r read h
+
+  -- the files don't load, so there is no text
+  pub job_stopped : (c : Configuration) (old : Option Files) (e : Stop) (r : Result (Vec ℕ Global) Stop)
+      → IsErrAnd r (λ x. x ≡ e) → IfSome old (λ files. Loads files (Err e)) → IfSome old (λ files. Makes c files r)
+  job_stopped c None e r same h = tt
+  job_stopped c (Some files) e r same h =
+      stops {T = Vec Module Global} {U = Vec ℕ Global} (λ typed. typed.items) (λ made. made.items)
+      (ListedFilesLoad files paths) (ListedFilesGive c files paths) (CannotReadOf files paths)
+      (CannotReadOf files paths) (λ fault means. (Err fault, means, refl)) (λ path cannot. cannot) e r same h
+
+  -- the files load, and their modules give the text
+  pub job_made : (c : Configuration) (old : Option Files) (typed : List Module) (r : Result (Vec ℕ Global) Stop)
+      → IfSome old (λ files. ListedFilesLoad files paths (Ok typed))
+      → GivesOrStops {T = Vec ℕ Global} {V = List ℕ} (λ made. made.items) (TypedModulesGive c typed) Never r
+      → IfSome old (λ files. Makes c files r)
+  job_made c None typed r loaded h = tt
+  job_made c (Some files) typed r loaded h =
+      meets {T = Vec ℕ Global} (λ made. made.items) (TypedModulesGive c typed) (ListedFilesGive c files paths) Never
+      (CannotReadOf files paths) (λ outcome gives. (Ok typed, loaded, gives)) (λ path never. absurd never) r h

@@ -3,31 +3,26 @@ use Rattle.std.specs.Prelude.{◌≡◌, ℕ, ◌+◌, List, [], ◌∷◌, nat_
 use Rattle.std.specs.Prelude.{Option, Some, None, Result, Ok, Err, if◌then◌else◌}
 use Rattle.std.specs.FinMap.{get}
 use Rattle.bp_faults.specs.declared.fault.Fault.{Fault}
-use Rattle.bp_faults.specs.declared.kind.FaultKind.TheVariants.{NoFile, FileTooLarge, OutputTooLarge, TooMany}
-use Rattle.bp_faults.specs.declared.limits.TheConstants.{LARGEST_FILE, LARGEST_LIST_FILE, LARGEST_TREE, LARGEST_OUTPUT}
+use Rattle.bp_faults.specs.declared.kind.FaultKind.TheVariants.{NoFile, FileTooLarge, TooMany}
+use Rattle.bp_faults.specs.declared.limits.TheConstants.{LARGEST_FILE, LARGEST_LIST_FILE, LARGEST_TREE}
 use Rattle.bp_faults.specs.Faults.{fault_at, fault_on, file_start}
 use Rattle.bp_faults.specs.Answers.{then_do}
 use Rattle.bp_ports.specs.Files.{Files}
-use Rattle.bp_props.specs.declared.module.Module.{Module as Typed}
+use Rattle.bp_props.specs.declared.module.Module.{Module}
 use Rattle.bp_load.specs.ListFile.{ListMeans}
 use Rattle.bp_load.specs.Trees.{Source}
 use Rattle.bp_load.specs.Loaded.{LoadMeans}
-use Rattle.module_form.specs.Known.{AreKnown}
-use Rattle.static_links.specs.declared.module.Module.{Module}
 use Rattle.bp_faults.specs.Phases.{GoesOn, Then}
-use Rattle.static_links.specs.Built.{IsBuilt}
-use Rattle.ninja_file.specs.declared.file.NinjaFile.{NinjaFile}
-use Rattle.ninja_write.specs.Meaning.{text_of}
 use Rattle.module_graph.specs.declared.graph.Node.{Node}
 use Rattle.bp_props.specs.declared.props.Props.{Props}
 use Rattle.bp_pipeline.specs.Course.{GraphAfter}
+use Rattle.bp_pipeline.specs.Generated.{TextMeans}
 use Rattle.bp_pipeline.specs.Shown.{shown_graph}
 use Rattle.bp_run.specs.declared.words.Graph.{Graph as GraphWords}
 use Rattle.bp_run.specs.declared.words.Configuration.{Configuration}
 use Rattle.bp_run.specs.declared.words.Configuration.TheVariants.{Build, Graph}
 use Rattle.bp_run.specs.Targets.{config_of}
 use Rattle.bp_run.specs.Words.{list_of}
-use Rattle.bp_run.specs.File.{file_of}
 
 -- What is read of a file, by its number: it is there, and no larger than the limit.
 abbrev pub read_of : ℕ → ℕ → Option (List ℕ) → Result (List ℕ) Fault
@@ -60,37 +55,24 @@ sources_from files number size (path ∷ paths) =
 abbrev pub sources_of : Files → List (List ℕ) → Result (List Source) Fault
 sources_of files paths = sources_from files 1 0 paths
 
--- The text of a file for Ninja, which is no larger than its limit.
-abbrev pub written : NinjaFile → Result (List ℕ) Fault
-written file =
-    if nat_le (length (text_of file)) LARGEST_OUTPUT then Ok (text_of file) else Err (fault_at OutputTooLarge (file_start 0))
-
--- What modules give: the text of what they are built by.
-abbrev pub ModulesGive : List Module → Result (List ℕ) Fault → Type 0
-ModulesGive ms outcome = Then (IsBuilt ms) (λ statements outcome. written (file_of statements) ≡ outcome) outcome
-
--- What `build` gives of typed modules of some files: they must be known.
-abbrev pub BuildGives : List Source → List Typed → Result (List ℕ) Fault → Type 0
-BuildGives sources typed outcome = Then (AreKnown sources typed) ModulesGive outcome
+-- What the files of a list load as: first all are read.
+abbrev pub ListedFilesLoad : Files → List (List ℕ) → Result (List Module) Fault → Type 0
+ListedFilesLoad files paths outcome = GoesOn (sources_of files paths) LoadMeans outcome
 
 -- What `graph` gives of typed modules: the text of the graph after the first mutators, for its targets.
-abbrev pub GraphGives : GraphWords → List Typed → Result (List ℕ) Fault → Type 0
+abbrev pub GraphGives : GraphWords → List Module → Result (List ℕ) Fault → Type 0
 GraphGives words typed outcome =
     Then (GraphAfter typed (config_of words.targets) words.after)
     (λ (nodes : List (Node Props)) outcome. Ok (shown_graph typed nodes) ≡ outcome) outcome
 
--- What typed modules of some files give, by the command.
-abbrev pub TypedModulesGive : Configuration → List Source → List Typed → Result (List ℕ) Fault → Type 0
-TypedModulesGive (Build words) sources typed = BuildGives sources typed
-TypedModulesGive (Graph words) sources typed = GraphGives words typed
+-- What typed modules give, by the command: for `build` the text of the file for Ninja, for its targets.
+abbrev pub TypedModulesGive : Configuration → List Module → Result (List ℕ) Fault → Type 0
+TypedModulesGive (Build words) typed = TextMeans typed (config_of words.targets)
+TypedModulesGive (Graph words) typed = GraphGives words typed
 
--- What files give: first they load as typed modules.
-abbrev pub SourcesGive : Configuration → List Source → Result (List ℕ) Fault → Type 0
-SourcesGive c sources outcome = Then (LoadMeans sources) (TypedModulesGive c sources) outcome
-
--- What the files of a list give: first all are read.
+-- What the files of a list give: first they load as typed modules.
 abbrev pub ListedFilesGive : Configuration → Files → List (List ℕ) → Result (List ℕ) Fault → Type 0
-ListedFilesGive c files paths outcome = GoesOn (sources_of files paths) (SourcesGive c) outcome
+ListedFilesGive c files paths outcome = Then (ListedFilesLoad files paths) (TypedModulesGive c) outcome
 
 -- The job of a configuration over files: the phases in their order.
 abbrev pub JobMeans : Configuration → Files → Result (List ℕ) Fault → Type 0

@@ -1,7 +1,5 @@
 pub mod Targets
 pub mod Words
-pub mod Head
-pub mod File
 pub mod Job
 pub mod Steps
 pub mod Lines

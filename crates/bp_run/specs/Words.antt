@@ -1,5 +1,5 @@
 -- The configuration of the words, which are those after the program's name.
-use Rattle.std.specs.Prelude.{ℕ, ◌≤◌, List, [], ◌∷◌, Bool, false, ◌&&◌, ◌==◌, not, Option, Some, None, ⊤, codes}
+use Rattle.std.specs.Prelude.{ℕ, ◌≤◌, List, [], ◌∷◌, Bool, false, ◌&&◌, ◌==◌, not, Option, Some, None, codes}
 use Rattle.std.specs.Prelude.{if◌then◌else◌}
 use Rattle.std.specs.Str.{bytes_eq}
 use Rattle.bp_faults.specs.declared.target.Target.{Target}
@@ -16,19 +16,13 @@ list_of (Graph words) = words.list
 
 -- The mutators of a configuration are built, and its targets differ.
 abbrev pub IsSound : Configuration → Type 0
-IsSound (Build words) = ⊤
+IsSound (Build words) = TargetsDiffer (config_of words.targets)
 IsSound (Graph words) = (words.after ≤ built) × TargetsDiffer (config_of words.targets)
 
 -- A path isn't empty and doesn't begin with `-`.
 abbrev pub is_path : List ℕ → Bool
 is_path [] = false
 is_path (b ∷ bs) = not (b == 45)
-
--- The words behind `build` are its options and its target.
-abbrev pub is_build : List ℕ → List ℕ → List ℕ → List ℕ → Bool
-is_build list out target targets =
-    bytes_eq list (codes "-l") && bytes_eq out (codes "-o") && bytes_eq target (codes "-t")
-    && bytes_eq targets (codes "android_arm64")
 
 -- The words behind `graph` are its options, and a path.
 abbrev pub is_graph : List ℕ → List ℕ → List ℕ → Bool
@@ -38,10 +32,21 @@ is_graph l list a = bytes_eq l (codes "-l") && is_path list && bytes_eq a (codes
 abbrev pub are_paths : List ℕ → List ℕ → Bool
 are_paths list out = is_path list && is_path out && not (bytes_eq list out)
 
--- `build -l LIST -o OUT -t android_arm64`, in this order.
+-- The words behind `build` are its options, and two paths that differ.
+abbrev pub is_build : List ℕ → List ℕ → List ℕ → List ℕ → Bool
+is_build l list o out = bytes_eq l (codes "-l") && bytes_eq o (codes "-o") && are_paths list out
+
+-- The file for Ninja is to be written, for some targets, where there are such.
+abbrev pub written_for : List ℕ → List ℕ → Option (List Target) → Option Configuration
+written_for list out (Some targets) = Some (Build (record { list = list; out = out; targets = targets }))
+written_for list out None = None
+
+-- `build -l LIST -o OUT -t TARGETS`, in this order, where `-t TARGETS` may be left out.
 abbrev pub build_of : List (List ℕ) → Option Configuration
 build_of (l ∷ list ∷ o ∷ out ∷ t ∷ targets ∷ []) =
-    if is_build l o t targets && are_paths list out then Some (Build (record { list = list; out = out })) else None
+    if is_build l list o out && bytes_eq t (codes "-t") then written_for list out (targets_of targets) else None
+build_of (l ∷ list ∷ o ∷ out ∷ []) =
+    if is_build l list o out then written_for list out (targets_of default_targets) else None
 build_of words = None
 
 -- The graph after some mutators, for some targets, where there are such.

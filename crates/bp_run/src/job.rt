@@ -4,82 +4,54 @@ ghost use Rattle.bp_load.specs.Directories.{AreInFileOrder};
 ghost use Rattle.bp_load.specs.Loaded.{LoadMeans};
 ghost use Rattle.bp_load.specs.Trees.{sources};
 ghost use Rattle.mutator_rules.specs.Configs.{TargetsDiffer};
+ghost use Rattle.bp_pipeline.specs.Generated.{TextMeans};
 ghost use Rattle.bp_pipeline.specs.Mutators.{built};
-ghost use Rattle.bp_run.specs.Job.{written, BuildGives, GraphGives, TypedModulesGive, SourcesGive};
-ghost use Rattle.bp_run.specs.Job.{ListedFilesGive};
-ghost use Rattle.bp_run.specs.File.{file_of};
-ghost use Rattle.bp_run.specs.Steps.{GivesOrStops, GivesOrRunsOut, Exactly, ReadCause, CannotReadOf};
+ghost use Rattle.bp_run.specs.Job.{GraphGives, TypedModulesGive, ListedFilesLoad, ListedFilesGive};
+ghost use Rattle.bp_run.specs.Steps.{GivesOrStops, GivesOrRunsOut, ReadCause, CannotReadOf};
 ghost use Rattle.bp_run.specs.Targets.{config_of};
 ghost use Rattle.bp_run.specs.Words.{IsSound};
-ghost use Rattle.std.specs.Prelude.{Ok};
 
-use crate::file::make_file;
-use crate::read::{file_fault, read_files};
-use crate::{Configuration, Graph, Stop};
-use bp_faults::{FaultKind, OutOfMemory, Path, Seq};
+use crate::read::read_files;
+use crate::{Build, Configuration, Graph, Stop};
+use bp_faults::{OutOfMemory, Path, Seq, Target};
 use bp_load::load;
-use bp_pipeline::{graph_after, show_graph};
+use bp_pipeline::{generate, graph_after, show_graph};
 use bp_ports::{Gate, Store};
 use bp_props::Module;
-use module_form::known_modules;
-use module_form::laws::known_as_many;
 use mutator_rules::Config;
-use ninja_file::{NinjaFile, Statement};
-use ninja_write::{WriteError, write};
-use static_links::build;
 use std::alloc::Global;
 use std::thread::Threads;
 
 // How many workers run the passes.
 const WORKERS: u32 = 4;
 
-// The text of a file for Ninja, where it isn't too large.
-fn write_text(alloc: Global, file: &NinjaFile) -> Result<Vec<u8>, Stop>
-    ensures { GivesOrRunsOut (λ text. text.items) (Exactly (written file.now)) result }
-{
-    match write(alloc, file) {
-        Ok(text) => Ok(text),
-        Err(WriteError::TooLarge) => Err(file_fault(alloc, FaultKind::OutputTooLarge, 0)),
-        Err(WriteError::OutOfMemory) => Err(Stop::OutOfMemory),
-    }
-}
-
-// The text of the file that holds some statements.
-fn write_file(alloc: Global, statements: Vec<Statement>) -> Result<Vec<u8>, Stop>
-    ensures { GivesOrRunsOut (λ text. text.items) (Exactly (written (file_of statements.items))) result }
-{
-    let file = make_file(alloc, statements)?;
-    write_text(alloc, &file)
-}
-
-// What `build` gives of typed modules.
-fn build_modules(
-    alloc: Global,
-    files: &[(Path, Vec<u8>)],
-    typed: Vec<Module>,
-) -> Result<Vec<u8>, Stop>
-    requires few { length files.now ≤ 2 ^ 14 }
-    requires short { All (λ f. length f.1 ≤ 2 ^ 20) (sources files.now) }
-    requires loaded { LoadMeans (sources files.now) (Ok typed.items) }
-    ensures { GivesOrRunsOut (λ made. made.items) (BuildGives (sources files.now) typed.items) result }
-{
-    // A law: so there aren't more modules than were typed.
-    known_as_many();
-    let modules = known_modules(alloc, files, typed)?;
-    let statements = build(alloc, &modules)?;
-    write_file(alloc, statements)
-}
-
-fn config_of(alloc: Global, words: &Graph) -> Result<Config, OutOfMemory>
-    ensures { IfOk result (λ config. config ≡ config_of words.now.targets) }
+fn config_of(alloc: Global, targets: &Seq<Target>) -> Result<Config, OutOfMemory>
+    ensures { IfOk result (λ config. config ≡ config_of targets.now) }
 {
     Ok(Config {
-        targets: Seq::new(words.targets.as_slice().to_vec(alloc)?),
+        targets: Seq::new(targets.as_slice().to_vec(alloc)?),
     })
 }
 
+// What `build` gives of typed modules.
+fn build_text<R: Threads + Sync, G: Gate + Sync>(
+    rt: &R,
+    alloc: Global,
+    words: &Build,
+    typed: &[Module],
+    gate: &G,
+) -> Result<Vec<u8>, Stop>
+    requires few { length typed.now ≤ 2 ^ 17 }
+    requires targets { TargetsDiffer (config_of words.now.targets) }
+    ensures { GivesOrRunsOut (λ made. made.items) (TextMeans typed.now (config_of words.now.targets)) result }
+{
+    let config = config_of(alloc, &words.targets)?;
+    let made = generate(rt, alloc, typed, &config, WORKERS, gate)?;
+    Ok(made.ninja.into_vec())
+}
+
 // What `graph` gives of typed modules.
-fn show_modules<R: Threads + Sync, G: Gate + Sync>(
+fn graph_text<R: Threads + Sync, G: Gate + Sync>(
     rt: &R,
     alloc: Global,
     words: &Graph,
@@ -91,7 +63,7 @@ fn show_modules<R: Threads + Sync, G: Gate + Sync>(
     requires targets { TargetsDiffer (config_of words.now.targets) }
     ensures { GivesOrRunsOut (λ made. made.items) (GraphGives words.now typed.now) result }
 {
-    let config = config_of(alloc, words)?;
+    let config = config_of(alloc, &words.targets)?;
     let graph = graph_after(rt, alloc, typed, &config, words.after, WORKERS, gate)?;
     Ok(show_graph(alloc, typed, &graph)?)
 }
@@ -101,20 +73,16 @@ fn make_typed<R: Threads + Sync, G: Gate + Sync>(
     rt: &R,
     alloc: Global,
     configuration: &Configuration,
-    files: &[(Path, Vec<u8>)],
-    typed: Vec<Module>,
+    typed: &[Module],
     gate: &G,
 ) -> Result<Vec<u8>, Stop>
-    requires few { length files.now ≤ 2 ^ 14 }
-    requires short { All (λ f. length f.1 ≤ 2 ^ 20) (sources files.now) }
-    requires loaded { LoadMeans (sources files.now) (Ok typed.items) }
+    requires few { length typed.now ≤ 2 ^ 17 }
     requires sound { IsSound configuration.now }
-    ensures { GivesOrRunsOut (λ made. made.items)
-        (TypedModulesGive configuration.now (sources files.now) typed.items) result }
+    ensures { GivesOrRunsOut (λ made. made.items) (TypedModulesGive configuration.now typed.now) result }
 {
     match configuration {
-        Configuration::Build(_) => build_modules(alloc, files, typed),
-        Configuration::Graph(words) => show_modules(rt, alloc, words, &typed, gate),
+        Configuration::Build(words) => build_text(rt, alloc, words, typed, gate),
+        Configuration::Graph(words) => graph_text(rt, alloc, words, typed, gate),
     }
 }
 
@@ -123,27 +91,26 @@ fn load_files(alloc: Global, files: &[(Path, Vec<u8>)]) -> Result<Vec<Module>, S
     requires few { length files.now ≤ 2 ^ 14 }
     requires order { AreInFileOrder (map (λ f. f.0) (sources files.now)) }
     requires short { All (λ f. length f.1 ≤ 2 ^ 20) (sources files.now) }
-    ensures { GivesOrRunsOut (λ typed. typed.items) (LoadMeans (sources files.now)) result }
+    ensures gives { GivesOrRunsOut (λ typed. typed.items) (LoadMeans (sources files.now)) result }
+    ensures few { IfOk result (λ typed. length typed.items ≤ 2 ^ 17) }
 {
-    Ok(load(alloc, files, 1)?)
+    let typed = load(alloc, files, 1)?;
+    Ok(typed)
 }
 
-// What files give.
-fn make<R: Threads + Sync, G: Gate + Sync>(
-    rt: &R,
-    alloc: Global,
-    configuration: &Configuration,
-    files: &[(Path, Vec<u8>)],
-    gate: &G,
-) -> Result<Vec<u8>, Stop>
-    requires few { length files.now ≤ 2 ^ 14 }
-    requires order { AreInFileOrder (map (λ f. f.0) (sources files.now)) }
-    requires short { All (λ f. length f.1 ≤ 2 ^ 20) (sources files.now) }
-    requires sound { IsSound configuration.now }
-    ensures { GivesOrRunsOut (λ made. made.items) (SourcesGive configuration.now (sources files.now)) result }
+// The typed modules of the files that a list names. Their bytes are dropped.
+fn load_listed<S: Store>(alloc: Global, paths: &[Path], store: &mut S) -> Result<Vec<Module>, Stop>
+    requires few { length paths.now ≤ 2 ^ 14 }
+    requires order { AreInFileOrder paths.now }
+    ensures gives { IfSome (S.files store.old) (λ files. GivesOrStops (λ typed. typed.items)
+        (ListedFilesLoad files paths.now) (CannotReadOf files paths.now) result) }
+    ensures few { IfOk result (λ typed. length typed.items ≤ 2 ^ 17) }
+    ensures cause { ReadCause (S.read_faults store.old) (S.read_faults store.new) result }
+    ensures files { S.files store.new ≡ S.files store.old }
+    ensures writes { S.write_faults store.new ≡ S.write_faults store.old }
 {
-    let typed = load_files(alloc, files)?;
-    make_typed(rt, alloc, configuration, files, typed, gate)
+    let files = read_files(alloc, paths, store)?;
+    load_files(alloc, &files)
 }
 
 /// Does the job over the files that a list names: its text, or why there is none.
@@ -164,6 +131,6 @@ pub fn do_job<R: Threads + Sync, S: Store, G: Gate + Sync>(
     ensures files { S.files store.new ≡ S.files store.old }
     ensures writes { S.write_faults store.new ≡ S.write_faults store.old }
 {
-    let files = read_files(alloc, paths, store)?;
-    make(rt, alloc, configuration, &files, gate)
+    let typed = load_listed(alloc, paths, store)?;
+    make_typed(rt, alloc, configuration, &typed, gate)
 }

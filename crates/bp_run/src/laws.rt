@@ -1,11 +1,11 @@
 //! What holds of all configurations and files: each law is the contract of a function that does nothing.
 
-ghost use Rattle.bp_run.specs.Laws.{OneJob, SomeJob, HeadIsText};
+ghost use Rattle.bp_run.specs.Laws.{OneJob, HeadIsText};
 
 use bp_load::laws::{one_list, one_load};
 use bp_pipeline::laws::one_graph;
-use module_form::laws::{one_known, some_known};
-use static_links::laws::{one_outcome, some_built};
+use build_actions::Actions;
+use pass_core::laws::at_most_one_outcome;
 
 /// A job has one outcome, since each of its phases has.
 pub fn one_job()
@@ -13,19 +13,8 @@ pub fn one_job()
 {
     one_list();
     one_load();
-    one_known();
-    one_outcome();
     one_graph();
-}
-
-/// The job of `build` has an outcome, since each of its phases has: a text or a fault, for all words and files.
-pub fn some_job()
-    ensures { SomeJob }
-{
-    one_list();
-    one_load();
-    some_known();
-    some_built();
+    at_most_one_outcome::<Actions>();
 }
 
 /// Every written text begins with the literal lines of the head.

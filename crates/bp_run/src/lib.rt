@@ -7,8 +7,6 @@
 #![tactic(auto)]
 
 mod end;
-mod file;
-mod head;
 mod job;
 pub mod laws;
 mod program;

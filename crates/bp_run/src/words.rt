@@ -1,6 +1,7 @@
 ghost use Rattle.std.specs.Prelude.{◌≡◌, IfOk, OnErr, IfSome, IsSome};
 ghost use Rattle.bp_run.specs.Words.{configuration_of, command_of, build_of, graph_of, is_build, is_graph, is_path, are_paths};
-ghost use Rattle.bp_run.specs.Words.{shown_after, list_of, IsSound};
+ghost use Rattle.bp_run.specs.Words.{written_for, shown_after, list_of, IsSound};
+ghost use Rattle.bp_run.specs.Targets.{targets_of};
 
 use crate::targets::read_targets;
 use bp_faults::{OutOfMemory, Seq, Target, Text};
@@ -15,6 +16,7 @@ const DEFAULT_TARGETS: &str = "android_arm64,android_arm,linux_glibc_x86_64";
 pub struct Build {
     pub list: Text,
     pub out: Text,
+    pub targets: Seq<Target>,
 }
 
 /// Shows the graph after the first mutators, as many as `after` says.
@@ -44,15 +46,6 @@ impl Configuration {
     }
 }
 
-fn is_build_command(list: &Text, out: &Text, target: &Text, targets: &Text) -> bool
-    ensures { result ≡ is_build list.now out.now target.now targets.now }
-{
-    list.as_str() == "-l"
-        && out.as_str() == "-o"
-        && target.as_str() == "-t"
-        && targets.as_str() == "android_arm64"
-}
-
 fn is_path_word(word: &Text) -> bool
     ensures { result ≡ is_path word.now }
 {
@@ -66,6 +59,12 @@ fn are_path_words(list: &Text, out: &Text) -> bool
     ensures { result ≡ are_paths list.now out.now }
 {
     is_path_word(list) && is_path_word(out) && list.as_str() != out.as_str()
+}
+
+fn is_build_command(l: &Text, list: &Text, o: &Text, out: &Text) -> bool
+    ensures { result ≡ is_build l.now list.now o.now out.now }
+{
+    l.as_str() == "-l" && o.as_str() == "-o" && are_path_words(list, out)
 }
 
 fn is_graph_command(l: &Text, list: &Text, a: &Text) -> bool
@@ -82,17 +81,42 @@ fn configure_build(alloc: Global, words: &[Text]) -> Result<Option<Configuration
 {
     match words {
         [l, list, o, out, t, targets] => {
-            if is_build_command(l, o, t, targets) && are_path_words(list, out) {
-                Ok(Some(Configuration::Build(Build {
-                    list: list.copy(alloc)?,
-                    out: out.copy(alloc)?,
-                })))
+            if is_build_command(l, list, o, out) && t.as_str() == "-t" {
+                write_for(alloc, list, out, targets.as_str())
+            } else {
+                Ok(None)
+            }
+        }
+        [l, list, o, out] => {
+            if is_build_command(l, list, o, out) {
+                write_for(alloc, list, out, DEFAULT_TARGETS)
             } else {
                 Ok(None)
             }
         }
         _ => Ok(None),
     }
+}
+
+// The file for Ninja is to be written, for the targets of a word.
+fn write_for(
+    alloc: Global,
+    list: &Text,
+    out: &Text,
+    targets: &str,
+) -> Result<Option<Configuration>, OutOfMemory>
+    ensures ok { IfOk result (λ configuration. configuration ≡ written_for list.now out.now (targets_of targets.now)) }
+    ensures err { OnErr result (IsSome (written_for list.now out.now (targets_of targets.now))) }
+    ensures sound { IfOk result (λ configuration. IfSome configuration IsSound) }
+{
+    let Some(targets) = read_targets(alloc, targets)? else {
+        return Ok(None);
+    };
+    Ok(Some(Configuration::Build(Build {
+        list: list.copy(alloc)?,
+        out: out.copy(alloc)?,
+        targets,
+    })))
 }
 
 // The configuration of the words behind `graph`.

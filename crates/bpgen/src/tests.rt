@@ -1,4 +1,5 @@
 mod built;
+mod examples;
 mod faults;
 mod graphs;
 mod limits;
@@ -59,18 +60,40 @@ fn status_of<R: Threads + Sync, S: Store, O: Sink, D: Sink>(
     Ok(run(rt, alloc, &list, store, out, diag, &OpenGate))
 }
 
-// The status for some words over a store, and what is put on `diag`.
-fn outcome<R: Threads + Sync>(
+/// How a call ended: its status, and what was put on the output and on the stream for messages.
+#[derive(Drop)]
+struct Ended {
+    status: u8,
+    out: Vec<u8>,
+    said: Vec<u8>,
+}
+
+// How a call ends for some words over a store, where each stream has so much room.
+fn end_within<R: Threads + Sync>(
     rt: &R,
     alloc: Global,
     words: &str,
     store: &mut MemStore,
     room: u32,
-) -> Result<(u8, Vec<u8>), OutOfMemory> {
-    let mut out = MemSink::new(alloc, 0, Vec::new(alloc))?;
+) -> Result<Ended, OutOfMemory> {
+    let mut out = MemSink::new(alloc, room, Vec::new(alloc))?;
     let mut diag = MemSink::new(alloc, room, Vec::new(alloc))?;
     let status = status_of(rt, alloc, words, store, &mut out, &mut diag)?;
-    Ok((status, diag.bytes().to_vec(alloc)?))
+    Ok(Ended {
+        status,
+        out: out.bytes().to_vec(alloc)?,
+        said: diag.bytes().to_vec(alloc)?,
+    })
+}
+
+// The same, where each stream has room enough.
+fn end_of<R: Threads + Sync>(
+    rt: &R,
+    alloc: Global,
+    words: &str,
+    store: &mut MemStore,
+) -> Result<Ended, OutOfMemory> {
+    end_within(rt, alloc, words, store, 2000)
 }
 
 // Whether the tree is refused with status 1 and this line, and OUT isn't written.
@@ -81,8 +104,9 @@ fn refuses<R: Threads + Sync>(
     line: &str,
 ) -> Result<bool, OutOfMemory> {
     let mut store = store_of(alloc, tree)?;
-    let (status, said) = outcome(rt, alloc, BUILD, &mut store, 300)?;
-    Ok(status == 1 && said.as_slice() == line.as_bytes() && store.held("build.ninja").is_none())
+    let ended = end_of(rt, alloc, BUILD, &mut store)?;
+    let is_refused = ended.status == 1 && ended.said.as_slice() == line.as_bytes();
+    Ok(is_refused && store.held("build.ninja").is_none())
 }
 
 // Whether the tree is built, and what is written ends with this text.
@@ -93,9 +117,9 @@ fn builds<R: Threads + Sync>(
     end: &str,
 ) -> Result<bool, OutOfMemory> {
     let mut store = store_of(alloc, tree)?;
-    let (status, said) = outcome(rt, alloc, BUILD, &mut store, 300)?;
+    let ended = end_of(rt, alloc, BUILD, &mut store)?;
     let Some(text) = store.held("build.ninja") else {
         return Ok(false);
     };
-    Ok(status == 0 && said.is_empty() && text.ends_with(end.as_bytes()))
+    Ok(ended.status == 0 && ended.said.is_empty() && text.ends_with(end.as_bytes()))
 }

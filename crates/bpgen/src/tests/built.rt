@@ -1,6 +1,6 @@
 //! Trees without faults, and the text that is written.
 
-use super::{BUILD, builds, outcome, put, status_of, store_of, tree_of};
+use super::{BUILD, builds, end_of, put, status_of, store_of, tree_of};
 use bp_ports::{FreeSink, FreeStore};
 use std::test::Fail;
 
@@ -138,9 +138,9 @@ const HELLO: &str = "@Android.bp\ncc_binary {\n    name: \"hello\",\n    srcs: [
 fn plain_start(rt: HostRuntime) -> Result<(), Fail> {
     let alloc = rt.alloc();
     let mut store = store_of(alloc, tree_of(alloc, HELLO)?)?;
-    let (status, said) = outcome(&rt, alloc, BUILD, &mut store, 300)?;
-    assert_eq!(rt; status, 0);
-    assert!(rt; said.is_empty());
+    let ended = end_of(&rt, alloc, BUILD, &mut store)?;
+    assert_eq!(rt; ended.status, 0);
+    assert!(rt; ended.said.is_empty() && ended.out.is_empty());
     assert!(rt; store.held("build.ninja") == Some(WRITTEN.as_bytes()));
     assert_eq!(rt; store.calls(), 3);
     let mut free = FreeStore::new(alloc, tree_of(alloc, HELLO)?, 9000)?;
@@ -171,7 +171,7 @@ fn list_as_finder_writes(rt: HostRuntime) -> Result<(), Fail> {
         &mut tree,
     )?;
     let mut store = store_of(alloc, tree)?;
-    assert_eq!(rt; outcome(&rt, alloc, BUILD, &mut store, 300)?.0, 0);
+    assert_eq!(rt; end_of(&rt, alloc, BUILD, &mut store)?.status, 0);
     assert_eq!(rt; store.calls(), 3);
     Ok(())
 }

@@ -4,7 +4,7 @@ use super::{put, refuses, tree_of};
 use std::test::Fail;
 
 /// A tree, as `tree_of` reads it, and the line.
-const FAULTS: [(&str, &str); 48] = [
+const FAULTS: [(&str, &str); 34] = [
     (
         "@../x/Android.bp\n",
         "list:1:1: error 33: bad path in list: ../x/Android.bp\n",
@@ -86,34 +86,6 @@ const FAULTS: [(&str, &str); 48] = [
         "Android.bp:1:1: error 15: unknown module type: java_library\n",
     ),
     (
-        "@Android.bp\ncc_test { name: \"a\", cflags: [] }",
-        "Android.bp:1:1: error 37: not built yet: cc_test\n",
-    ),
-    (
-        "@Android.bp\ncc_binary { name: \"b\" }\ncc_binary { name: \"a\", vendor: true, cflags: [] }",
-        "Android.bp:2:24: error 37: not built yet: vendor\n",
-    ),
-    (
-        "@Android.bp\ncc_binary { name: \"a\", target: { android: { srcs: [\"b.c\"] } }, cflags: [] }",
-        "Android.bp:1:45: error 37: not built yet: srcs\n",
-    ),
-    (
-        "@Android.bp\nf = \"b.cpp\"\ncc_binary { name: \"a\", srcs: [\"a.c\", f], static_libs: [\"x\"] }",
-        "Android.bp:2:38: error 37: not built yet: f\n",
-    ),
-    (
-        "@Android.bp\ncc_binary { name: \"a\", srcs: [\":x\"] }",
-        "Android.bp:1:31: error 37: not built yet: \":x\"\n",
-    ),
-    (
-        "@Android.bp\ncc_binary {                            vendor: true,\ncflags: [], name: \"a\" }",
-        "Android.bp:1:40: error 37: not built yet: vendor\n",
-    ),
-    (
-        "@Android.bp\ncc_binary { name: \"a\", vendor: true,\ncflags: [] }",
-        "Android.bp:1:24: error 37: not built yet: vendor\n",
-    ),
-    (
         "@Android.bp\nflags = [\"-Wall\"]\n@a/Android.bp\nflags += [\"-O2\"]\n",
         "a/Android.bp:1:1: error 12: variable is inherited: flags\n",
     ),
@@ -134,14 +106,6 @@ const FAULTS: [(&str, &str); 48] = [
         "c/Android.bp:1:13: error 20: duplicate module name: a\n",
     ),
     (
-        "@a/Android.bp\ncc_binary { name: \"a\" }@b/Android.bp\n\ncc_test { name: \"b\" }",
-        "b/Android.bp:2:1: error 37: not built yet: cc_test\n",
-    ),
-    (
-        "@Android.bp\n\n\ns = [\":x\"]\n@a/Android.bp\ncc_binary { name: \"a\", srcs: s, vendor: true }",
-        "Android.bp:3:6: error 37: not built yet: \":x\"\n",
-    ),
-    (
         "@a/Android.bp\ncc_binary { name: \"a\" }@b/Android.bp\ncc_binary { name: \"b\", static_libs: [\"z\"] }",
         "b/Android.bp:1:38: error 21: missing module: z\n",
     ),
@@ -154,18 +118,6 @@ const FAULTS: [(&str, &str); 48] = [
         "a/Android.bp:1:46: error 23: dependency cycle: a{android_arm64_static} -> b{android_arm64_static} -> a{android_arm64_static}\n",
     ),
     (
-        "@Android.bp\ncc_binary { name: \"app\", srcs: [\"x.c\", \"x.c\"], static_libs: [\"ok\"] }\ncc_library_static { name: \"ok\", srcs: [\"ok.c\"] }\ncc_library_static { name: \"z\", srcs: [\"z.txt\"] }\n",
-        "Android.bp:3:39: error 25: bad source: z.txt\n",
-    ),
-    (
-        "@Android.bp\ncc_binary { name: \"app\", srcs: [\"x.c\", \"x.c\"], static_libs: [\"ok\"] }\ncc_library_static { name: \"ok\", srcs: [\"ok.c\"] }\n",
-        "Android.bp:1:40: error 28: duplicate source: x.c\n",
-    ),
-    (
-        "@Android.bp\ncc_binary { name: \"app\", static_libs: [\"z\"] }",
-        "Android.bp:1:40: error 21: missing module: z\n",
-    ),
-    (
         "@Android.bp\ncc_binary { name: \"a\", static_libs: [\"b\"] }\ncc_binary { name: \"b\" }",
         "Android.bp:1:38: error 24: missing variant: b{android_arm64_static}\n",
     ),
@@ -176,14 +128,6 @@ const FAULTS: [(&str, &str); 48] = [
     (
         "@Android.bp\ncc_binary { name: \"a\" }\ncc_binary { name: \"a\", static_libs: [\"x\"] }",
         "Android.bp:2:13: error 20: duplicate module name: a\n",
-    ),
-    (
-        "@Android.bp\ncc_library_static { name: \"a\", static_libs: [\"b\"] }\ncc_library_static { name: \"b\", static_libs: [\"c\", \"a\"] }\ncc_library_static { name: \"c\", static_libs: [\"a\"] }\n",
-        "Android.bp:1:46: error 23: dependency cycle: a{android_arm64_static} -> b{android_arm64_static} -> a{android_arm64_static}\n",
-    ),
-    (
-        "@Android.bp\ncc_library_static { name: \"a\", static_libs: [\"a\"] }",
-        "Android.bp:1:46: error 23: dependency cycle: a{android_arm64_static} -> a{android_arm64_static}\n",
     ),
     (
         "@Android.bp\ncc_library_static { name: \"a\", static_libs: [\"a\"] }\ncc_binary { name: \"b\", static_libs: [\"x\"] }",

@@ -1,6 +1,6 @@
 //! Words that give no configuration, and stores and streams that fail.
 
-use super::{BUILD, outcome, put, store_of, tree_of};
+use super::{BUILD, end_of, end_within, put, store_of, tree_of};
 use bp_ports::MemStore;
 use std::test::Fail;
 
@@ -20,9 +20,9 @@ fn failing_store(rt: HostRuntime) -> Result<(), Fail> {
     ] {
         let tree = tree_of(alloc, TWO_FILES)?;
         let mut store = MemStore::new(alloc, tree, 9000, vec![in alloc; call]?)?;
-        let (got, said) = outcome(&rt, alloc, BUILD, &mut store, 300)?;
-        assert_eq!(rt; got, status);
-        assert!(rt; said.as_slice() == line.as_bytes());
+        let ended = end_of(&rt, alloc, BUILD, &mut store)?;
+        assert_eq!(rt; ended.status, status);
+        assert!(rt; ended.said.as_slice() == line.as_bytes());
         assert_eq!(rt; store.calls(), call);
         assert!(rt; store.held("build.ninja").is_none());
         assert!(rt; store.held("Android.bp") == Some(HELLO.as_bytes()));
@@ -44,19 +44,14 @@ fn files_that_are_not_there(rt: HostRuntime) -> Result<(), Fail> {
     ] {
         let mut tree = Vec::new(alloc);
         put(alloc, "list", list.as_bytes(), &mut tree)?;
-        let (status, said) = outcome(&rt, alloc, BUILD, &mut store_of(alloc, tree)?, room)?;
-        assert_eq!(rt; status, 1);
-        assert!(rt; said.as_slice() == line.as_bytes());
+        let ended = end_within(&rt, alloc, BUILD, &mut store_of(alloc, tree)?, room)?;
+        assert_eq!(rt; ended.status, 1);
+        assert!(rt; ended.said.as_slice() == line.as_bytes());
     }
-    let (status, said) = outcome(
-        &rt,
-        alloc,
-        BUILD,
-        &mut store_of(alloc, Vec::new(alloc))?,
-        300,
-    )?;
-    assert_eq!(rt; status, 1);
-    assert!(rt; said.as_slice() == b"list:1:1: error 31: no such file\n".as_slice());
+    let mut store = store_of(alloc, Vec::new(alloc))?;
+    let ended = end_of(&rt, alloc, BUILD, &mut store)?;
+    assert_eq!(rt; ended.status, 1);
+    assert!(rt; ended.said.as_slice() == b"list:1:1: error 31: no such file\n".as_slice());
     Ok(())
 }
 
@@ -68,7 +63,7 @@ fn words_that_give_no_configuration(rt: HostRuntime) -> Result<(), Fail> {
         "build -l list -o list -t android_arm64",
         "build -l -list -o build.ninja -t android_arm64",
         "build -l list -o  -t android_arm64",
-        "build -l list -o build.ninja -t android_arm",
+        "build -l list -o build.ninja -t mips",
         "build -o build.ninja -l list -t android_arm64",
         "graph -l list -o build.ninja -t android_arm64",
         "graph -l list -t android_arm64",
@@ -78,11 +73,10 @@ fn words_that_give_no_configuration(rt: HostRuntime) -> Result<(), Fail> {
         "build -l list -o build.ninja -t android_arm64 x",
     ] {
         let mut store = store_of(alloc, tree_of(alloc, TWO_FILES)?)?;
-        let (status, said) = outcome(&rt, alloc, words, &mut store, 300)?;
-        assert_eq!(rt; status, 2);
-        assert!(rt;
-            said.as_slice() == b"usage: bpgen build|replay|graph|synth OPTIONS\n".as_slice()
-        );
+        let ended = end_of(&rt, alloc, words, &mut store)?;
+        assert_eq!(rt; ended.status, 2);
+        let usage = b"usage: bpgen build|replay|graph|synth OPTIONS\n".as_slice();
+        assert!(rt; ended.said.as_slice() == usage && ended.out.is_empty());
         assert_eq!(rt; store.calls(), 0);
     }
     Ok(())
