@@ -1,15 +1,18 @@
 -- What an end that was reported says of the call, status by status.
-use Rattle.std.proofs.Common.{◌≡◌, ◌↔◌, ℕ, List, Option, Some, None, refl, subst, inl, inr}
+use Rattle.std.proofs.Common.{◌≡◌, ◌⊎◌, ℕ, List, Option, Some, None, Result, Ok, Err, refl, subst, inl, inr}
 use Rattle.std.proofs.Common.{arith, lit≤}
-use Rattle.std.specs.Prelude.{IsNone, IsSomeAnd}
+use Rattle.std.specs.Prelude.{IfSome, IsNone, IsSomeAnd}
+use Rattle.std.specs.FinMap.{empty}
+use Rattle.bp_faults.specs.declared.fault.Fault.{Fault}
+use Rattle.bp_ports.specs.Files.{Files}
 use Rattle.bp_run.specs.declared.words.Configuration.{Configuration}
-use Rattle.bp_run.specs.declared.words.Configuration.TheVariants.{Build, Graph}
+use Rattle.bp_run.specs.declared.words.Configuration.TheVariants.{Build, Graph, Synth}
 use Rattle.bp_run.specs.declared.end.End.{End}
-use Rattle.bp_run.specs.Run.{World, Stream, Unchanged, DoneBy, FaultBy, ReadBy, WriteBy}
-use Rattle.bp_run.specs.Run.{RunMeans, Quiet}
 use Rattle.bp_run.specs.End.{status_of, report_of, IsReported, Ended}
+use Rattle.bp_run.specs.Job.{JobMeans}
 use Rattle.bp_run.specs.Laws.{OneJob}
-use Rattle.bp_run.proofs.OneJob.{done_no_fault, fault_no_text}
+use Rattle.bp_run.specs.Run.{Gives, IsGiven, DoneBy, FaultBy, ReadBy, WriteBy, IsUnjournaled, Spares, RunMeans}
+use Rattle.bp_run.specs.World.{World, Stream, Quiet}
 
 some_not_none : {X : Type 0} (o : Option X) (P : X → Type 0) → IsSomeAnd o P → IsNone o → ⊥
 some_not_none None P h none = h
@@ -22,16 +25,48 @@ of_conf o P h x is = subst (λ o. IsSomeAnd o P) is h
 no_conf : {X : Type 0} (o : Option X) → IsNone o → (x : X) → o ≡ Some x → ⊥
 no_conf o none x is = let h : IsNone (Some x) = subst IsNone is none in cc
 
-module _ (once : OneJob) (conf : Option Configuration) (old new : World) (before after : Stream) where
-  -- an end that isn't usage, of a configuration that there is
-  not_usage : (P : Configuration → Type 0) (status : ℕ) → (status ≡ 2 → ⊥) → IsSomeAnd conf P
-      → (status ≡ 2) ↔ IsNone conf
-  not_usage P status other some = (λ two. absurd (other two), λ none. absurd (some_not_none conf P some none))
+module _ (once : OneJob) where
+  told_once : (c : Configuration) (told : Option Files) (a b : Result (List ℕ) Fault)
+      → IfSome told (λ files. JobMeans c files a) → IsSomeAnd told (λ files. JobMeans c files b) → a ≡ b
+  told_once c None a b x y = absurd y
+  told_once c (Some files) a b x y = once c files a b x y
+
+  -- the job has one outcome, where the store tells its files
+  given_once : (c : Configuration) (old : World) (a b : Result (List ℕ) Fault) → Gives c old a → IsGiven c old b
+      → a ≡ b
+  given_once (Build words) old a b x y = told_once (Build words) old.files a b x y
+  given_once (Graph words) old a b x y = told_once (Graph words) old.files a b x y
+  given_once (Synth words) old a b x y = once (Synth words) empty a b x y
+
+  -- a job that is a text is no fault
+  done_no_fault : (c : Configuration) (old : World) (text : List ℕ) (fault : Fault) → Gives c old (Ok text)
+      → IsGiven c old (Err fault) → ⊥
+  done_no_fault c old text fault x y = let same : Ok text ≡ Err fault =
+      given_once c old (Ok text) (Err fault) x y in cc
+
+  fault_no_text : (c : Configuration) (old : World) (text : List ℕ) (fault : Fault) → Gives c old (Err fault)
+      → IsGiven c old (Ok text) → ⊥
+  fault_no_text c old text fault x y = let same : Err fault ≡ Ok text =
+      given_once c old (Err fault) (Ok text) x y in cc
+
+module _ (once : OneJob) (conf : Option Configuration) (old new : World) (before after : Stream)
+    (spares : Spares conf old new) where
+  -- an end of a configuration that there is
+  not_refused : (P : Configuration → Type 0) (status : ℕ) → IsSomeAnd conf P → IsNone conf
+      → (status ≡ 2) ⊎ (status ≡ 5)
+  not_refused P status some none = absurd (some_not_none conf P some none)
 
   -- a write or a put that failed raised its count
   not_quiet : (c : Configuration) (line : List ℕ) → WriteBy old new line c → Quiet old new → ⊥
-  not_quiet (Build words) line (text, gives, fails) quiet = quiet.writes fails.cause
+  not_quiet (Build words) line (text, gives, inl fails) quiet = quiet.writes fails.cause
+  not_quiet (Build words) line (text, gives, inr fails) quiet = by words.journal fails
+    where
+      by : (asked : Option (List ℕ))
+          → IsSomeAnd asked (λ path. IsUnjournaled path words.out text old new line) → ⊥
+      by None fails = fails
+      by (Some path) fails = quiet.writes fails.cause
   not_quiet (Graph words) line (text, gives, fails) quiet = quiet.puts fails.cause
+  not_quiet (Synth words) line (text, gives, fails) quiet = quiet.puts fails.cause
 
   pub ended : (end : End) → Ended conf old new end → IsReported (report_of end) before after
       → RunMeans conf old new before after (status_of end)
@@ -39,76 +74,81 @@ module _ (once : OneJob) (conf : Option Configuration) (old new : World) (before
     known = lit≤ tt;
     done = λ e. (h, said);
     fault = λ e. absurd (omega (arith, e));
-    usage_exactly = not_usage (DoneBy old new) 0 (λ e. omega (arith, e)) h;
     usage = λ e. absurd (omega (arith, e));
+    refused = not_refused (DoneBy old new) 0 h;
     read = λ e. absurd (omega (arith, e));
     write = λ e. absurd (omega (arith, e));
     memory = λ e. absurd (omega (arith, e));
-    completes = λ c files text is told job quiet. inl refl;
-    reports = λ c files fault is told job quiet. absurd (done_no_fault once conf old new h c files fault is told job);
+    completes = λ c text is given quiet. inl refl;
+    reports = λ c fault is given quiet. let done = of_conf conf (DoneBy old new) h c is in
+        absurd (done_no_fault once c old done.0 fault done.1 given);
+    spares = spares;
   }
   ended (End.Fault line) h said = record {
     known = lit≤ tt;
     done = λ e. absurd (omega (arith, e));
     fault = λ e. (line, h, said);
-    usage_exactly = not_usage (FaultBy old new line) 1 (λ e. omega (arith, e)) h;
     usage = λ e. absurd (omega (arith, e));
+    refused = not_refused (FaultBy old new line) 1 h;
     read = λ e. absurd (omega (arith, e));
     write = λ e. absurd (omega (arith, e));
     memory = λ e. absurd (omega (arith, e));
-    completes =
-        λ c files text is told job quiet. absurd (fault_no_text once conf old new line h c files text is told job);
-    reports = λ c files fault is told job quiet. inl refl;
+    completes = λ c text is given quiet. let told = of_conf conf (FaultBy old new line) h c is in
+        absurd (fault_no_text once c old text told.0 told.1 given);
+    reports = λ c fault is given quiet. inl refl;
+    spares = spares;
   }
   ended End.Usage h said = record {
     known = lit≤ tt;
     done = λ e. absurd (omega (arith, e));
     fault = λ e. absurd (omega (arith, e));
-    usage_exactly = (λ e. h.0, λ none. refl);
-    usage = λ e. (h.1, said);
+    usage = λ e. (h.0, h.1, said);
+    refused = λ none. inl refl;
     read = λ e. absurd (omega (arith, e));
     write = λ e. absurd (omega (arith, e));
     memory = λ e. absurd (omega (arith, e));
-    completes = λ c files text is told job quiet. absurd (no_conf conf h.0 c is);
-    reports = λ c files fault is told job quiet. absurd (no_conf conf h.0 c is);
+    completes = λ c text is given quiet. absurd (no_conf conf h.0 c is);
+    reports = λ c fault is given quiet. absurd (no_conf conf h.0 c is);
+    spares = spares;
   }
   ended (End.Read line) h said = record {
     known = lit≤ tt;
     done = λ e. absurd (omega (arith, e));
     fault = λ e. absurd (omega (arith, e));
-    usage_exactly = not_usage (ReadBy old new line) 3 (λ e. omega (arith, e)) h;
     usage = λ e. absurd (omega (arith, e));
+    refused = not_refused (ReadBy old new line) 3 h;
     read = λ e. (line, h, said);
     write = λ e. absurd (omega (arith, e));
     memory = λ e. absurd (omega (arith, e));
-    completes = λ c files text is told job quiet. absurd (quiet.reads (of_conf conf (ReadBy old new line) h c is).3);
-    reports = λ c files fault is told job quiet. absurd (quiet.reads (of_conf conf (ReadBy old new line) h c is).3);
+    completes = λ c text is given quiet. absurd (quiet.reads (of_conf conf (ReadBy old new line) h c is).3);
+    reports = λ c fault is given quiet. absurd (quiet.reads (of_conf conf (ReadBy old new line) h c is).3);
+    spares = spares;
   }
   ended (End.Write line) h said = record {
     known = lit≤ tt;
     done = λ e. absurd (omega (arith, e));
     fault = λ e. absurd (omega (arith, e));
-    usage_exactly = not_usage (WriteBy old new line) 4 (λ e. omega (arith, e)) h;
     usage = λ e. absurd (omega (arith, e));
+    refused = not_refused (WriteBy old new line) 4 h;
     read = λ e. absurd (omega (arith, e));
     write = λ e. (line, h, said);
     memory = λ e. absurd (omega (arith, e));
-    completes = λ c files text is told job quiet. absurd (not_quiet c line (of_conf conf (WriteBy old new line) h c is) quiet);
-    reports = λ c files fault is told job quiet. absurd (not_quiet c line (of_conf conf (WriteBy old new line) h c is) quiet);
+    completes = λ c text is given quiet.
+        absurd (not_quiet c line (of_conf conf (WriteBy old new line) h c is) quiet);
+    reports = λ c fault is given quiet.
+        absurd (not_quiet c line (of_conf conf (WriteBy old new line) h c is) quiet);
+    spares = spares;
   }
   ended End.OutOfMemory h said = record {
     known = lit≤ tt;
     done = λ e. absurd (omega (arith, e));
     fault = λ e. absurd (omega (arith, e));
-    usage_exactly = not_usage (λ c. Unchanged old new) 5 (λ e. omega (arith, e)) h;
     usage = λ e. absurd (omega (arith, e));
+    refused = λ none. inr refl;
     read = λ e. absurd (omega (arith, e));
     write = λ e. absurd (omega (arith, e));
-    memory = λ e. (unchanged conf h, said);
-    completes = λ c files text is told job quiet. inr refl;
-    reports = λ c files fault is told job quiet. inr refl;
+    memory = λ e. (h, said);
+    completes = λ c text is given quiet. inr refl;
+    reports = λ c fault is given quiet. inr refl;
+    spares = spares;
   }
-    where
-      unchanged : (conf : Option Configuration) → IsSomeAnd conf (λ c. Unchanged old new) → Unchanged old new
-      unchanged None h = absurd h
-      unchanged (Some c) h = h

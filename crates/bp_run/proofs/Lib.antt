@@ -3,7 +3,8 @@ pub mod Reading
 pub mod Progress
 pub mod Meeting
 pub mod Making
+pub mod OneTree
 pub mod OneJob
 pub mod Ending
+pub mod Delivered
 pub mod Heads
-pub mod Names

@@ -14,8 +14,9 @@ use Rattle.bp_load.specs.Loaded.{LoadMeans}
 use Rattle.bp_load.specs.Trees.{Source}
 use Rattle.bp_run.specs.declared.stop.Stop.{Stop}
 use Rattle.bp_run.specs.declared.words.Configuration.{Configuration}
-use Rattle.bp_run.specs.Job.{TypedModulesGive, ListedFilesLoad, ListedFilesGive, sources_of}
-use Rattle.bp_run.specs.Steps.{GivesOrStops, CannotReadOf, stop_of}
+use Rattle.bp_run.specs.declared.made.Made.{Made}
+use Rattle.bp_run.specs.Steps.{GivesOrStops, CannotReadOf, stop_of, ModulesMake, ListedFilesMake}
+use Rattle.bp_run.specs.Tree.{ListedFilesLoad, sources_of}
 use Rattle.bp_run.proofs.Meeting.{Never, meets, stops}
 
 -- a layer that refuses, and the whole with it
@@ -56,17 +57,20 @@ module _ {T U A B : Type 0} (view : T → A) (whole_view : U → B) (First : Res
       meets whole_view (Next value) (Then First Next) Never Never (λ outcome next. (Ok value, first, next))
       (λ path never. absurd never) r h
 
+-- What was made of modules, and what they make.
+abbrev pub MakesOf : Configuration → List Module → Result Made Stop → Type 0
+MakesOf c typed r = GivesOrStops {T = Made} {V = Made} (λ made. made) (ModulesMake c typed) Never r
+
 module _ (paths : List (List ℕ)) where
-  -- what the files of the list load as, and what they give
+  -- what the files of the list load as, and what is made of them
   abbrev Loads : Files → Result (Vec Module Global) Stop → Type 0
   Loads files r =
       GivesOrStops {T = Vec Module Global} {V = List Module} (λ typed. typed.items) (ListedFilesLoad files paths)
       (CannotReadOf files paths) r
 
-  abbrev Makes : Configuration → Files → Result (Vec ℕ Global) Stop → Type 0
+  abbrev Makes : Configuration → Files → Result Made Stop → Type 0
   Makes c files r =
-      GivesOrStops {T = Vec ℕ Global} {V = List ℕ} (λ made. made.items) (ListedFilesGive c files paths)
-      (CannotReadOf files paths) r
+      GivesOrStops {T = Made} {V = Made} (λ made. made) (ListedFilesMake c files paths) (CannotReadOf files paths) r
 
   -- the files were read, and loaded
   loaded_here : (files : Files) (sources : List Source) (r : Result (Vec Module Global) Stop)
@@ -85,21 +89,20 @@ module _ (paths : List (List ℕ)) where
   tree_loaded None sources r read h = tt
   tree_loaded (Some files) sources r read h = loaded_here files sources r read h
 
-  -- the files don't load, so there is no text
-  pub job_stopped : (c : Configuration) (old : Option Files) (e : Stop) (r : Result (Vec ℕ Global) Stop)
+  -- the files don't load, so nothing is made
+  pub job_stopped : (c : Configuration) (old : Option Files) (e : Stop) (r : Result Made Stop)
       → IsErrAnd r (λ x. x ≡ e) → IfSome old (λ files. Loads files (Err e)) → IfSome old (λ files. Makes c files r)
   job_stopped c None e r same h = tt
   job_stopped c (Some files) e r same h =
-      stops {T = Vec Module Global} {U = Vec ℕ Global} (λ typed. typed.items) (λ made. made.items)
-      (ListedFilesLoad files paths) (ListedFilesGive c files paths) (CannotReadOf files paths)
-      (CannotReadOf files paths) (λ fault means. (Err fault, means, refl)) (λ path cannot. cannot) e r same h
+      stops {T = Vec Module Global} {U = Made} (λ typed. typed.items) (λ made. made) (ListedFilesLoad files paths)
+      (ListedFilesMake c files paths) (CannotReadOf files paths) (CannotReadOf files paths)
+      (λ fault means. (Err fault, means, refl)) (λ path cannot. cannot) e r same h
 
-  -- the files load, and their modules give the text
-  pub job_made : (c : Configuration) (old : Option Files) (typed : List Module) (r : Result (Vec ℕ Global) Stop)
-      → IfSome old (λ files. ListedFilesLoad files paths (Ok typed))
-      → GivesOrStops {T = Vec ℕ Global} {V = List ℕ} (λ made. made.items) (TypedModulesGive c typed) Never r
+  -- the files load, and what is made of their modules is made
+  pub job_made : (c : Configuration) (old : Option Files) (typed : List Module) (r : Result Made Stop)
+      → IfSome old (λ files. ListedFilesLoad files paths (Ok typed)) → MakesOf c typed r
       → IfSome old (λ files. Makes c files r)
   job_made c None typed r loaded h = tt
   job_made c (Some files) typed r loaded h =
-      meets {T = Vec ℕ Global} (λ made. made.items) (TypedModulesGive c typed) (ListedFilesGive c files paths) Never
-      (CannotReadOf files paths) (λ outcome gives. (Ok typed, loaded, gives)) (λ path never. absurd never) r h
+      meets {T = Made} (λ made. made) (ModulesMake c typed) (ListedFilesMake c files paths) Never
+      (CannotReadOf files paths) (λ outcome makes. (Ok typed, loaded, makes)) (λ path never. absurd never) r h

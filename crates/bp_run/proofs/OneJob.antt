@@ -1,6 +1,6 @@
 -- A job has one outcome, where each phase has.
-use Rattle.std.proofs.Common.{◌≡◌, ℕ, List, subst, Option, Some, Ok, Err, Result, ap, refl}
-use Rattle.std.specs.Prelude.{IfSome, IsSomeAnd}
+use Rattle.std.proofs.Common.{◌≡◌, ◌∙◌, ℕ, List, Ok, Err, Result, refl, sym, ap, subst}
+use Rattle.std.specs.Prelude.{length}
 use Rattle.std.specs.FinMap.{get}
 use Rattle.bp_faults.specs.declared.fault.Fault.{Fault}
 use Rattle.bp_faults.specs.declared.limits.TheConstants.{LARGEST_LIST_FILE}
@@ -21,22 +21,24 @@ use Rattle.build_actions.specs.Acts.{acts_at}
 use Rattle.build_actions.specs.File.{file_of}
 use Rattle.ninja_file.specs.declared.file.NinjaFile.{NinjaFile}
 use Rattle.bp_pipeline.specs.Course.{GraphAfter}
-use Rattle.bp_pipeline.specs.Generated.{ActionsMean, FileMeans, TextMeans, written}
+use Rattle.bp_pipeline.specs.Generated.{ActionsMean, FileMeans, TextMeans, IsStatementCount, sizes_of, written}
 use Rattle.bp_pipeline.specs.Laws.{OneGraph}
 use Rattle.bp_pipeline.specs.Mutators.{built}
 use Rattle.bp_pipeline.specs.Shown.{shown_graph}
 use Rattle.bp_load.specs.ListFile.{ListMeans}
 use Rattle.bp_load.specs.Loaded.{LoadMeans}
 use Rattle.bp_load.specs.Laws.{OneList, OneLoad}
-use Rattle.bp_run.specs.declared.words.Graph.{Graph as GraphWords}
+use Rattle.command_words.specs.declared.configuration.Graph.{Graph as GraphWords}
+use Rattle.command_words.specs.declared.configuration.Synth.{Synth as SynthWords}
+use Rattle.synthetic_tree.specs.declared.summary.Summary.{Summary}
+use Rattle.synthetic_tree.specs.Summary.{summary_text}
 use Rattle.bp_run.specs.declared.words.Configuration.{Configuration}
-use Rattle.bp_run.specs.declared.words.Configuration.TheVariants.{Build, Graph}
-use Rattle.bp_run.specs.Job.{read_of, sources_of, ListFileMeans, ListedFilesLoad, GraphGives, TypedModulesGive}
-use Rattle.bp_run.specs.Job.{ListedFilesGive, JobMeans}
-use Rattle.bp_run.specs.Targets.{config_of}
-use Rattle.bp_run.specs.Words.{list_of}
+use Rattle.bp_run.specs.declared.words.Configuration.TheVariants.{Build, Graph, Synth}
+use Rattle.bp_run.specs.Job.{GraphGives, HasNodes, HasEdges, IsSummary, SummaryGives, ModulesGive, synth_config}
 use Rattle.bp_run.specs.Laws.{OneJob}
-use Rattle.bp_run.specs.Run.{World, DoneBy, FaultBy}
+use Rattle.bp_run.specs.Tree.{read_of, sources_of, ListFileMeans, ListedFilesLoad, ListLoads, SynthLoads, TreeMeans}
+use Rattle.bp_run.specs.Words.{config_of}
+use Rattle.bp_run.proofs.OneTree.{one_tree}
 
 -- two outcomes of one result
 apart : {A E : Type 0} (r : Result A E) (a : A) (e : E) → r ≡ Ok a → r ≡ Err e → ⊥
@@ -83,44 +85,74 @@ module _ (list : OneList) (load : OneLoad) (graph : OneGraph) (pass : AtMostOneO
       (λ (nodes : List (Node Props)) outcome. Ok (shown_graph typed nodes) ≡ outcome)
       (graph typed config words.after) (λ nodes. value_once (Ok (shown_graph typed nodes)))
 
-  typed_once : (c : Configuration) (typed : List Module) → IsOnce (TypedModulesGive c typed)
-  typed_once (Build words) typed = text_once typed (config_of words.targets)
-  typed_once (Graph words) typed = graph_once words typed
+  nodes_once : (typed : List Module) (k : ℕ) (a b : List (Node Props)) → GraphAfter typed synth_config k (Ok a)
+      → GraphAfter typed synth_config k (Ok b) → sizes_of a ≡ sizes_of b
+  nodes_once typed k a b x y =
+      let same : Ok a ≡ Ok b = graph typed synth_config k (Ok a) (Ok b) x y in ap sizes_of (cc)
 
-  load_once : (files : Files) (paths : List (List ℕ)) → IsOnce (ListedFilesLoad files paths)
-  load_once files paths = goes_on_once (sources_of files paths) LoadMeans load
+  count_once : (typed : List Module) (a b : ℕ) → IsStatementCount typed synth_config a
+      → IsStatementCount typed synth_config b → a ≡ b
+  count_once typed a b x y =
+      let same : Ok x.0 ≡ Ok y.0 = file_once typed synth_config (Ok x.0) (Ok y.0) x.1 y.1 in
+      let files : x.0 ≡ y.0 = cc in
+      x.2 ∙ ap (λ (f : NinjaFile). length f.statements) files ∙ sym y.2
 
-  listed_once : (c : Configuration) (files : Files) (paths : List (List ℕ)) → IsOnce (ListedFilesGive c files paths)
-  listed_once c files paths =
-      then_once (ListedFilesLoad files paths) (TypedModulesGive c) (load_once files paths) (typed_once c)
+  summary_once : (words : SynthWords) (typed : List Module) (text : List ℕ) (a b : Summary)
+      → IsSummary words typed text a → IsSummary words typed text b → a ≡ b
+  summary_once words typed text a b x y =
+      let modules : a.modules ≡ b.modules = x.modules ∙ sym y.modules in
+      let linked : a.linked ≡ b.linked = nodes_alike 5 a.linked b.linked x.linked y.linked in
+      let edges : a.edges ≡ b.edges = edges_alike 7 a.edges b.edges x.edges y.edges in
+      let nodes : a.nodes ≡ b.nodes = nodes_alike built a.nodes b.nodes x.nodes y.nodes in
+      let statements : a.statements ≡ b.statements =
+      count_once typed a.statements b.statements x.statements y.statements in
+      let bytes : a.bytes ≡ b.bytes = x.bytes ∙ sym y.bytes in
+      (λ i. record {
+        modules = modules i;
+        linked = linked i;
+        edges = edges i;
+        nodes = nodes i;
+        statements = statements i;
+        bytes = bytes i;
+      })
+    where
+      nodes_alike : (k m n : ℕ) → HasNodes typed k m → HasNodes typed k n → m ≡ n
+      nodes_alike k m n first second =
+          first.2 ∙ ap (λ s. s.nodes) (nodes_once typed k first.0 second.0 first.1 second.1) ∙ sym second.2
+
+      edges_alike : (k m n : ℕ) → HasEdges typed k m → HasEdges typed k n → m ≡ n
+      edges_alike k m n first second =
+          first.2 ∙ ap (λ s. s.edges) (nodes_once typed k first.0 second.0 first.1 second.1) ∙ sym second.2
+
+  summary_gives_once : (words : SynthWords) (typed : List Module) → IsOnce (SummaryGives words typed)
+  summary_gives_once words typed =
+      then_once (TextMeans typed synth_config)
+      (λ text outcome. (summary : Summary) × IsSummary words typed text summary
+      × (Ok (summary_text summary) ≡ outcome))
+      (text_once typed synth_config)
+      (λ text a b x y. sym x.2 ∙ ap (λ s. Ok (summary_text s)) (summary_once words typed text x.0 y.0 x.1 y.1) ∙ y.2)
+
+  modules_once : (c : Configuration) (typed : List Module) → IsOnce (ModulesGive c typed)
+  modules_once (Build words) typed = text_once typed (config_of words.targets)
+  modules_once (Graph words) typed = graph_once words typed
+  modules_once (Synth words) typed = summary_gives_once words typed
 
   list_file_once : (path : List ℕ) (files : Files) → IsOnce (ListFileMeans path files)
   list_file_once path files = goes_on_once (read_of 0 LARGEST_LIST_FILE (get files path)) ListMeans list
 
+  list_loads_once : (path : List ℕ) (files : Files) → IsOnce (ListLoads path files)
+  list_loads_once path files =
+      then_once (ListFileMeans path files) (ListedFilesLoad files) (list_file_once path files)
+      (λ paths. goes_on_once (sources_of files paths) LoadMeans load)
+
+  synth_loads_once : (words : SynthWords) → IsOnce (SynthLoads words)
+  synth_loads_once words a b x y =
+      load y.0 a b (subst (λ files. LoadMeans files a) (one_tree words.seed words.modules x.0 y.0 x.1 y.1) x.2) y.2
+
+  tree_once : (c : Configuration) (files : Files) → IsOnce (TreeMeans c files)
+  tree_once (Build words) files = list_loads_once words.list files
+  tree_once (Graph words) files = list_loads_once words.list files
+  tree_once (Synth words) files = synth_loads_once words
+
   pub one_job : OneJob
-  one_job c files =
-      then_once (ListFileMeans (list_of c) files) (ListedFilesGive c files) (list_file_once (list_of c) files)
-      (listed_once c files)
-
-module _ (once : OneJob) where
-  excluded : (c : Configuration) (files : Files) (text : List ℕ) (fault : Fault) → JobMeans c files (Ok text)
-      → JobMeans c files (Err fault) → ⊥
-  excluded c files text fault first second = let same : Ok text ≡ Err fault =
-      once c files (Ok text) (Err fault) first second in cc
-
-  -- after status 0 the job is no fault
-  pub done_no_fault : (conf : Option Configuration) (old new : World) → IsSomeAnd conf (DoneBy old new)
-      → (c : Configuration) (files : Files) (fault : Fault) → conf ≡ Some c → old.files ≡ Some files
-      → JobMeans c files (Err fault) → ⊥
-  done_no_fault conf old new done c files fault is_conf told job =
-      let by : DoneBy old new c = subst (λ x. IsSomeAnd x (DoneBy old new)) is_conf done in
-      excluded c files by.0 fault (subst (λ m. IfSome m (λ files. JobMeans c files (Ok by.0))) told by.1) job
-
-  -- after status 1 the job is no text
-  pub fault_no_text : (conf : Option Configuration) (old new : World) (line : List ℕ)
-      → IsSomeAnd conf (FaultBy old new line)
-      → (c : Configuration) (files : Files) (text : List ℕ) → conf ≡ Some c → old.files ≡ Some files
-      → JobMeans c files (Ok text) → ⊥
-  fault_no_text conf old new line fault c files text is_conf told job =
-      let by : FaultBy old new line c = subst (λ x. IsSomeAnd x (FaultBy old new line)) is_conf fault in
-      excluded c files text by.0 job (subst (λ m. IfSome m (λ files. JobMeans c files (Err by.0))) told by.1)
+  one_job c files = then_once (TreeMeans c files) (ModulesGive c) (tree_once c files) (modules_once c)

@@ -10,7 +10,7 @@ use Rattle.bp_faults.specs.declared.fault.Fault.{Fault}
 use Rattle.bp_ports.specs.Files.{Files}
 use Rattle.bp_load.specs.Trees.{Source, sources}
 use Rattle.bp_run.specs.declared.stop.Stop.{Stop}
-use Rattle.bp_run.specs.Job.{bytes_of, sources_of}
+use Rattle.bp_run.specs.Tree.{bytes_of, sources_of}
 use Rattle.bp_run.specs.Steps.{GivesOrStops, Exactly, CannotReadOf}
 use Rattle.bp_run.proofs.Reading.{size_of, size_more, read_more, read_fault, read_stop}
 

@@ -1,14 +1,20 @@
 -- How a call ended, before and after it is said. Only the contracts of steps speak of it.
-use Rattle.std.specs.Prelude.{◌≡◌, ℕ, List, Option, Some, None, IsNone, IsSomeAnd, ⊤}
+use Rattle.std.specs.Prelude.{◌≡◌, ◌⊎◌, ℕ, List, Option, Some, None, IsNone, IsSomeAnd, ⊤}
+use Rattle.std.specs.FinMap.{insert}
 use Rattle.std.specs.declared.io.ErrorKind.{ErrorKind}
 use Rattle.std.specs.declared.io.ErrorKind.TheVariants.{OutOfMemory as NoMemory}
 use Rattle.bp_faults.specs.Line.{line_of}
+use Rattle.bp_ports.specs.Files.{Files, WhereTold}
+use Rattle.command_words.specs.declared.configuration.Build.{Build as BuildWords}
 use Rattle.bp_run.specs.declared.words.Configuration.{Configuration}
+use Rattle.bp_run.specs.declared.words.Configuration.TheVariants.{Build, Graph, Synth}
 use Rattle.bp_run.specs.declared.end.End.{End}
 use Rattle.bp_run.specs.declared.stop.Stop.{Stop}
 use Rattle.bp_run.specs.Lines.{read_line, usage_line, memory_line}
-use Rattle.bp_run.specs.Run.{World, Stream, Untouched, Unchanged, DoneBy, FaultBy, ReadBy, WriteBy, Delivers, Fails}
-use Rattle.bp_run.specs.Run.{Says, SaysNothing}
+use Rattle.bp_run.specs.declared.made.Journal.{Journal}
+use Rattle.bp_run.specs.declared.made.Made.{Made}
+use Rattle.bp_run.specs.Run.{DoneBy, FaultBy, ReadBy, WriteBy, IsUnwritten, IsUnjournaled, IsShown, IsUnshown}
+use Rattle.bp_run.specs.World.{World, Stream, Says, SaysNothing, Untouched, Unchanged}
 
 -- The exit status of an end.
 abbrev pub status_of : End → ℕ
@@ -40,14 +46,40 @@ Ended conf old new (End.Fault line) = IsSomeAnd conf (FaultBy old new line)
 Ended conf old new End.Usage = IsNone conf × Untouched old new
 Ended conf old new (End.Read line) = IsSomeAnd conf (ReadBy old new line)
 Ended conf old new (End.Write line) = IsSomeAnd conf (WriteBy old new line)
-Ended conf old new End.OutOfMemory = IsSomeAnd conf (λ c. Unchanged old new)
+Ended conf old new End.OutOfMemory = Unchanged old new
 
--- What the delivery of a text comes to: it is delivered, or fails, or memory runs out before it.
-abbrev pub EndsDelivery : Configuration → List ℕ → World → World → End → Type 0
-EndsDelivery c text old new End.Done = Delivers c text old new
-EndsDelivery c text old new (End.Write line) = Fails c text old new line
-EndsDelivery c text old new End.OutOfMemory = Unchanged old new
-EndsDelivery c text old new end = ⊥
+-- The files behind a journal, where there is one.
+abbrev pub journaled : Option Journal → Files → Files
+journaled None files = files
+journaled (Some journal) files = insert files journal.path journal.lines
+
+-- The text is in OUT, and the journal behind it.
+pub record IsPut (words : BuildWords) (made : Made) (old new : World) : Type 0 where
+  pub files : WhereTold (λ before after. after ≡ journaled made.journal (insert before words.out made.text))
+      old.files new.files
+  pub out : new.out ≡ old.out
+
+-- What writing comes to: it is done, or one of the files can't be written, or memory runs out before it.
+abbrev pub EndsWriting : BuildWords → Made → World → World → End → Type 0
+EndsWriting words made old new End.Done = IsPut words made old new
+EndsWriting words made old new (End.Write line) =
+    IsUnwritten words.out old new line
+    ⊎ IsSomeAnd made.journal (λ journal. IsUnjournaled journal.path words.out made.text old new line)
+EndsWriting words made old new End.OutOfMemory = Unchanged old new
+EndsWriting words made old new end = ⊥
+
+-- What showing a text comes to.
+abbrev pub EndsShowing : List ℕ → World → World → End → Type 0
+EndsShowing text old new End.Done = IsShown text old new
+EndsShowing text old new (End.Write line) = IsUnshown text old new line
+EndsShowing text old new End.OutOfMemory = Unchanged old new
+EndsShowing text old new end = ⊥
+
+-- What a delivery comes to, by the command.
+abbrev pub EndsDelivery : Configuration → Made → World → World → End → Type 0
+EndsDelivery (Build words) made old new end = EndsWriting words made old new end
+EndsDelivery (Graph words) made old new end = EndsShowing made.text old new end
+EndsDelivery (Synth words) made old new end = EndsShowing made.text old new end
 
 -- How a job's stop is reported, by the paths of the files.
 abbrev pub Stopped : List (List ℕ) → Stop → End → Type 0

@@ -1,8 +1,10 @@
-pub mod Targets
 pub mod Words
+pub mod Tree
 pub mod Job
 pub mod Steps
 pub mod Lines
+pub mod Help
+pub mod World
 pub mod Run
 pub mod End
 pub mod Laws

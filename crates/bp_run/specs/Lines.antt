@@ -20,3 +20,7 @@ output_line = write_line (codes "standard output")
 -- Memory ran out.
 abbrev pub memory_line : List ℕ
 memory_line = codes "bpgen: out of memory\n"
+
+-- What stands in the place of the list's path for a synthetic tree.
+abbrev pub synth_name : List ℕ
+synth_name = codes "synth"

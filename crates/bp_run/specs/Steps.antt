@@ -1,5 +1,6 @@
 -- What a step of the job answers, for what its definition gives.
-use Rattle.std.specs.Prelude.{◌≡◌, ◌⊎◌, ℕ, ◌≤◌, List, ◌∷◌, ◌++◌, Result, Ok, Err, ⊤}
+use Rattle.std.specs.Prelude.{◌≡◌, ◌⊎◌, ℕ, ◌≤◌, List, ◌∷◌, ◌++◌, Option, None, Result, Ok, Err, ⊤}
+use Rattle.std.specs.Prelude.{IfOk, IfSome, option_map}
 use Rattle.std.specs.Result.{IsOk}
 use Rattle.bp_ports.specs.Causes.{Rose}
 use Rattle.bp_ports.specs.Files.{Files}
@@ -7,7 +8,21 @@ use Rattle.bp_faults.specs.declared.fault.Fault.{Fault}
 use Rattle.bp_faults.specs.declared.refusal.Refusal.{Refusal}
 use Rattle.bp_faults.specs.declared.refusal.Refusal.TheVariants.{Bad, OutOfMemory as NoMemory}
 use Rattle.bp_run.specs.declared.stop.Stop.{Stop}
-use Rattle.bp_run.specs.Job.{ListFileMeans, sources_of}
+use Rattle.bp_faults.specs.Phases.{Then}
+use Rattle.bp_props.specs.declared.module.Module.{Module}
+use Rattle.bp_load.specs.Loaded.{LoadMeans}
+use Rattle.bp_load.specs.Trees.{Source}
+use Rattle.bp_run.specs.declared.made.Journal.{Journal}
+use Rattle.bp_run.specs.declared.made.Made.{Made}
+use Rattle.bp_run.specs.declared.words.Configuration.{Configuration}
+use Rattle.bp_run.specs.declared.words.Configuration.TheVariants.{Build, Graph, Synth}
+use Rattle.bp_pipeline.specs.declared.generated.Generated.{Generated}
+use Rattle.bp_pipeline.specs.Generated.{AreSizes, IsStatementCount}
+use Rattle.command_words.specs.declared.configuration.Synth.{Synth as SynthWords}
+use Rattle.synthetic_tree.specs.declared.summary.Summary.{Summary}
+use Rattle.bp_run.specs.Job.{ModulesGive, AreJournal, IsSummary, synth_config}
+use Rattle.bp_run.specs.Tree.{ListFileMeans, ListedFilesLoad, sources_of}
+use Rattle.bp_run.specs.Words.{config_of}
 
 -- A layer's refusal, as the job hands it on
 abbrev pub stop_of : Refusal → Stop
@@ -51,3 +66,43 @@ CannotReadOf files paths path =
 abbrev pub CannotRead : List ℕ → Files → List ℕ → Type 0
 CannotRead list files path =
     (path ≡ list) ⊎ ((paths : List (List ℕ)) × ListFileMeans list files (Ok paths) × CannotReadOf files paths path)
+
+-- The numbers are those of modules of which this was generated.
+abbrev pub Summarizes : SynthWords → Generated → Summary → Type 0
+Summarizes words made summary =
+    (typed : List Module) → AreSizes typed synth_config made.sizes
+    → IsStatementCount typed synth_config made.statements → IsSummary words typed made.ninja summary
+
+-- The path of a journal, where there is one.
+abbrev pub journal_path : Option Journal → Option (List ℕ)
+journal_path journal = option_map (λ (made : Journal). made.path) journal
+
+-- The path of the journal that is asked for.
+abbrev pub journal_of : Configuration → Option (List ℕ)
+journal_of (Build words) = words.journal
+journal_of (Graph words) = None
+journal_of (Synth words) = None
+
+-- What is made of some modules has a journal exactly where one is asked for, for its path.
+abbrev pub IsAsked : Configuration → Result Made Stop → Type 0
+IsAsked c result = IfOk result (λ made. journal_path made.journal ≡ journal_of c)
+
+-- The lines of a journal are legal.
+abbrev pub HasJournal : Configuration → List Module → Option Journal → Type 0
+HasJournal (Build words) typed journal =
+    IfSome journal (λ made. AreJournal typed (config_of words.targets) made.lines)
+HasJournal (Graph words) typed journal = ⊤
+HasJournal (Synth words) typed journal = ⊤
+
+-- What is made of modules: the text that they give, and the journal beside it.
+abbrev pub ModulesMake : Configuration → List Module → Result Made Fault → Type 0
+ModulesMake c typed (Ok made) = ModulesGive c typed (Ok made.text) × HasJournal c typed made.journal
+ModulesMake c typed (Err fault) = ModulesGive c typed (Err fault)
+
+-- What is made of the files of a list.
+abbrev pub ListedFilesMake : Configuration → Files → List (List ℕ) → Result Made Fault → Type 0
+ListedFilesMake c files paths outcome = Then (ListedFilesLoad files paths) (ModulesMake c) outcome
+
+-- What is made of files in memory.
+abbrev pub SourcesMake : Configuration → List Source → Result Made Fault → Type 0
+SourcesMake c sources outcome = Then (LoadMeans sources) (ModulesMake c) outcome

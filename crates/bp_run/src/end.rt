@@ -1,6 +1,6 @@
 ghost use Rattle.std.specs.Prelude.{◌≡◌};
 ghost use Rattle.std.specs.Option.{option_copied};
-ghost use Rattle.bp_run.specs.Run.{stream};
+ghost use Rattle.bp_run.specs.World.{stream};
 ghost use Rattle.bp_run.specs.End.{status_of, report_of, IsReported};
 
 use bp_faults::Text;

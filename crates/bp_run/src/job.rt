@@ -1,29 +1,29 @@
-ghost use Rattle.std.specs.Prelude.{◌≡◌, ◌≤◌, ◌^◌, IfOk, IfSome, length, map};
+ghost use Rattle.std.specs.Prelude.{◌≡◌, ◌≤◌, ◌^◌, IfOk, IfSome, length, map, Some};
 ghost use Rattle.std.specs.List.{All};
 ghost use Rattle.bp_load.specs.Directories.{AreInFileOrder};
-ghost use Rattle.bp_load.specs.Loaded.{LoadMeans};
 ghost use Rattle.bp_load.specs.Trees.{sources};
-ghost use Rattle.mutator_rules.specs.Configs.{TargetsDiffer};
-ghost use Rattle.bp_pipeline.specs.Generated.{TextMeans};
-ghost use Rattle.bp_pipeline.specs.Mutators.{built};
-ghost use Rattle.bp_run.specs.Job.{GraphGives, TypedModulesGive, ListedFilesLoad, ListedFilesGive};
+ghost use Rattle.command_words.specs.Sound.{IsSoundBuild, IsSoundGraph, IsSoundSynth};
+ghost use Rattle.order_text.specs.Texts.{journal_text};
+ghost use Rattle.synthetic_tree.specs.Summary.{summary_text};
+ghost use Rattle.bp_run.specs.Job.{synth_config};
 ghost use Rattle.bp_run.specs.Steps.{GivesOrStops, GivesOrRunsOut, ReadCause, CannotReadOf};
-ghost use Rattle.bp_run.specs.Targets.{config_of};
-ghost use Rattle.bp_run.specs.Words.{IsSound};
+ghost use Rattle.bp_run.specs.Steps.{IsAsked, journal_path, Summarizes, ModulesMake, ListedFilesMake, SourcesMake};
+ghost use Rattle.bp_run.specs.Words.{config_of, IsSound};
+ghost use Rattle.bp_run.specs.declared.words.Configuration.TheVariants.{Build as BuildCommand, Graph as GraphCommand};
+ghost use Rattle.bp_run.specs.declared.words.Configuration.TheVariants.{Synth as SynthCommand};
 
-use crate::read::read_files;
-use crate::{Build, Configuration, Graph, Stop};
-use bp_faults::{OutOfMemory, Path, Seq, Target};
-use bp_load::load;
-use bp_pipeline::{generate, graph_after, show_graph};
+use crate::load::{load_files, load_listed};
+use crate::{Configuration, Journal, Made, Stop};
+use bp_faults::{NodeId, OutOfMemory, Path, Seq, Target};
+use bp_pipeline::{Generated, generate, graph_after, show_graph};
 use bp_ports::{Gate, Store};
 use bp_props::Module;
+use command_words::{Build, Graph, Synth};
 use mutator_rules::Config;
+use order_text::journal_text;
 use std::alloc::Global;
 use std::thread::Threads;
-
-// How many workers run the passes.
-const WORKERS: u32 = 4;
+use synthetic_tree::{Summary, summary_text};
 
 fn config_of(alloc: Global, targets: &Seq<Target>) -> Result<Config, OutOfMemory>
     ensures { IfOk result (λ config. config ≡ config_of targets.now) }
@@ -33,87 +33,143 @@ fn config_of(alloc: Global, targets: &Seq<Target>) -> Result<Config, OutOfMemory
     })
 }
 
-// What `build` gives of typed modules.
-fn build_text<R: Threads + Sync, G: Gate + Sync>(
+// The journal of some visits, where one is asked for.
+fn make_journal(
+    alloc: Global,
+    words: &Build,
+    visits: &Seq<(u32, NodeId)>,
+) -> Result<Option<Journal>, OutOfMemory>
+    ensures path { IfOk result (λ journal. journal_path journal ≡ words.now.journal) }
+    ensures lines { IfOk result (λ journal. IfSome journal (λ made. made.lines ≡ journal_text visits.now)) }
+{
+    match &words.journal {
+        Some(path) => Ok(Some(Journal {
+            path: path.copy(alloc)?,
+            lines: Seq::new(journal_text(alloc, visits.as_slice())?),
+        })),
+        None => Ok(None),
+    }
+}
+
+// The text of the file for Ninja, and the journal beside it.
+fn make_build<R: Threads + Sync, G: Gate + Sync>(
     rt: &R,
     alloc: Global,
     words: &Build,
     typed: &[Module],
     gate: &G,
-) -> Result<Vec<u8>, Stop>
+) -> Result<Made, Stop>
     requires few { length typed.now ≤ 2 ^ 17 }
-    requires targets { TargetsDiffer (config_of words.now.targets) }
-    ensures { GivesOrRunsOut (λ made. made.items) (TextMeans typed.now (config_of words.now.targets)) result }
+    requires sound { IsSoundBuild words.now }
+    ensures makes { GivesOrRunsOut (λ made. made) (ModulesMake (BuildCommand words.now) typed.now) result }
+    ensures asked { IsAsked (BuildCommand words.now) result }
 {
     let config = config_of(alloc, &words.targets)?;
-    let made = generate(rt, alloc, typed, &config, WORKERS, gate)?;
-    Ok(made.ninja.into_vec())
+    let made = generate(rt, alloc, typed, &config, words.workers, gate)?;
+    let journal = make_journal(alloc, words, &made.journal)?;
+    Ok(Made {
+        text: made.ninja,
+        journal,
+    })
 }
 
-// What `graph` gives of typed modules.
-fn graph_text<R: Threads + Sync, G: Gate + Sync>(
+// The text of a graph.
+fn make_graph<R: Threads + Sync, G: Gate + Sync>(
     rt: &R,
     alloc: Global,
     words: &Graph,
     typed: &[Module],
     gate: &G,
-) -> Result<Vec<u8>, Stop>
+) -> Result<Made, Stop>
     requires few { length typed.now ≤ 2 ^ 17 }
-    requires built { words.now.after ≤ built }
-    requires targets { TargetsDiffer (config_of words.now.targets) }
-    ensures { GivesOrRunsOut (λ made. made.items) (GraphGives words.now typed.now) result }
+    requires sound { IsSoundGraph words.now }
+    ensures makes { GivesOrRunsOut (λ made. made) (ModulesMake (GraphCommand words.now) typed.now) result }
+    ensures asked { IsAsked (GraphCommand words.now) result }
 {
     let config = config_of(alloc, &words.targets)?;
-    let graph = graph_after(rt, alloc, typed, &config, words.after, WORKERS, gate)?;
-    Ok(show_graph(alloc, typed, &graph)?)
+    let graph = graph_after(rt, alloc, typed, &config, words.after, words.workers, gate)?;
+    Ok(Made {
+        text: Seq::new(show_graph(alloc, typed, &graph)?),
+        journal: None,
+    })
 }
 
-// What typed modules give, by the command.
-fn make_typed<R: Threads + Sync, G: Gate + Sync>(
+fn synth_config(alloc: Global) -> Result<Config, OutOfMemory>
+    ensures { IfOk result (λ config. config ≡ synth_config) }
+{
+    Ok(Config {
+        targets: Seq::new(vec![in alloc;
+            Target::AndroidArm64,
+            Target::AndroidArm,
+            Target::LinuxGlibcX86_64,
+        ]?),
+    })
+}
+
+// What was generated, in numbers.
+fn summary_of(words: &Synth, made: &Generated) -> Summary
+    requires { length made.now.sizes ≡ 11 }
+    ensures { Summarizes words.now made.now result }
+{
+    let sizes = made.sizes.as_slice();
+    Summary {
+        modules: words.modules,
+        linked: sizes[4].nodes,
+        edges: sizes[6].edges,
+        nodes: sizes[10].nodes,
+        statements: made.statements,
+        bytes: made.ninja.as_slice().len(),
+    }
+}
+
+fn summary_lines(alloc: Global, summary: Summary) -> Result<Seq<u8>, OutOfMemory>
+    ensures { IfOk result (λ lines. lines ≡ summary_text summary) }
+{
+    Ok(Seq::new(summary_text(alloc, summary)?.into_bytes()))
+}
+
+// The summary of a synthetic tree.
+fn make_synth<R: Threads + Sync, G: Gate + Sync>(
+    rt: &R,
+    alloc: Global,
+    words: &Synth,
+    typed: &[Module],
+    gate: &G,
+) -> Result<Made, Stop>
+    requires few { length typed.now ≤ 2 ^ 17 }
+    requires sound { IsSoundSynth words.now }
+    ensures makes { GivesOrRunsOut (λ made. made) (ModulesMake (SynthCommand words.now) typed.now) result }
+    ensures asked { IsAsked (SynthCommand words.now) result }
+{
+    let config = synth_config(alloc)?;
+    let made = generate(rt, alloc, typed, &config, words.workers, gate)?;
+    Ok(Made {
+        text: summary_lines(alloc, summary_of(words, &made))?,
+        journal: None,
+    })
+}
+
+// What is made of modules, by the command.
+fn make<R: Threads + Sync, G: Gate + Sync>(
     rt: &R,
     alloc: Global,
     configuration: &Configuration,
     typed: &[Module],
     gate: &G,
-) -> Result<Vec<u8>, Stop>
+) -> Result<Made, Stop>
     requires few { length typed.now ≤ 2 ^ 17 }
     requires sound { IsSound configuration.now }
-    ensures { GivesOrRunsOut (λ made. made.items) (TypedModulesGive configuration.now typed.now) result }
+    ensures makes { GivesOrRunsOut (λ made. made) (ModulesMake configuration.now typed.now) result }
+    ensures asked { IsAsked configuration.now result }
 {
     match configuration {
-        Configuration::Build(words) => build_text(rt, alloc, words, typed, gate),
-        Configuration::Graph(words) => graph_text(rt, alloc, words, typed, gate),
+        Configuration::Build(words) => make_build(rt, alloc, words, typed, gate),
+        Configuration::Graph(words) => make_graph(rt, alloc, words, typed, gate),
+        Configuration::Synth(words) => make_synth(rt, alloc, words, typed, gate),
     }
 }
 
-// The typed modules of some files.
-fn load_files(alloc: Global, files: &[(Path, Vec<u8>)]) -> Result<Vec<Module>, Stop>
-    requires few { length files.now ≤ 2 ^ 14 }
-    requires order { AreInFileOrder (map (λ f. f.0) (sources files.now)) }
-    requires short { All (λ f. length f.1 ≤ 2 ^ 20) (sources files.now) }
-    ensures gives { GivesOrRunsOut (λ typed. typed.items) (LoadMeans (sources files.now)) result }
-    ensures few { IfOk result (λ typed. length typed.items ≤ 2 ^ 17) }
-{
-    let typed = load(alloc, files, 1)?;
-    Ok(typed)
-}
-
-// The typed modules of the files that a list names. Their bytes are dropped.
-fn load_listed<S: Store>(alloc: Global, paths: &[Path], store: &mut S) -> Result<Vec<Module>, Stop>
-    requires few { length paths.now ≤ 2 ^ 14 }
-    requires order { AreInFileOrder paths.now }
-    ensures gives { IfSome (S.files store.old) (λ files. GivesOrStops (λ typed. typed.items)
-        (ListedFilesLoad files paths.now) (CannotReadOf files paths.now) result) }
-    ensures few { IfOk result (λ typed. length typed.items ≤ 2 ^ 17) }
-    ensures cause { ReadCause (S.read_faults store.old) (S.read_faults store.new) result }
-    ensures files { S.files store.new ≡ S.files store.old }
-    ensures writes { S.write_faults store.new ≡ S.write_faults store.old }
-{
-    let files = read_files(alloc, paths, store)?;
-    load_files(alloc, &files)
-}
-
-/// Does the job over the files that a list names: its text, or why there is none.
+/// Does the job over the files that a list names: what it makes, or why nothing is made.
 pub fn do_job<R: Threads + Sync, S: Store, G: Gate + Sync>(
     rt: &R,
     alloc: Global,
@@ -121,16 +177,36 @@ pub fn do_job<R: Threads + Sync, S: Store, G: Gate + Sync>(
     paths: &[Path],
     store: &mut S,
     gate: &G,
-) -> Result<Vec<u8>, Stop>
+) -> Result<Made, Stop>
     requires few { length paths.now ≤ 2 ^ 14 }
     requires order { AreInFileOrder paths.now }
     requires sound { IsSound configuration.now }
-    ensures gives { IfSome (S.files store.old) (λ files. GivesOrStops (λ made. made.items)
-        (ListedFilesGive configuration.now files paths.now) (CannotReadOf files paths.now) result) }
+    ensures gives { IfSome (S.files store.old) (λ files. GivesOrStops (λ made. made)
+        (ListedFilesMake configuration.now files paths.now) (CannotReadOf files paths.now) result) }
+    ensures asked { IsAsked configuration.now result }
     ensures cause { ReadCause (S.read_faults store.old) (S.read_faults store.new) result }
     ensures files { S.files store.new ≡ S.files store.old }
     ensures writes { S.write_faults store.new ≡ S.write_faults store.old }
 {
     let typed = load_listed(alloc, paths, store)?;
-    make_typed(rt, alloc, configuration, &typed, gate)
+    make(rt, alloc, configuration, &typed, gate)
+}
+
+/// Does the job over files in memory.
+pub fn do_job_over<R: Threads + Sync, G: Gate + Sync>(
+    rt: &R,
+    alloc: Global,
+    configuration: &Configuration,
+    files: &[(Path, Vec<u8>)],
+    gate: &G,
+) -> Result<Made, Stop>
+    requires few { length files.now ≤ 2 ^ 14 }
+    requires order { AreInFileOrder (map (λ f. f.0) (sources files.now)) }
+    requires short { All (λ f. length f.1 ≤ 2 ^ 20) (sources files.now) }
+    requires sound { IsSound configuration.now }
+    ensures makes { GivesOrRunsOut (λ made. made) (SourcesMake configuration.now (sources files.now)) result }
+    ensures asked { IsAsked configuration.now result }
+{
+    let typed = load_files(alloc, files)?;
+    make(rt, alloc, configuration, &typed, gate)
 }

@@ -6,21 +6,26 @@
 //! words, and `specs/Job.antt`, the job of a configuration over files.
 #![tactic(auto)]
 
+mod deliver;
 mod end;
+mod help;
 mod job;
 pub mod laws;
+mod load;
+mod made;
 mod program;
 mod read;
 mod stop;
-mod targets;
 mod top;
 mod words;
 mod work;
 
 pub use end::End;
-pub use job::do_job;
+pub use help::{HELP, VERSION};
+pub use job::{do_job, do_job_over};
+pub use made::{Journal, Made};
 pub use program::start;
 pub use stop::Stop;
 pub use top::run;
-pub use words::{Build, Configuration, Graph, configure};
+pub use words::{Configuration, configure};
 pub use work::do_work;

@@ -2,9 +2,10 @@ ghost use Rattle.std.specs.Prelude.{◌≡◌};
 ghost use Rattle.bp_run.specs.End.{end_without_words};
 
 use crate::end::{End, report, status};
+use crate::help::text_asked;
 use crate::run;
 use bp_faults::Text;
-use bp_ports::{FsStore, OpenGate, StdSink};
+use bp_ports::{FsStore, OpenGate, Sink, StdSink};
 use std::io::ErrorKind;
 use std::process::ExitCode;
 use std::rt::Env;
@@ -30,6 +31,17 @@ fn end_without_words(kind: ErrorKind) -> End
     }
 }
 
+// Prints a text that was asked for.
+fn print<O: Sink, D: Sink>(text: &str, out: &mut O, diag: &mut D) -> ExitCode {
+    match out.put(text.as_bytes()) {
+        Ok(()) => ExitCode::from(0),
+        Err(_) => {
+            let _ = diag.put(b"bpgen: cannot write standard output\n");
+            ExitCode::from(4)
+        }
+    }
+}
+
 /// The program, over the real files and streams. The first argument is the runtime once more, as the one that may start
 /// threads.
 pub fn start<R: Threads + Sync>(threads: &R, rt: HostRuntime) -> ExitCode {
@@ -42,8 +54,11 @@ pub fn start<R: Threads + Sync>(threads: &R, rt: HostRuntime) -> ExitCode {
             return ExitCode::from(status(&end));
         }
     };
-    let mut store = FsStore::new(rt);
     let mut out = StdSink::out(rt);
+    if let Some(text) = text_asked(&words) {
+        return print(text, &mut out, &mut diag);
+    }
+    let mut store = FsStore::new(rt);
     ExitCode::from(run(
         threads,
         rt.alloc(),

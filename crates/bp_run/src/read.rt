@@ -5,7 +5,7 @@ ghost use Rattle.bp_faults.specs.Faults.{fault_at, file_start};
 ghost use Rattle.bp_load.specs.Directories.{AreInFileOrder};
 ghost use Rattle.bp_load.specs.ListFile.{ListMeans};
 ghost use Rattle.bp_load.specs.Trees.{sources};
-ghost use Rattle.bp_run.specs.Job.{read_of, counted, bytes_of, sources_of, ListFileMeans};
+ghost use Rattle.bp_run.specs.Tree.{read_of, counted, bytes_of, sources_of, ListFileMeans};
 ghost use Rattle.bp_run.specs.Steps.{GivesOrStops, GivesOrRunsOut, Exactly, ReadCause, CannotReadOf};
 
 use crate::Stop;

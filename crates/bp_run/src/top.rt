@@ -1,5 +1,6 @@
-ghost use Rattle.bp_run.specs.Words.{configuration_of};
-ghost use Rattle.bp_run.specs.Run.{world, stream, RunMeans};
+ghost use Rattle.bp_run.specs.Words.{served_configuration};
+ghost use Rattle.bp_run.specs.Run.{RunMeans};
+ghost use Rattle.bp_run.specs.World.{world, stream};
 
 use crate::do_work;
 use crate::end::{report, status};
@@ -22,7 +23,7 @@ pub fn run<R: Threads + Sync, S: Store, O: Sink, D: Sink, G: Gate + Sync>(
     diag: &mut D,
     gate: &G,
 ) -> u8
-    ensures { RunMeans (configuration_of words.now)
+    ensures { RunMeans (served_configuration words.now)
         (world S.Store O.Sink store.old out.old) (world S.Store O.Sink store.new out.new)
         (stream D.Sink diag.old) (stream D.Sink diag.new) result }
 {

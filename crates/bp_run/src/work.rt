@@ -1,116 +1,45 @@
-ghost use Rattle.std.specs.Prelude.{◌≡◌, ◌∷◌, IfOk, Some, Ok};
+ghost use Rattle.std.specs.Prelude.{◌≡◌, ◌∷◌, IfOk, Some, map};
 ghost use Rattle.bp_faults.specs.Line.{line_of};
-ghost use Rattle.bp_run.specs.Words.{configuration_of};
-ghost use Rattle.bp_run.specs.Lines.{read_line, write_line, output_line};
-ghost use Rattle.bp_run.specs.Run.{Gives, world};
-ghost use Rattle.bp_run.specs.End.{Ended, EndsDelivery, Stopped};
-ghost use Rattle.bp_run.specs.Words.{list_of, IsSound};
-ghost use Rattle.bp_run.specs.declared.words.Configuration.TheVariants.{Build as BuildCommand, Graph as GraphCommand};
+ghost use Rattle.bp_load.specs.Trees.{sources};
+ghost use Rattle.bp_run.specs.End.{Ended, Stopped};
+ghost use Rattle.bp_run.specs.Lines.{synth_name};
+ghost use Rattle.bp_run.specs.Run.{Spares};
+ghost use Rattle.bp_run.specs.Words.{served_configuration, list_of, IsSound};
+ghost use Rattle.bp_run.specs.World.{world, IsSpared};
+ghost use Rattle.bp_run.specs.declared.words.Configuration.TheVariants.{Synth as SynthCommand};
 
+use crate::deliver::{cannot_read, deliver};
+use crate::job::{do_job, do_job_over};
 use crate::read::read_list;
-use crate::words::{Build, Graph};
-use crate::{Configuration, End, Stop, configure, do_job};
+use crate::{Configuration, End, Stop, configure};
 use bp_faults::{Fault, OutOfMemory, Path, Text, fault_line};
 use bp_ports::{Gate, Sink, Store};
+use command_words::Synth;
 use std::alloc::Global;
 use std::thread::Threads;
-
-fn cannot_read(alloc: Global, path: &Text) -> Result<Text, OutOfMemory>
-    ensures { IfOk result (λ line. line ≡ read_line path.now) }
-{
-    let path = path.as_str();
-    Ok(Text::new(format!(in alloc; "bpgen: cannot read {path}\n")?))
-}
-
-fn cannot_write(alloc: Global, path: &str) -> Result<Text, OutOfMemory>
-    ensures { IfOk result (λ line. line ≡ write_line path.now) }
-{
-    Ok(Text::new(format!(in alloc; "bpgen: cannot write {path}\n")?))
-}
-
-// Writes the text to OUT. The line for a failure is made first.
-fn write_out<S: Store, O: Sink>(
-    alloc: Global,
-    words: &Build,
-    text: &[u8],
-    store: &mut S,
-    out: &mut O,
-) -> End
-    ensures { EndsDelivery (BuildCommand words.now) text.now
-        (world S.Store O.Sink store.old out.old) (world S.Store O.Sink store.new out.new) result }
-{
-    match cannot_write(alloc, words.out.as_str()) {
-        Ok(line) => match store.write(&words.out, text) {
-            Ok(()) => End::Done,
-            Err(_) => End::Write(line),
-        },
-        Err(_) => End::OutOfMemory,
-    }
-}
-
-// Puts the text on the output. The line for a failure is made first.
-fn put_out<S: Store, O: Sink>(
-    alloc: Global,
-    words: &Graph,
-    text: &[u8],
-    store: &mut S,
-    out: &mut O,
-) -> End
-    ensures { EndsDelivery (GraphCommand words.now) text.now
-        (world S.Store O.Sink store.old out.old) (world S.Store O.Sink store.new out.new) result }
-{
-    match cannot_write(alloc, "standard output") {
-        Ok(line) => match out.put(text) {
-            Ok(()) => End::Done,
-            Err(_) => End::Write(line),
-        },
-        Err(_) => End::OutOfMemory,
-    }
-}
-
-// Puts the text where the command puts it.
-fn deliver<S: Store, O: Sink>(
-    alloc: Global,
-    configuration: &Configuration,
-    text: &[u8],
-    store: &mut S,
-    out: &mut O,
-) -> End
-    ensures { EndsDelivery configuration.now text.now
-        (world S.Store O.Sink store.old out.old) (world S.Store O.Sink store.new out.new) result }
-{
-    match configuration {
-        Configuration::Build(words) => write_out(alloc, words, text, store, out),
-        Configuration::Graph(words) => put_out(alloc, words, text, store, out),
-    }
-}
+use synthetic_tree::synth_tree;
 
 // The texts of the files by their numbers: the list, and the paths that it names.
-fn file_texts(alloc: Global, list: &Text, paths: &[Path]) -> Result<Vec<Text>, OutOfMemory>
+fn file_texts(alloc: Global, list: &str, paths: &[Path]) -> Result<Vec<Text>, OutOfMemory>
     ensures { IfOk result (λ texts. texts.items ≡ list.now ∷ paths.now) }
 {
     let mut texts = Vec::new(alloc);
-    texts.push(list.copy(alloc)?)?;
+    texts.push(Text::from_str(alloc, list)?)?;
     for path in paths {
         texts.push(path.as_text().copy(alloc)?)?;
     }
     Ok(texts)
 }
 
-fn fault_text(
-    alloc: Global,
-    list: &Text,
-    paths: &[Path],
-    fault: &Fault,
-) -> Result<Text, OutOfMemory>
+fn fault_text(alloc: Global, list: &str, paths: &[Path], fault: &Fault) -> Result<Text, OutOfMemory>
     ensures { IfOk result (λ line. line ≡ line_of fault.now (list.now ∷ paths.now)) }
 {
     let files = file_texts(alloc, list, paths)?;
     Ok(Text::new(fault_line(alloc, fault, &files)?))
 }
 
-// The line that reports why there is no text.
-fn stopped(alloc: Global, list: &Text, paths: &[Path], stop: &Stop) -> End
+// The line that reports why nothing is made.
+fn stopped(alloc: Global, list: &str, paths: &[Path], stop: &Stop) -> End
     ensures { Stopped (list.now ∷ paths.now) stop.now result }
 {
     let line = match stop {
@@ -119,6 +48,75 @@ fn stopped(alloc: Global, list: &Text, paths: &[Path], stop: &Stop) -> End
         Stop::OutOfMemory => Err(OutOfMemory),
     };
     line.unwrap_or(End::OutOfMemory)
+}
+
+// Does what a configuration asks for, over the files that a list names.
+fn carry_out_over_list<R: Threads + Sync, S: Store, O: Sink, G: Gate + Sync>(
+    rt: &R,
+    alloc: Global,
+    configuration: &Configuration,
+    list: &Text,
+    store: &mut S,
+    out: &mut O,
+    gate: &G,
+) -> End
+    requires sound { IsSound configuration.now }
+    requires list { list_of configuration.now ≡ Some list.now }
+    ensures { Ended (Some configuration.now)
+        (world S.Store O.Sink store.old out.old) (world S.Store O.Sink store.new out.new) result }
+{
+    match read_list(alloc, list, store) {
+        Ok(paths) => match do_job(rt, alloc, configuration, &paths, store, gate) {
+            Ok(made) => deliver(alloc, configuration, &made, store, out),
+            Err(stop) => stopped(alloc, list.as_str(), &paths, &stop),
+        },
+        Err(stop) => stopped(alloc, list.as_str(), &[], &stop),
+    }
+}
+
+fn paths_of(alloc: Global, files: &[(Path, Vec<u8>)]) -> Result<Vec<Path>, OutOfMemory>
+    ensures { IfOk result (λ paths. paths.items ≡ map (λ f. f.0) (sources files.now)) }
+{
+    let mut paths = Vec::new(alloc);
+    for (path, _) in files {
+        paths.push(path.copy(alloc)?)?;
+    }
+    Ok(paths)
+}
+
+// The line that reports why nothing is made of a synthetic tree.
+fn stopped_over(alloc: Global, files: &[(Path, Vec<u8>)], stop: &Stop) -> End
+    ensures { Stopped (synth_name ∷ map (λ f. f.0) (sources files.now)) stop.now result }
+{
+    match paths_of(alloc, files) {
+        Ok(paths) => stopped(alloc, "synth", &paths, stop),
+        Err(_) => End::OutOfMemory,
+    }
+}
+
+// Does what `synth` asks for, over a tree in memory.
+fn carry_out_over_synth<R: Threads + Sync, S: Store, O: Sink, G: Gate + Sync>(
+    rt: &R,
+    alloc: Global,
+    configuration: &Configuration,
+    words: &Synth,
+    store: &mut S,
+    out: &mut O,
+    gate: &G,
+) -> End
+    requires sound { IsSound configuration.now }
+    requires words { configuration.now ≡ SynthCommand words.now }
+    ensures ended { Ended (Some configuration.now)
+        (world S.Store O.Sink store.old out.old) (world S.Store O.Sink store.new out.new) result }
+    ensures spares { IsSpared (world S.Store O.Sink store.old out.old) (world S.Store O.Sink store.new out.new) }
+{
+    match synth_tree(alloc, words.seed, words.modules) {
+        Ok(files) => match do_job_over(rt, alloc, configuration, &files, gate) {
+            Ok(made) => deliver(alloc, configuration, &made, store, out),
+            Err(stop) => stopped_over(alloc, &files, &stop),
+        },
+        Err(_) => End::OutOfMemory,
+    }
 }
 
 // Does what a configuration asks for.
@@ -131,16 +129,21 @@ fn carry_out<R: Threads + Sync, S: Store, O: Sink, G: Gate + Sync>(
     gate: &G,
 ) -> End
     requires { IsSound configuration.now }
-    ensures { Ended (Some configuration.now)
+    ensures ended { Ended (Some configuration.now)
         (world S.Store O.Sink store.old out.old) (world S.Store O.Sink store.new out.new) result }
+    ensures spares { Spares (Some configuration.now)
+        (world S.Store O.Sink store.old out.old) (world S.Store O.Sink store.new out.new) }
 {
-    let list = configuration.list();
-    match read_list(alloc, list, store) {
-        Ok(paths) => match do_job(rt, alloc, configuration, &paths, store, gate) {
-            Ok(text) => deliver(alloc, configuration, &text, store, out),
-            Err(stop) => stopped(alloc, list, &paths, &stop),
-        },
-        Err(stop) => stopped(alloc, list, &[], &stop),
+    match configuration {
+        Configuration::Build(words) => {
+            carry_out_over_list(rt, alloc, configuration, &words.list, store, out, gate)
+        }
+        Configuration::Graph(words) => {
+            carry_out_over_list(rt, alloc, configuration, &words.list, store, out, gate)
+        }
+        Configuration::Synth(words) => {
+            carry_out_over_synth(rt, alloc, configuration, words, store, out, gate)
+        }
     }
 }
 
@@ -153,8 +156,10 @@ pub fn do_work<R: Threads + Sync, S: Store, O: Sink, G: Gate + Sync>(
     out: &mut O,
     gate: &G,
 ) -> End
-    ensures { Ended (configuration_of words.now)
+    ensures ended { Ended (served_configuration words.now)
         (world S.Store O.Sink store.old out.old) (world S.Store O.Sink store.new out.new) result }
+    ensures spares { Spares (served_configuration words.now)
+        (world S.Store O.Sink store.old out.old) (world S.Store O.Sink store.new out.new) }
 {
     match configure(alloc, words) {
         Ok(Some(configuration)) => carry_out(rt, alloc, &configuration, store, out, gate),

@@ -4,6 +4,8 @@ mod faults;
 mod graphs;
 mod limits;
 mod outside;
+mod synthetic;
+mod words;
 
 use bp_faults::{OutOfMemory, Text};
 use bp_ports::{MemSink, MemStore, OpenGate, Sink, Store};

@@ -6,7 +6,7 @@ use Rattle.bp_load.specs.Trees.{sources}
 use Rattle.bp_run.specs.Steps.{GivesOrStops}
 use Rattle.bp_run.proofs.Meeting.{Never}
 use Rattle.bp_run.proofs.Making.{tree_loaded}
-use Rattle.bp_run.proofs.job.load_listed.Goals as goal
+use Rattle.bp_run.proofs.load.load_listed.Goals as goal
 
 pub returns-clause-gives : goal.returns-clause-gives
 returns-clause-gives g c =

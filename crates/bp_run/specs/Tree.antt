@@ -1,0 +1,79 @@
+-- The tree of a configuration: which files are read, and which modules they load as.
+use Rattle.std.specs.Prelude.{◌≡◌, ℕ, ◌+◌, List, [], ◌∷◌, nat_le, length, codes}
+use Rattle.std.specs.Prelude.{Option, Some, None, Result, Ok, Err, if◌then◌else◌}
+use Rattle.std.specs.FinMap.{get}
+use Rattle.bp_faults.specs.declared.fault.Fault.{Fault}
+use Rattle.bp_faults.specs.declared.kind.FaultKind.TheVariants.{NoFile, FileTooLarge, TooMany}
+use Rattle.bp_faults.specs.declared.limits.TheConstants.{LARGEST_FILE, LARGEST_LIST_FILE, LARGEST_TREE}
+use Rattle.bp_faults.specs.Answers.{then_do}
+use Rattle.bp_faults.specs.Faults.{fault_at, fault_on, file_start}
+use Rattle.bp_faults.specs.Phases.{GoesOn, Then}
+use Rattle.bp_ports.specs.Files.{Files}
+use Rattle.bp_props.specs.declared.module.Module.{Module}
+use Rattle.bp_load.specs.ListFile.{ListMeans}
+use Rattle.bp_load.specs.Loaded.{LoadMeans}
+use Rattle.bp_load.specs.Trees.{Source}
+use Rattle.command_words.specs.declared.configuration.Synth.{Synth as SynthWords}
+use Rattle.synthetic_tree.specs.Blocks.{AreTree}
+use Rattle.bp_run.specs.declared.words.Configuration.{Configuration}
+use Rattle.bp_run.specs.declared.words.Configuration.TheVariants.{Build, Graph, Synth}
+
+-- What is read of a file, by its number: it is there, and no larger than the limit.
+abbrev pub read_of : ℕ → ℕ → Option (List ℕ) → Result (List ℕ) Fault
+read_of number limit None = Err (fault_at NoFile (file_start number))
+read_of number limit (Some bytes) =
+    if nat_le (length bytes) limit then Ok bytes else Err (fault_at FileTooLarge (file_start number))
+
+-- The paths that the list file names, which is no larger than its limit.
+abbrev pub ListFileMeans : List ℕ → Files → Result (List (List ℕ)) Fault → Type 0
+ListFileMeans list files outcome = GoesOn (read_of 0 LARGEST_LIST_FILE (get files list)) ListMeans outcome
+
+-- Files together are no larger than the limit of a tree: the bytes of a file, behind others of that size.
+abbrev pub counted : ℕ → ℕ → List ℕ → Result (List ℕ) Fault
+counted number size bytes =
+    if nat_le (size + length bytes) LARGEST_TREE then Ok bytes
+    else Err (fault_on TooMany (file_start number) (codes "bytes"))
+
+-- The bytes of an Android.bp file, which is no larger than its limit.
+abbrev pub bytes_of : Files → ℕ → ℕ → List ℕ → Result (List ℕ) Fault
+bytes_of files number size path = then_do (read_of number LARGEST_FILE (get files path)) (counted number size)
+
+-- The files of some paths in turn, numbered on, behind others of that size.
+abbrev pub sources_from : Files → ℕ → ℕ → List (List ℕ) → Result (List Source) Fault
+sources_from files number size [] = Ok []
+sources_from files number size (path ∷ paths) =
+    then_do (bytes_of files number size path)
+    (λ bytes. then_do (sources_from files (number + 1) (size + length bytes) paths) (λ more. Ok ((path, bytes) ∷ more)))
+
+-- The files that the list names, which are numbered from 1.
+abbrev pub sources_of : Files → List (List ℕ) → Result (List Source) Fault
+sources_of files paths = sources_from files 1 0 paths
+
+-- What the files of a list load as: first all are read.
+abbrev pub ListedFilesLoad : Files → List (List ℕ) → Result (List Module) Fault → Type 0
+ListedFilesLoad files paths outcome = GoesOn (sources_of files paths) LoadMeans outcome
+
+-- What a list and the files that it names load as.
+abbrev pub ListLoads : List ℕ → Files → Result (List Module) Fault → Type 0
+ListLoads list files outcome = Then (ListFileMeans list files) (ListedFilesLoad files) outcome
+
+-- What a synthetic tree loads as.
+abbrev pub SynthLoads : SynthWords → Result (List Module) Fault → Type 0
+SynthLoads words outcome =
+    (files : List Source) × AreTree words.seed words.modules files × LoadMeans files outcome
+
+-- The modules of a configuration's tree: of the files that a list names, or a synthetic one.
+abbrev pub TreeMeans : Configuration → Files → Result (List Module) Fault → Type 0
+TreeMeans (Build words) files = ListLoads words.list files
+TreeMeans (Graph words) files = ListLoads words.list files
+TreeMeans (Synth words) files = SynthLoads words
+
+-- The paths that are listed, and none where the list has a fault.
+abbrev pub listed_of : Result (List (List ℕ)) Fault → List (List ℕ)
+listed_of (Ok paths) = paths
+listed_of (Err fault) = []
+
+-- The files by their numbers: the list has the number 0, and behind it stand those that it names.
+abbrev pub AreListed : List ℕ → Files → List (List ℕ) → Type 0
+AreListed list files paths =
+    (outcome : Result (List (List ℕ)) Fault) × ListFileMeans list files outcome × (paths ≡ listed_of outcome)

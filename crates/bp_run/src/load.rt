@@ -1,0 +1,46 @@
+ghost use Rattle.std.specs.Prelude.{◌≡◌, ◌≤◌, ◌^◌, IfOk, IfSome, length, map};
+ghost use Rattle.std.specs.List.{All};
+ghost use Rattle.bp_load.specs.Directories.{AreInFileOrder};
+ghost use Rattle.bp_load.specs.Loaded.{LoadMeans};
+ghost use Rattle.bp_load.specs.Trees.{sources};
+ghost use Rattle.bp_run.specs.Steps.{GivesOrStops, GivesOrRunsOut, ReadCause, CannotReadOf};
+ghost use Rattle.bp_run.specs.Tree.{ListedFilesLoad};
+
+use crate::Stop;
+use crate::read::read_files;
+use bp_faults::Path;
+use bp_load::load;
+use bp_ports::Store;
+use bp_props::Module;
+use std::alloc::Global;
+
+/// The modules of some files.
+pub fn load_files(alloc: Global, files: &[(Path, Vec<u8>)]) -> Result<Vec<Module>, Stop>
+    requires few { length files.now ≤ 2 ^ 14 }
+    requires order { AreInFileOrder (map (λ f. f.0) (sources files.now)) }
+    requires short { All (λ f. length f.1 ≤ 2 ^ 20) (sources files.now) }
+    ensures gives { GivesOrRunsOut (λ typed. typed.items) (LoadMeans (sources files.now)) result }
+    ensures few { IfOk result (λ typed. length typed.items ≤ 2 ^ 17) }
+{
+    let typed = load(alloc, files, 1)?;
+    Ok(typed)
+}
+
+/// The modules of the files that a list names. Their bytes are dropped.
+pub fn load_listed<S: Store>(
+    alloc: Global,
+    paths: &[Path],
+    store: &mut S,
+) -> Result<Vec<Module>, Stop>
+    requires few { length paths.now ≤ 2 ^ 14 }
+    requires order { AreInFileOrder paths.now }
+    ensures gives { IfSome (S.files store.old) (λ files. GivesOrStops (λ typed. typed.items)
+        (ListedFilesLoad files paths.now) (CannotReadOf files paths.now) result) }
+    ensures few { IfOk result (λ typed. length typed.items ≤ 2 ^ 17) }
+    ensures cause { ReadCause (S.read_faults store.old) (S.read_faults store.new) result }
+    ensures files { S.files store.new ≡ S.files store.old }
+    ensures writes { S.write_faults store.new ≡ S.write_faults store.old }
+{
+    let files = read_files(alloc, paths, store)?;
+    load_files(alloc, &files)
+}

@@ -1,0 +1,80 @@
+//! Words of the command line, those that are accepted and those that aren't, and the help.
+
+use super::{end_of, store_of, tree_of};
+use bp_run::HELP;
+use command_words::{CommandName, options};
+use std::test::Fail;
+
+const TREE: &str = "@Android.bp\ncc_binary { name: \"hello\", srcs: [\"hello.c\"] }\n";
+
+/// Words that give no configuration.
+const REFUSED: [&str; 22] = [
+    "",
+    "build",
+    "build -l list",
+    "build -l list -o o -j 0",
+    "build -l list -o o -j 65",
+    "build -l list -o o -j 00000000004",
+    "build -l list -o x --journal x",
+    "build -l list -l list -o o",
+    "build -l list --list=list -o o",
+    "build -l list -o list",
+    "build --list=list -olist",
+    "build -l -list -o o",
+    "build -l list -o  -t android_arm64",
+    "build -l list -o o -t mips",
+    "build -l list -o o -t android_arm,android_arm",
+    "build -l list -o o -a link",
+    "build -l list -o o x",
+    "graph -l list -a alpha",
+    "graph -l list",
+    "synth --seed 4294967296 --modules 1",
+    "synth --seed 1",
+    "--help",
+];
+
+/// Words that do, each in another spelling of `build`.
+const ACCEPTED: [&str; 4] = [
+    "build -l list -o o -j4 --targets=android_arm",
+    "build --jobs 04 -oo -t android_arm -llist",
+    "build --out=o --list list --targets android_arm --jobs=64",
+    "build -o o -l list -t android_arm",
+];
+
+#[test]
+fn words(rt: HostRuntime) -> Result<(), Fail> {
+    let alloc = rt.alloc();
+    let usage = b"usage: bpgen build|replay|graph|synth OPTIONS\n".as_slice();
+    for words in REFUSED {
+        let mut store = store_of(alloc, tree_of(alloc, TREE)?)?;
+        let ended = end_of(&rt, alloc, words, &mut store)?;
+        assert!(rt; ended.status == 2 && store.calls() == 0, "{words}");
+        assert!(rt; ended.said.as_slice() == usage && ended.out.is_empty(), "{words}");
+    }
+    for words in ACCEPTED {
+        let mut store = store_of(alloc, tree_of(alloc, TREE)?)?;
+        let ended = end_of(&rt, alloc, words, &mut store)?;
+        assert!(rt; ended.status == 0 && ended.said.is_empty(), "{words}");
+        assert!(rt; store.held("o").unwrap_or_default().ends_with(b"/android_arm/bin/hello\ndefault out/all\n"), "{words}");
+    }
+    Ok(())
+}
+
+/// The help names each option of each command that it describes.
+#[test]
+fn help_names_each_option(rt: HostRuntime) -> Result<(), Fail> {
+    let alloc = rt.alloc();
+    for command in [CommandName::Build, CommandName::Graph, CommandName::Synth] {
+        let begin = format!(in alloc; "\nbpgen {} ", command.name())?;
+        let Some((_, described)) = HELP.split_once(begin.as_str()) else {
+            assert!(rt; false, "a command isn't described");
+            return Ok(());
+        };
+        let own = described.split_once("\nbpgen ").map_or(described, |parts| parts.0);
+        for option in options(command) {
+            let name = format!(in alloc; "--{} ", option.name())?;
+            assert!(rt; own.contains(name.as_str()), "{name}");
+        }
+    }
+    Ok(())
+}
