@@ -4,7 +4,7 @@ use Rattle.std.proofs.lemmas.Option.{get_or_from_slice_get}
 use Rattle.bp_props.specs.declared.module.Module.{Module}
 use Rattle.bp_props.specs.declared.props.Props.{Props}
 use Rattle.module_graph.specs.declared.graph.Node.{Node}
-use Rattle.bp_pipeline.specs.declared.generated.Sizes.{Sizes}
+use Rattle.bp_pipeline.specs.declared.sizes.Sizes.{Sizes}
 use Rattle.bp_pipeline.specs.Course.{GraphAfter}
 use Rattle.bp_pipeline.specs.Generated.{AreSizes, sizes_of}
 use Rattle.bp_pipeline.specs.Mutators.{built}
