@@ -58,4 +58,3 @@ fn files_that_are_not_there(rt: HostRuntime) -> Result<(), Fail> {
     assert!(rt; ended.said.as_slice() == b"list:1:1: error 31: no such file\n".as_slice());
     Ok(())
 }
-

@@ -22,7 +22,8 @@ fn summary<R: Threads + Sync>(rt: &R, alloc: Global, words: &str) -> Result<Vec<
 fn synthetic(rt: HostRuntime) -> Result<(), Fail> {
     let alloc = rt.alloc();
     let two = summary(&rt, alloc, "--seed 1 --modules 2")?;
-    let lines = b"modules 2\nnodes after link 4\nedges after plugins 2\nnodes 4\nstatements 9\nbytes ";
+    let lines =
+        b"modules 2\nnodes after link 4\nedges after plugins 2\nnodes 4\nstatements 9\nbytes ";
     assert!(rt; two.starts_with(lines));
     let many = summary(&rt, alloc, "--seed 7 --modules 2000 -j 8")?;
     let lines = b"modules 2000\nnodes after link 3969\nedges after plugins 7746\n";

@@ -49,13 +49,22 @@ fn words(rt: HostRuntime) -> Result<(), Fail> {
         let mut store = store_of(alloc, tree_of(alloc, TREE)?)?;
         let ended = end_of(&rt, alloc, words, &mut store)?;
         assert!(rt; ended.status == 2 && store.calls() == 0, "{words}");
-        assert!(rt; ended.said.as_slice() == usage && ended.out.is_empty(), "{words}");
+        assert!(rt;
+            ended.said.as_slice() == usage && ended.out.is_empty(),
+            "{words}"
+        );
     }
     for words in ACCEPTED {
         let mut store = store_of(alloc, tree_of(alloc, TREE)?)?;
         let ended = end_of(&rt, alloc, words, &mut store)?;
         assert!(rt; ended.status == 0 && ended.said.is_empty(), "{words}");
-        assert!(rt; store.held("o").unwrap_or_default().ends_with(b"/android_arm/bin/hello\ndefault out/all\n"), "{words}");
+        assert!(rt;
+            store
+                .held("o")
+                .unwrap_or_default()
+                .ends_with(b"/android_arm/bin/hello\ndefault out/all\n"),
+            "{words}"
+        );
     }
     Ok(())
 }
@@ -70,7 +79,9 @@ fn help_names_each_option(rt: HostRuntime) -> Result<(), Fail> {
             assert!(rt; false, "a command isn't described");
             return Ok(());
         };
-        let own = described.split_once("\nbpgen ").map_or(described, |parts| parts.0);
+        let own = described
+            .split_once("\nbpgen ")
+            .map_or(described, |parts| parts.0);
         for option in options(command) {
             let name = format!(in alloc; "--{} ", option.name())?;
             assert!(rt; own.contains(name.as_str()), "{name}");
