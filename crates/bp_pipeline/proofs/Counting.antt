@@ -1,6 +1,7 @@
 -- The numbers of edges, and of statements.
-use Rattle.std.proofs.Common.{◌≡◌, ◌<◌, ◌≤◌, ◌+◌, ◌∙◌, ◌++◌, ℕ, zero, suc, List, [], ◌∷◌, length, map, take, get_or, refl}
-use Rattle.std.proofs.Common.{ap, sym, subst, arith, length-append}
+use Rattle.std.proofs.Common.{◌≡◌, ◌<◌, ◌≤◌, ◌+◌, ◌∙◌, ◌++◌, ℕ, zero, suc, List, [], ◌∷◌, length, map, take}
+use Rattle.std.proofs.Common.{get_or, refl}
+use Rattle.std.proofs.Common.{ap, sym, arith, length-append}
 use Rattle.std.specs.Prelude.{codes}
 use Rattle.std.specs.List.{flat_map}
 use Rattle.std.proofs.lemmas.List.{length-map, take_more}
@@ -11,7 +12,8 @@ use Rattle.module_graph.specs.Numbered.{by_number}
 use Rattle.variant_graphs.specs.Limits.{all_edges}
 use Rattle.ninja_file.specs.declared.file.NinjaFile.{NinjaFile}
 use Rattle.ninja_file.specs.declared.file.Statement.{Statement}
-use Rattle.ninja_write.specs.Meaning.{build_line, default_lines, ended, head_line, joined, rule_lines, statement_lines, text_of, variable_line}
+use Rattle.ninja_write.specs.Meaning.{build_line, default_lines, ended, head_line, joined, rule_lines}
+use Rattle.ninja_write.specs.Meaning.{statement_lines, text_of, variable_line}
 
 length-edges : (k : ℕ) (nodes : List (Node Props))
     → length (by_number (λ n (x : Node Props). map (outward n) x.edges) k nodes) ≡ length (all_edges nodes)

@@ -1,9 +1,9 @@
 -- What stays from pass to pass: the nodes that ask are nodes, and the axes of later passes are free.
-use Rattle.std.proofs.Common.{◌≡◌, ◌<◌, ◌≤◌, ◌↔◌, ◌+◌, ◌∙◌, ◌++◌, ℕ, zero, suc, List, [], ◌∷◌, length, map, Option, Some, None}
+use Rattle.std.proofs.Common.{◌≡◌, ◌<◌, ◌≤◌, ◌↔◌, ◌+◌, ◌∙◌, ◌++◌, ℕ, zero, suc, List, [], ◌∷◌, length, map, Option}
+use Rattle.std.proofs.Common.{Some, None}
 use Rattle.std.proofs.Common.{Result, Ok, Err, refl, ap, sym, subst, arith}
 use Rattle.std.specs.Prelude.{slice_get, IfOk}
 use Rattle.std.specs.List.{AllByRecursion}
-use Rattle.bp_faults.specs.declared.fault.Fault.{Fault}
 use Rattle.bp_faults.specs.declared.ids.NodeId.{NodeId}
 use Rattle.bp_faults.specs.declared.refusal.Refusal.{Refusal}
 use Rattle.bp_faults.proofs.Lists.{all_map}
@@ -14,7 +14,6 @@ use Rattle.module_graph.specs.declared.direction.Direction.TheVariants.{BottomUp
 use Rattle.module_graph.specs.declared.graph.Graph.{Graph}
 use Rattle.module_graph.specs.declared.graph.Node.{Node}
 use Rattle.module_graph.specs.declared.variation.Variation.{Variation}
-use Rattle.module_graph.specs.declared.variation.Variation.TheVariants.{Empty}
 use Rattle.module_graph.specs.declared.variations.Axis.{Axis}
 use Rattle.module_graph.specs.declared.variations.Axis.TheVariants.{Target, Image, Link, PerSource, Sanitize}
 use Rattle.module_graph.specs.Axes.{place_of}
@@ -24,7 +23,7 @@ use Rattle.mutator_rules.specs.declared.request.Request.{Request}
 use Rattle.mutator_rules.specs.declared.split.Split.{Split}
 use Rattle.mutator_rules.specs.Conditions.{MayRun, places_in}
 use Rattle.mutator_rules.specs.Outcomes.{KindOutcome, Made, FaultAt, NodesBeyond, EdgesBeyond}
-use Rattle.mutator_kinds.specs.BottomUp.{BottomUpMeans, first_payloads, asked_of}
+use Rattle.mutator_kinds.specs.BottomUp.{BottomUpMeans, first_payloads}
 use Rattle.reverse_deps.specs.Applied.{AskInside}
 use Rattle.reverse_deps.specs.Linked.{bare}
 use Rattle.variant_graphs.specs.Payloads.{with_payloads}

@@ -4,6 +4,7 @@ pub mod Passing
 pub mod Keeping
 pub mod Counting
 pub mod Sized
+pub mod Visited
 pub mod Whole
 pub mod OneGraph
 pub mod OneReplay
@@ -13,3 +14,4 @@ pub mod SomeGraph
 pub mod SomeText
 pub mod SomeReading
 pub mod SomeReplay
+pub mod Earlier

@@ -1,8 +1,7 @@
 -- The first passes, and all that is made behind them, come to one thing, since each pass does.
 use Rattle.std.proofs.Common.{◌≡◌, ◌∙◌, ℕ, zero, suc, List, Option, Some, None, Result, Ok, Err, sym, ap}
 use Rattle.bp_faults.specs.declared.fault.Fault.{Fault}
-use Rattle.bp_faults.specs.declared.ids.NodeId.{NodeId}
-use Rattle.bp_faults.specs.Phases.{IsOnce, Then}
+use Rattle.bp_faults.specs.Phases.{IsOnce}
 use Rattle.bp_faults.proofs.Phases.{value_once, then_once}
 use Rattle.bp_props.specs.declared.module.Module.{Module}
 use Rattle.bp_props.specs.declared.props.Props.{Props}
@@ -15,7 +14,6 @@ use Rattle.module_graph.specs.declared.variations.Axis.{Axis}
 use Rattle.module_graph.specs.declared.variations.Axis.TheVariants.{Target, Image, Link, PerSource}
 use Rattle.module_rules.specs.Rules.{asks, renews, splits}
 use Rattle.mutator_rules.specs.declared.config.Config.{Config}
-use Rattle.mutator_rules.specs.declared.request.Request.{Request}
 use Rattle.mutator_rules.specs.Outcomes.{KindOutcome}
 use Rattle.module_graph.specs.Planned.{plan_of}
 use Rattle.ninja_file.specs.declared.file.NinjaFile.{NinjaFile}
@@ -109,7 +107,8 @@ module _ (once : OneCourse) where
   module _ (one : AtMostOneOutcome Actions) where
     -- a pass means one thing, whichever node its fault is of
     pub means_once : (mean : ℕ → List Actions → Result Actions Fault) (plan : Plan) → IsOnce (PassMeans mean plan)
-    means_once mean plan (Ok outs) (Ok others) first second = ap plain (one mean plan (Ok outs) (Ok others) first second)
+    means_once mean plan (Ok outs) (Ok others) first second =
+        ap plain (one mean plan (Ok outs) (Ok others) first second)
     means_once mean plan (Ok outs) (Err fault) first (n, second) =
         ap plain (one mean plan (Ok outs) (Err (n, fault)) first second)
     means_once mean plan (Err fault) (Ok outs) (n, first) second =

@@ -1,5 +1,6 @@
 -- Lines are replayed to one thing: no two causes of a fault meet.
-use Rattle.std.proofs.Common.{◌≡◌, ◌<◌, ◌≤◌, ◌++◌, ◌∙◌, ℕ, zero, suc, List, [], ◌∷◌, length, drop, Result, Ok, Err, refl}
+use Rattle.std.proofs.Common.{◌≡◌, ◌<◌, ◌≤◌, ◌++◌, ◌∙◌, ℕ, zero, suc, List, [], ◌∷◌, length, Result, Ok, Err}
+use Rattle.std.proofs.Common.{refl}
 use Rattle.std.proofs.Common.{ap, sym, subst, arith, append-nil, append_assoc, ⊎_elim, ◌⊎◌, inl, inr}
 use Rattle.std.proofs.lemmas.Bool.{cases_order}
 use Rattle.std.proofs.lemmas.List.{drop_all}
@@ -13,7 +14,6 @@ use Rattle.module_graph.specs.declared.direction.Direction.TheVariants.{BottomUp
 use Rattle.module_graph.specs.declared.graph.Node.{Node}
 use Rattle.module_graph.specs.Planned.{plan_of}
 use Rattle.mutator_rules.specs.declared.config.Config.{Config}
-use Rattle.ninja_file.specs.declared.file.NinjaFile.{NinjaFile}
 use Rattle.order_text.specs.Laws.{JournalsAreReadBack, OneLines}
 use Rattle.pass_core.specs.declared.plan.Plan.{Plan}
 use Rattle.pass_core.specs.Laws.{AtMostOneOutcome}
@@ -23,9 +23,10 @@ use Rattle.pass_ways.specs.Laws.{LinesSayOneOrder, OneRefusal, RefusedHaveNoOrde
 use Rattle.pass_ways.specs.OrderFiles.{IsRefused, Say, lines_behind, stopped_at}
 use Rattle.pass_ways.specs.Visits.{visits}
 use Rattle.bp_pipeline.specs.Endings.{IsFaulty}
-use Rattle.bp_pipeline.specs.Generated.{ActionsMean, FileMeans, TextMeans, written}
+use Rattle.bp_pipeline.specs.Generated.{TextMeans, written}
 use Rattle.bp_pipeline.specs.Journals.{HasRun, IsJournal, IsLegalJournal, plan_at}
-use Rattle.bp_pipeline.specs.Laws.{FaultsAreReplayed, JournalsAreReplayed, JournalTextsAreReplayed, OneCourse, OneOrder, OneReplay}
+use Rattle.bp_pipeline.specs.Laws.{FaultsAreReplayed, JournalsAreReplayed, JournalTextsAreReplayed, OneCourse}
+use Rattle.bp_pipeline.specs.Laws.{OneOrder, OneReplay}
 use Rattle.bp_pipeline.specs.Mutators.{passes}
 use Rattle.bp_pipeline.specs.Replays.{AreJournal, Cause, ReplayMeans}
 use Rattle.bp_pipeline.specs.Replays.Cause.{Behind, Faulty, Illegal, TooLarge}
@@ -229,7 +230,8 @@ module _ (once : OneCourse) (one : AtMostOneOutcome Actions) (one_order : LinesS
         (segment mods c q p others before less made)
 
   -- lines that are all a journal have none behind
-  no_more : (journal other : List (ℕ × NodeId)) (l : OrderLine) (ls : List OrderLine) → AreJournal mods c lines file journal
+  no_more : (journal other : List (ℕ × NodeId)) (l : OrderLine) (ls : List OrderLine)
+      → AreJournal mods c lines file journal
       → IsLegalJournal mods c other → Say lines other → lines_behind lines other ≡ l ∷ ls → ⊥
   no_more journal other l ls are legal say behind =
       let same = same_legal journal other are.legal legal are.say say in
@@ -258,8 +260,10 @@ module _ (once : OneCourse) (one : AtMostOneOutcome Actions) (one_order : LinesS
           one_refusal lines file earlier (suc p) (plan_at p nodes) x y refused
           (subst (λ (l : List (ℕ × NodeId)). IsRefused lines file l (suc p) (plan_at p nodes) y) visited
           (subst (λ (l : List (Node Props)). IsRefused lines file before (suc p) (plan_at p l) y) graph there))
-      by (inr (inl less)) = absurd (never_earlier p nodes earlier x made refused q less others before y made_too refused_too)
-      by (inr (inr more)) = absurd (never_earlier q others before y made_too refused_too p more nodes earlier x made refused)
+      by (inr (inl less)) =
+          absurd (never_earlier p nodes earlier x made refused q less others before y made_too refused_too)
+      by (inr (inr more)) =
+          absurd (never_earlier q others before y made_too refused_too p more nodes earlier x made refused)
 
   same_place : (journal other : List (ℕ × NodeId)) (some more : List OrderLine) → journal ≡ other
       → lines_behind lines journal ≡ some → lines_behind lines other ≡ more
@@ -298,7 +302,9 @@ module _ (once : OneCourse) (one : AtMostOneOutcome Actions) (one_order : LinesS
       absurd (never_legal p nodes earlier y made refused few journal legal said)
   one_cause x y (Behind journal made l ls legal acts said behind is)
       (Behind other made_too m ms legal_too acts_too said_too behind_too is_too) =
-      is ∙ same_place journal other (l ∷ ls) (m ∷ ms) (same_legal journal other legal legal_too said said_too) behind behind_too
+      is
+      ∙ same_place journal other (l ∷ ls) (m ∷ ms) (same_legal journal other legal legal_too said said_too) behind
+      behind_too
       ∙ sym is_too
   one_cause x y (Behind journal made l ls legal acts said behind is) (TooLarge other written are means large) =
       absurd (no_more other journal l ls are legal said behind)

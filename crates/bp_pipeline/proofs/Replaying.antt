@@ -1,11 +1,12 @@
 -- A replay, and the lines behind all passes.
-use Rattle.std.proofs.Common.{◌≡◌, ◌∙◌, ℕ, suc, List, [], ◌∷◌, length, drop, Result, Ok, Err, refl, ap, sym, subst, arith}
+use Rattle.std.proofs.Common.{◌≡◌, ◌∙◌, ℕ, suc, List, [], ◌∷◌, length, drop, Result, Ok, Err, refl, ap, sym, subst}
+use Rattle.std.proofs.Common.{arith}
 use Rattle.std.specs.Result.{IsErrAnd}
 use Rattle.bp_faults.specs.declared.fault.Fault.{Fault}
 use Rattle.bp_faults.specs.declared.ids.NodeId.{NodeId}
 use Rattle.bp_faults.specs.declared.refusal.Refusal.{Refusal}
 use Rattle.bp_faults.specs.declared.refusal.Refusal.TheVariants.{Bad, OutOfMemory}
-use Rattle.bp_faults.specs.Answers.{Answers, Refuses, Tells}
+use Rattle.bp_faults.specs.Answers.{Refuses, Tells}
 use Rattle.bp_props.specs.declared.module.Module.{Module}
 use Rattle.build_actions.specs.declared.actions.Actions.{Actions}
 use Rattle.build_actions.specs.File.{file_of}
@@ -13,7 +14,6 @@ use Rattle.mutator_rules.specs.declared.config.Config.{Config}
 use Rattle.ninja_file.specs.declared.file.NinjaFile.{NinjaFile}
 use Rattle.pass_ways.specs.declared.way.OrderLine.{OrderLine}
 use Rattle.pass_ways.specs.declared.way.OrderLines.{OrderLines}
-use Rattle.pass_ways.specs.declared.way.Way.{Way}
 use Rattle.pass_ways.specs.declared.way.Way.TheVariants.{Lines}
 use Rattle.pass_ways.specs.OrderFiles.{Say, lines_behind, stopped_at}
 use Rattle.bp_pipeline.specs.Generated.{written}
@@ -46,7 +46,8 @@ module _ {T : Type 0} (view : T → List ℕ) (mods : List Module) (c : Config) 
   err_is e (Ok text) same told = absurd same
   err_is e (Err x) same told = subst (λ (y : Refusal). Told (Err y)) (sym same) told
 
-  passes_end : {G : Type 0} (fault : Fault) → CourseEnds {G = G} mods c (Lines way_lines) (suc passes) fault → Cause mods c lines file fault
+  passes_end : {G : Type 0} (fault : Fault) → CourseEnds {G = G} mods c (Lines way_lines) (suc passes) fault
+      → Cause mods c lines file fault
   passes_end fault (FaultyBy p whole below faulty follows) = Faulty p whole faulty follows
   passes_end fault (RefusedBy p nodes earlier below mutated refuses) =
       Illegal p nodes earlier (omega (arith, below)) mutated refuses
@@ -71,7 +72,8 @@ module _ {T : Type 0} (view : T → List ℕ) (mods : List Module) (c : Config) 
         Behind journal made l ls (legal_journal mods c (Lines way_lines) journal made run)
         (made_means mods c (Lines way_lines) journal made run) run.follows is told
 
-    end_at : end_of file (suc count) (drop count lines) ≡ end_of file (suc (length journal)) (lines_behind lines journal)
+    end_at : end_of file (suc count) (drop count lines)
+        ≡ end_of file (suc (length journal)) (lines_behind lines journal)
     end_at = ap (λ k. end_of file (suc k) (drop k lines)) all
 
     behind_end : (e : Refusal) → Refuses e (end_of file (suc count) (drop count lines)) → Told (Err e)

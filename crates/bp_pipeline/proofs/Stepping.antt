@@ -1,5 +1,6 @@
 -- One pass after another.
-use Rattle.std.proofs.Common.{◌≡◌, ◌<◌, ◌≤◌, ◌+◌, ◌-◌, ℕ, zero, suc, List, [], Result, Ok, Err, refl, sym, ap, subst, arith, ⊎_elim, inl, inr}
+use Rattle.std.proofs.Common.{◌≡◌, ◌<◌, ◌≤◌, ◌+◌, ◌-◌, ℕ, zero, suc, List, [], Result, Ok, Err, refl, sym, ap}
+use Rattle.std.proofs.Common.{subst, arith, ⊎_elim, inl}
 use Rattle.std.specs.Result.{IsErrAnd}
 use Rattle.bp_faults.specs.declared.fault.Fault.{Fault}
 use Rattle.bp_faults.specs.declared.ids.NodeId.{NodeId}
@@ -20,7 +21,7 @@ use Rattle.bp_pipeline.specs.Course.{CourseMeans}
 use Rattle.bp_pipeline.specs.Endings.{IsFaulty}
 use Rattle.bp_pipeline.specs.Journals.{HasRun, IsJournal, plan_at}
 use Rattle.bp_pipeline.specs.Mutators.{passes}
-use Rattle.bp_pipeline.specs.Passes.{StepMeans, pass_at}
+use Rattle.bp_pipeline.specs.Passes.{pass_at}
 use Rattle.bp_pipeline.specs.Runs.{AnswersCourse, CourseEnds, TellsStep}
 use Rattle.bp_pipeline.specs.Runs.CourseEnds.{Faulty, Refused}
 

@@ -1,5 +1,6 @@
 -- All passes, and what is generated of them.
-use Rattle.std.proofs.Common.{◌≡◌, ◌<◌, ◌≤◌, ℕ, suc, List, Result, Ok, Err, refl, ap, sym, subst, arith, ⊎_elim, inl, inr}
+use Rattle.std.proofs.Common.{◌≡◌, ℕ, suc, List, Result, Ok, Err, refl, ap, sym, subst, arith, ⊎_elim}
+use Rattle.std.proofs.Common.{inr}
 use Rattle.std.specs.Result.{IsErrAnd}
 use Rattle.bp_faults.specs.declared.fault.Fault.{Fault}
 use Rattle.bp_faults.specs.declared.ids.NodeId.{NodeId}
@@ -12,7 +13,6 @@ use Rattle.build_actions.specs.declared.actions.Actions.{Actions}
 use Rattle.build_actions.specs.Acts.{acts_at}
 use Rattle.build_actions.specs.File.{file_of}
 use Rattle.module_graph.specs.declared.direction.Direction.TheVariants.{BottomUp}
-use Rattle.module_graph.specs.declared.graph.Graph.{Graph}
 use Rattle.module_graph.specs.declared.graph.Node.{Node}
 use Rattle.module_graph.specs.Planned.{plan_of}
 use Rattle.mutator_rules.specs.declared.config.Config.{Config}
@@ -20,7 +20,7 @@ use Rattle.ninja_file.specs.declared.file.NinjaFile.{NinjaFile}
 use Rattle.pass_core.specs.declared.plan.Plan.{Plan}
 use Rattle.pass_core.specs.Outcomes.{PassMeans}
 use Rattle.pass_ways.specs.declared.way.Way.{Way}
-use Rattle.pass_ways.specs.Ways.{Follows, RefusesPass}
+use Rattle.pass_ways.specs.Ways.{RefusesPass}
 use Rattle.bp_pipeline.specs.declared.ran.Ran.{Ran}
 use Rattle.bp_pipeline.specs.Course.{CourseMeans}
 use Rattle.bp_pipeline.specs.Endings.{IsFaulty}

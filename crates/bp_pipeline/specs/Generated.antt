@@ -1,5 +1,5 @@
 -- What is generated of modules: the file for Ninja, its text, and what is counted on the way.
-use Rattle.std.specs.Prelude.{◌≡◌, ◌<◌, ℕ, suc, List, nat_le, length, map, slice_get, Some, Result, Ok, Err}
+use Rattle.std.specs.Prelude.{◌≡◌, ◌<◌, ℕ, suc, List, nat_le, length, slice_get, Some, Result, Ok, Err}
 use Rattle.std.specs.Prelude.{if◌then◌else◌}
 use Rattle.bp_faults.specs.declared.fault.Fault.{Fault}
 use Rattle.bp_faults.specs.declared.kind.FaultKind.TheVariants.{OutputTooLarge}
@@ -56,7 +56,8 @@ module _ (mods : List Module) (c : Config) where
   pub record AreSizesTo (count : ℕ) (sizes : List Sizes) : Type 0 where
     pub many : length sizes ≡ count
     pub each : (k : ℕ) → k < count
-        → (nodes : List (Node Props)) × GraphAfter mods c (suc k) (Ok nodes) × (slice_get sizes k ≡ Some (sizes_of nodes))
+        → (nodes : List (Node Props)) × GraphAfter mods c (suc k) (Ok nodes)
+        × (slice_get sizes k ≡ Some (sizes_of nodes))
 
   -- The size of the graph after each mutator.
   abbrev pub AreSizes : List Sizes → Type 0

@@ -35,7 +35,8 @@ OneText = (mods : List Module) (c : Config) → IsOnce (TextMeans mods c)
 
 -- The lines of an order file are replayed to one text or one fault: no two causes of a fault meet.
 abbrev pub OneReplay : Type 0
-OneReplay = (mods : List Module) (c : Config) (lines : List OrderLine) (file : ℕ) → IsOnce (ReplayMeans mods c lines file)
+OneReplay =
+    (mods : List Module) (c : Config) (lines : List OrderLine) (file : ℕ) → IsOnce (ReplayMeans mods c lines file)
 
 -- Lines that are a legal journal are replayed to the text of the job, and to nothing else.
 abbrev pub JournalsAreReplayed : Type 0
@@ -74,6 +75,12 @@ GraphsAreValid =
     (mods : List Module) (c : Config) (k : ℕ) (nodes : List (Node Props)) → length mods ≤ 2 ^ 17 → TargetsDiffer c
     → k ≤ built → GraphAfter mods c k (Ok nodes) → IsValid nodes × MayRun (places_in (length mods)) nodes
 
+-- Where the first mutators come to a graph, fewer of them do.
+abbrev pub EarlierGraphs : Type 0
+EarlierGraphs =
+    (mods : List Module) (c : Config) (j k : ℕ) (nodes : List (Node Props)) → j ≤ k → GraphAfter mods c k (Ok nodes)
+    → (earlier : List (Node Props)) × GraphAfter mods c j (Ok earlier)
+
 -- All mutators and actions come to a text for Ninja or a fault, whatever the modules are.
 abbrev pub SomeText : Type 0
 SomeText =
@@ -84,3 +91,9 @@ abbrev pub SomeReplay : Type 0
 SomeReplay =
     (mods : List Module) (c : Config) (lines : List OrderLine) (file : ℕ) → length mods ≤ 2 ^ 17 → TargetsDiffer c
     → HasOutcome (ReplayMeans mods c lines file)
+
+-- So is an order file, whatever its bytes are.
+abbrev pub SomeOrder : Type 0
+SomeOrder =
+    (mods : List Module) (c : Config) (order : List ℕ) (file : ℕ) → length mods ≤ 2 ^ 17 → TargetsDiffer c
+    → HasOutcome (OrderMeans mods c order file)

@@ -1,5 +1,5 @@
 -- The outcome of a kind of mutator as a graph or a fault.
-use Rattle.std.specs.Prelude.{◌≡◌, ℕ, List, Result, Ok, Err, codes, slice_get}
+use Rattle.std.specs.Prelude.{◌≡◌, List, Result, Ok, Err, codes, slice_get}
 use Rattle.std.specs.Option.{option_map_or}
 use Rattle.bp_faults.specs.declared.fault.Fault.{Fault}
 use Rattle.bp_faults.specs.declared.ids.ModuleId.{ModuleId}

@@ -1,13 +1,13 @@
-ghost use Rattle.std.specs.Prelude.{◌≡◌, map};
+ghost use Rattle.std.specs.Prelude.{IfOk, All, map};
 ghost use Rattle.std.specs.Arc.{arc_value};
 ghost use Rattle.build_actions.specs.Acts.{acts_at};
 ghost use Rattle.module_graph.specs.declared.direction.Direction.TheVariants.{BottomUp};
 ghost use Rattle.module_graph.specs.Planned.{plan_of};
+ghost use Rattle.order_text.specs.Lines.{IsVisit};
 ghost use Rattle.pass_core.specs.Outcomes.{PassMeans};
 ghost use Rattle.pass_ways.specs.Ways.{AnswersWay};
 ghost use Rattle.bp_pipeline.specs.Runs.{AnswersAll, MayStart, MayStep, TellsPass};
 ghost use Rattle.bp_pipeline.specs.Generated.{AreSizes};
-ghost use Rattle.std.specs.Prelude.{IfOk};
 
 use crate::course::run_mutators;
 use crate::journal::note;
@@ -76,6 +76,7 @@ pub fn run_all<R: Threads + Sync, G: Gate + Sync>(
 ) -> Result<Ran, Refusal>
     requires may { MayStart shop.now }
     ensures run { AnswersAll shop.now.mods.now shop.now.config.now shop.now.way result }
+    ensures visits { IfOk result (λ ran. All IsVisit ran.journal.items) }
     ensures sizes { IfOk result (λ ran. AreSizes shop.now.mods.now shop.now.config.now ran.sizes.items) }
 {
     let mut journal = Vec::new(alloc);

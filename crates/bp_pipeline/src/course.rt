@@ -1,7 +1,8 @@
-ghost use Rattle.std.specs.Prelude.{◌≡◌, ◌≤◌, ◌^◌, [], length, IfOk};
+ghost use Rattle.std.specs.Prelude.{◌≡◌, ◌≤◌, ◌^◌, [], length, IfOk, All};
 ghost use Rattle.bp_faults.specs.Answers.{Tells};
 ghost use Rattle.module_graph.specs.Graphs.{IsValid};
 ghost use Rattle.mutator_rules.specs.Configs.{TargetsDiffer};
+ghost use Rattle.order_text.specs.Lines.{IsVisit};
 ghost use Rattle.bp_pipeline.specs.Course.{GraphAfter};
 ghost use Rattle.bp_pipeline.specs.Generated.{AreSizes};
 ghost use Rattle.bp_pipeline.specs.Inside.{IsUsable, AreFreeAt};
@@ -36,11 +37,13 @@ fn run_passes<R: Threads + Sync, G: Gate + Sync>(
 ) -> Result<Graph<Props>, Refusal>
     requires may { MayStep shop.now journal.old.items before.nodes }
     requires begun { IsJournal shop.now.mods.now shop.now.config.now from before.nodes journal.old.items }
+    requires visits { All IsVisit journal.old.items }
     requires free { AreFreeAt from before.nodes }
     requires rises { from ≤ to }
     requires last { to ≤ passes }
     ensures course { AnswersCourse shop.now.mods.now shop.now.config.now shop.now.way to journal.new.items result }
     ensures usable { IfOk result (λ g. IsUsable (length shop.now.mods.now) g.nodes) }
+    ensures visits { IfOk result (λ _. All IsVisit journal.new.items) }
     ensures free { IfOk result (λ g. AreFreeAt to g.nodes) }
 {
     let mut graph = before;
@@ -63,6 +66,7 @@ pub fn run_mutators<R: Threads + Sync, G: Gate + Sync>(
     requires uncounted { sizes.old.items ≡ [] }
     ensures course { AnswersCourse shop.now.mods.now shop.now.config.now shop.now.way passes journal.new.items result }
     ensures usable { IfOk result (λ g. IsUsable (length shop.now.mods.now) g.nodes) }
+    ensures visits { IfOk result (λ _. All IsVisit journal.new.items) }
     ensures sizes { IfOk result (λ _. AreSizes shop.now.mods.now shop.now.config.now sizes.new.items) }
 {
     let mut graph = first_graph(alloc, shop.mods)?;

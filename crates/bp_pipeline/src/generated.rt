@@ -1,6 +1,7 @@
-ghost use Rattle.std.specs.Prelude.{◌≤◌, ◌^◌, length, IfOk};
+ghost use Rattle.std.specs.Prelude.{◌≤◌, ◌^◌, length, All, IfOk, IsUtf8};
 ghost use Rattle.bp_faults.specs.Answers.{Tells};
 ghost use Rattle.mutator_rules.specs.Configs.{TargetsDiffer};
+ghost use Rattle.order_text.specs.Lines.{IsVisit};
 ghost use Rattle.bp_pipeline.specs.Generated.{TextMeans, IsStatementCount, AreSizes};
 ghost use Rattle.bp_pipeline.specs.Journals.{IsLegalJournal};
 
@@ -47,7 +48,9 @@ pub fn generate<R: Threads + Sync, G: Gate + Sync>(
     requires targets { TargetsDiffer c.now }
     requires workers { (1 ≤ workers) × (workers ≤ 64) }
     ensures text { Tells (λ made. made.ninja) (TextMeans mods.now c.now) result }
+    ensures utf8 { IfOk result (λ made. IsUtf8 made.ninja) }
     ensures journal { IfOk result (λ made. IsLegalJournal mods.now c.now made.journal) }
+    ensures visits { IfOk result (λ made. All IsVisit made.journal) }
     ensures statements { IfOk result (λ made. IsStatementCount mods.now c.now made.statements) }
     ensures sizes { IfOk result (λ made. AreSizes mods.now c.now made.sizes) }
 {

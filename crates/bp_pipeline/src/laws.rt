@@ -2,7 +2,7 @@
 
 ghost use Rattle.bp_pipeline.specs.Laws.{OneCourse, OneGraph, OneText, OneReplay, JournalsAreReplayed};
 ghost use Rattle.bp_pipeline.specs.Laws.{FaultsAreReplayed, OneOrder, JournalTextsAreReplayed};
-ghost use Rattle.bp_pipeline.specs.Laws.{GraphsAreValid, SomeGraph, SomeReplay, SomeText};
+ghost use Rattle.bp_pipeline.specs.Laws.{EarlierGraphs, GraphsAreValid, SomeGraph, SomeOrder, SomeReplay, SomeText};
 ghost use Rattle.bp_pipeline.specs.Ready.{SomeStep};
 
 use bp_props::Props;
@@ -15,7 +15,7 @@ use mutator_kinds::laws::{
     some_top_down_outcome, top_down_keeps,
 };
 use mutator_rules::Split;
-use order_text::laws::{journals_are_read_back, one_lines};
+use order_text::laws::{journals_are_read_back, one_lines, some_lines};
 use pass_core::laws::{at_most_one_outcome, outs_are_many};
 use pass_ways::laws::{lines_say_one_order, one_refusal, parts_are_short, refused_have_no_order};
 use reverse_deps::laws::{applied_keeps, one_outcome, some_outcome};
@@ -123,6 +123,11 @@ pub fn some_graph()
     some_step();
 }
 
+/// Where the first mutators come to a graph, fewer of them do.
+pub fn earlier_graphs()
+    ensures { EarlierGraphs }
+{}
+
 /// All mutators and actions come to a text or a fault, since each pass does.
 pub fn some_text()
     ensures { SomeText }
@@ -142,4 +147,12 @@ pub fn some_replay()
     plans_of_graphs_are_plans::<Props>();
     valid_plans_have_no_cycle::<Props>();
     pass_core::laws::one_outcome::<Actions>();
+}
+
+/// An order file is replayed to a text or a fault.
+pub fn some_order()
+    ensures { SomeOrder }
+{
+    some_lines();
+    some_replay();
 }

@@ -1,6 +1,8 @@
 ghost use Rattle.std.specs.Prelude.{◌≡◌, ◌<◌, ◌+◌, ◌↔◌, ℕ, length, IfOk, None, Some};
 ghost use Rattle.module_graph.specs.declared.direction.Direction.TheVariants.{BottomUp as Upwards};
-ghost use Rattle.module_graph.specs.declared.variations.Axis.TheVariants.{Target, Image, Link, PerSource as SourceAxis, Sanitize as SanitizeAxis};
+ghost use Rattle.module_graph.specs.declared.variations.Axis.TheVariants.{Target, Image, Link};
+ghost use Rattle.module_graph.specs.declared.variations.Axis.TheVariants.{PerSource as SourceAxis};
+ghost use Rattle.module_graph.specs.declared.variations.Axis.TheVariants.{Sanitize as SanitizeAxis};
 ghost use Rattle.module_graph.specs.Planned.{plan_of};
 ghost use Rattle.mutator_rules.specs.Conditions.{places_in};
 ghost use Rattle.mutator_kinds.specs.BottomUp.{BottomUpMeans, IsFreeFor, DifferFor};
@@ -11,7 +13,8 @@ ghost use Rattle.bp_pipeline.specs.Passes.{AskMeans, MakeMeans, pass_at};
 ghost use Rattle.bp_pipeline.specs.Runs.{MayStep, TellsPass, TellsStep};
 ghost use Rattle.bp_pipeline.specs.Mutators.{passes};
 ghost use Rattle.bp_pipeline.specs.declared.passes.Pass.TheVariants.{AskPlugins, SplitTargets, SplitImages, SplitLinks};
-ghost use Rattle.bp_pipeline.specs.declared.passes.Pass.TheVariants.{SplitSources, SplitSanitized, MarkSanitized, HandLevels};
+ghost use Rattle.bp_pipeline.specs.declared.passes.Pass.TheVariants.{SplitSources, SplitSanitized, MarkSanitized};
+ghost use Rattle.bp_pipeline.specs.declared.passes.Pass.TheVariants.{HandLevels};
 
 use crate::journal::note;
 use crate::limits::refusal_of;

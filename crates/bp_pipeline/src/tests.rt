@@ -205,7 +205,22 @@ fn lines_of(alloc: Global, journal: &[(u32, NodeId)]) -> Result<Vec<OrderLine>, 
     Ok(lines)
 }
 
-/// The number and the line of the fault of a replay along at most 100 lines; 0 where it gives the text.
+/// The number and the line of the fault of a replay; 0 where it gives the text.
+fn told(replayed: Result<Seq<u8>, GenError>, text: &[u8]) -> (u32, u32) {
+    match replayed {
+        Ok(replayed) => {
+            if replayed.as_slice() == text {
+                (0, 0)
+            } else {
+                (1, 1)
+            }
+        }
+        Err(GenError::Bad(fault)) => (fault.kind.number(), fault.at.line),
+        Err(GenError::OutOfMemory) => (2, 2),
+    }
+}
+
+/// What a replay along at most 100 lines tells.
 fn replayed_at<R: Threads + Sync>(
     rt: &R,
     alloc: Global,
@@ -220,12 +235,7 @@ fn replayed_at<R: Threads + Sync>(
     if lines.len() > 100 {
         return (3, 3);
     }
-    match replay_lines(rt, alloc, mods, config, lines, 9) {
-        Ok(replayed) if replayed.as_slice() == text => (0, 0),
-        Ok(_) => (1, 1),
-        Err(GenError::Bad(fault)) => (fault.kind.number(), fault.at.line),
-        Err(GenError::OutOfMemory) => (2, 2),
-    }
+    told(replay_lines(rt, alloc, mods, config, lines, 9), text)
 }
 
 #[test]
@@ -278,19 +288,16 @@ fn replayed_along_bytes(rt: HostRuntime) -> Result<(), Fail> {
         assert!(rt; false, "a fault");
         return Ok(());
     };
+    let text = made.ninja.as_slice();
     let order = journal_text(alloc, made.journal.as_slice())?;
     if order.len() > 1000 {
         assert!(rt; false, "a long journal");
         return Ok(());
     }
-    match replay(&rt, alloc, &mods, &config, &order, 9) {
-        Ok(replayed) => assert!(rt; replayed.as_slice() == made.ninja.as_slice()),
-        Err(_) => assert!(rt; false, "a fault"),
-    }
-    match replay(&rt, alloc, &mods, &config, b"01 0\n", 9) {
-        Err(GenError::Bad(fault)) => assert_eq!(rt; (fault.kind.number(), fault.at.line), (35, 1)),
-        _ => assert!(rt; false, "no fault"),
-    }
+    let whole = replay(&rt, alloc, &mods, &config, &order, 9);
+    assert_eq!(rt; told(whole, text), (0, 0));
+    let wrong = replay(&rt, alloc, &mods, &config, b"01 0\n", 9);
+    assert_eq!(rt; told(wrong, text), (35, 1));
     journal_texts_are_replayed();
     one_order();
     Ok(())

@@ -1,4 +1,4 @@
-ghost use Rattle.std.specs.Prelude.{◌≡◌, ◌<◌, ◌^◌, IfOk, length};
+ghost use Rattle.std.specs.Prelude.{◌≡◌, ◌<◌, ◌^◌, IfOk, IsUtf8, length};
 ghost use Rattle.bp_faults.specs.Answers.{Tells};
 ghost use Rattle.bp_pipeline.specs.Generated.{written};
 
@@ -10,6 +10,7 @@ use std::alloc::Global;
 /// The text of a file for Ninja, if it isn't too large (34).
 pub fn text_of(alloc: Global, file: &NinjaFile) -> Result<Vec<u8>, Refusal>
     ensures text { Tells (λ text. text.items) (λ outcome. written file.now ≡ outcome) result }
+    ensures utf8 { IfOk result (λ text. IsUtf8 text.items) }
     ensures few { IfOk result (λ _. length file.now.statements < 2 ^ 32) }
 {
     match write(alloc, file) {

@@ -1,8 +1,11 @@
-use Rattle.std.proofs.Common.{List, Vec, map}
+use Rattle.std.proofs.Common.{Vec, arith, map}
 use Rattle.std.specs.Arc.{arc_value}
 use Rattle.std.specs.Global.{Global}
 use Rattle.std.specs.declared.sync.Arc.{Arc}
 use Rattle.build_actions.specs.declared.actions.Actions.{Actions}
+use Rattle.module_graph.specs.declared.direction.Direction.TheVariants.{BottomUp}
+use Rattle.module_graph.specs.Planned.{plan_of}
+use Rattle.bp_pipeline.proofs.Visited.{visits_more}
 use Rattle.bp_pipeline.proofs.Whole.{actions_refused, all_run, mutators_refused}
 use Rattle.bp_pipeline.proofs.actions.run_all.Goals as goal
 
@@ -26,3 +29,9 @@ returns-clause-run g c =
     {T = Vec (Arc Actions Global) Global} (λ made. map arc_value made.items) c.in_ok-graph.graph.nodes
     c.run_mutators.new.journal.items c.run_actions.new.journal.items c.in_ok-graph.ensures.course.0
     c.in_ok-made.made c.in_ok-made.ensures
+
+pub returns-clause-visits : goal.returns-clause-visits
+returns-clause-visits g c =
+    visits_more (plan_of BottomUp c.in_ok-graph.graph.nodes) 13 c.run_mutators.new.journal.items
+    c.run_actions.new.journal.items c.in_ok-graph.ensures.usable.may.numbered.few_nodes (omega arith)
+    c.in_ok-made.ensures.0.0 c.in_ok-graph.ensures.visits

@@ -26,10 +26,12 @@ loop-k-preserved g c =
     let course = c.in_ok-graph-2.ensures.course in
     let made = subst (λ p. IsJournal mods config p nodes journal) to course.0 in
     let graph =
-    subst (λ n. GraphAfter mods config n (Ok nodes)) next (journal_means mods config (passes_of (k + 1)) nodes journal made) in (
+    subst (λ n. GraphAfter mods config n (Ok nodes)) next
+    (journal_means mods config (passes_of (k + 1)) nodes journal made) in (
       made,
       record { start = c.requires.may; follows = course.1; usable = c.in_ok-graph-2.ensures.usable },
       subst (λ p. AreFreeAt p nodes) to c.in_ok-graph-2.ensures.free,
       sizes_more mods config k c.loop-k.sizes.items c.push.new.self.items c.sizes_of.result nodes c.loop-k.invariant.3
           graph c.sizes_of.ensures c.in_ok-push.ensures.items,
+      c.in_ok-graph-2.ensures.visits,
     )

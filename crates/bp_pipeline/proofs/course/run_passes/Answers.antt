@@ -1,4 +1,6 @@
-use Rattle.std.proofs.Common.{arith}
+use Rattle.std.proofs.Common.{◌+◌, arith}
+use Rattle.bp_pipeline.specs.Journals.{plan_at}
+use Rattle.bp_pipeline.proofs.Visited.{visits_more}
 use Rattle.bp_pipeline.proofs.Stepping.{step_more, step_refused}
 use Rattle.bp_pipeline.proofs.course.run_passes.Goals as goal
 
@@ -11,6 +13,8 @@ returns-in_err-graph-clause-course g c =
 
 pub loop-number-preserved : goal.loop-number-preserved
 loop-number-preserved g c =
+    let below = c.loop-number-test.true in
+    let last = c.requires.last in
     let more =
     step_more c.args.shop.now c.loop-number.number c.loop-number.graph.nodes c.loop-number.journal.items
     c.step.new.journal.items c.loop-number.invariant.0 c.in_ok-graph.graph c.in_ok-graph.ensures.tells in (
@@ -21,4 +25,8 @@ loop-number-preserved g c =
         usable = c.in_ok-graph.ensures.usable;
       },
       c.in_ok-graph.ensures.free,
+      visits_more (plan_at c.loop-number.number c.loop-number.graph.nodes) (c.loop-number.number + 1)
+          c.loop-number.journal.items c.step.new.journal.items
+          c.loop-number.invariant.1.usable.may.numbered.few_nodes (omega (arith, below, last))
+          c.in_ok-graph.ensures.tells.0.0 c.loop-number.invariant.3,
     )

@@ -1,4 +1,4 @@
-use Rattle.std.proofs.Common.{◌≡◌, ◌≤◌, ◌∙◌, ◌++◌, ◌∷◌, [], length, ap, arith}
+use Rattle.std.proofs.Common.{◌≤◌, ◌∙◌, ◌++◌, ◌∷◌, [], length, ap, arith}
 use Rattle.std.proofs.lemmas.List.{take_all}
 use Rattle.bp_pipeline.specs.First.{first_nodes}
 use Rattle.bp_pipeline.proofs.Beginning.{first_more, first_usable, first_free}

@@ -1,11 +1,9 @@
-use Rattle.std.proofs.Common.{◌≡◌, ◌∙◌, List, ℕ, Ok, Err, Vec, ap, map, length, subst, sym, arith}
+use Rattle.std.proofs.Common.{◌≡◌, ◌∙◌, ℕ, Ok, Err, Vec, ap, map, length, subst, sym}
 use Rattle.std.specs.Arc.{arc_value}
 use Rattle.std.specs.Global.{Global}
-use Rattle.bp_faults.specs.declared.ids.NodeId.{NodeId}
 use Rattle.bp_faults.proofs.Refusals.{refused}
 use Rattle.pass_ways.specs.declared.way.Way.TheVariants.{Workers}
 use Rattle.bp_pipeline.specs.declared.generated.Generated.{Generated}
-use Rattle.bp_pipeline.specs.declared.sizes.Sizes.{Sizes}
 use Rattle.bp_pipeline.specs.Generated.{AreSizes, TextMeans, written}
 use Rattle.bp_pipeline.specs.Journals.{IsLegalJournal}
 use Rattle.bp_pipeline.proofs.Whole.{all_refused, file_means, legal_journal, text_means}
@@ -13,7 +11,8 @@ use Rattle.bp_pipeline.proofs.generated.generate.Goals as goal
 
 pub returns-in_err-ran-clause-text : goal.returns-in_err-ran-clause-text
 returns-in_err-ran-clause-text g c =
-    all_refused c.args.mods.now c.args.c.now (Workers c.args.workers c.args.gate) (λ earlier pass plan fault refuses. refuses) {T = Generated}
+    all_refused c.args.mods.now c.args.c.now (Workers c.args.workers c.args.gate)
+    (λ earlier pass plan fault refuses. refuses) {T = Generated}
     (λ made. made.ninja) c.in_err-ran.field-0.0 c.from_residual.result c.from_residual.ensures.1
     c.in_err-ran.ensures.run
 
@@ -23,9 +22,11 @@ returns-in_err-text-clause-text g c =
     let mods = c.args.mods.now in
     let config = c.args.c.now in
     let file = c.in_ok-file.file in
-    refused {T = Vec ℕ Global} {U = Generated} (λ text. text.items) (λ made. made.ninja) (λ outcome. written file ≡ outcome)
+    refused {T = Vec ℕ Global} {U = Generated} (λ text. text.items) (λ made. made.ninja)
+    (λ outcome. written file ≡ outcome)
     (TextMeans mods config)
-    (λ fault is. text_means mods config (Workers c.args.workers c.args.gate) ran.journal.items (map arc_value ran.made.items)
+    (λ fault is. text_means mods config (Workers c.args.workers c.args.gate) ran.journal.items
+    (map arc_value ran.made.items)
     c.in_ok-ran.ensures.run file c.in_ok-file.ensures (Err fault) is)
     c.in_err-text.field-0.0 c.from_residual-in_err-text.result c.from_residual-in_err-text.ensures.1
     c.in_err-text.ensures.text
@@ -33,7 +34,8 @@ returns-in_err-text-clause-text g c =
 pub returns-clause-text : goal.returns-clause-text
 returns-clause-text g c =
     let ran = c.in_ok-ran.ran in
-    text_means c.args.mods.now c.args.c.now (Workers c.args.workers c.args.gate) ran.journal.items (map arc_value ran.made.items)
+    text_means c.args.mods.now c.args.c.now (Workers c.args.workers c.args.gate) ran.journal.items
+    (map arc_value ran.made.items)
     c.in_ok-ran.ensures.run c.in_ok-file.file c.in_ok-file.ensures (Ok c.new.result)
     (c.in_ok-text.ensures.text ∙ ap Ok (sym c.new.ensures))
 
@@ -41,14 +43,16 @@ pub returns-clause-journal : goal.returns-clause-journal
 returns-clause-journal g c =
     let ran = c.in_ok-ran.ran in
     subst (IsLegalJournal c.args.mods.now c.args.c.now) (sym c.new-2.ensures)
-    (legal_journal c.args.mods.now c.args.c.now (Workers c.args.workers c.args.gate) ran.journal.items (map arc_value ran.made.items)
+    (legal_journal c.args.mods.now c.args.c.now (Workers c.args.workers c.args.gate) ran.journal.items
+    (map arc_value ran.made.items)
     c.in_ok-ran.ensures.run)
 
 pub returns-clause-statements : goal.returns-clause-statements
 returns-clause-statements g c =
     let ran = c.in_ok-ran.ran in (
       c.in_ok-file.file,
-      file_means c.args.mods.now c.args.c.now (Workers c.args.workers c.args.gate) ran.journal.items (map arc_value ran.made.items)
+      file_means c.args.mods.now c.args.c.now (Workers c.args.workers c.args.gate) ran.journal.items
+          (map arc_value ran.made.items)
           c.in_ok-ran.ensures.run c.in_ok-file.file c.in_ok-file.ensures,
       ap length c.as_slice.ensures,
     )

@@ -1,4 +1,4 @@
-use Rattle.std.proofs.Common.{◌≡◌, ◌+◌, ap, arith, length}
+use Rattle.std.proofs.Common.{◌+◌, ap, arith, length}
 use Rattle.bp_pipeline.proofs.Counting.{edges_more, edges_within}
 use Rattle.bp_pipeline.proofs.sizes.edge_count.Goals as goal
 

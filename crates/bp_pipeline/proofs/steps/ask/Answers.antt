@@ -1,4 +1,4 @@
-use Rattle.std.proofs.Common.{◌≡◌, List, None, Option, Result, Ok, Err, length, sym, subst}
+use Rattle.std.proofs.Common.{List, None, Option, Result, Ok, Err, length, sym, subst}
 use Rattle.bp_faults.specs.declared.fault.Fault.{Fault}
 use Rattle.bp_faults.specs.declared.ids.NodeId.{NodeId}
 use Rattle.bp_faults.specs.Answers.{Tells}

@@ -10,7 +10,7 @@ use Rattle.mutator_kinds.specs.declared.pass_graph.PassGraph.{PassGraph}
 use Rattle.mutator_kinds.specs.BottomUp.{BottomUpMeans}
 use Rattle.mutator_rules.specs.declared.request.Request.{Request}
 use Rattle.bp_pipeline.specs.Limits.{ComesTo}
-use Rattle.bp_pipeline.proofs.Passing.{first_refuses, next_tells}
+use Rattle.bp_pipeline.proofs.Passing.{first_refuses}
 use Rattle.bp_pipeline.proofs.steps.make.Goals as goal
 
 abbrev Asked : Type 0

@@ -15,9 +15,11 @@ pub returns-in_ok-note-in-Ok-clause-tells : goal.returns-in_ok-note-in-Ok-clause
 returns-in_ok-note-in-Ok-clause-tells g c =
     pass_made c.args.shop.now.way (plan_of BottomUp c.args.graph.nodes) c.args.pass c.as_slice.result.now
     c.args.journal.now.items c.as_slice.ensures.value {T = PassGraph Props} {U = PassGraph Props}
-    {V = List (Node Props) × List (NodeId × Request)} (λ made. (made.graph.nodes, made.asked)) (λ made. (made.graph.nodes, made.asked)) (λ made. made.order)
+    {V = List (Node Props) × List (NodeId × Request)} (λ made. (made.graph.nodes, made.asked))
+    (λ made. (made.graph.nodes, made.asked)) (λ made. made.order)
     c.args.shop.now.mods.now
-    (BottomUpMeans (g.M.BottomUp.meaning c.args.rule.now) c.args.graph.nodes (g.M.BottomUp.splits_along c.args.rule.now))
+    (BottomUpMeans (g.M.BottomUp.meaning c.args.rule.now) c.args.graph.nodes
+    (g.M.BottomUp.splits_along c.args.rule.now))
     c.in-Ok.made c.in-Ok.made refl c.in-Ok.ensures.means c.in-Ok.ensures.followed c.as_slice-in-Ok.result.now
     c.as_slice-in-Ok.ensures c.note.new.journal.items c.in_ok-note-in-Ok.ensures
 
@@ -33,8 +35,10 @@ pub returns-in-Err-clause-tells : goal.returns-in-Err-clause-tells
 returns-in-Err-clause-tells g c =
     pass_ended c.args.shop.now.way (plan_of BottomUp c.args.graph.nodes) c.args.pass c.as_slice.result.now
     c.args.journal.now.items c.as_slice.ensures.value {T = PassGraph Props} {U = PassGraph Props}
-    {V = List (Node Props) × List (NodeId × Request)} (λ made. (made.graph.nodes, made.asked)) (λ made. (made.graph.nodes, made.asked)) (λ made. made.order)
+    {V = List (Node Props) × List (NodeId × Request)} (λ made. (made.graph.nodes, made.asked))
+    (λ made. (made.graph.nodes, made.asked)) (λ made. made.order)
     c.args.shop.now.mods.now
-    (BottomUpMeans (g.M.BottomUp.meaning c.args.rule.now) c.args.graph.nodes (g.M.BottomUp.splits_along c.args.rule.now))
+    (BottomUpMeans (g.M.BottomUp.meaning c.args.rule.now) c.args.graph.nodes
+    (g.M.BottomUp.splits_along c.args.rule.now))
     c.in-Err.error c.refusal_of.result c.args.journal.now.items c.in-Err.ensures.means c.in-Err.ensures.followed
     c.refusal_of.ensures
