@@ -32,7 +32,8 @@ module _ {P : Type 0} (payloads_valid : NewPayloadsStayValid P) (payloads_module
   top_down_keeps mean new (outs, results, is) =
       subst (IsKept count None nodes) (sym is) (record {
         valid = payloads_valid nodes outs valid;
-        may = may_still (places_in count) nodes (with_payloads nodes outs) may (payloads_modules nodes outs may.numbered);
+        may = may_still (places_in count) nodes (with_payloads nodes outs) may
+            (payloads_modules nodes outs may.numbered);
         free = λ axis other free. payloads_free nodes outs axis free;
       })
 

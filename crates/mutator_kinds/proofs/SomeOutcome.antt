@@ -34,7 +34,8 @@ module _ {P : Type 0} (plans : PlansOfGraphsArePlans P) (acyclic : ValidPlansHav
 
     pub some_top_down : Down
     some_top_down =
-        let pass = one (from_above mean nodes) (plan_of TopDown nodes) (plans nodes TopDown numbered) (acyclic nodes TopDown valid) in
+        let pass = one (from_above mean nodes) (plan_of TopDown nodes) (plans nodes TopDown numbered)
+        (acyclic nodes TopDown valid) in
         down_by pass.0 pass.1
 
   module _ (one : OneOutcome (Split P)) (tell : LimitsTell P)
@@ -47,7 +48,8 @@ module _ {P : Type 0} (plans : PlansOfGraphsArePlans P) (acyclic : ValidPlansHav
         ⊎ (((m : ModuleId) × IsFirstNodeBeyond (new_nodes along nodes outs) m)
         ⊎ ((p : Place) × IsFirstEdgeBeyond (new_nodes along nodes outs) p))
         → Up
-    within_by outs is (inl within) = (Made (new_nodes along nodes outs, asked_of outs), (outs, is, (within, refl, refl)))
+    within_by outs is (inl within) =
+        (Made (new_nodes along nodes outs, asked_of outs), (outs, is, (within, refl, refl)))
     within_by outs is (inr (inl beyond)) = (NodesBeyond beyond.0, (outs, is, beyond.1))
     within_by outs is (inr (inr beyond)) = (EdgesBeyond beyond.0, (outs, is, beyond.1))
 
@@ -57,5 +59,6 @@ module _ {P : Type 0} (plans : PlansOfGraphsArePlans P) (acyclic : ValidPlansHav
 
     pub some_bottom_up : Up
     some_bottom_up =
-        let pass = one (mean nodes) (plan_of BottomUp nodes) (plans nodes BottomUp numbered) (acyclic nodes BottomUp valid) in
+        let pass = one (mean nodes) (plan_of BottomUp nodes) (plans nodes BottomUp numbered)
+        (acyclic nodes BottomUp valid) in
         up_by pass.0 pass.1

@@ -1,4 +1,4 @@
-//! What holds of every split, of new payloads and of the limits: each law is the contract of a function that does nothing.
+//! What holds of splits, of new payloads and of the limits: each law is the contract of a function that does nothing.
 
 ghost use Rattle.variant_graphs.specs.Laws.{SplitsStayValid, SplitsKeepModules, OtherAxesStayFree};
 ghost use Rattle.variant_graphs.specs.Laws.{NewPayloadsKeepPlans, NewPayloadsStayValid};
