@@ -19,7 +19,7 @@ use Rattle.bp_run.specs.declared.made.Made.{Made}
 use Rattle.bp_run.specs.declared.stop.Stop.{Stop}
 use Rattle.bp_run.specs.declared.words.Configuration.{Configuration}
 use Rattle.bp_run.specs.declared.words.Configuration.TheVariants.{Build, Graph, Synth}
-use Rattle.bp_run.specs.End.{Ended, EndsDelivery, Stopped, journaled}
+use Rattle.bp_run.specs.End.{Ended, EndsDelivery, Stopped, files_with_journal}
 use Rattle.bp_run.specs.Job.{ModulesGive}
 use Rattle.bp_run.specs.Lines.{synth_name}
 use Rattle.bp_run.specs.Run.{Gives, AreListNames, AreNames, IsUnread, Journals, IsUnjournaled}
@@ -112,7 +112,7 @@ reading old reads =
 -- the journal that a call leaves is the one that is asked for
 journals_here : (words : BuildWords) (before : Files) (typed : List Module) → ListLoads words.list before (Ok typed)
     → (written after : Files) (journal : Option Journal) → journal_path journal ≡ words.journal
-    → HasJournal (Build words) typed journal → after ≡ journaled journal written
+    → HasJournal (Build words) typed journal → after ≡ files_with_journal journal written
     → Journals words before words.journal written after
 journals_here words before typed loads written after None is legal h =
     subst (λ asked. Journals words before asked written after) is h
@@ -136,7 +136,7 @@ module _ (old new : World) (reads : ℕ) (made : Made) where
 
   written_here : (words : BuildWords) → IfSome old.files (HasModules (Build words) words.list)
       → journal_path made.journal ≡ words.journal → (before after : Option Files) → old.files ≡ before
-      → WhereTold (λ before after. after ≡ journaled made.journal (insert before words.out made.text)) before after
+      → WhereTold (λ before after. after ≡ files_with_journal made.journal (insert before words.out made.text)) before after
       → WhereTold (λ before after. Journals words before words.journal (insert before words.out made.text) after)
       before after
   written_here words has asked None None is h = tt

@@ -11,7 +11,7 @@ use Rattle.bp_run.specs.declared.end.End.{End}
 use Rattle.bp_run.specs.End.{status_of, report_of, IsReported, Ended}
 use Rattle.bp_run.specs.Job.{JobMeans}
 use Rattle.bp_run.specs.Laws.{OneJob}
-use Rattle.bp_run.specs.Run.{Gives, IsGiven, DoneBy, FaultBy, ReadBy, WriteBy, IsUnjournaled, Spares, RunMeans}
+use Rattle.bp_run.specs.Run.{Gives, ToldGives, DoneBy, FaultBy, ReadBy, WriteBy, IsUnjournaled, Spares, RunMeans}
 use Rattle.bp_run.specs.World.{World, Stream, Quiet}
 
 some_not_none : {X : Type 0} (o : Option X) (P : X → Type 0) → IsSomeAnd o P → IsNone o → ⊥
@@ -32,7 +32,7 @@ module _ (once : OneJob) where
   told_once c (Some files) a b x y = once c files a b x y
 
   -- the job has one outcome, where the store tells its files
-  given_once : (c : Configuration) (old : World) (a b : Result (List ℕ) Fault) → Gives c old a → IsGiven c old b
+  given_once : (c : Configuration) (old : World) (a b : Result (List ℕ) Fault) → Gives c old a → ToldGives c old b
       → a ≡ b
   given_once (Build words) old a b x y = told_once (Build words) old.files a b x y
   given_once (Graph words) old a b x y = told_once (Graph words) old.files a b x y
@@ -40,12 +40,12 @@ module _ (once : OneJob) where
 
   -- a job that is a text is no fault
   done_no_fault : (c : Configuration) (old : World) (text : List ℕ) (fault : Fault) → Gives c old (Ok text)
-      → IsGiven c old (Err fault) → ⊥
+      → ToldGives c old (Err fault) → ⊥
   done_no_fault c old text fault x y = let same : Ok text ≡ Err fault =
       given_once c old (Ok text) (Err fault) x y in cc
 
   fault_no_text : (c : Configuration) (old : World) (text : List ℕ) (fault : Fault) → Gives c old (Err fault)
-      → IsGiven c old (Ok text) → ⊥
+      → ToldGives c old (Ok text) → ⊥
   fault_no_text c old text fault x y = let same : Err fault ≡ Ok text =
       given_once c old (Err fault) (Ok text) x y in cc
 

@@ -49,13 +49,13 @@ Ended conf old new (End.Write line) = IsSomeAnd conf (WriteBy old new line)
 Ended conf old new End.OutOfMemory = Unchanged old new
 
 -- The files behind a journal, where there is one.
-abbrev pub journaled : Option Journal → Files → Files
-journaled None files = files
-journaled (Some journal) files = insert files journal.path journal.lines
+abbrev pub files_with_journal : Option Journal → Files → Files
+files_with_journal None files = files
+files_with_journal (Some journal) files = insert files journal.path journal.lines
 
 -- The text is in OUT, and the journal behind it.
 pub record IsPut (words : BuildWords) (made : Made) (old new : World) : Type 0 where
-  pub files : WhereTold (λ before after. after ≡ journaled made.journal (insert before words.out made.text))
+  pub files : WhereTold (λ before after. after ≡ files_with_journal made.journal (insert before words.out made.text))
       old.files new.files
   pub out : new.out ≡ old.out
 

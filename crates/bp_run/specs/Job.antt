@@ -76,11 +76,11 @@ abbrev pub SynthMeans : SynthWords → Result (List ℕ) Fault → Type 0
 SynthMeans words outcome = Then (SynthLoads words) (SummaryGives words) outcome
 
 -- Some lines are the text of a legal journal of modules.
-abbrev pub AreJournal : List Module → Config → List ℕ → Type 0
-AreJournal typed c lines =
+abbrev pub AreJournalLines : List Module → Config → List ℕ → Type 0
+AreJournalLines typed c lines =
     (visits : List (ℕ × NodeId)) × IsLegalJournal typed c visits × (lines ≡ journal_text visits)
 
 -- The lines are a legal journal of the modules that a list and its files load as.
-abbrev pub IsJournal : BuildWords → Files → List ℕ → Type 0
-IsJournal words files lines =
-    (typed : List Module) × ListLoads words.list files (Ok typed) × AreJournal typed (config_of words.targets) lines
+abbrev pub IsJournalOfList : BuildWords → Files → List ℕ → Type 0
+IsJournalOfList words files lines =
+    (typed : List Module) × ListLoads words.list files (Ok typed) × AreJournalLines typed (config_of words.targets) lines

@@ -11,7 +11,7 @@ use Rattle.command_words.specs.declared.configuration.Build.{Build as BuildWords
 use Rattle.synthetic_tree.specs.Blocks.{AreTree}
 use Rattle.bp_run.specs.declared.words.Configuration.{Configuration}
 use Rattle.bp_run.specs.declared.words.Configuration.TheVariants.{Build, Graph, Synth}
-use Rattle.bp_run.specs.Job.{JobMeans, SynthMeans, IsJournal}
+use Rattle.bp_run.specs.Job.{JobMeans, SynthMeans, IsJournalOfList}
 use Rattle.bp_run.specs.Lines.{read_line, write_line, output_line, usage_line, memory_line, synth_name}
 use Rattle.bp_run.specs.Steps.{CannotRead}
 use Rattle.bp_run.specs.Tree.{AreListed}
@@ -24,10 +24,10 @@ Gives (Graph words) old outcome = IfSome old.files (λ files. JobMeans (Graph wo
 Gives (Synth words) old outcome = SynthMeans words outcome
 
 -- The store tells its files, and this is the job's outcome.
-abbrev pub IsGiven : Configuration → World → Result (List ℕ) Fault → Type 0
-IsGiven (Build words) old outcome = IsSomeAnd old.files (λ files. JobMeans (Build words) files outcome)
-IsGiven (Graph words) old outcome = IsSomeAnd old.files (λ files. JobMeans (Graph words) files outcome)
-IsGiven (Synth words) old outcome = SynthMeans words outcome
+abbrev pub ToldGives : Configuration → World → Result (List ℕ) Fault → Type 0
+ToldGives (Build words) old outcome = IsSomeAnd old.files (λ files. JobMeans (Build words) files outcome)
+ToldGives (Graph words) old outcome = IsSomeAnd old.files (λ files. JobMeans (Graph words) files outcome)
+ToldGives (Synth words) old outcome = SynthMeans words outcome
 
 -- The names of files by their numbers: a list has the number 0, and behind it stand the files that it names.
 abbrev pub AreListNames : List ℕ → World → List (List ℕ) → Type 0
@@ -51,7 +51,7 @@ IsUnread (Synth words) old path = ⊥
 abbrev pub Journals : BuildWords → Files → Option (List ℕ) → Files → Files → Type 0
 Journals words before None written after = after ≡ written
 Journals words before (Some path) written after =
-    (lines : List ℕ) × IsJournal words before lines × (after ≡ insert written path lines)
+    (lines : List ℕ) × IsJournalOfList words before lines × (after ≡ insert written path lines)
 
 -- OUT holds the text and the journal's path a legal journal, every other file is as it was, and so is the output.
 pub record IsWritten (words : BuildWords) (text : List ℕ) (old new : World) : Type 0 where
@@ -121,13 +121,13 @@ WriteBy old new line c = (text : List ℕ) × Gives c old (Ok text) × Fails c t
 -- The job is a text and nothing failed: so it is done, or memory ran out.
 abbrev pub Completes : Option Configuration → World → World → ℕ → Type 0
 Completes conf old new status =
-    (c : Configuration) (text : List ℕ) → conf ≡ Some c → IsGiven c old (Ok text) → Quiet old new
+    (c : Configuration) (text : List ℕ) → conf ≡ Some c → ToldGives c old (Ok text) → Quiet old new
     → (status ≡ 0) ⊎ (status ≡ 5)
 
 -- The job is a fault and nothing failed: so it is reported, or memory ran out.
 abbrev pub Reports : Option Configuration → World → World → ℕ → Type 0
 Reports conf old new status =
-    (c : Configuration) (fault : Fault) → conf ≡ Some c → IsGiven c old (Err fault) → Quiet old new
+    (c : Configuration) (fault : Fault) → conf ≡ Some c → ToldGives c old (Err fault) → Quiet old new
     → (status ≡ 1) ⊎ (status ≡ 5)
 
 -- `synth` touches no store.

@@ -1,6 +1,6 @@
 -- What a step of the job answers, for what its definition gives.
 use Rattle.std.specs.Prelude.{◌≡◌, ◌⊎◌, ℕ, ◌≤◌, List, ◌∷◌, ◌++◌, Option, None, Result, Ok, Err, ⊤}
-use Rattle.std.specs.Prelude.{IfOk, IfSome, option_map}
+use Rattle.std.specs.Prelude.{IfSome, option_map}
 use Rattle.std.specs.Result.{IsOk}
 use Rattle.bp_ports.specs.Causes.{Rose}
 use Rattle.bp_ports.specs.Files.{Files}
@@ -20,11 +20,11 @@ use Rattle.bp_pipeline.specs.declared.generated.Generated.{Generated}
 use Rattle.bp_pipeline.specs.Generated.{AreSizes, IsStatementCount}
 use Rattle.command_words.specs.declared.configuration.Synth.{Synth as SynthWords}
 use Rattle.synthetic_tree.specs.declared.summary.Summary.{Summary}
-use Rattle.bp_run.specs.Job.{ModulesGive, AreJournal, IsSummary, synth_config}
+use Rattle.bp_run.specs.Job.{ModulesGive, AreJournalLines, IsSummary, synth_config}
 use Rattle.bp_run.specs.Tree.{ListFileMeans, ListedFilesLoad, sources_of}
 use Rattle.bp_run.specs.Words.{config_of}
 
--- A layer's refusal, as the job hands it on
+-- A layer's refusal, as the job hands it on.
 abbrev pub stop_of : Refusal → Stop
 stop_of (Bad fault) = Stop.Fault fault
 stop_of NoMemory = Stop.OutOfMemory
@@ -83,14 +83,10 @@ journal_of (Build words) = words.journal
 journal_of (Graph words) = None
 journal_of (Synth words) = None
 
--- What is made of some modules has a journal exactly where one is asked for, for its path.
-abbrev pub IsAsked : Configuration → Result Made Stop → Type 0
-IsAsked c result = IfOk result (λ made. journal_path made.journal ≡ journal_of c)
-
 -- The lines of a journal are legal.
 abbrev pub HasJournal : Configuration → List Module → Option Journal → Type 0
 HasJournal (Build words) typed journal =
-    IfSome journal (λ made. AreJournal typed (config_of words.targets) made.lines)
+    IfSome journal (λ made. AreJournalLines typed (config_of words.targets) made.lines)
 HasJournal (Graph words) typed journal = ⊤
 HasJournal (Synth words) typed journal = ⊤
 

@@ -7,7 +7,7 @@ ghost use Rattle.order_text.specs.Texts.{journal_text};
 ghost use Rattle.synthetic_tree.specs.Summary.{summary_text};
 ghost use Rattle.bp_run.specs.Job.{synth_config};
 ghost use Rattle.bp_run.specs.Steps.{GivesOrStops, GivesOrRunsOut, ReadCause, CannotReadOf};
-ghost use Rattle.bp_run.specs.Steps.{IsAsked, journal_path, Summarizes, ModulesMake, ListedFilesMake, SourcesMake};
+ghost use Rattle.bp_run.specs.Steps.{journal_path, journal_of, Summarizes, ModulesMake, ListedFilesMake, SourcesMake};
 ghost use Rattle.bp_run.specs.Words.{config_of, IsSound};
 ghost use Rattle.bp_run.specs.declared.words.Configuration.TheVariants.{Build as BuildCommand, Graph as GraphCommand};
 ghost use Rattle.bp_run.specs.declared.words.Configuration.TheVariants.{Synth as SynthCommand};
@@ -62,7 +62,7 @@ fn make_build<R: Threads + Sync, G: Gate + Sync>(
     requires few { length typed.now ≤ 2 ^ 17 }
     requires sound { IsSoundBuild words.now }
     ensures makes { GivesOrRunsOut (λ made. made) (ModulesMake (BuildCommand words.now) typed.now) result }
-    ensures asked { IsAsked (BuildCommand words.now) result }
+    ensures asked { IfOk result (λ made. journal_path made.journal ≡ journal_of (BuildCommand words.now)) }
 {
     let config = config_of(alloc, &words.targets)?;
     let made = generate(rt, alloc, typed, &config, words.workers, gate)?;
@@ -84,7 +84,7 @@ fn make_graph<R: Threads + Sync, G: Gate + Sync>(
     requires few { length typed.now ≤ 2 ^ 17 }
     requires sound { IsSoundGraph words.now }
     ensures makes { GivesOrRunsOut (λ made. made) (ModulesMake (GraphCommand words.now) typed.now) result }
-    ensures asked { IsAsked (GraphCommand words.now) result }
+    ensures asked { IfOk result (λ made. journal_path made.journal ≡ journal_of (GraphCommand words.now)) }
 {
     let config = config_of(alloc, &words.targets)?;
     let graph = graph_after(rt, alloc, typed, &config, words.after, words.workers, gate)?;
@@ -139,7 +139,7 @@ fn make_synth<R: Threads + Sync, G: Gate + Sync>(
     requires few { length typed.now ≤ 2 ^ 17 }
     requires sound { IsSoundSynth words.now }
     ensures makes { GivesOrRunsOut (λ made. made) (ModulesMake (SynthCommand words.now) typed.now) result }
-    ensures asked { IsAsked (SynthCommand words.now) result }
+    ensures asked { IfOk result (λ made. journal_path made.journal ≡ journal_of (SynthCommand words.now)) }
 {
     let config = synth_config(alloc)?;
     let made = generate(rt, alloc, typed, &config, words.workers, gate)?;
@@ -160,7 +160,7 @@ fn make<R: Threads + Sync, G: Gate + Sync>(
     requires few { length typed.now ≤ 2 ^ 17 }
     requires sound { IsSound configuration.now }
     ensures makes { GivesOrRunsOut (λ made. made) (ModulesMake configuration.now typed.now) result }
-    ensures asked { IsAsked configuration.now result }
+    ensures asked { IfOk result (λ made. journal_path made.journal ≡ journal_of configuration.now) }
 {
     match configuration {
         Configuration::Build(words) => make_build(rt, alloc, words, typed, gate),
@@ -183,7 +183,7 @@ pub fn do_job<R: Threads + Sync, S: Store, G: Gate + Sync>(
     requires sound { IsSound configuration.now }
     ensures gives { IfSome (S.files store.old) (λ files. GivesOrStops (λ made. made)
         (ListedFilesMake configuration.now files paths.now) (CannotReadOf files paths.now) result) }
-    ensures asked { IsAsked configuration.now result }
+    ensures asked { IfOk result (λ made. journal_path made.journal ≡ journal_of configuration.now) }
     ensures cause { ReadCause (S.read_faults store.old) (S.read_faults store.new) result }
     ensures files { S.files store.new ≡ S.files store.old }
     ensures writes { S.write_faults store.new ≡ S.write_faults store.old }
@@ -205,7 +205,7 @@ pub fn do_job_over<R: Threads + Sync, G: Gate + Sync>(
     requires short { All (λ f. length f.1 ≤ 2 ^ 20) (sources files.now) }
     requires sound { IsSound configuration.now }
     ensures makes { GivesOrRunsOut (λ made. made) (SourcesMake configuration.now (sources files.now)) result }
-    ensures asked { IsAsked configuration.now result }
+    ensures asked { IfOk result (λ made. journal_path made.journal ≡ journal_of configuration.now) }
 {
     let typed = load_files(alloc, files)?;
     make(rt, alloc, configuration, &typed, gate)

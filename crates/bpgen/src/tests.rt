@@ -6,6 +6,7 @@ mod limits;
 mod outside;
 mod synthetic;
 mod words;
+mod workers;
 
 use bp_faults::{OutOfMemory, Text};
 use bp_ports::{MemSink, MemStore, OpenGate, Sink, Store};

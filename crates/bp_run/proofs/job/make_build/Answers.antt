@@ -6,7 +6,7 @@ use Rattle.bp_pipeline.specs.Journals.{IsLegalJournal}
 use Rattle.order_text.specs.Texts.{journal_text}
 use Rattle.bp_run.specs.declared.made.Made.{Made}
 use Rattle.bp_run.specs.declared.words.Configuration.TheVariants.{Build}
-use Rattle.bp_run.specs.Job.{AreJournal}
+use Rattle.bp_run.specs.Job.{AreJournalLines}
 use Rattle.bp_run.specs.Steps.{ModulesMake}
 use Rattle.bp_run.specs.Words.{config_of}
 use Rattle.bp_run.proofs.Delivered.{where_some}
@@ -30,7 +30,7 @@ returns-clause-makes g c =
     let made = c.in_ok-made.made in (
       subst (λ config. TextMeans typed config (Ok made.ninja)) c.in_ok-config.ensures c.in_ok-made.ensures.text,
       where_some c.in_ok-journal.journal (λ journal. journal.lines ≡ journal_text made.journal)
-          (λ journal. AreJournal typed wanted journal.lines)
+          (λ journal. AreJournalLines typed wanted journal.lines)
           (λ journal is. (
             made.journal,
             subst (λ config. IsLegalJournal typed config made.journal) c.in_ok-config.ensures
