@@ -8,3 +8,4 @@ pub mod OneJob
 pub mod Ending
 pub mod Delivered
 pub mod Heads
+pub mod SomeJob

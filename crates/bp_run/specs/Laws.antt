@@ -1,6 +1,6 @@
 -- What holds of all configurations and files.
 use Rattle.std.specs.Prelude.{◌≡◌, ℕ, List, ◌++◌}
-use Rattle.bp_faults.specs.Phases.{IsOnce}
+use Rattle.bp_faults.specs.Phases.{HasOutcome, IsOnce}
 use Rattle.bp_ports.specs.Files.{Files}
 use Rattle.build_actions.specs.declared.actions.Actions.{Actions}
 use Rattle.build_actions.specs.File.{file_of}
@@ -8,10 +8,21 @@ use Rattle.build_actions.specs.Head.{head_lines}
 use Rattle.ninja_write.specs.Meaning.{text_of, joined}
 use Rattle.bp_run.specs.declared.words.Configuration.{Configuration}
 use Rattle.bp_run.specs.Job.{JobMeans}
+use Rattle.bp_run.specs.Tree.{ListLoads, TreeMeans}
+use Rattle.bp_run.specs.Words.{IsSound}
 
 -- A job has one outcome.
 abbrev pub OneJob : Type 0
 OneJob = (c : Configuration) (files : Files) → IsOnce (JobMeans c files)
+
+-- What a list and the files that it names load as has an outcome, over all files.
+abbrev pub SomeListed : Type 0
+SomeListed = (list : List ℕ) (files : Files) → HasOutcome (ListLoads list files)
+
+-- The job of a sound configuration has an outcome, where its tree has one: a text or a fault.
+abbrev pub SomeJob : Type 0
+SomeJob =
+    (c : Configuration) (files : Files) → IsSound c → HasOutcome (TreeMeans c files) → HasOutcome (JobMeans c files)
 
 -- Every written text begins with the literal lines of the head.
 abbrev pub HeadIsText : Type 0

@@ -1,9 +1,9 @@
 //! What holds of all configurations and files: each law is the contract of a function that does nothing.
 
-ghost use Rattle.bp_run.specs.Laws.{OneJob, HeadIsText};
+ghost use Rattle.bp_run.specs.Laws.{OneJob, SomeListed, SomeJob, HeadIsText};
 
 use bp_load::laws::{one_list, one_load};
-use bp_pipeline::laws::one_graph;
+use bp_pipeline::laws::{earlier_graphs, one_graph, some_graph, some_text};
 use build_actions::Actions;
 use pass_core::laws::at_most_one_outcome;
 
@@ -15,6 +15,18 @@ pub fn one_job()
     one_load();
     one_graph();
     at_most_one_outcome::<Actions>();
+}
+
+/// A sound job has an outcome, since each of its phases has: a text or a fault, over all files.
+pub fn some_job()
+    ensures listed { SomeListed }
+    ensures job { SomeJob }
+{
+    one_list();
+    one_load();
+    some_graph();
+    earlier_graphs();
+    some_text();
 }
 
 /// Every written text begins with the literal lines of the head.
