@@ -1,8 +1,11 @@
 //! The worked examples that one call shows, by their names.
 
 use super::{BUILD, end_of, store_of, tree_of};
+use bp_faults::OutOfMemory;
+use std::alloc::Global;
 use std::str;
 use std::test::Fail;
+use std::thread::Threads;
 
 const ONE_LIBRARY_THREE_EDGES: &str = r#"@Android.bp
 cc_binary { name: "app", srcs: ["app.c"], whole_static_libs: ["z"], static_libs: ["z", "z"] }
@@ -503,27 +506,31 @@ fn has_parts(text: &[u8], parts: &str) -> bool {
     }
 }
 
+// Whether a call over a tree comes to what an example says.
+fn comes_to<R: Threads + Sync>(
+    rt: &R,
+    alloc: Global,
+    tree: &str,
+    words: &str,
+    status: u8,
+    gives: &str,
+) -> Result<bool, OutOfMemory> {
+    let mut store = store_of(alloc, tree_of(alloc, tree)?)?;
+    let ended = end_of(rt, alloc, words, &mut store)?;
+    let written = store.held("build.ninja");
+    let is_told = match (status, words.starts_with("graph")) {
+        (1, _) => ended.said.as_slice() == gives.as_bytes() && written.is_none(),
+        (_, true) => ended.out.as_slice() == gives.as_bytes() && written.is_none(),
+        (_, false) => has_parts(written.unwrap_or_default(), gives),
+    };
+    Ok(ended.status == status && is_told)
+}
+
 #[test]
 fn worked_examples(rt: HostRuntime) -> Result<(), Fail> {
     let alloc = rt.alloc();
     for (name, tree, words, status, gives) in EXAMPLES {
-        let mut store = store_of(alloc, tree_of(alloc, tree)?)?;
-        let ended = end_of(&rt, alloc, words, &mut store)?;
-        assert!(rt; ended.status == status, "{name}");
-        let written = store.held("build.ninja");
-        if status == 1 {
-            assert!(rt;
-                ended.said.as_slice() == gives.as_bytes() && written.is_none(),
-                "{name}"
-            );
-        } else if words.starts_with("graph") {
-            assert!(rt;
-                ended.out.as_slice() == gives.as_bytes() && written.is_none(),
-                "{name}"
-            );
-        } else {
-            assert!(rt; has_parts(written.unwrap_or_default(), gives), "{name}");
-        }
+        assert!(rt; comes_to(&rt, alloc, tree, words, status, gives)?, "{name}");
     }
     Ok(())
 }
