@@ -17,12 +17,15 @@ use Rattle.bp_run.specs.declared.end.End.{End}
 use Rattle.bp_run.specs.declared.made.Journal.{Journal}
 use Rattle.bp_run.specs.declared.made.Made.{Made}
 use Rattle.bp_run.specs.declared.stop.Stop.{Stop}
+use Rattle.bp_run.specs.declared.words.Command.{Command}
+use Rattle.bp_run.specs.declared.words.Command.TheVariants.{Job}
 use Rattle.bp_run.specs.declared.words.Configuration.{Configuration}
 use Rattle.bp_run.specs.declared.words.Configuration.TheVariants.{Build, Graph, Synth}
-use Rattle.bp_run.specs.End.{Ended, EndsDelivery, Stopped, files_with_journal}
+use Rattle.bp_run.specs.End.{Ended, EndsDelivery, EndsWriting, Stopped, files_with_journal}
 use Rattle.bp_run.specs.Job.{ModulesGive}
 use Rattle.bp_run.specs.Lines.{synth_name}
-use Rattle.bp_run.specs.Run.{Gives, AreListNames, AreNames, IsUnread, Journals, IsUnjournaled}
+use Rattle.bp_run.specs.Run.{Gives, CommandGives, AreListNames, AreNames, AreCommandNames, IsUnread}
+use Rattle.bp_run.specs.Run.{IsCommandUnread, Journals, IsUnjournaled}
 use Rattle.bp_run.specs.Steps.{GivesOrStops, OnRead, ReadCause, CannotRead, CannotReadOf, HasJournal, ListedFilesMake}
 use Rattle.bp_run.specs.Steps.{SourcesMake, journal_path, journal_of}
 use Rattle.bp_run.specs.Tree.{AreListed, ListFileMeans, ListLoads}
@@ -76,9 +79,9 @@ module _ (c : Configuration) (list : List ℕ) (has : list_of c ≡ Some list) (
           subst (λ l. IfSome old.files (λ files. CannotRead l files path)) same h
       by (Synth words) is = absurd (cc)
 
--- A job that stopped.
-module _ (c : Configuration) (old new : World) (same : Unchanged old new) (names : List (List ℕ)) where
-  pub ends_at_fault : (fault : Fault) → Gives c old (Err fault) → AreNames c old names → (end : End)
+-- A command that stopped.
+module _ (c : Command) (old new : World) (same : Unchanged old new) (names : List (List ℕ)) where
+  pub ends_at_fault : (fault : Fault) → CommandGives c old (Err fault) → AreCommandNames c old names → (end : End)
       → Stopped names (Stop.Fault fault) end → Ended (Some c) old new end
   ends_at_fault fault gives named End.Done h = absurd h
   ends_at_fault fault gives named (End.Fault line) h = (fault, gives, names, named, h, same)
@@ -87,7 +90,7 @@ module _ (c : Configuration) (old new : World) (same : Unchanged old new) (names
   ends_at_fault fault gives named (End.Write line) h = absurd h
   ends_at_fault fault gives named End.OutOfMemory h = same
 
-  pub ends_at_read : (path : List ℕ) → IsUnread c old path → Rose old.reads new.reads → (end : End)
+  pub ends_at_read : (path : List ℕ) → IsCommandUnread c old path → Rose old.reads new.reads → (end : End)
       → Stopped names (Stop.Read path) end → Ended (Some c) old new end
   ends_at_read path unread rose End.Done h = absurd h
   ends_at_read path unread rose (End.Fault line) h = absurd h
@@ -148,7 +151,7 @@ module _ (old new : World) (reads : ℕ) (made : Made) where
 
   pub ends_delivered : (c : Configuration) → Gives c old (Ok made.text) → journal_path made.journal ≡ journal_of c
       → ((words : BuildWords) → c ≡ Build words → IfSome old.files (HasModules c words.list)) → (end : End)
-      → EndsDelivery c made (reading old reads) new end → Ended (Some c) old new end
+      → EndsDelivery c made (reading old reads) new end → Ended (Some (Job c)) old new end
   ends_delivered (Build words) gives asked has End.Done h =
       (made.text, gives, record { files = written_here words (has words refl) asked old.files new.files refl h.files; out = h.out })
   ends_delivered (Build words) gives asked has (End.Fault line) h = absurd h
@@ -189,9 +192,9 @@ module _ (c : Configuration) (list : List ℕ) (has : list_of c ≡ Some list) (
       → IfSome old.files (λ files. GivesOrStops {T = Vec (List ℕ) Global} {V = List (List ℕ)} (λ paths. paths.items)
       (ListFileMeans list files) (λ unread. unread ≡ list) (Err e))
       → ReadCause {T = Vec (List ℕ) Global} old.reads new.reads (Err e) → Unchanged old new
-      → Stopped (list ∷ []) e end → Ended (Some c) old new end
+      → Stopped (list ∷ []) e end → Ended (Some (Job c)) old new end
   list_stopped (Stop.Fault fault) end gives cause same h =
-      ends_at_fault c old new same (list ∷ []) fault
+      ends_at_fault (Job c) old new same (list ∷ []) fault
       (given_by_list c list has old (Err fault)
       (where_some old.files (λ files. ListFileMeans list files (Err fault))
       (λ files. Then (ListLoads list files) (ModulesGive c) (Err fault))
@@ -204,11 +207,11 @@ module _ (c : Configuration) (list : List ℕ) (has : list_of c ≡ Some list) (
       ))
       end h
   list_stopped (Stop.Read path) end gives cause same h =
-      ends_at_read c old new same (list ∷ []) path
+      ends_at_read (Job c) old new same (list ∷ []) path
       (unread_of_list c list has old path
       (where_some old.files (λ files. path ≡ list) (λ files. CannotRead list files path) (λ files is. inl is) gives))
       cause.rose end h
-  list_stopped Stop.OutOfMemory end gives cause same h = ends_at_memory c old new same (list ∷ []) end h
+  list_stopped Stop.OutOfMemory end gives cause same h = ends_at_memory (Job c) old new same (list ∷ []) end h
 
   module _ (paths : List (List ℕ)) (listed : IfSome old.files (λ files. ListFileMeans list files (Ok paths))) where
     fault_given : (fault : Fault) (files : Files) → ListFileMeans list files (Ok paths)
@@ -233,9 +236,9 @@ module _ (c : Configuration) (list : List ℕ) (has : list_of c ≡ Some list) (
         → IfSome old.files (λ files. GivesOrStops {T = Made} {V = Made} (λ made. made)
         (ListedFilesMake c files paths) (CannotReadOf files paths) (Err e))
         → ReadCause {T = Made} old.reads new.reads (Err e) → Unchanged old new
-        → Stopped (list ∷ paths) e end → Ended (Some c) old new end
+        → Stopped (list ∷ paths) e end → Ended (Some (Job c)) old new end
     files_stopped (Stop.Fault fault) end gives cause same h =
-        ends_at_fault c old new same (list ∷ paths) fault
+        ends_at_fault (Job c) old new same (list ∷ paths) fault
         (given_by_list c list has old (Err fault)
         (where_both old.files (λ files. ListFileMeans list files (Ok paths))
         (λ files. ListedFilesMake c files paths (Err fault))
@@ -248,18 +251,18 @@ module _ (c : Configuration) (list : List ℕ) (has : list_of c ≡ Some list) (
         ))
         end h
     files_stopped (Stop.Read path) end gives cause same h =
-        ends_at_read c old new same (list ∷ paths) path
+        ends_at_read (Job c) old new same (list ∷ paths) path
         (unread_of_list c list has old path
         (where_both old.files (λ files. ListFileMeans list files (Ok paths)) (λ files. CannotReadOf files paths path)
         (λ files. CannotRead list files path) (λ files means cannot. inr (paths, means, cannot)) listed gives))
         cause.rose end h
-    files_stopped Stop.OutOfMemory end gives cause same h = ends_at_memory c old new same (list ∷ paths) end h
+    files_stopped Stop.OutOfMemory end gives cause same h = ends_at_memory (Job c) old new same (list ∷ paths) end h
 
     -- what was made is delivered, or can't be
     pub files_delivered : (made : Made) (reads : ℕ) (end : End)
         → IfSome old.files (λ files. ListedFilesMake c files paths (Ok made))
         → journal_path made.journal ≡ journal_of c → EndsDelivery c made (reading old reads) new end
-        → Ended (Some c) old new end
+        → Ended (Some (Job c)) old new end
     files_delivered made reads end gives asked h =
         ends_delivered old new reads made c
         (given_by_list c list has old (Ok made.text)
@@ -283,21 +286,21 @@ module _ (words : SynthWords) (old new : World) (files : List Source)
   pub synth_stopped : (e : Stop) (end : End)
       → GivesOrStops {T = Made} {V = Made} (λ made. made) (SourcesMake (Synth words) files) Never (Err e)
       → Unchanged old new → Stopped (synth_name ∷ map (λ f. f.0) files) e end
-      → Ended (Some (Synth words)) old new end
+      → Ended (Some (Job (Synth words))) old new end
   synth_stopped (Stop.Fault fault) end (Ok typed, loads, goes) same h =
-      ends_at_fault (Synth words) old new same (synth_name ∷ map (λ f. f.0) files) fault
+      ends_at_fault (Job (Synth words)) old new same (synth_name ∷ map (λ f. f.0) files) fault
       (Ok typed, (files, tree, loads), goes) (files, tree, refl) end h
   synth_stopped (Stop.Fault fault) end (Err other, loads, goes) same h =
       let equal : other ≡ fault = cc in
-      ends_at_fault (Synth words) old new same (synth_name ∷ map (λ f. f.0) files) fault
+      ends_at_fault (Job (Synth words)) old new same (synth_name ∷ map (λ f. f.0) files) fault
       (Err other, (files, tree, loads), ap Err equal) (files, tree, refl) end h
   synth_stopped (Stop.Read path) end gives same h = absurd gives
   synth_stopped Stop.OutOfMemory end gives same h =
-      ends_at_memory (Synth words) old new same (synth_name ∷ map (λ f. f.0) files) end h
+      ends_at_memory (Job (Synth words)) old new same (synth_name ∷ map (λ f. f.0) files) end h
 
   pub synth_delivered : (made : Made) (end : End) → SourcesMake (Synth words) files (Ok made)
       → journal_path made.journal ≡ journal_of (Synth words) → EndsDelivery (Synth words) made old new end
-      → Ended (Some (Synth words)) old new end
+      → Ended (Some (Job (Synth words))) old new end
   synth_delivered made end (Ok typed, loads, goes) asked h =
       ends_delivered old new old.reads made (Synth words) (Ok typed, (files, tree, loads), goes.0) asked
       (λ other is. absurd (cc)) end h
@@ -322,4 +325,15 @@ ends_later c made old new files reads writes end same_files same_writes h =
     subst (λ f. EndsDelivery c made
     (record { files = f; reads = reads; writes = old.writes; out = old.out; puts = old.puts }) new end) same_files
     (subst (λ w. EndsDelivery c made
+    (record { files = files; reads = reads; writes = w; out = old.out; puts = old.puts }) new end) same_writes h)
+
+pub writes_later : (path : List ℕ) (made : Made) (old new : World) (files : Option Files) (reads writes : ℕ) (end : End)
+    → files ≡ old.files → writes ≡ old.writes
+    → EndsWriting path made
+    (record { files = files; reads = reads; writes = writes; out = old.out; puts = old.puts }) new end
+    → EndsWriting path made (reading old reads) new end
+writes_later path made old new files reads writes end same_files same_writes h =
+    subst (λ f. EndsWriting path made
+    (record { files = f; reads = reads; writes = old.writes; out = old.out; puts = old.puts }) new end) same_files
+    (subst (λ w. EndsWriting path made
     (record { files = files; reads = reads; writes = w; out = old.out; puts = old.puts }) new end) same_writes h)

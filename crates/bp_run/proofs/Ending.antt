@@ -5,13 +5,17 @@ use Rattle.std.specs.Prelude.{IfSome, IsNone, IsSomeAnd}
 use Rattle.std.specs.FinMap.{empty}
 use Rattle.bp_faults.specs.declared.fault.Fault.{Fault}
 use Rattle.bp_ports.specs.Files.{Files}
+use Rattle.command_words.specs.declared.configuration.Replay.{Replay as ReplayWords}
+use Rattle.bp_run.specs.declared.words.Command.{Command}
+use Rattle.bp_run.specs.declared.words.Command.TheVariants.{Job, Replay}
 use Rattle.bp_run.specs.declared.words.Configuration.{Configuration}
 use Rattle.bp_run.specs.declared.words.Configuration.TheVariants.{Build, Graph, Synth}
 use Rattle.bp_run.specs.declared.end.End.{End}
 use Rattle.bp_run.specs.End.{status_of, report_of, IsReported, Ended}
-use Rattle.bp_run.specs.Job.{JobMeans}
-use Rattle.bp_run.specs.Laws.{OneJob}
-use Rattle.bp_run.specs.Run.{Gives, ToldGives, DoneBy, FaultBy, ReadBy, WriteBy, IsUnjournaled, Spares, RunMeans}
+use Rattle.bp_run.specs.Job.{JobMeans, ReplayMeans}
+use Rattle.bp_run.specs.Laws.{OneJob, OneReplay}
+use Rattle.bp_run.specs.Run.{Gives, CommandGives, ToldGives, CommandToldGives, DoneBy, FaultBy, ReadBy, WriteBy}
+use Rattle.bp_run.specs.Run.{IsUnjournaled, Spares, RunMeans}
 use Rattle.bp_run.specs.World.{World, Stream, Quiet}
 
 some_not_none : {X : Type 0} (o : Option X) (P : X → Type 0) → IsSomeAnd o P → IsNone o → ⊥
@@ -25,7 +29,7 @@ of_conf o P h x is = subst (λ o. IsSomeAnd o P) is h
 no_conf : {X : Type 0} (o : Option X) → IsNone o → (x : X) → o ≡ Some x → ⊥
 no_conf o none x is = let h : IsNone (Some x) = subst IsNone is none in cc
 
-module _ (once : OneJob) where
+module _ (once : OneJob) (replayed : OneReplay) where
   told_once : (c : Configuration) (told : Option Files) (a b : Result (List ℕ) Fault)
       → IfSome told (λ files. JobMeans c files a) → IsSomeAnd told (λ files. JobMeans c files b) → a ≡ b
   told_once c None a b x y = absurd y
@@ -38,35 +42,47 @@ module _ (once : OneJob) where
   given_once (Graph words) old a b x y = told_once (Graph words) old.files a b x y
   given_once (Synth words) old a b x y = once (Synth words) empty a b x y
 
+  replay_once : (words : ReplayWords) (told : Option Files) (a b : Result (List ℕ) Fault)
+      → IfSome told (λ files. ReplayMeans words files a) → IsSomeAnd told (λ files. ReplayMeans words files b) → a ≡ b
+  replay_once words None a b x y = absurd y
+  replay_once words (Some files) a b x y = replayed words files a b x y
+
+  -- so has a command
+  command_once : (c : Command) (old : World) (a b : Result (List ℕ) Fault) → CommandGives c old a
+      → CommandToldGives c old b → a ≡ b
+  command_once (Job c) old a b x y = given_once c old a b x y
+  command_once (Replay words) old a b x y = replay_once words old.files a b x y
+
   -- a job that is a text is no fault
-  done_no_fault : (c : Configuration) (old : World) (text : List ℕ) (fault : Fault) → Gives c old (Ok text)
-      → ToldGives c old (Err fault) → ⊥
+  done_no_fault : (c : Command) (old : World) (text : List ℕ) (fault : Fault) → CommandGives c old (Ok text)
+      → CommandToldGives c old (Err fault) → ⊥
   done_no_fault c old text fault x y = let same : Ok text ≡ Err fault =
-      given_once c old (Ok text) (Err fault) x y in cc
+      command_once c old (Ok text) (Err fault) x y in cc
 
-  fault_no_text : (c : Configuration) (old : World) (text : List ℕ) (fault : Fault) → Gives c old (Err fault)
-      → ToldGives c old (Ok text) → ⊥
+  fault_no_text : (c : Command) (old : World) (text : List ℕ) (fault : Fault) → CommandGives c old (Err fault)
+      → CommandToldGives c old (Ok text) → ⊥
   fault_no_text c old text fault x y = let same : Err fault ≡ Ok text =
-      given_once c old (Err fault) (Ok text) x y in cc
+      command_once c old (Err fault) (Ok text) x y in cc
 
-module _ (once : OneJob) (conf : Option Configuration) (old new : World) (before after : Stream)
-    (spares : Spares conf old new) where
+module _ (once : OneJob) (replayed : OneReplay) (conf : Option Command) (old new : World)
+    (before after : Stream) (spares : Spares conf old new) where
   -- an end of a configuration that there is
-  not_refused : (P : Configuration → Type 0) (status : ℕ) → IsSomeAnd conf P → IsNone conf
+  not_refused : (P : Command → Type 0) (status : ℕ) → IsSomeAnd conf P → IsNone conf
       → (status ≡ 2) ⊎ (status ≡ 5)
   not_refused P status some none = absurd (some_not_none conf P some none)
 
   -- a write or a put that failed raised its count
-  not_quiet : (c : Configuration) (line : List ℕ) → WriteBy old new line c → Quiet old new → ⊥
-  not_quiet (Build words) line (text, gives, inl fails) quiet = quiet.writes fails.cause
-  not_quiet (Build words) line (text, gives, inr fails) quiet = by words.journal fails
+  not_quiet : (c : Command) (line : List ℕ) → WriteBy old new line c → Quiet old new → ⊥
+  not_quiet (Job (Build words)) line (text, gives, inl fails) quiet = quiet.writes fails.cause
+  not_quiet (Job (Build words)) line (text, gives, inr fails) quiet = by words.journal fails
     where
       by : (asked : Option (List ℕ))
           → IsSomeAnd asked (λ path. IsUnjournaled path words.out text old new line) → ⊥
       by None fails = fails
       by (Some path) fails = quiet.writes fails.cause
-  not_quiet (Graph words) line (text, gives, fails) quiet = quiet.puts fails.cause
-  not_quiet (Synth words) line (text, gives, fails) quiet = quiet.puts fails.cause
+  not_quiet (Job (Graph words)) line (text, gives, fails) quiet = quiet.puts fails.cause
+  not_quiet (Job (Synth words)) line (text, gives, fails) quiet = quiet.puts fails.cause
+  not_quiet (Replay words) line (text, gives, fails) quiet = quiet.writes fails.cause
 
   pub ended : (end : End) → Ended conf old new end → IsReported (report_of end) before after
       → RunMeans conf old new before after (status_of end)
@@ -81,7 +97,7 @@ module _ (once : OneJob) (conf : Option Configuration) (old new : World) (before
     memory = λ e. absurd (omega (arith, e));
     completes = λ c text is given quiet. inl refl;
     reports = λ c fault is given quiet. let done = of_conf conf (DoneBy old new) h c is in
-        absurd (done_no_fault once c old done.0 fault done.1 given);
+        absurd (done_no_fault once replayed c old done.0 fault done.1 given);
     spares = spares;
   }
   ended (End.Fault line) h said = record {
@@ -94,7 +110,7 @@ module _ (once : OneJob) (conf : Option Configuration) (old new : World) (before
     write = λ e. absurd (omega (arith, e));
     memory = λ e. absurd (omega (arith, e));
     completes = λ c text is given quiet. let told = of_conf conf (FaultBy old new line) h c is in
-        absurd (fault_no_text once c old text told.0 told.1 given);
+        absurd (fault_no_text once replayed c old text told.0 told.1 given);
     reports = λ c fault is given quiet. inl refl;
     spares = spares;
   }

@@ -7,5 +7,9 @@ pub mod OneTree
 pub mod OneJob
 pub mod Ending
 pub mod Delivered
+pub mod Inputs
+pub mod Replayed
+pub mod OneReplay
+pub mod SomeReplay
 pub mod Heads
 pub mod SomeJob

@@ -5,7 +5,7 @@ use Rattle.std.specs.declared.io.ErrorKind.{ErrorKind}
 use Rattle.std.specs.declared.io.ErrorKind.TheVariants.{OutOfMemory as NoMemory}
 use Rattle.bp_faults.specs.Line.{line_of}
 use Rattle.bp_ports.specs.Files.{Files, WhereTold}
-use Rattle.command_words.specs.declared.configuration.Build.{Build as BuildWords}
+use Rattle.bp_run.specs.declared.words.Command.{Command}
 use Rattle.bp_run.specs.declared.words.Configuration.{Configuration}
 use Rattle.bp_run.specs.declared.words.Configuration.TheVariants.{Build, Graph, Synth}
 use Rattle.bp_run.specs.declared.end.End.{End}
@@ -40,7 +40,7 @@ IsReported None before after = SaysNothing before after
 IsReported (Some line) before after = Says before after line
 
 -- What a call has done before it reports its end.
-abbrev pub Ended : Option Configuration → World → World → End → Type 0
+abbrev pub Ended : Option Command → World → World → End → Type 0
 Ended conf old new End.Done = IsSomeAnd conf (DoneBy old new)
 Ended conf old new (End.Fault line) = IsSomeAnd conf (FaultBy old new line)
 Ended conf old new End.Usage = IsNone conf × Untouched old new
@@ -53,20 +53,20 @@ abbrev pub files_with_journal : Option Journal → Files → Files
 files_with_journal None files = files
 files_with_journal (Some journal) files = insert files journal.path journal.lines
 
--- The text is in OUT, and the journal behind it.
-pub record IsPut (words : BuildWords) (made : Made) (old new : World) : Type 0 where
-  pub files : WhereTold (λ before after. after ≡ files_with_journal made.journal (insert before words.out made.text))
+-- The text is in the file of the path, and the journal behind it.
+pub record IsPut (path : List ℕ) (made : Made) (old new : World) : Type 0 where
+  pub files : WhereTold (λ before after. after ≡ files_with_journal made.journal (insert before path made.text))
       old.files new.files
   pub out : new.out ≡ old.out
 
 -- What writing comes to: it is done, or one of the files can't be written, or memory runs out before it.
-abbrev pub EndsWriting : BuildWords → Made → World → World → End → Type 0
-EndsWriting words made old new End.Done = IsPut words made old new
-EndsWriting words made old new (End.Write line) =
-    IsUnwritten words.out old new line
-    ⊎ IsSomeAnd made.journal (λ journal. IsUnjournaled journal.path words.out made.text old new line)
-EndsWriting words made old new End.OutOfMemory = Unchanged old new
-EndsWriting words made old new end = ⊥
+abbrev pub EndsWriting : List ℕ → Made → World → World → End → Type 0
+EndsWriting path made old new End.Done = IsPut path made old new
+EndsWriting path made old new (End.Write line) =
+    IsUnwritten path old new line
+    ⊎ IsSomeAnd made.journal (λ journal. IsUnjournaled journal.path path made.text old new line)
+EndsWriting path made old new End.OutOfMemory = Unchanged old new
+EndsWriting path made old new end = ⊥
 
 -- What showing a text comes to.
 abbrev pub EndsShowing : List ℕ → World → World → End → Type 0
@@ -77,7 +77,7 @@ EndsShowing text old new end = ⊥
 
 -- What a delivery comes to, by the command.
 abbrev pub EndsDelivery : Configuration → Made → World → World → End → Type 0
-EndsDelivery (Build words) made old new end = EndsWriting words made old new end
+EndsDelivery (Build words) made old new end = EndsWriting words.out made old new end
 EndsDelivery (Graph words) made old new end = EndsShowing made.text old new end
 EndsDelivery (Synth words) made old new end = EndsShowing made.text old new end
 

@@ -1,20 +1,24 @@
 -- The job: what a configuration stands for over files, a text or the first fault.
-use Rattle.std.specs.Prelude.{◌≡◌, ℕ, List, length, Result, Ok}
+use Rattle.std.specs.Prelude.{◌≡◌, ℕ, ◌+◌, List, length, Result, Ok}
 use Rattle.bp_faults.specs.declared.fault.Fault.{Fault}
 use Rattle.bp_faults.specs.declared.ids.NodeId.{NodeId}
-use Rattle.bp_faults.specs.Phases.{Then}
+use Rattle.bp_faults.specs.Phases.{GoesOn, Then}
 use Rattle.bp_ports.specs.Files.{Files}
 use Rattle.bp_props.specs.declared.module.Module.{Module}
 use Rattle.bp_props.specs.declared.props.Props.{Props}
 use Rattle.module_graph.specs.declared.graph.Node.{Node}
 use Rattle.mutator_rules.specs.declared.config.Config.{Config}
+use Rattle.bp_load.specs.Loaded.{LoadMeans}
+use Rattle.bp_load.specs.Trees.{Source}
 use Rattle.bp_pipeline.specs.Course.{GraphAfter}
 use Rattle.bp_pipeline.specs.Generated.{TextMeans, IsStatementCount, sizes_of}
 use Rattle.bp_pipeline.specs.Journals.{IsLegalJournal}
 use Rattle.bp_pipeline.specs.Mutators.{built}
+use Rattle.bp_pipeline.specs.Replays.{OrderMeans}
 use Rattle.bp_pipeline.specs.Shown.{shown_graph}
 use Rattle.command_words.specs.declared.configuration.Build.{Build as BuildWords}
 use Rattle.command_words.specs.declared.configuration.Graph.{Graph as GraphWords}
+use Rattle.command_words.specs.declared.configuration.Replay.{Replay as ReplayWords}
 use Rattle.command_words.specs.declared.configuration.Synth.{Synth as SynthWords}
 use Rattle.command_words.specs.Words.{default_targets}
 use Rattle.order_text.specs.Texts.{journal_text}
@@ -23,7 +27,7 @@ use Rattle.synthetic_tree.specs.Summary.{summary_text}
 use Rattle.bp_run.specs.declared.words.Configuration.{Configuration}
 use Rattle.bp_run.specs.declared.words.Configuration.TheVariants.{Build, Graph, Synth}
 use Rattle.bp_run.specs.Words.{config_of}
-use Rattle.bp_run.specs.Tree.{ListLoads, SynthLoads, TreeMeans}
+use Rattle.bp_run.specs.Tree.{ListFileMeans, ListLoads, SynthLoads, TreeMeans, sources_and_order}
 
 -- What `graph` gives of modules: the text of the graph after the first mutators, for its targets.
 abbrev pub GraphGives : GraphWords → List Module → Result (List ℕ) Fault → Type 0
@@ -74,6 +78,20 @@ JobMeans c files outcome = Then (TreeMeans c files) (ModulesGive c) outcome
 -- The job of `synth`, which is the same over all files.
 abbrev pub SynthMeans : SynthWords → Result (List ℕ) Fault → Type 0
 SynthMeans words outcome = Then (SynthLoads words) (SummaryGives words) outcome
+
+-- What files in memory are replayed to, along an order file of a number.
+abbrev pub SourcesReplay : ReplayWords → ℕ → List Source × List ℕ → Result (List ℕ) Fault → Type 0
+SourcesReplay words number read outcome =
+    Then (LoadMeans read.0) (λ typed. OrderMeans typed (config_of words.targets) read.1 number) outcome
+
+-- What the files of a list are replayed to: first all are read, and then the order file.
+abbrev pub ListedFilesReplay : ReplayWords → Files → List (List ℕ) → Result (List ℕ) Fault → Type 0
+ListedFilesReplay words files paths outcome =
+    GoesOn (sources_and_order files paths words.order) (SourcesReplay words (length paths + 1)) outcome
+
+-- The job of `replay` over files: the text of the file for Ninja, where the order file is a legal order.
+abbrev pub ReplayMeans : ReplayWords → Files → Result (List ℕ) Fault → Type 0
+ReplayMeans words files outcome = Then (ListFileMeans words.list files) (ListedFilesReplay words files) outcome
 
 -- Some lines are the text of a legal journal of modules.
 abbrev pub AreJournalLines : List Module → Config → List ℕ → Type 0

@@ -7,13 +7,19 @@ use Rattle.build_actions.specs.File.{file_of}
 use Rattle.build_actions.specs.Head.{head_lines}
 use Rattle.ninja_write.specs.Meaning.{text_of, joined}
 use Rattle.bp_run.specs.declared.words.Configuration.{Configuration}
-use Rattle.bp_run.specs.Job.{JobMeans}
+use Rattle.command_words.specs.declared.configuration.Replay.{Replay as ReplayWords}
+use Rattle.command_words.specs.Sound.{IsSoundReplay}
+use Rattle.bp_run.specs.Job.{JobMeans, ReplayMeans}
 use Rattle.bp_run.specs.Tree.{ListLoads, TreeMeans}
 use Rattle.bp_run.specs.Words.{IsSound}
 
 -- A job has one outcome.
 abbrev pub OneJob : Type 0
 OneJob = (c : Configuration) (files : Files) → IsOnce (JobMeans c files)
+
+-- So has the job of `replay`.
+abbrev pub OneReplay : Type 0
+OneReplay = (words : ReplayWords) (files : Files) → IsOnce (ReplayMeans words files)
 
 -- What a list and the files that it names load as has an outcome, over all files.
 abbrev pub SomeListed : Type 0
@@ -23,6 +29,10 @@ SomeListed = (list : List ℕ) (files : Files) → HasOutcome (ListLoads list fi
 abbrev pub SomeJob : Type 0
 SomeJob =
     (c : Configuration) (files : Files) → IsSound c → HasOutcome (TreeMeans c files) → HasOutcome (JobMeans c files)
+
+-- The job of `replay` has an outcome, over all files.
+abbrev pub SomeReplay : Type 0
+SomeReplay = (words : ReplayWords) (files : Files) → IsSoundReplay words → HasOutcome (ReplayMeans words files)
 
 -- Every written text begins with the literal lines of the head.
 abbrev pub HeadIsText : Type 0

@@ -18,6 +18,7 @@ use Rattle.bp_run.specs.declared.words.Configuration.{Configuration}
 use Rattle.bp_run.specs.declared.words.Configuration.TheVariants.{Build, Graph, Synth}
 use Rattle.bp_pipeline.specs.declared.generated.Generated.{Generated}
 use Rattle.bp_pipeline.specs.Generated.{AreSizes, IsStatementCount}
+use Rattle.command_words.specs.declared.configuration.Replay.{Replay as ReplayWords}
 use Rattle.command_words.specs.declared.configuration.Synth.{Synth as SynthWords}
 use Rattle.synthetic_tree.specs.declared.summary.Summary.{Summary}
 use Rattle.bp_run.specs.Job.{ModulesGive, AreJournalLines, IsSummary, synth_config}
@@ -66,6 +67,19 @@ CannotReadOf files paths path =
 abbrev pub CannotRead : List ℕ → Files → List ℕ → Type 0
 CannotRead list files path =
     (path ≡ list) ⊎ ((paths : List (List ℕ)) × ListFileMeans list files (Ok paths) × CannotReadOf files paths path)
+
+-- A path that can't be read is of a file of the list, or the order's, where no file of the list has a fault.
+abbrev pub CannotReadAlong : Files → List (List ℕ) → List ℕ → List ℕ → Type 0
+CannotReadAlong files paths order path =
+    CannotReadOf files paths path ⊎ ((path ≡ order) × IsOk (sources_of files paths))
+
+-- The path that a replay can't read: the list's, one that the list names, or the order's, where nothing before it has
+-- a fault.
+abbrev pub CannotReplay : ReplayWords → Files → List ℕ → Type 0
+CannotReplay words files path =
+    (path ≡ words.list)
+    ⊎ ((paths : List (List ℕ)) × ListFileMeans words.list files (Ok paths)
+    × CannotReadAlong files paths words.order path)
 
 -- The numbers are those of modules of which this was generated.
 abbrev pub Summarizes : SynthWords → Generated → Summary → Type 0

@@ -1,10 +1,11 @@
 -- The tree of a configuration: which files are read, and which modules they load as.
-use Rattle.std.specs.Prelude.{◌≡◌, ℕ, ◌+◌, List, [], ◌∷◌, nat_le, length, codes}
+use Rattle.std.specs.Prelude.{◌≡◌, ℕ, ◌+◌, List, [], ◌∷◌, ◌++◌, nat_le, length, codes}
 use Rattle.std.specs.Prelude.{Option, Some, None, Result, Ok, Err, if◌then◌else◌}
 use Rattle.std.specs.FinMap.{get}
 use Rattle.bp_faults.specs.declared.fault.Fault.{Fault}
 use Rattle.bp_faults.specs.declared.kind.FaultKind.TheVariants.{NoFile, FileTooLarge, TooMany}
-use Rattle.bp_faults.specs.declared.limits.TheConstants.{LARGEST_FILE, LARGEST_LIST_FILE, LARGEST_TREE}
+use Rattle.bp_faults.specs.declared.limits.TheConstants.{LARGEST_FILE, LARGEST_LIST_FILE, LARGEST_ORDER_FILE}
+use Rattle.bp_faults.specs.declared.limits.TheConstants.{LARGEST_TREE}
 use Rattle.bp_faults.specs.Answers.{then_do}
 use Rattle.bp_faults.specs.Faults.{fault_at, fault_on, file_start}
 use Rattle.bp_faults.specs.Phases.{GoesOn, Then}
@@ -49,6 +50,16 @@ sources_from files number size (path ∷ paths) =
 abbrev pub sources_of : Files → List (List ℕ) → Result (List Source) Fault
 sources_of files paths = sources_from files 1 0 paths
 
+-- The order file, which has the number behind those of the files that the list names.
+abbrev pub order_of : Files → List (List ℕ) → List ℕ → Result (List ℕ) Fault
+order_of files paths order = read_of (length paths + 1) LARGEST_ORDER_FILE (get files order)
+
+-- The files that the list names, and then the order file.
+abbrev pub sources_and_order : Files → List (List ℕ) → List ℕ → Result (List Source × List ℕ) Fault
+sources_and_order files paths order =
+    then_do (sources_of files paths)
+    (λ sources. then_do (order_of files paths order) (λ bytes. Ok (sources, bytes)))
+
 -- What the files of a list load as: first all are read.
 abbrev pub ListedFilesLoad : Files → List (List ℕ) → Result (List Module) Fault → Type 0
 ListedFilesLoad files paths outcome = GoesOn (sources_of files paths) LoadMeans outcome
@@ -73,7 +84,17 @@ abbrev pub listed_of : Result (List (List ℕ)) Fault → List (List ℕ)
 listed_of (Ok paths) = paths
 listed_of (Err fault) = []
 
+-- The paths that are listed, and the order's behind them; none where the list has a fault.
+abbrev pub listed_with : List ℕ → Result (List (List ℕ)) Fault → List (List ℕ)
+listed_with order (Ok paths) = paths ++ order ∷ []
+listed_with order (Err fault) = []
+
 -- The files by their numbers: the list has the number 0, and behind it stand those that it names.
 abbrev pub AreListed : List ℕ → Files → List (List ℕ) → Type 0
 AreListed list files paths =
     (outcome : Result (List (List ℕ)) Fault) × ListFileMeans list files outcome × (paths ≡ listed_of outcome)
+
+-- The files of a replay by their numbers, but for the list: those that it names, and then the order file.
+abbrev pub AreListedWith : List ℕ → List ℕ → Files → List (List ℕ) → Type 0
+AreListedWith list order files paths =
+    (outcome : Result (List (List ℕ)) Fault) × ListFileMeans list files outcome × (paths ≡ listed_with order outcome)

@@ -2,6 +2,7 @@ ghost use Rattle.std.specs.Prelude.{◌≡◌, IfOk, Some, None};
 ghost use Rattle.bp_run.specs.End.{EndsWriting, EndsShowing, EndsDelivery};
 ghost use Rattle.bp_run.specs.Lines.{read_line, write_line};
 ghost use Rattle.bp_run.specs.Run.{Spares};
+ghost use Rattle.bp_run.specs.declared.words.Command.TheVariants.{Job};
 ghost use Rattle.bp_run.specs.World.{world, IsSpared};
 
 use crate::{Configuration, End, Journal, Made};
@@ -24,20 +25,20 @@ fn cannot_write(alloc: Global, path: &str) -> Result<Text, OutOfMemory>
     Ok(Text::new(format!(in alloc; "bpgen: cannot write {path}\n")?))
 }
 
-// Writes the text to OUT. The line for a failure is made first.
-fn write_text<S: Store, O: Sink>(
+/// Writes the text to the path, where no journal is asked for. The line for a failure is made first.
+pub fn write_text<S: Store, O: Sink>(
     alloc: Global,
-    words: &Build,
+    path: &Text,
     made: &Made,
     store: &mut S,
     out: &mut O,
 ) -> End
     requires { made.now.journal ≡ None }
-    ensures { EndsWriting words.now made.now
+    ensures { EndsWriting path.now made.now
         (world S.Store O.Sink store.old out.old) (world S.Store O.Sink store.new out.new) result }
 {
-    match cannot_write(alloc, words.out.as_str()) {
-        Ok(line) => match store.write(&words.out, made.text.as_slice()) {
+    match cannot_write(alloc, path.as_str()) {
+        Ok(line) => match store.write(path, made.text.as_slice()) {
             Ok(()) => End::Done,
             Err(_) => End::Write(line),
         },
@@ -55,7 +56,7 @@ fn write_text_and_journal<S: Store, O: Sink>(
     out: &mut O,
 ) -> End
     requires { made.now.journal ≡ Some journal.now }
-    ensures { EndsWriting words.now made.now
+    ensures { EndsWriting words.now.out made.now
         (world S.Store O.Sink store.old out.old) (world S.Store O.Sink store.new out.new) result }
 {
     let Ok(out_line) = cannot_write(alloc, words.out.as_str()) else {
@@ -81,12 +82,12 @@ fn write_made<S: Store, O: Sink>(
     store: &mut S,
     out: &mut O,
 ) -> End
-    ensures { EndsWriting words.now made.now
+    ensures { EndsWriting words.now.out made.now
         (world S.Store O.Sink store.old out.old) (world S.Store O.Sink store.new out.new) result }
 {
     match &made.journal {
         Some(journal) => write_text_and_journal(alloc, words, made, journal, store, out),
-        None => write_text(alloc, words, made, store, out),
+        None => write_text(alloc, &words.out, made, store, out),
     }
 }
 
@@ -115,7 +116,7 @@ pub fn deliver<S: Store, O: Sink>(
 ) -> End
     ensures ends { EndsDelivery configuration.now made.now
         (world S.Store O.Sink store.old out.old) (world S.Store O.Sink store.new out.new) result }
-    ensures spares { Spares (Some configuration.now)
+    ensures spares { Spares (Some (Job configuration.now))
         (world S.Store O.Sink store.old out.old) (world S.Store O.Sink store.new out.new) }
 {
     match configuration {

@@ -19,6 +19,14 @@ bpgen build   writes the file for Ninja
 
   bpgen build -l list -o build.ninja -t android_arm64
 
+bpgen replay  writes the file for Ninja, visiting in the order of a journal
+  -l, --list PATH       as above
+  -o, --out PATH        as above
+  --order PATH          the journal of another run
+  -t, --targets NAMES   as above
+
+  bpgen replay -l list -o build.ninja --order journal
+
 bpgen graph   prints the graph after a mutator
   -l, --list PATH       as above
   -a, --after MUTATOR   defaults_deps, defaults, arch, image, link, deps, plugins, per_src, sanitize, sdk or info
@@ -34,7 +42,7 @@ bpgen synth   prints what a synthetic tree comes to, in numbers
 
   bpgen synth --seed 7 --modules 2000
 
-An option and its value are two words, or one: --list=PATH, -lPATH. `replay` is a name for later.
+An option and its value are two words, or one: --list=PATH, -lPATH.
 ";
 
 /// What the program prints where it is asked for its version.

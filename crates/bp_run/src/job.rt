@@ -25,7 +25,8 @@ use std::alloc::Global;
 use std::thread::Threads;
 use synthetic_tree::{Summary, summary_text};
 
-fn config_of(alloc: Global, targets: &Seq<Target>) -> Result<Config, OutOfMemory>
+/// The targets of words.
+pub fn config_of(alloc: Global, targets: &Seq<Target>) -> Result<Config, OutOfMemory>
     ensures { IfOk result (λ config. config ≡ config_of targets.now) }
 {
     Ok(Config {

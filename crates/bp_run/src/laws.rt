@@ -1,9 +1,9 @@
 //! What holds of all configurations and files: each law is the contract of a function that does nothing.
 
-ghost use Rattle.bp_run.specs.Laws.{OneJob, SomeListed, SomeJob, HeadIsText};
+ghost use Rattle.bp_run.specs.Laws.{OneJob, OneReplay, SomeListed, SomeJob, SomeReplay, HeadIsText};
 
 use bp_load::laws::{one_list, one_load};
-use bp_pipeline::laws::{earlier_graphs, one_graph, some_graph, some_text};
+use bp_pipeline::laws::{earlier_graphs, one_graph, one_order, some_graph, some_order, some_text};
 use build_actions::Actions;
 use pass_core::laws::at_most_one_outcome;
 
@@ -15,6 +15,24 @@ pub fn one_job()
     one_load();
     one_graph();
     at_most_one_outcome::<Actions>();
+}
+
+/// The job of a replay has one outcome, since each of its phases has.
+pub fn one_replay()
+    ensures { OneReplay }
+{
+    one_list();
+    one_load();
+    one_order();
+}
+
+/// The job of a sound replay has an outcome, over all files.
+pub fn some_replay()
+    ensures { SomeReplay }
+{
+    one_list();
+    one_load();
+    some_order();
 }
 
 /// A sound job has an outcome, since each of its phases has: a text or a fault, over all files.

@@ -22,8 +22,8 @@ pub fn file_fault(alloc: Global, kind: FaultKind, file: u32) -> Stop
     Stop::Fault(Fault::at(alloc, kind, Place::start(file)))
 }
 
-// Reads the file of a number. The path is copied first, so that a failed read can be reported.
-fn read_file<S: Store>(
+/// Reads the file of a number. The path is copied first, so that a failed read can be reported.
+pub fn read_file<S: Store>(
     alloc: Global,
     store: &mut S,
     path: &Text,

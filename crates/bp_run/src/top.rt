@@ -1,10 +1,10 @@
-ghost use Rattle.bp_run.specs.Words.{served_configuration};
+ghost use Rattle.bp_run.specs.Words.{command_of};
 ghost use Rattle.bp_run.specs.Run.{RunMeans};
 ghost use Rattle.bp_run.specs.World.{world, stream};
 
 use crate::do_work;
 use crate::end::{report, status};
-use crate::laws::one_job;
+use crate::laws::{one_job, one_replay};
 use bp_faults::Text;
 use bp_ports::{Gate, Sink, Store};
 use std::alloc::Global;
@@ -23,12 +23,13 @@ pub fn run<R: Threads + Sync, S: Store, O: Sink, D: Sink, G: Gate + Sync>(
     diag: &mut D,
     gate: &G,
 ) -> u8
-    ensures { RunMeans (served_configuration words.now)
+    ensures { RunMeans (command_of words.now)
         (world S.Store O.Sink store.old out.old) (world S.Store O.Sink store.new out.new)
         (stream D.Sink diag.old) (stream D.Sink diag.new) result }
 {
-    // A law: so a job that was done is no fault, and the other way round.
+    // Laws: so a job that was done is no fault, and the other way round.
     one_job();
+    one_replay();
     let end = do_work(rt, alloc, words, store, out, gate);
     report(&end, diag);
     status(&end)

@@ -1,20 +1,22 @@
-ghost use Rattle.std.specs.Prelude.{◌≡◌, ◌∷◌, IfOk, Some, map};
+ghost use Rattle.std.specs.Prelude.{◌≡◌, ◌∷◌, [], ◌++◌, IfOk, Some, map};
 ghost use Rattle.bp_faults.specs.Line.{line_of};
 ghost use Rattle.bp_load.specs.Trees.{sources};
+ghost use Rattle.command_words.specs.Sound.{IsSoundReplay};
 ghost use Rattle.bp_run.specs.End.{Ended, Stopped};
 ghost use Rattle.bp_run.specs.Lines.{synth_name};
 ghost use Rattle.bp_run.specs.Run.{Spares};
-ghost use Rattle.bp_run.specs.Words.{served_configuration, list_of, IsSound};
+ghost use Rattle.bp_run.specs.Words.{command_of, list_of, IsSound, IsSoundCommand};
 ghost use Rattle.bp_run.specs.World.{world, IsSpared};
+ghost use Rattle.bp_run.specs.declared.words.Command.TheVariants.{Job, Replay as ReplayCommand};
 ghost use Rattle.bp_run.specs.declared.words.Configuration.TheVariants.{Synth as SynthCommand};
 
-use crate::deliver::{cannot_read, deliver};
+use crate::deliver::{cannot_read, deliver, write_text};
 use crate::job::{do_job, do_job_over};
 use crate::read::read_list;
-use crate::{Configuration, End, Stop, configure};
+use crate::{Command, Configuration, End, Stop, configure, do_replay};
 use bp_faults::{Fault, OutOfMemory, Path, Text, fault_line};
 use bp_ports::{Gate, Sink, Store};
-use command_words::Synth;
+use command_words::{Replay, Synth};
 use std::alloc::Global;
 use std::thread::Threads;
 use synthetic_tree::synth_tree;
@@ -62,7 +64,7 @@ fn carry_out_over_list<R: Threads + Sync, S: Store, O: Sink, G: Gate + Sync>(
 ) -> End
     requires sound { IsSound configuration.now }
     requires list { list_of configuration.now ≡ Some list.now }
-    ensures { Ended (Some configuration.now)
+    ensures { Ended (Some (Job configuration.now))
         (world S.Store O.Sink store.old out.old) (world S.Store O.Sink store.new out.new) result }
 {
     match read_list(alloc, list, store) {
@@ -106,7 +108,7 @@ fn carry_out_over_synth<R: Threads + Sync, S: Store, O: Sink, G: Gate + Sync>(
 ) -> End
     requires sound { IsSound configuration.now }
     requires words { configuration.now ≡ SynthCommand words.now }
-    ensures ended { Ended (Some configuration.now)
+    ensures ended { Ended (Some (Job configuration.now))
         (world S.Store O.Sink store.old out.old) (world S.Store O.Sink store.new out.new) result }
     ensures spares { IsSpared (world S.Store O.Sink store.old out.old) (world S.Store O.Sink store.new out.new) }
 {
@@ -116,6 +118,61 @@ fn carry_out_over_synth<R: Threads + Sync, S: Store, O: Sink, G: Gate + Sync>(
             Err(stop) => stopped_over(alloc, &files, &stop),
         },
         Err(_) => End::OutOfMemory,
+    }
+}
+
+// The texts of the files of a replay by their numbers: the list, the paths that it names, and the order.
+fn replayed_texts(alloc: Global, words: &Replay, paths: &[Path]) -> Result<Vec<Text>, OutOfMemory>
+    ensures { IfOk result (λ texts. texts.items ≡ words.now.list ∷ (paths.now ++ words.now.order ∷ [])) }
+{
+    let mut texts = file_texts(alloc, words.list.as_str(), paths)?;
+    texts.push(words.order.copy(alloc)?)?;
+    Ok(texts)
+}
+
+fn replay_fault_text(
+    alloc: Global,
+    words: &Replay,
+    paths: &[Path],
+    fault: &Fault,
+) -> Result<Text, OutOfMemory>
+    ensures { IfOk result (λ line. line ≡ line_of fault.now
+        (words.now.list ∷ (paths.now ++ words.now.order ∷ []))) }
+{
+    let files = replayed_texts(alloc, words, paths)?;
+    Ok(Text::new(fault_line(alloc, fault, &files)?))
+}
+
+// The line that reports why a replay makes nothing.
+fn replay_stopped(alloc: Global, words: &Replay, paths: &[Path], stop: &Stop) -> End
+    ensures { Stopped (words.now.list ∷ (paths.now ++ words.now.order ∷ [])) stop.now result }
+{
+    let line = match stop {
+        Stop::Fault(fault) => replay_fault_text(alloc, words, paths, fault).map(End::Fault),
+        Stop::Read(path) => cannot_read(alloc, path).map(End::Read),
+        Stop::OutOfMemory => Err(OutOfMemory),
+    };
+    line.unwrap_or(End::OutOfMemory)
+}
+
+// Does what `replay` asks for.
+fn carry_out_replay<R: Threads + Sync, S: Store, O: Sink>(
+    rt: &R,
+    alloc: Global,
+    words: &Replay,
+    store: &mut S,
+    out: &mut O,
+) -> End
+    requires { IsSoundReplay words.now }
+    ensures { Ended (Some (ReplayCommand words.now))
+        (world S.Store O.Sink store.old out.old) (world S.Store O.Sink store.new out.new) result }
+{
+    match read_list(alloc, &words.list, store) {
+        Ok(paths) => match do_replay(rt, alloc, words, &paths, store) {
+            Ok(made) => write_text(alloc, &words.out, &made, store, out),
+            Err(stop) => replay_stopped(alloc, words, &paths, &stop),
+        },
+        Err(stop) => stopped(alloc, words.list.as_str(), &[], &stop),
     }
 }
 
@@ -129,9 +186,9 @@ fn carry_out<R: Threads + Sync, S: Store, O: Sink, G: Gate + Sync>(
     gate: &G,
 ) -> End
     requires { IsSound configuration.now }
-    ensures ended { Ended (Some configuration.now)
+    ensures ended { Ended (Some (Job configuration.now))
         (world S.Store O.Sink store.old out.old) (world S.Store O.Sink store.new out.new) result }
-    ensures spares { Spares (Some configuration.now)
+    ensures spares { Spares (Some (Job configuration.now))
         (world S.Store O.Sink store.old out.old) (world S.Store O.Sink store.new out.new) }
 {
     match configuration {
@@ -147,6 +204,27 @@ fn carry_out<R: Threads + Sync, S: Store, O: Sink, G: Gate + Sync>(
     }
 }
 
+// Does what a command asks for.
+fn obey<R: Threads + Sync, S: Store, O: Sink, G: Gate + Sync>(
+    rt: &R,
+    alloc: Global,
+    command: &Command,
+    store: &mut S,
+    out: &mut O,
+    gate: &G,
+) -> End
+    requires { IsSoundCommand command.now }
+    ensures ended { Ended (Some command.now)
+        (world S.Store O.Sink store.old out.old) (world S.Store O.Sink store.new out.new) result }
+    ensures spares { Spares (Some command.now)
+        (world S.Store O.Sink store.old out.old) (world S.Store O.Sink store.new out.new) }
+{
+    match command {
+        Command::Job(configuration) => carry_out(rt, alloc, configuration, store, out, gate),
+        Command::Replay(words) => carry_out_replay(rt, alloc, words, store, out),
+    }
+}
+
 /// Does what the words say, but for reporting how it ended.
 pub fn do_work<R: Threads + Sync, S: Store, O: Sink, G: Gate + Sync>(
     rt: &R,
@@ -156,13 +234,13 @@ pub fn do_work<R: Threads + Sync, S: Store, O: Sink, G: Gate + Sync>(
     out: &mut O,
     gate: &G,
 ) -> End
-    ensures ended { Ended (served_configuration words.now)
+    ensures ended { Ended (command_of words.now)
         (world S.Store O.Sink store.old out.old) (world S.Store O.Sink store.new out.new) result }
-    ensures spares { Spares (served_configuration words.now)
+    ensures spares { Spares (command_of words.now)
         (world S.Store O.Sink store.old out.old) (world S.Store O.Sink store.new out.new) }
 {
     match configure(alloc, words) {
-        Ok(Some(configuration)) => carry_out(rt, alloc, &configuration, store, out, gate),
+        Ok(Some(command)) => obey(rt, alloc, &command, store, out, gate),
         Ok(None) => End::Usage,
         Err(_) => End::OutOfMemory,
     }

@@ -1,9 +1,9 @@
-use Rattle.bp_run.specs.Words.{served_configuration}
+use Rattle.bp_run.specs.Words.{command_of}
 use Rattle.bp_run.proofs.Ending.{ended}
 use Rattle.bp_run.proofs.top.run.Goals as goal
 
 pub returns : goal.returns
 returns g c =
     rw c.status.ensures
-    (ended c.one_job.ensures (served_configuration c.args.words.now) _ _ _ _ c.do_work-end.ensures.spares
+    (ended c.one_job.ensures c.one_replay.ensures (command_of c.args.words.now) _ _ _ _ c.do_work-end.ensures.spares
     c.do_work-end.result c.do_work-end.ensures.ended c.report.ensures)

@@ -5,6 +5,7 @@ use Rattle.bp_run.specs.End.{Ended, EndsDelivery, Stopped}
 use Rattle.bp_run.specs.Lines.{synth_name}
 use Rattle.bp_run.specs.Steps.{GivesOrStops, SourcesMake, journal_path, journal_of}
 use Rattle.bp_run.specs.World.{world}
+use Rattle.bp_run.specs.declared.words.Command.TheVariants.{Job}
 use Rattle.bp_run.proofs.Delivered.{synth_stopped, synth_delivered}
 use Rattle.bp_run.proofs.Meeting.{Never}
 use Rattle.bp_run.proofs.work.carry_out_over_synth.Goals as goal
@@ -15,7 +16,7 @@ returns-in-Ok-clause-ended g c =
     let stop = c.in-Err-do_job_over.stop in
     let old = world g.S.Store g.O.Sink c.args.store.now c.args.out.now in
     let files = sources c.in-Ok.files.items in
-    subst (λ conf. Ended (Some conf) old old c.stopped_over.result) (sym c.requires.words)
+    subst (λ conf. Ended (Some (Job conf)) old old c.stopped_over.result) (sym c.requires.words)
     (synth_stopped words old old files c.in-Ok.ensures.tree stop c.stopped_over.result
     (subst (λ conf. GivesOrStops {T = Made} {V = Made} (λ made. made) (SourcesMake conf files) Never (Err stop))
     c.requires.words
@@ -33,7 +34,7 @@ returns-in-Ok-do_job_over-clause-ended g c =
     let old = world g.S.Store g.O.Sink c.args.store.now c.args.out.now in
     let new = world g.S.Store g.O.Sink c.deliver.new.store c.deliver.new.out in
     let files = sources c.in-Ok.files.items in
-    subst (λ conf. Ended (Some conf) old new c.deliver.result) (sym c.requires.words)
+    subst (λ conf. Ended (Some (Job conf)) old new c.deliver.result) (sym c.requires.words)
     (synth_delivered words old new files c.in-Ok.ensures.tree made c.deliver.result
     (subst (λ conf. SourcesMake conf files (Ok made)) c.requires.words
     (subst (λ held. SourcesMake c.args.configuration.now (sources held) (Ok made)) c.deref.ensures.value
