@@ -94,7 +94,7 @@ cc_test {
 
 /// The name, a tree as `tree_of` reads it, the words, the status, and what the call gives: the parts that stand in what
 /// `build` writes, each behind `@`, all that `graph` shows, or the line of the fault.
-const EXAMPLES: [(&str, &str, &str, u8, &str); 35] = [
+const EXAMPLES: [(&str, &str, &str, u8, &str); 36] = [
     (
         "empty_list",
         "",
@@ -368,6 +368,18 @@ cc_library_static { name: "b", enabled: false, static_libs: ["a"] }
         BUILD,
         1,
         "Android.bp:2:35: error 22: not a defaults module: app
+",
+    ),
+    (
+        "two_defaults",
+        r#"@Android.bp
+cc_defaults { name: "d", min_sdk_version: "21", arch: { arm64: { cflags: ["-A"] } } }
+cc_defaults { name: "e", min_sdk_version: "29", arch: { arm64: { cflags: ["-B"] } } }
+cc_binary { name: "x", defaults: ["d", "e"], srcs: ["x.c"], arch: { arm64: { cflags: ["-C"] } } }
+"#,
+        BUILD,
+        0,
+        "@  cflags = -A -B -C -DMIN_SDK=21
 ",
     ),
     (
