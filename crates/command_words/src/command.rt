@@ -12,14 +12,12 @@ pub enum CommandName {
     Edit,
 }
 
-/// The commands, in the order in which help and usage line name them.
-pub const COMMANDS: [CommandName; 6] = [
+/// The commands that bpgen has, in the order in which help and usage line name them.
+pub const COMMANDS: [CommandName; 4] = [
     CommandName::Build,
     CommandName::Replay,
     CommandName::Graph,
     CommandName::Synth,
-    CommandName::Format,
-    CommandName::Edit,
 ];
 
 impl CommandName {

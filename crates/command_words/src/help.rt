@@ -4,7 +4,7 @@
 pub const HELP: &str = "\
 bpgen reads the Android.bp files of a source tree and writes one build.ninja.
 
-usage: bpgen build|replay|graph|synth|fmt|edit OPTIONS
+usage: bpgen build|replay|graph|synth OPTIONS
 
 Each command with its options, those that may be left out in brackets:
 
@@ -35,19 +35,6 @@ synth: print a summary of the job over a synthetic tree
       --modules M         how many modules, 1 to 100000
  [-j, --jobs N]           workers, 1 to 64; default 4
   bpgen synth --seed 7 --modules 2000
-
-fmt: lay an Android.bp file out anew
-  -i, --in FILE           the file to read
-  -o, --out OUT           the file to write, which may be FILE
-  bpgen fmt -i Android.bp -o Android.bp
-
-edit: set a list property of a module
-  -i, --in FILE           the file to read
-  -o, --out OUT           the file to write, which may be FILE
-  -m, --module NAME       the first module of this name
-  -p, --property NAME     the property to set
- [    --items ITEMS]      the new items, joined by commas; default none
-  bpgen edit -i Android.bp -o Android.bp -m app -p srcs --items a.c,b.c
 
 An option is given once, as -l LIST, -lLIST, --list LIST or --list=LIST. Its
 value isn't empty and doesn't begin with -. OUT differs from LIST and PATH.
