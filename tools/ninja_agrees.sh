@@ -1,6 +1,7 @@
 #!/bin/sh
 # The real Ninja reads what the writer writes: its targets, queries and commands have the names and words that
-# `ninja_trials sample` puts in, spaces, dollars and colons included. It needs rt and ninja, and is no part of the gate.
+# `ninja_trials sample` puts in, spaces, dollars and colons included; and it loads what the program (BPGEN, by default the
+# one that ./bpgen builds) writes of examples/demo_tree. It needs rt and ninja, and is no part of the gate.
 set -eu
 
 top=$(cd "$(dirname "$0")/.." && pwd)
@@ -83,3 +84,14 @@ same "a command and its words"
 } > wanted
 ninja -t commands out/long > got
 same "the ins of a long statement"
+
+# The text of examples/demo_tree for three targets: Ninja loads it, and its targets are the outs of the statements, in order.
+program=${BPGEN:-$top/crates/bpgen/out/bpgen}
+if [ ! -x "$program" ]; then
+    echo "ninja_agrees: there is no program $program; ./bpgen builds it"
+    exit 1
+fi
+(cd "$top/examples/demo_tree" && "$program" build -l list -o "$work/build.ninja")
+sed -n 's/^build \([^ :]*\): \([a-z]*\).*/\1: \2/p' build.ninja > wanted
+ninja -t targets all > got
+same "the targets of demo_tree"
