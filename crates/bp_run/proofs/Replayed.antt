@@ -1,9 +1,9 @@
 -- What a replay has done, by what its steps answered.
-use Rattle.std.proofs.Common.{◌≡◌, inl, inr, ℕ, List, Result, [], ◌∷◌, ◌++◌, Option, Some, None, Ok, Err, Vec, refl, subst}
+use Rattle.std.proofs.Common.{◌≡◌, inl, inr, ℕ, List, [], ◌∷◌, ◌++◌, Some, None, Ok, Err, Vec, refl, subst}
 use Rattle.std.specs.Prelude.{IfSome, IsSomeAnd}
 use Rattle.std.specs.FinMap.{insert}
 use Rattle.std.specs.declared.alloc.Global.{Global}
-use Rattle.bp_ports.specs.Files.{Files, WhereTold}
+use Rattle.bp_ports.specs.Files.{WhereTold}
 use Rattle.command_words.specs.declared.configuration.Replay.{Replay as ReplayWords}
 use Rattle.bp_run.specs.declared.end.End.{End}
 use Rattle.bp_run.specs.declared.made.Made.{Made}

@@ -3,7 +3,6 @@ pub mod Tree
 pub mod Job
 pub mod Steps
 pub mod Lines
-pub mod Help
 pub mod World
 pub mod Run
 pub mod End

@@ -8,7 +8,6 @@
 
 mod deliver;
 mod end;
-mod help;
 mod job;
 pub mod laws;
 mod load;
@@ -22,7 +21,6 @@ mod words;
 mod work;
 
 pub use end::End;
-pub use help::{HELP, VERSION};
 pub use job::{do_job, do_job_over};
 pub use made::{Journal, Made};
 pub use program::start;

@@ -2,10 +2,10 @@ ghost use Rattle.std.specs.Prelude.{◌≡◌};
 ghost use Rattle.bp_run.specs.End.{end_without_words};
 
 use crate::end::{End, report, status};
-use crate::help::text_asked;
 use crate::run;
 use bp_faults::Text;
 use bp_ports::{FsStore, OpenGate, Sink, StdSink};
+use command_words::notice_of;
 use std::io::ErrorKind;
 use std::process::ExitCode;
 use std::rt::Env;
@@ -31,7 +31,7 @@ fn end_without_words(kind: ErrorKind) -> End
     }
 }
 
-// Prints a text that was asked for.
+// Prints the text of a notice.
 fn print<O: Sink, D: Sink>(text: &str, out: &mut O, diag: &mut D) -> ExitCode {
     match out.put(text.as_bytes()) {
         Ok(()) => ExitCode::from(0),
@@ -55,8 +55,8 @@ pub fn start<R: Threads + Sync>(threads: &R, rt: HostRuntime) -> ExitCode {
         }
     };
     let mut out = StdSink::out(rt);
-    if let Some(text) = text_asked(&words) {
-        return print(text, &mut out, &mut diag);
+    if let Some(notice) = notice_of(&words) {
+        return print(notice.text(), &mut out, &mut diag);
     }
     let mut store = FsStore::new(rt);
     ExitCode::from(run(

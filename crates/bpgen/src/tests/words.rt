@@ -1,8 +1,6 @@
-//! Words of the command line, those that are accepted and those that aren't, and the help.
+//! Words of the command line, those that are accepted and those that aren't.
 
 use super::{end_of, store_of, tree_of};
-use bp_run::HELP;
-use command_words::{CommandName, options};
 use std::test::Fail;
 
 const TREE: &str = "@Android.bp\ncc_binary { name: \"hello\", srcs: [\"hello.c\"] }\n";
@@ -65,27 +63,6 @@ fn words(rt: HostRuntime) -> Result<(), Fail> {
                 .ends_with(b"/android_arm/bin/hello\ndefault out/all\n"),
             "{words}"
         );
-    }
-    Ok(())
-}
-
-/// The help names each option of each command that it describes.
-#[test]
-fn help_names_each_option(rt: HostRuntime) -> Result<(), Fail> {
-    let alloc = rt.alloc();
-    for command in [CommandName::Build, CommandName::Graph, CommandName::Synth] {
-        let begin = format!(in alloc; "\nbpgen {} ", command.name())?;
-        let Some((_, described)) = HELP.split_once(begin.as_str()) else {
-            assert!(rt; false, "a command isn't described");
-            return Ok(());
-        };
-        let own = described
-            .split_once("\nbpgen ")
-            .map_or(described, |parts| parts.0);
-        for option in options(command) {
-            let name = format!(in alloc; "--{} ", option.name())?;
-            assert!(rt; own.contains(name.as_str()), "{name}");
-        }
     }
     Ok(())
 }

@@ -1,4 +1,4 @@
-use Rattle.std.proofs.Common.{List, Vec, Result, Ok, Err, subst, ℕ}
+use Rattle.std.proofs.Common.{List, Vec, Ok, Err, subst, ℕ}
 use Rattle.std.specs.declared.alloc.Global.{Global}
 use Rattle.bp_faults.specs.Answers.{Tells}
 use Rattle.bp_load.specs.Loaded.{LoadMeans}
