@@ -3,6 +3,7 @@ mod examples;
 mod faults;
 mod graphs;
 mod limits;
+mod orders;
 mod outside;
 mod synthetic;
 mod words;
