@@ -1,5 +1,5 @@
 #!/bin/sh
-# Measures `build` on the worst inputs within its limits: `measure_worst.sh [PROGRAM [CASE ..]]`, by default the program that
+# Measures the program on the worst inputs within its limits: `measure_worst.sh [PROGRAM [CASE ..]]`, by default the program that
 # ./bpgen builds and all cases. For each it prints a row of docs/PERFORMANCE.md: the case, bytes in and out, the exit status, and
 # the least processor time and the greatest memory of RUNS runs (3). It needs GNU time and awk, and is no part of the gate.
 set -eu
@@ -7,7 +7,8 @@ set -eu
 top=$(cd "$(dirname "$0")/.." && pwd)
 program=${1:-$top/crates/bpgen/out/bpgen}
 [ $# -eq 0 ] || shift
-cases=${*:-references maps long_paths link_lines chain cycle wide modules empty_lines components tokens}
+cases=${*:-references maps shared_keys extensions assignments long_paths link_lines chain cycle wide modules empty_lines
+    components tokens doubling groups sources edges dots one_line order names}
 runs=${RUNS:-3}
 if [ ! -x "$program" ]; then
     echo "measure_worst: there is no program $program; ./bpgen builds it"
@@ -66,6 +67,29 @@ tree_of() {
         maps)
             echo "a sum of 20,000 maps with one entry each"
             awk 'BEGIN { printf "x = {a:1}"; for (n = 1; n < 20000; n++) printf "+{a%d:1}", n; print "" }' | alone ;;
+        shared_keys)
+            echo "a sum of a map with 10,000 entries and of 20,000 maps with one of its keys each"
+            awk 'BEGIN {
+                printf "x = {"
+                for (n = 0; n < 10000; n++) printf "a%d:1,", n
+                printf "}"
+                for (n = 0; n < 20000; n++) printf "+{a%d:1}", n % 10000
+                print ""
+            }' | alone ;;
+        extensions)
+            echo "a map with one entry, and 20,000 times \`+=\` of another"
+            awk 'BEGIN { print "x = {a:1}"; for (n = 1; n < 20000; n++) printf "x += {a%d:1}\n", n }' | alone ;;
+        assignments)
+            echo "60 files side by side with 100,000 variables each"
+            awk 'BEGIN {
+                for (file = 0; file < 60; file++) {
+                    path = "d" file "/Android.bp"
+                    print path > "list"
+                    system("mkdir -p d" file)
+                    for (n = 0; n < 100000; n++) print "a" n "=1" > path
+                    close(path)
+                }
+            }' ;;
         long_paths)
             echo "100,000 modules in a chain of 1,000 directories, whose paths have 1,000 bytes on average"
             chain_of 1000
@@ -104,6 +128,59 @@ tree_of() {
         tokens)
             echo "a file of 1 MiB of commas: *unexpected token*"
             head -c 1048576 /dev/zero | tr '\0' ',' | alone ;;
+        doubling)
+            echo "a map of which each level holds the one below twice, 18 levels deep"
+            awk 'BEGIN {
+                print "m0 = {x:1}"
+                for (n = 1; n <= 18; n++) printf "m%d = {a:m%d,b:m%d}\n", n, n - 1, n - 1
+            }' | alone ;;
+        groups)
+            echo "5,000 modules that set 22 groups each"
+            awk 'BEGIN {
+                for (n = 0; n < 5000; n++) {
+                    if (n % 500 == 0) { file = "d" n / 500 "/Android.bp"; print file > "list"; system("mkdir -p d" n / 500) }
+                    printf "cc_library{name:\"m%d\",srcs:[\"a.c\"],", n > file
+                    g = "{cflags:[\"-a\",\"-b\"],asflags:[\"-c\"]}"
+                    printf "arch:{arm:%s,arm64:%s,riscv64:%s,x86:%s,x86_64:%s},", g, g, g, g, g > file
+                    printf "multilib:{lib32:%s,lib64:%s},target:{android:%s,host:%s,linux:%s,", g, g, g, g, g > file
+                    printf "linux_glibc:%s,not_windows:%s,darwin:%s,windows:%s,", g, g, g, g > file
+                    printf "android_arm64:%s,android_arm:%s,android_x86_64:%s,android_x86:%s,", g, g, g, g > file
+                    printf "linux_glibc_x86_64:%s,linux_glibc_x86:%s},static:%s,shared:%s}\n", g, g, g, g > file
+                }
+            }' ;;
+        sources)
+            echo "a test by source with 65,536 sources"
+            awk 'BEGIN {
+                printf "s = ["; for (n = 0; n < 65536; n++) printf "\"%d.c\",", n
+                print "]\ncc_test{name:\"t\",test_per_src:true,srcs:s}"
+            }' | alone ;;
+        edges)
+            echo "a library that names one library 65,536 times in each of four lists"
+            awk 'BEGIN {
+                printf "s = ["; for (n = 0; n < 65536; n++) printf "\"z\","
+                print "]\ncc_library_shared{name:\"a\",static_libs:s,whole_static_libs:s,shared_libs:s,header_libs:[\"h\"]}"
+                print "cc_library{name:\"z\"}\ncc_library_headers{name:\"h\"}"
+            }' | alone ;;
+        dots)
+            echo "a list of one path of 2,097,145 times ./"
+            awk 'BEGIN { for (n = 0; n < 2097145; n++) printf "./"; print "Android.bp" }' > list
+            : > Android.bp ;;
+        one_line)
+            echo "a file of one line of 1 MiB"
+            awk 'BEGIN { printf "s = ["; for (n = 0; n < 47600; n++) printf "\"%014d\" + \"\",", n; printf "]" }' | alone ;;
+        order)
+            echo "an order file of 64 MiB, which is illegal in its second line"
+            echo 'filegroup{name:"a"}' | alone
+            awk 'BEGIN { print "1 0"; for (n = 0; n < 16777214; n++) print "1 0" }' > order.txt ;;
+        names)
+            echo "131,072 modules whose names differ in their last characters, 63 before them the same"
+            awk 'BEGIN {
+                for (n = 0; n < 131072; n++) {
+                    d = int(n / 8192)
+                    if (n % 8192 == 0) { file = "d" d "/Android.bp"; print file > "list"; system("mkdir -p d" d) }
+                    printf "filegroup{name:\"%063d%06d\"}\n", 0, n > file
+                }
+            }' ;;
         *)
             echo "measure_worst: no case $1" >&2
             exit 1 ;;
@@ -119,10 +196,12 @@ for case in $cases; do
     : > "$work/times"
     rm -f "$work/out"
     n=0
+    words=build
+    [ ! -f order.txt ] || words="replay --order order.txt"
     while [ "$n" -lt "$runs" ]; do
         status=0
         /usr/bin/time -q -a -o "$work/times" -f "%U %S %M" \
-            "$program" build -l list -o "$work/out" -t android_arm64 2> /dev/null || status=$?
+            "$program" $words -l list -o "$work/out" -t android_arm64 2> /dev/null || status=$?
         n=$((n + 1))
     done
     in=$(find . -type f -exec cat {} + | wc -c)

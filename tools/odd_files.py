@@ -31,6 +31,8 @@ BASE = ["enabled", "srcs", "cflags", "conlyflags", "cppflags", "asflags", "ldfla
         "export_shared_lib_headers", "export_header_lib_headers"]
 ODD_TEXT = ["", "a", "é", "äöü", "日本語", "😀", "\u00a0", "a b", "  ", "//", "/*", "*/", "{", "}", "[", ",", "=", "$", "\\",
             "\"", "'", "\t", "\n", "\r", "\a", "\b", "\v", "\f", "# x", "\u2028", "\ufeff", "%s", "-1", "true"]
+FLAGS = ["-Wall", "-DX=\"é\"", "", "a b", "-D'x'", "$(y)", "日本", "\u0080"]
+INCLUDED = [".", "", "inc", "./inc/", "a/b", "ä"]
 ESCAPES = {"\a": "a", "\b": "b", "\f": "f", "\n": "n", "\r": "r", "\t": "t", "\v": "v", "\\": "\\", "\"": "\""}
 
 
@@ -53,20 +55,27 @@ class Tree:
     def __init__(self, rng, rows):
         self.rng, self.rows = rng, rows
         self.names = 0
+        self.directories = self.some_directories()
+        self.files = {}
+        for directory in self.directories:
+            above = [d for d in self.files if directory[:len(d)] == d]
+            inherited = self.files[max(above, key=len)].scope if above else {}
+            self.files[directory] = self.file(directory, inherited)
+        self.lists = None
+
+    def some_directories(self):
+        rng = self.rng
         directories = {()}
         while len(directories) < rng.randint(1, 12):
             above = rng.choice(sorted(directories))
             if len(above) < 6:
                 directories.add(above + (rng.choice(["a", "b", "A", "b.c", "b-c", "lib", "x y", "ä", "0", "~", "é日"]),))
         # A directory may have no file, so that the nearest ancestor's is not the parent's.
-        having = [d for d in directories if rng.random() < 0.8] or [()]
-        self.directories = sorted(having, key=lambda d: [part.encode() for part in d])
-        self.files = {}
-        for directory in self.directories:
-            above = [d for d in self.files if directory[:len(d)] == d]
-            inherited = self.files[max(above, key=len)].scope if above else {}
-            self.files[directory] = File(self, inherited)
-        self.lists = None
+        having = [d for d in sorted(directories) if rng.random() < 0.8] or [()]
+        return sorted(having, key=lambda d: [part.encode() for part in d])
+
+    def file(self, directory, inherited):
+        return File(self, inherited)
 
     def path(self, directory):
         return "/".join(directory + ("Android.bp",))
@@ -105,17 +114,17 @@ class File:
         self.own, self.used = set(), set()
         self.ends = self.rng.choice(["\n", "\n", "\n", "\r\n"])
         self.places = {}
-        # After each definition a fault could be put in; where that is, is an index of pieces.
-        self.seams = [0]
+        self.definitions()
+        self.gap()
+        if self.rng.random() < 0.2:
+            self.pieces.append(self.rng.choice(["// the end", "/* the end */", "/***/", "//", "// é 日本"]))
+
+    def definitions(self):
         if self.rng.random() < 0.08:
             self.gap()
         else:
             for _ in range(self.rng.randint(0, 7)):
                 self.definition()
-                self.seams.append(len(self.pieces))
-        self.gap()
-        if self.rng.random() < 0.2:
-            self.pieces.append(self.rng.choice(["// the end", "/* the end */", "/***/", "//", "// é 日本"]))
 
     # bytes and places
 
@@ -260,11 +269,11 @@ class File:
         if kind == "Level":
             return rng.choice(["1", "29", "0030", "9999", "current", "", "S", "x1"])
         if kind == "Flags":
-            return [rng.choice(["-Wall", "-DX=\"é\"", "", "a b", "-D'x'", "$(y)", "日本", "\u0080"]) for _ in range(count)]
+            return [rng.choice(FLAGS) for _ in range(count)]
         if kind == "Paths":
             return [self.path_item() for _ in range(count)]
         if kind == "Dirs":
-            return [rng.choice([".", "", "inc", "./inc/", "a/b", "ä"]) for _ in range(count)]
+            return [rng.choice(INCLUDED) for _ in range(count)]
         if kind in ("Names", "Words"):
             return [rng.choice(["libx", "", "a b", "é", "//visibility:public"]) for _ in range(count)]
         return self.group(name)
@@ -320,24 +329,28 @@ class File:
         self.own.add(name)
         return name, at
 
-    def definition(self):
-        rng = self.rng
-        what = rng.random()
+    def grow(self):
+        """Adds to a variable that may still grow, if there is one."""
         growing = [n for n in self.own - self.used if isinstance(self.scope[n], (str, list))]
+        if not growing:
+            return False
+        name = self.rng.choice(sorted(growing))
+        old = self.scope[name]
+        more = self.odd() if isinstance(old, str) else [self.odd()]
+        self.word(name)
+        self.put("+=")
+        # The name itself could be taken for the new value's variable.
+        self.scope.pop(name)
+        self.expression(more)
+        self.scope[name] = old + more
+        return True
+
+    def definition(self):
+        what = self.rng.random()
         if what < 0.35:
             # Values that properties want, so that variables stand in modules.
-            self.assign(rng.choice([None, None, ["-Wall"], "both", True, ["a.c"], "libx", "29", ["libx"]]))
-        elif what < 0.45 and growing:
-            name = rng.choice(sorted(growing))
-            old = self.scope[name]
-            more = self.odd() if isinstance(old, str) else [self.odd()]
-            self.word(name)
-            self.put("+=")
-            # The name itself could be taken for the new value's variable.
-            value = self.scope.pop(name)
-            self.expression(more)
-            self.scope[name] = value + more
-        else:
+            self.assign(self.rng.choice([None, None, ["-Wall"], "both", True, ["a.c"], "libx", "29", ["libx"]]))
+        elif what >= 0.45 or not self.grow():
             self.module()
 
 

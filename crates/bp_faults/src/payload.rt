@@ -9,11 +9,11 @@ pub trait Payload: Sized {
         ensures { IfOk result (λ copy. copy ≡ self.now) };
 }
 
-/// Copies each item.
+/// Copies each item. The copies have no spare room.
 pub fn copy_all<P: Payload + Drop>(alloc: Global, items: &[P]) -> Result<Vec<P>, OutOfMemory>
     ensures { IfOk result (λ copies. copies.items ≡ items.now) }
 {
-    let mut copies = Vec::new(alloc);
+    let mut copies = Vec::with_capacity(alloc, items.len())?;
     for item in items {
         copies.push(item.copy(alloc)?)?;
     }

@@ -18,8 +18,8 @@ fn laid(alloc: Global, text: &str) -> Result<String, OutOfMemory>
     }
 }
 
-// The text with a property of a module set to the items, or the line of the fault. It is empty where the
-// property is no identifier.
+// The text with a property of a module set to the items, or the line of the fault. It is empty
+// where the property is no identifier.
 fn edited(
     alloc: Global,
     text: &str,
@@ -46,9 +46,45 @@ fn edited(
 }
 
 #[test]
+fn each_rule_gives_its_gap(rt: HostRuntime) -> Result<(), Fail> {
+    let alloc = rt.alloc();
+    for (text, want) in [
+        // 1: a comment stays behind the token on whose line it stands.
+        ("a=[ // c\n1,2]", "a = [ // c\n    1,\n    2\n]\n"),
+        ("m{}/*c*/n{}", "m {} /*c*/ n {}\n"),
+        // 2: an empty line stands behind a definition.
+        ("x=1+ -2 m{}//c", "x = 1 + -2\n\nm {} //c\n"),
+        ("m{}\n/*c*/n{}", "m {}\n\n/*c*/ n {}\n"),
+        // 3: a line ends behind a comment that ended one.
+        ("m{\n/*c*/\na:1}", "m {\n    /*c*/\n    a: 1\n}\n"),
+        ("m{\n/*c*/a:1}", "m {\n    /*c*/ a: 1\n}\n"),
+        ("//c\na=1", "//c\na = 1\n"),
+        // 4: a comment on a line of its own stays there.
+        ("m{a:1\n//c\n}", "m {\n    a: 1\n    //c\n}\n"),
+        // 5: nothing stands in an empty list or map, or before a mark.
+        ("m{a : { } , b : [ ] }", "m {\n    a: {},\n    b: []\n}\n"),
+        // 6: a list of one token stays on its line.
+        ("a=[ 1 ]", "a = [1]\n"),
+        ("a=[[1]]", "a = [\n    [1]\n]\n"),
+        // 7: an item, and an entry, stands on a line of its own.
+        (
+            "m{a:[1,2]}",
+            "m {\n    a: [\n        1,\n        2\n    ]\n}\n",
+        ),
+        ("a=[1,]", "a = [\n    1,\n]\n"),
+        // 8: a space stands between all others.
+        ("a+=b+c", "a += b + c\n"),
+    ] {
+        assert!(rt; text.len() <= 1 << 20);
+        assert_eq!(rt; laid(alloc, text)?.as_str(), want);
+    }
+    Ok(())
+}
+
+#[test]
 fn texts_are_laid_out(rt: HostRuntime) -> Result<(), Fail> {
     let alloc = rt.alloc();
-    // The first is the example *layout*, and the others show the rules, one after another.
+    // The example *layout*; then comments in every place, CR LF, deep lists, and faults.
     for (text, want) in [
         (
             "cc_binary{name:\"a\",srcs:[\"x.c\",\"y.c\"],cflags:[\"-g\"],// t\n}\n",
@@ -56,25 +92,27 @@ fn texts_are_laid_out(rt: HostRuntime) -> Result<(), Fail> {
         ),
         ("", ""),
         (" \n", ""),
-        ("x=1+ -2 m{}//c", "x = 1 + -2\n\nm {} //c\n"),
-        ("m{a:[]}\n/*c*/n{}", "m {\n    a: []\n}\n\n/*c*/ n {}\n"),
-        ("m{}/*c*/n{}", "m {} /*c*/ n {}\n"),
         (
-            "m{a:[ // c\n1,2]}",
-            "m {\n    a: [ // c\n        1,\n        2\n    ]\n}\n",
+            "/*1*/m/*2*/{/*3*/a/*4*/:/*5*/[/*6*/1/*7*/,/*8*/2/*9*/]/*10*/,/*11*/}/*12*/",
+            "/*1*/ m /*2*/ { /*3*/ a /*4*/ : /*5*/ [ /*6*/ 1 /*7*/ , /*8*/ 2 /*9*/ ] /*10*/ , /*11*/ } /*12*/\n",
         ),
-        ("m{\n/*c*/\na:1}", "m {\n    /*c*/\n    a: 1\n}\n"),
-        ("m{\n/*c*/a:1}", "m {\n    /*c*/ a: 1\n}\n"),
-        ("m{a:{ },b:[ ]}", "m {\n    a: {},\n    b: []\n}\n"),
-        ("a=[ 1 ]", "a = [1]\n"),
-        ("a=[1,]", "a = [\n    1,\n]\n"),
-        ("a+=b+c", "a += b + c\n"),
+        (
+            "//1\nm//2\n{//3\na//4\n://5\n[//6\n1//7\n,//8\n2//9\n]//10\n,//11\n}//12",
+            "//1\nm //2\n{ //3\n    a //4\n    : //5\n    [ //6\n        1 //7\n        , //8\n        2 //9\n    ] //10\n    , //11\n} //12\n",
+        ),
+        (
+            "/*1*/\nm\n/*2*/\n{\n/*3*/\na\n/*4*/\n:\n/*5*/\n[\n/*6*/\n1\n/*7*/\n]\n/*8*/\n}\n/*9*/",
+            "/*1*/\nm\n/*2*/\n{\n    /*3*/\n    a\n    /*4*/\n    :\n    /*5*/\n    [\n        /*6*/\n        1\n        /*7*/\n    ]\n    /*8*/\n}\n\n/*9*/\n",
+        ),
         (
             "/*1*/a/*2*/=/*3*/1/*4*/\n//5",
             "/*1*/ a /*2*/ = /*3*/ 1 /*4*/\n//5\n",
         ),
         ("a=1\r\nb=2\r\n", "a = 1\n\nb = 2\n"),
-        ("//c\r\na=1", "//c\r\na = 1\n"),
+        (
+            "m{\r\n\ta:1,\r\n//c\r\n}\r\n",
+            "m {\n    a: 1,\n    //c\r\n}\n",
+        ),
         (
             "m{a:{b:[[1,2]]}}",
             "m {\n    a: {\n        b: [\n            [\n                1,\n                2\n            ]\n        ]\n    }\n}\n",
@@ -88,24 +126,39 @@ fn texts_are_laid_out(rt: HostRuntime) -> Result<(), Fail> {
     Ok(())
 }
 
+// The first text, and the second so many times behind it.
+fn repeated(alloc: Global, first: &str, text: &str, times: usize) -> Result<String, OutOfMemory> {
+    let mut out = String::from_str(alloc, first)?;
+    for _ in 0..times {
+        out.push_str(text)?;
+    }
+    Ok(out)
+}
+
+// A file of 1,023 definitions of 1,024 bytes each, with the empty line behind them, and of a last
+// one, which begins so, and has 1,018 bytes more.
+fn large_file(alloc: Global, last: &str) -> Result<String, OutOfMemory> {
+    let mut line = repeated(alloc, "a = \"", "12345678", 127)?;
+    line.push_str("\"\n\n")?;
+    let mut text = repeated(alloc, "", line.as_str(), 1_023)?;
+    let end = repeated(alloc, last, "12345678", 127)?;
+    text.push_str(end.as_str())?;
+    text.push_str("\"\n")?;
+    Ok(text)
+}
+
 #[test]
 fn a_layout_can_be_too_long(rt: HostRuntime) -> Result<(), Fail> {
     let alloc = rt.alloc();
-    let mut text = String::from_str(alloc, "a=[")?;
-    for _ in 0..149_000 {
-        text.push_str("1,")?;
-    }
-    text.push(']')?;
-    assert!(rt; text.len() <= 1 << 20);
-    assert_eq!(rt; laid(alloc, text.as_str())?.len(), 8 + 7 * 149_000);
-    text.push_str("b=[")?;
-    for _ in 0..1_000 {
-        text.push_str("1,")?;
-    }
-    text.push(']')?;
-    assert!(rt; text.len() <= 1 << 20);
+    // A layout of 1 MiB is its own, and one of a byte more is too long.
+    let longest = large_file(alloc, "ab = \"")?;
+    assert!(rt; longest.len() <= 1 << 20);
+    assert_eq!(rt; longest.len(), 1 << 20);
+    assert_eq!(rt; laid(alloc, longest.as_str())?.as_str(), longest.as_str());
+    let denser = large_file(alloc, "abc=\"")?;
+    assert!(rt; denser.len() <= 1 << 20);
     assert_eq!(rt;
-        laid(alloc, text.as_str())?.as_str(),
+        laid(alloc, denser.as_str())?.as_str(),
         ":1:1: error 40: text is too long\n"
     );
     Ok(())
@@ -131,6 +184,7 @@ fn lists_are_set(rt: HostRuntime) -> Result<(), Fail> {
         ),
         (row, "b", "srcs", ":1:1: error 41: no such module: b\n"),
         (row, "a", "name", ":1:16: error 42: not a list: name\n"),
+        // The property comes first, last, and alone.
         (
             "m{srcs:[1],name:\"a\"}",
             "a",
@@ -144,6 +198,13 @@ fn lists_are_set(rt: HostRuntime) -> Result<(), Fail> {
             "m{name:`a`,srcs:[\"z.c\"]}",
         ),
         (
+            "m{srcs:[]}",
+            "a",
+            "srcs",
+            ":1:1: error 41: no such module: a\n",
+        ),
+        // It isn't there.
+        (
             "m{name:\"a\"}",
             "a",
             "srcs",
@@ -156,16 +217,43 @@ fn lists_are_set(rt: HostRuntime) -> Result<(), Fail> {
             "m{name:\"a\", srcs: [\"z.c\"],}",
         ),
         (
+            "m{x:{srcs:[1]},name:\"a\"//c\n,}",
+            "a",
+            "srcs",
+            "m{x:{srcs:[1]},name:\"a\", srcs: [\"z.c\"]//c\n,}",
+        ),
+        // The first module of the name is meant.
+        (
             "m{name:\"b\"}n{name:\"a\"}o{name:\"a\",srcs:[]}",
             "a",
             "srcs",
             "m{name:\"b\"}n{name:\"a\", srcs: [\"z.c\"]}o{name:\"a\",srcs:[]}",
         ),
         (
+            "m{name:\"a\",srcs:[1]}n{name:\"a\",srcs:[2]}",
+            "a",
+            "srcs",
+            "m{name:\"a\",srcs:[\"z.c\"]}n{name:\"a\",srcs:[2]}",
+        ),
+        // All in the old list goes with it.
+        (
             "m{name:\"a\",srcs:[ // ]\n[1],{x:[]}]/**/}",
             "a",
             "srcs",
             "m{name:\"a\",srcs:[\"z.c\"]/**/}",
+        ),
+        (
+            "m{\r\nname:\"a\",\r\nsrcs:[\r\n1\r\n],\r\n}\r\n",
+            "a",
+            "srcs",
+            "m{\r\nname:\"a\",\r\nsrcs:[\"z.c\"],\r\n}\r\n",
+        ),
+        // The faults.
+        (
+            "m{name:\"b\",srcs:1}",
+            "a",
+            "srcs",
+            ":1:1: error 41: no such module: a\n",
         ),
         (
             "m{name:\"a\",srcs:[]+[]}",
@@ -216,5 +304,17 @@ fn items_are_quoted(rt: HostRuntime) -> Result<(), Fail> {
         odd.as_str(),
         "m{name:\"a\",srcs:[\"\\a\\b\\f\\n\\r\\t\\v\\\\\\\"é\u{0}\"]}"
     );
+    Ok(())
+}
+
+#[test]
+fn an_edited_text_can_be_too_long(rt: HostRuntime) -> Result<(), Fail> {
+    let alloc = rt.alloc();
+    let text = repeated(alloc, "m{name:\"a\",s:[]}", "                ", 65_535)?;
+    assert!(rt; text.len() <= 1 << 20);
+    let same = edited(alloc, text.as_str(), "a", "s", &[])?;
+    assert_eq!(rt; same.as_str(), text.as_str());
+    let longer = edited(alloc, text.as_str(), "a", "s", &[""])?;
+    assert_eq!(rt; longer.as_str(), ":1:1: error 40: text is too long\n");
     Ok(())
 }

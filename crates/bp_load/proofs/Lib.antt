@@ -1,5 +1,6 @@
 pub mod Cut
 pub mod Eachs
+pub mod Joined
 pub mod Above
 pub mod Stack
 pub mod Turns
@@ -13,4 +14,5 @@ pub mod OneList
 pub mod OneLoad
 pub mod SomeList
 pub mod SomeLoad
+pub mod Sources
 pub mod Sound

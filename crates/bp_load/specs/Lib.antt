@@ -4,6 +4,7 @@ pub mod ListFile
 pub mod Listing
 pub mod Trees
 pub mod Inherited
+pub mod Halves
 pub mod Opened
 pub mod Loaded
 pub mod Laws

@@ -6,12 +6,14 @@
 #![tactic(auto)]
 
 mod directory;
+mod halves;
 pub mod laws;
 mod list_file;
 mod names;
 mod not_utf8;
 mod opened;
 mod parsed;
+mod parsing;
 mod raw;
 #[cfg(test)]
 mod tests;

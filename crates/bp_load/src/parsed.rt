@@ -1,10 +1,10 @@
-ghost use Rattle.std.specs.Prelude.{◌≡◌, ◌≤◌, ◌^◌, List, length, map, IfOk};
-ghost use Rattle.std.specs.List.{All};
+ghost use Rattle.std.specs.Prelude.{◌≡◌, ◌≤◌, ◌^◌, List, length, IfOk};
 ghost use Rattle.bp_faults.specs.Answers.{Tells};
 ghost use Rattle.bp_parser.specs.Trees.{tree_view};
 ghost use Rattle.bp_load.specs.Directories.{directory_of};
 ghost use Rattle.bp_load.specs.Texts.{AsText};
-ghost use Rattle.bp_load.specs.Trees.{placed_of, placed, sources, TextMeans, FileMeans, TreesMean};
+ghost use Rattle.bp_load.specs.Halves.{CanParse, TellsTrees};
+ghost use Rattle.bp_load.specs.Trees.{placed_of, placed, TextMeans, FileMeans};
 
 use crate::LoadError;
 use crate::directory::Directory;
@@ -69,17 +69,20 @@ fn parse_file(alloc: Global, file: &(Path, Vec<u8>), number: u32) -> Result<Pars
     })
 }
 
-/// All files, parsed. The first has the number 1.
-pub fn all_parsed(alloc: Global, files: &[(Path, Vec<u8>)]) -> Result<Vec<Parsed>, LoadError>
-    requires few { length files.now ≤ 2 ^ 14 }
-    requires short { All (λ f. length f.1 ≤ 2 ^ 20) (sources files.now) }
-    ensures { Tells (λ parsed. map placed_of parsed.items) (TreesMean (sources files.now)) result }
+/// Files parsed one after another. The first has the number.
+pub fn all_parsed(
+    alloc: Global,
+    files: &[(Path, Vec<u8>)],
+    number: u32,
+) -> Result<Vec<Parsed>, LoadError>
+    requires { CanParse number files.now }
+    ensures { TellsTrees number files.now result }
 {
     let mut all = Vec::new(alloc);
-    let mut number = 1;
+    let mut next = number;
     'files: for file in files {
-        all.push(parse_file(alloc, file, number)?)?;
-        number += 1;
+        all.push(parse_file(alloc, file, next)?)?;
+        next += 1;
     }
     Ok(all)
 }

@@ -27,6 +27,6 @@ pub fn raw_modules(
     requires short { All (λ f. length f.1 ≤ 2 ^ 20) (sources files.now) }
     ensures { Tells (λ modules. map placed_raw modules.items) (RawMean (sources files.now)) result }
 {
-    let parsed = all_parsed(alloc, files)?;
+    let parsed = all_parsed(alloc, files, 1)?;
     evaluate_all(alloc, parsed)
 }

@@ -7,6 +7,7 @@ use crate::{LoadError, file_list, load, raw_modules};
 use bp_faults::{OutOfMemory, Path, fault_line};
 use std::alloc::Global;
 use std::test::Fail;
+use std::thread::Threads;
 
 // The bytes of a small file.
 fn bytes_of(alloc: Global, text: &str) -> Result<Vec<u8>, OutOfMemory>
@@ -53,13 +54,19 @@ fn listed(alloc: Global, bytes: &[u8]) -> Result<String, OutOfMemory>
     }
 }
 
-// What files load as: the names of the modules with their directories, or the line of the first fault, with
-// the number of the file before it.
-fn loaded(alloc: Global, list: &str, contents: &[&str]) -> Result<String, OutOfMemory>
+// What files load as by so many workers: the names of the modules with their directories, or the line of the
+// first fault, with the number of the file before it.
+fn loaded_by<R: Threads + Sync>(
+    rt: &R,
+    alloc: Global,
+    list: &str,
+    contents: &[&str],
+    workers: u32,
+) -> Result<String, OutOfMemory>
     requires { length list.now ≤ 2 ^ 22 }
 {
     let answer = match files_of(alloc, list, contents) {
-        Ok(files) => load(alloc, files.as_slice(), 4),
+        Ok(files) => load(rt, alloc, files.as_slice(), workers),
         Err(refusal) => Err(refusal),
     };
     match answer {
@@ -80,6 +87,45 @@ fn loaded(alloc: Global, list: &str, contents: &[&str]) -> Result<String, OutOfM
         }
         Err(LoadError::OutOfMemory) => Err(OutOfMemory),
     }
+}
+
+// What files load as.
+fn loaded<R: Threads + Sync>(
+    rt: &R,
+    alloc: Global,
+    list: &str,
+    contents: &[&str],
+) -> Result<String, OutOfMemory>
+    requires { length list.now ≤ 2 ^ 22 }
+{
+    loaded_by(rt, alloc, list, contents, 4)
+}
+
+// A text so many times, between two others.
+fn repeated(
+    alloc: Global,
+    before: &str,
+    part: &str,
+    count: u32,
+    behind: &str,
+) -> Result<String, OutOfMemory> {
+    let mut text = String::from_str(alloc, before)?;
+    for _ in 0..count {
+        text.push_str(part)?;
+    }
+    text.push_str(behind)?;
+    Ok(text)
+}
+
+// So many modules, whose names begin with a letter.
+fn modules(alloc: Global, letter: &str, count: u32) -> Result<String, OutOfMemory> {
+    let mut text = String::new(alloc);
+    for number in 0..count {
+        text.push_str(format!(in alloc;
+            "filegroup {{\n    name: \"{letter}{number}\",\n}}\n"
+        )?.as_str())?;
+    }
+    Ok(text)
 }
 
 // The raw modules of files, each with its directory.
@@ -185,7 +231,7 @@ fn a_file_inherits_the_scope_of_its_nearest_ancestor(rt: HostRuntime) -> Result<
             "4:1:19: error 10: unknown variable: m\n",
         ),
     ] {
-        assert_eq!(rt; loaded(alloc, list, &contents)?.as_str(), want);
+        assert_eq!(rt; loaded(&rt, alloc, list, &contents)?.as_str(), want);
     }
     Ok(())
 }
@@ -221,7 +267,7 @@ fn the_first_phase_that_has_a_fault_tells_it(rt: HostRuntime) -> Result<(), Fail
         ),
         (["\"", "`", "$"], "1:1:1: error 3: unterminated string\n"),
     ] {
-        assert_eq!(rt; loaded(alloc, three, &contents)?.as_str(), want);
+        assert_eq!(rt; loaded(&rt, alloc, three, &contents)?.as_str(), want);
     }
     Ok(())
 }
@@ -235,5 +281,69 @@ fn raw_modules_have_the_directories_of_their_files(rt: HostRuntime) -> Result<()
         &["one { }", "two { }\nsix { }"],
     )?;
     assert_eq!(rt; shown.as_str(), ":one\na/b:two\na/b:six\n");
+    Ok(())
+}
+
+// Parsing comes before evaluation, and of two faults of parsing that of the first file is told.
+#[test]
+fn first_parse_fault(rt: HostRuntime) -> Result<(), Fail> {
+    let alloc = rt.alloc();
+    let list = "a/Android.bp\nb/Android.bp\nc/Android.bp";
+    for workers in [1, 2, 64] {
+        let line = loaded_by(&rt, alloc, list, &["x = [1]", "/* x", "y = $"], workers)?;
+        assert_eq!(rt;
+            line.as_str(),
+            "2:1:1: error 4: unterminated comment\n",
+            "by {workers}"
+        );
+    }
+    Ok(())
+}
+
+// The fault at the end of the large file is found after those of the small ones.
+#[test]
+fn a_large_files_fault_is_told_before_a_small_ones(rt: HostRuntime) -> Result<(), Fail> {
+    let alloc = rt.alloc();
+    let large = repeated(alloc, "x = [", "\"a\",", 25_000, "")?;
+    let half = repeated(alloc, "x = [", "\"a\",", 10_000, "]")?;
+    let list = "a/Android.bp\nb/Android.bp\nc/Android.bp";
+    for workers in [1, 2, 64] {
+        let behind = loaded_by(&rt, alloc, list, &[large.as_str(), "y = $", "`"], workers)?;
+        assert_eq!(rt;
+            behind.as_str(),
+            "1:1:100006: error 7: unexpected token: end of file\n",
+            "by {workers}"
+        );
+        let between = loaded_by(
+            &rt,
+            alloc,
+            list,
+            &[half.as_str(), large.as_str(), "y = $"],
+            workers,
+        )?;
+        assert_eq!(rt;
+            between.as_str(),
+            "2:1:100006: error 7: unexpected token: end of file\n",
+            "by {workers}"
+        );
+    }
+    Ok(())
+}
+
+// More modules than one worker types, in more bytes than one worker parses.
+#[test]
+fn several_workers_load_what_one_loads(rt: HostRuntime) -> Result<(), Fail> {
+    let alloc = rt.alloc();
+    let a = modules(alloc, "a", 4)?;
+    let b = modules(alloc, "b", 3_000)?;
+    let c = modules(alloc, "c", 1_500)?;
+    let contents = [a.as_str(), b.as_str(), c.as_str()];
+    let list = "a/Android.bp\nb/Android.bp\nc/Android.bp";
+    let one = loaded_by(&rt, alloc, list, &contents, 1)?;
+    assert_eq!(rt; one.as_str().lines().count(), 4_504);
+    for workers in [2, 3, 64] {
+        let several = loaded_by(&rt, alloc, list, &contents, workers)?;
+        assert_eq!(rt; several.as_str(), one.as_str(), "by {workers}");
+    }
     Ok(())
 }

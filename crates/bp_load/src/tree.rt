@@ -8,18 +8,25 @@ ghost use Rattle.bp_load.specs.Loaded.{all_named, LoadMeans};
 
 use crate::LoadError;
 use crate::names::test_names;
-use crate::raw::raw_modules;
-use crate::typing::type_all;
+use crate::opened::evaluate_all;
+use crate::parsing::parsed_by;
+use crate::typing::type_by;
 use bp_faults::Path;
 use bp_props::Module;
 use bp_values::RawModule;
 use std::alloc::Global;
+use std::thread::Threads;
 
 /// Types all modules, and then tests all names.
-fn typed_and_named(alloc: Global, raws: Vec<(Path, RawModule)>) -> Result<Vec<Module>, LoadError>
+fn typed_and_named<R: Threads + Sync>(
+    rt: &R,
+    alloc: Global,
+    raws: Vec<(Path, RawModule)>,
+    workers: u32,
+) -> Result<Vec<Module>, LoadError>
     ensures { Answers (λ modules. modules.items) result (all_named (map placed_raw raws.items)) }
 {
-    let modules = type_all(alloc, raws)?;
+    let modules = type_by(rt, alloc, raws, workers)?;
     test_names(alloc, modules.as_slice())?;
     Ok(modules)
 }
@@ -29,8 +36,10 @@ fn typed_and_named(alloc: Global, raws: Vec<(Path, RawModule)>) -> Result<Vec<Mo
 /// Where there are none, the first fault of the first phase that has one is told: parsing of every file,
 /// evaluation of every file, typing of every module, and names. In the phase of names each module in order is
 /// first counted, *too many* `modules` beyond 2^17, and then compared with the earlier names, *duplicate
-/// module name*. The number of workers makes no difference to the answer; the work is done on one thread.
-pub fn load(
+/// module name*. So many workers parse and type, and one evaluates and tests names; their number makes no
+/// difference to the answer.
+pub fn load<R: Threads + Sync>(
+    rt: &R,
     alloc: Global,
     files: &[(Path, Vec<u8>)],
     workers: u32,
@@ -40,7 +49,7 @@ pub fn load(
     requires short { All (λ f. length f.1 ≤ 2 ^ 20) (sources files.now) }
     ensures { Tells (λ modules. modules.items) (LoadMeans (sources files.now)) result }
 {
-    let _ = workers;
-    let raws = raw_modules(alloc, files)?;
-    typed_and_named(alloc, raws)
+    let parsed = parsed_by(rt, alloc, files, 1, workers)?;
+    let raws = evaluate_all(alloc, parsed)?;
+    typed_and_named(rt, alloc, raws, workers)
 }

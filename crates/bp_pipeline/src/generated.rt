@@ -61,7 +61,7 @@ pub fn generate<R: Threads + Sync, G: Gate + Sync>(
     };
     let ran = run_all(rt, alloc, &shop)?;
     let file = build_file(alloc, ran.made)?;
-    let text = text_of(alloc, &file)?;
+    let text = text_of(rt, alloc, &file, workers)?;
     Ok(Generated {
         ninja: Seq::new(text),
         journal: Seq::new(ran.journal),

@@ -63,7 +63,7 @@ pub fn replay_lines<R: Threads + Sync>(
     let ran = run_all(rt, alloc, &shop)?;
     check_end(alloc, &along, ran.journal.len())?;
     let ninja = build_file(alloc, ran.made)?;
-    let text = text_of(alloc, &ninja)?;
+    let text = text_of(rt, alloc, &ninja, 1)?;
     Ok(Seq::new(text))
 }
 

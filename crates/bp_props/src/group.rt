@@ -6,7 +6,8 @@ use crate::given::keep_scalar;
 use crate::mark::GroupMark;
 use crate::merge::Winner;
 use crate::table::{
-    copy_scalars, cut_lists, extend_lists, group_lists, keep_lists, keep_scalars, merge_scalars,
+    copy_lists, copy_scalars, cut_lists, extend_lists, group_lists, keep_lists, keep_scalars,
+    merge_scalars,
 };
 use crate::{
     Field, Given, Listed, ModuleKind, Source, group_dirs, group_flags, group_names, group_sources,
@@ -190,7 +191,7 @@ impl GroupProps {
 impl Payload for GroupProps {
     fn copy(&self, alloc: Global) -> Result<Self, OutOfMemory> {
         let mut copy = GroupProps::empty(alloc);
-        copy.extend(alloc, self)?;
+        group_lists!(copy_lists copy, alloc, self);
         group_truths!(copy_scalars copy, self);
         Ok(copy)
     }

@@ -7,13 +7,14 @@ use Rattle.bp_faults.specs.declared.fault.Fault.{Fault}
 use Rattle.bp_ports.specs.Files.{Files}
 use Rattle.command_words.specs.declared.configuration.Replay.{Replay as ReplayWords}
 use Rattle.bp_run.specs.declared.words.Command.{Command}
-use Rattle.bp_run.specs.declared.words.Command.TheVariants.{Job, Replay}
+use Rattle.bp_run.specs.declared.words.Command.TheVariants.{Job, Replay, Rewrite}
 use Rattle.bp_run.specs.declared.words.Configuration.{Configuration}
 use Rattle.bp_run.specs.declared.words.Configuration.TheVariants.{Build, Graph, Synth}
+use Rattle.bp_run.specs.declared.words.Rewriting.{Rewriting}
 use Rattle.bp_run.specs.declared.end.End.{End}
 use Rattle.bp_run.specs.End.{status_of, report_of, IsReported, Ended}
-use Rattle.bp_run.specs.Job.{JobMeans, ReplayMeans}
-use Rattle.bp_run.specs.Laws.{OneJob, OneReplay}
+use Rattle.bp_run.specs.Job.{JobMeans, ReplayMeans, RewriteMeans}
+use Rattle.bp_run.specs.Laws.{OneJob, OneReplay, OneRewrite}
 use Rattle.bp_run.specs.Run.{Gives, CommandGives, ToldGives, CommandToldGives, DoneBy, FaultBy, ReadBy, WriteBy}
 use Rattle.bp_run.specs.Run.{IsUnjournaled, Spares, RunMeans}
 use Rattle.bp_run.specs.World.{World, Stream, Quiet}
@@ -29,7 +30,7 @@ of_conf o P h x is = subst (λ o. IsSomeAnd o P) is h
 no_conf : {X : Type 0} (o : Option X) → IsNone o → (x : X) → o ≡ Some x → ⊥
 no_conf o none x is = let h : IsNone (Some x) = subst IsNone is none in cc
 
-module _ (once : OneJob) (replayed : OneReplay) where
+module _ (once : OneJob) (replayed : OneReplay) (rewritten : OneRewrite) where
   told_once : (c : Configuration) (told : Option Files) (a b : Result (List ℕ) Fault)
       → IfSome told (λ files. JobMeans c files a) → IsSomeAnd told (λ files. JobMeans c files b) → a ≡ b
   told_once c None a b x y = absurd y
@@ -47,11 +48,17 @@ module _ (once : OneJob) (replayed : OneReplay) where
   replay_once words None a b x y = absurd y
   replay_once words (Some files) a b x y = replayed words files a b x y
 
+  rewrite_once : (r : Rewriting) (told : Option Files) (a b : Result (List ℕ) Fault)
+      → IfSome told (λ files. RewriteMeans r files a) → IsSomeAnd told (λ files. RewriteMeans r files b) → a ≡ b
+  rewrite_once r None a b x y = absurd y
+  rewrite_once r (Some files) a b x y = rewritten r files a b x y
+
   -- so has a command
   command_once : (c : Command) (old : World) (a b : Result (List ℕ) Fault) → CommandGives c old a
       → CommandToldGives c old b → a ≡ b
   command_once (Job c) old a b x y = given_once c old a b x y
   command_once (Replay words) old a b x y = replay_once words old.files a b x y
+  command_once (Rewrite r) old a b x y = rewrite_once r old.files a b x y
 
   -- a job that is a text is no fault
   done_no_fault : (c : Command) (old : World) (text : List ℕ) (fault : Fault) → CommandGives c old (Ok text)
@@ -64,7 +71,7 @@ module _ (once : OneJob) (replayed : OneReplay) where
   fault_no_text c old text fault x y = let same : Err fault ≡ Ok text =
       command_once c old (Err fault) (Ok text) x y in cc
 
-module _ (once : OneJob) (replayed : OneReplay) (conf : Option Command) (old new : World)
+module _ (once : OneJob) (replayed : OneReplay) (rewritten : OneRewrite) (conf : Option Command) (old new : World)
     (before after : Stream) (spares : Spares conf old new) where
   -- an end of a configuration that there is
   not_refused : (P : Command → Type 0) (status : ℕ) → IsSomeAnd conf P → IsNone conf
@@ -83,6 +90,7 @@ module _ (once : OneJob) (replayed : OneReplay) (conf : Option Command) (old new
   not_quiet (Job (Graph words)) line (text, gives, fails) quiet = quiet.puts fails.cause
   not_quiet (Job (Synth words)) line (text, gives, fails) quiet = quiet.puts fails.cause
   not_quiet (Replay words) line (text, gives, fails) quiet = quiet.writes fails.cause
+  not_quiet (Rewrite r) line (text, gives, fails) quiet = quiet.writes fails.cause
 
   pub ended : (end : End) → Ended conf old new end → IsReported (report_of end) before after
       → RunMeans conf old new before after (status_of end)
@@ -97,7 +105,7 @@ module _ (once : OneJob) (replayed : OneReplay) (conf : Option Command) (old new
     memory = λ e. absurd (omega (arith, e));
     completes = λ c text is given quiet. inl refl;
     reports = λ c fault is given quiet. let done = of_conf conf (DoneBy old new) h c is in
-        absurd (done_no_fault once replayed c old done.0 fault done.1 given);
+        absurd (done_no_fault once replayed rewritten c old done.0 fault done.1 given);
     spares = spares;
   }
   ended (End.Fault line) h said = record {
@@ -110,7 +118,7 @@ module _ (once : OneJob) (replayed : OneReplay) (conf : Option Command) (old new
     write = λ e. absurd (omega (arith, e));
     memory = λ e. absurd (omega (arith, e));
     completes = λ c text is given quiet. let told = of_conf conf (FaultBy old new line) h c is in
-        absurd (fault_no_text once replayed c old text told.0 told.1 given);
+        absurd (fault_no_text once replayed rewritten c old text told.0 told.1 given);
     reports = λ c fault is given quiet. inl refl;
     spares = spares;
   }

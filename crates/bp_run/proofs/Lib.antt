@@ -11,5 +11,7 @@ pub mod Inputs
 pub mod Replayed
 pub mod OneReplay
 pub mod SomeReplay
+pub mod OneRewrite
+pub mod SomeRewrite
 pub mod Heads
 pub mod SomeJob

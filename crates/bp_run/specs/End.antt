@@ -5,12 +5,13 @@ use Rattle.std.specs.declared.io.ErrorKind.{ErrorKind}
 use Rattle.std.specs.declared.io.ErrorKind.TheVariants.{OutOfMemory as NoMemory}
 use Rattle.bp_faults.specs.Line.{line_of}
 use Rattle.bp_ports.specs.Files.{Files, WhereTold}
+use Rattle.command_words.specs.Usage.{usage_line}
 use Rattle.bp_run.specs.declared.words.Command.{Command}
 use Rattle.bp_run.specs.declared.words.Configuration.{Configuration}
 use Rattle.bp_run.specs.declared.words.Configuration.TheVariants.{Build, Graph, Synth}
 use Rattle.bp_run.specs.declared.end.End.{End}
 use Rattle.bp_run.specs.declared.stop.Stop.{Stop}
-use Rattle.bp_run.specs.Lines.{read_line, usage_line, memory_line}
+use Rattle.bp_run.specs.Lines.{read_line, memory_line}
 use Rattle.bp_run.specs.declared.made.Journal.{Journal}
 use Rattle.bp_run.specs.declared.made.Made.{Made}
 use Rattle.bp_run.specs.Run.{DoneBy, FaultBy, ReadBy, WriteBy, IsUnwritten, IsUnjournaled, IsShown, IsUnshown}

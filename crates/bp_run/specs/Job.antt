@@ -1,14 +1,19 @@
 -- The job: what a configuration stands for over files, a text or the first fault.
 use Rattle.std.specs.Prelude.{◌≡◌, ℕ, ◌+◌, List, length, Result, Ok}
+use Rattle.std.specs.FinMap.{get}
 use Rattle.bp_faults.specs.declared.fault.Fault.{Fault}
 use Rattle.bp_faults.specs.declared.ids.NodeId.{NodeId}
+use Rattle.bp_faults.specs.declared.limits.TheConstants.{LARGEST_FILE}
 use Rattle.bp_faults.specs.Phases.{GoesOn, Then}
+use Rattle.bp_format.specs.Editing.{Wanted, EditMeans}
+use Rattle.bp_format.specs.Meaning.{FormatMeans}
 use Rattle.bp_ports.specs.Files.{Files}
 use Rattle.bp_props.specs.declared.module.Module.{Module}
 use Rattle.bp_props.specs.declared.props.Props.{Props}
 use Rattle.module_graph.specs.declared.graph.Node.{Node}
 use Rattle.mutator_rules.specs.declared.config.Config.{Config}
 use Rattle.bp_load.specs.Loaded.{LoadMeans}
+use Rattle.bp_load.specs.Texts.{AsText}
 use Rattle.bp_load.specs.Trees.{Source}
 use Rattle.bp_pipeline.specs.Course.{GraphAfter}
 use Rattle.bp_pipeline.specs.Generated.{TextMeans, IsStatementCount, sizes_of}
@@ -17,6 +22,7 @@ use Rattle.bp_pipeline.specs.Mutators.{built}
 use Rattle.bp_pipeline.specs.Replays.{OrderMeans}
 use Rattle.bp_pipeline.specs.Shown.{shown_graph}
 use Rattle.command_words.specs.declared.configuration.Build.{Build as BuildWords}
+use Rattle.command_words.specs.declared.configuration.Edit.{Edit as EditWords}
 use Rattle.command_words.specs.declared.configuration.Graph.{Graph as GraphWords}
 use Rattle.command_words.specs.declared.configuration.Replay.{Replay as ReplayWords}
 use Rattle.command_words.specs.declared.configuration.Synth.{Synth as SynthWords}
@@ -26,8 +32,10 @@ use Rattle.synthetic_tree.specs.declared.summary.Summary.{Summary}
 use Rattle.synthetic_tree.specs.Summary.{summary_text}
 use Rattle.bp_run.specs.declared.words.Configuration.{Configuration}
 use Rattle.bp_run.specs.declared.words.Configuration.TheVariants.{Build, Graph, Synth}
-use Rattle.bp_run.specs.Words.{config_of}
-use Rattle.bp_run.specs.Tree.{ListFileMeans, ListLoads, SynthLoads, TreeMeans, sources_and_order}
+use Rattle.bp_run.specs.declared.words.Rewriting.{Rewriting}
+use Rattle.bp_run.specs.declared.words.Rewriting.TheVariants.{Format, Edit}
+use Rattle.bp_run.specs.Words.{config_of, file_path}
+use Rattle.bp_run.specs.Tree.{ListFileMeans, ListLoads, SynthLoads, TreeMeans, read_of, sources_and_order}
 
 -- What `graph` gives of modules: the text of the graph after the first mutators, for its targets.
 abbrev pub GraphGives : GraphWords → List Module → Result (List ℕ) Fault → Type 0
@@ -92,6 +100,23 @@ ListedFilesReplay words files paths outcome =
 -- The job of `replay` over files: the text of the file for Ninja, where the order file is a legal order.
 abbrev pub ReplayMeans : ReplayWords → Files → Result (List ℕ) Fault → Type 0
 ReplayMeans words files outcome = Then (ListFileMeans words.list files) (ListedFilesReplay words files) outcome
+
+-- What `edit` is asked for.
+abbrev pub wanted_of : EditWords → Wanted
+wanted_of words = record { name = words.name; property = words.property; items = words.items }
+
+-- What a text gives, by the command: for `fmt` its layout, and for `edit` the text with a list set. FILE is file 0.
+abbrev pub TextGives : Rewriting → List ℕ → Result (List ℕ) Fault → Type 0
+TextGives (Format words) text = FormatMeans 0 text
+TextGives (Edit words) text = EditMeans 0 text (wanted_of words)
+
+-- What the bytes of FILE give: they must be UTF-8.
+abbrev pub BytesGive : Rewriting → List ℕ → Result (List ℕ) Fault → Type 0
+BytesGive r bytes = AsText 0 bytes (TextGives r bytes)
+
+-- The job of `fmt` and of `edit` over files: first FILE is read, which is no larger than a file may be.
+abbrev pub RewriteMeans : Rewriting → Files → Result (List ℕ) Fault → Type 0
+RewriteMeans r files outcome = GoesOn (read_of 0 LARGEST_FILE (get files (file_path r))) (BytesGive r) outcome
 
 -- Some lines are the text of a legal journal of modules.
 abbrev pub AreJournalLines : List Module → Config → List ℕ → Type 0

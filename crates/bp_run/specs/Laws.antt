@@ -7,9 +7,10 @@ use Rattle.build_actions.specs.File.{file_of}
 use Rattle.build_actions.specs.Head.{head_lines}
 use Rattle.ninja_write.specs.Meaning.{text_of, joined}
 use Rattle.bp_run.specs.declared.words.Configuration.{Configuration}
+use Rattle.bp_run.specs.declared.words.Rewriting.{Rewriting}
 use Rattle.command_words.specs.declared.configuration.Replay.{Replay as ReplayWords}
 use Rattle.command_words.specs.Sound.{IsSoundReplay}
-use Rattle.bp_run.specs.Job.{JobMeans, ReplayMeans}
+use Rattle.bp_run.specs.Job.{JobMeans, ReplayMeans, RewriteMeans}
 use Rattle.bp_run.specs.Tree.{ListLoads, TreeMeans}
 use Rattle.bp_run.specs.Words.{IsSound}
 
@@ -20,6 +21,10 @@ OneJob = (c : Configuration) (files : Files) → IsOnce (JobMeans c files)
 -- So has the job of `replay`.
 abbrev pub OneReplay : Type 0
 OneReplay = (words : ReplayWords) (files : Files) → IsOnce (ReplayMeans words files)
+
+-- So have the jobs of `fmt` and of `edit`.
+abbrev pub OneRewrite : Type 0
+OneRewrite = (r : Rewriting) (files : Files) → IsOnce (RewriteMeans r files)
 
 -- What a list and the files that it names load as has an outcome, over all files.
 abbrev pub SomeListed : Type 0
@@ -33,6 +38,10 @@ SomeJob =
 -- The job of `replay` has an outcome, over all files.
 abbrev pub SomeReplay : Type 0
 SomeReplay = (words : ReplayWords) (files : Files) → IsSoundReplay words → HasOutcome (ReplayMeans words files)
+
+-- So have the jobs of `fmt` and of `edit`.
+abbrev pub SomeRewrite : Type 0
+SomeRewrite = (r : Rewriting) (files : Files) → HasOutcome (RewriteMeans r files)
 
 -- Every written text begins with the literal lines of the head.
 abbrev pub HeadIsText : Type 0

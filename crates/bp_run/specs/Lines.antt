@@ -1,9 +1,5 @@
--- The lines that the program writes, but for those of faults.
+-- The lines that the program writes, but for those of faults and for the usage line.
 use Rattle.std.specs.Prelude.{ℕ, List, ◌++◌, codes}
-
--- The words give no configuration.
-abbrev pub usage_line : List ℕ
-usage_line = codes "usage: bpgen build|replay|graph|synth OPTIONS\n"
 
 -- A path can't be read.
 abbrev pub read_line : List ℕ → List ℕ

@@ -1,5 +1,5 @@
 -- What each exit status of a call says.
-use Rattle.std.specs.Prelude.{◌≡◌, ◌≤◌, ◌⊎◌, ℕ, List, ◌∷◌, ◌++◌, map}
+use Rattle.std.specs.Prelude.{◌≡◌, ◌≤◌, ◌⊎◌, ℕ, List, [], ◌∷◌, ◌++◌, map}
 use Rattle.std.specs.Prelude.{Option, Some, None, Result, Ok, Err, IfSome, IsNone, IsSomeAnd, ⊤}
 use Rattle.std.specs.FinMap.{insert}
 use Rattle.bp_faults.specs.declared.fault.Fault.{Fault}
@@ -8,16 +8,17 @@ use Rattle.bp_ports.specs.Causes.{Rose}
 use Rattle.bp_ports.specs.Files.{Files, WhereTold, SameBut, AppendsPart}
 use Rattle.bp_load.specs.Trees.{Source}
 use Rattle.command_words.specs.declared.configuration.Build.{Build as BuildWords}
-use Rattle.command_words.specs.declared.configuration.Replay.{Replay as ReplayWords}
+use Rattle.command_words.specs.Usage.{usage_line}
 use Rattle.synthetic_tree.specs.Blocks.{AreTree}
 use Rattle.bp_run.specs.declared.words.Command.{Command}
-use Rattle.bp_run.specs.declared.words.Command.TheVariants.{Job, Replay}
+use Rattle.bp_run.specs.declared.words.Command.TheVariants.{Job, Replay, Rewrite}
 use Rattle.bp_run.specs.declared.words.Configuration.{Configuration}
 use Rattle.bp_run.specs.declared.words.Configuration.TheVariants.{Build, Graph, Synth}
-use Rattle.bp_run.specs.Job.{JobMeans, ReplayMeans, SynthMeans, IsJournalOfList}
-use Rattle.bp_run.specs.Lines.{read_line, write_line, output_line, usage_line, memory_line, synth_name}
+use Rattle.bp_run.specs.Job.{JobMeans, ReplayMeans, RewriteMeans, SynthMeans, IsJournalOfList}
+use Rattle.bp_run.specs.Lines.{read_line, write_line, output_line, memory_line, synth_name}
 use Rattle.bp_run.specs.Steps.{CannotRead, CannotReplay}
 use Rattle.bp_run.specs.Tree.{AreListed, AreListedWith}
+use Rattle.bp_run.specs.Words.{file_path, out_path}
 use Rattle.bp_run.specs.World.{World, Stream, Says, SaysNothing, Unchanged, Untouched, IsSpared, Quiet}
 
 -- Where the store tells its files, this is the job's outcome. The job of `synth` needs no store.
@@ -36,11 +37,13 @@ ToldGives (Synth words) old outcome = SynthMeans words outcome
 abbrev pub CommandGives : Command → World → Result (List ℕ) Fault → Type 0
 CommandGives (Job c) old outcome = Gives c old outcome
 CommandGives (Replay words) old outcome = IfSome old.files (λ files. ReplayMeans words files outcome)
+CommandGives (Rewrite r) old outcome = IfSome old.files (λ files. RewriteMeans r files outcome)
 
 -- The store tells its files, where the command needs one, and this is the outcome.
 abbrev pub CommandToldGives : Command → World → Result (List ℕ) Fault → Type 0
 CommandToldGives (Job c) old outcome = ToldGives c old outcome
 CommandToldGives (Replay words) old outcome = IsSomeAnd old.files (λ files. ReplayMeans words files outcome)
+CommandToldGives (Rewrite r) old outcome = IsSomeAnd old.files (λ files. RewriteMeans r files outcome)
 
 -- The names of files by their numbers: a list has the number 0, and behind it stand the files that it names.
 abbrev pub AreListNames : List ℕ → World → List (List ℕ) → Type 0
@@ -54,12 +57,13 @@ AreNames (Graph words) old names = AreListNames words.list old names
 AreNames (Synth words) old names =
     (files : List Source) × AreTree words.seed words.modules files × (names ≡ synth_name ∷ map (λ f. f.0) files)
 
--- The same of a command. A replay has the order file behind the files of the list.
+-- The same of a command. A replay has the order file behind the files of the list; `fmt` and `edit` have FILE alone.
 abbrev pub AreCommandNames : Command → World → List (List ℕ) → Type 0
 AreCommandNames (Job c) old names = AreNames c old names
 AreCommandNames (Replay words) old names =
     (paths : List (List ℕ)) × IfSome old.files (λ files. AreListedWith words.list words.order files paths)
     × (names ≡ words.list ∷ paths)
+AreCommandNames (Rewrite r) old names = names ≡ file_path r ∷ []
 
 -- A path that a job reads, where nothing before it has a fault.
 abbrev pub IsUnread : Configuration → World → List ℕ → Type 0
@@ -71,6 +75,7 @@ IsUnread (Synth words) old path = ⊥
 abbrev pub IsCommandUnread : Command → World → List ℕ → Type 0
 IsCommandUnread (Job c) old path = IsUnread c old path
 IsCommandUnread (Replay words) old path = IfSome old.files (λ files. CannotReplay words files path)
+IsCommandUnread (Rewrite r) old path = IfSome old.files (λ files. path ≡ file_path r)
 
 -- Behind OUT stands the journal, where one is asked for.
 abbrev pub Journals : BuildWords → Files → Option (List ℕ) → Files → Files → Type 0
@@ -84,9 +89,9 @@ pub record IsWritten (words : BuildWords) (text : List ℕ) (old new : World) : 
       (λ before after. Journals words before words.journal (insert before words.out text) after) old.files new.files
   pub out : new.out ≡ old.out
 
--- OUT holds the text, every other file is as it was, and so is the output.
-pub record IsReplayed (words : ReplayWords) (text : List ℕ) (old new : World) : Type 0 where
-  pub files : WhereTold (λ before after. after ≡ insert before words.out text) old.files new.files
+-- The file of the path holds the text, every other file is as it was, and so is the output.
+pub record IsSaved (path text : List ℕ) (old new : World) : Type 0 where
+  pub files : WhereTold (λ before after. after ≡ insert before path text) old.files new.files
   pub out : new.out ≡ old.out
 
 -- The text stands behind the output, and the files are as they were.
@@ -103,7 +108,8 @@ Delivers (Synth words) text old new = IsShown text old new
 -- The same of a command.
 abbrev pub CommandDelivers : Command → List ℕ → World → World → Type 0
 CommandDelivers (Job c) text old new = Delivers c text old new
-CommandDelivers (Replay words) text old new = IsReplayed words text old new
+CommandDelivers (Replay words) text old new = IsSaved words.out text old new
+CommandDelivers (Rewrite r) text old new = IsSaved (out_path r) text old new
 
 -- Status 0: the job is a text, and it is delivered.
 abbrev pub DoneBy : World → World → Command → Type 0
@@ -154,6 +160,7 @@ Fails (Synth words) text old new line = IsUnshown text old new line
 abbrev pub CommandFails : Command → List ℕ → World → World → List ℕ → Type 0
 CommandFails (Job c) text old new line = Fails c text old new line
 CommandFails (Replay words) text old new line = IsUnwritten words.out old new line
+CommandFails (Rewrite r) text old new line = IsUnwritten (out_path r) old new line
 
 -- Status 4: the job is a text, and it couldn't be delivered.
 abbrev pub WriteBy : World → World → List ℕ → Command → Type 0
@@ -177,6 +184,7 @@ Spares (Some (Job (Synth words))) old new = IsSpared old new
 Spares (Some (Job (Build words))) old new = ⊤
 Spares (Some (Job (Graph words))) old new = ⊤
 Spares (Some (Replay words)) old new = ⊤
+Spares (Some (Rewrite r)) old new = ⊤
 Spares None old new = ⊤
 
 -- A line was said, and the command's call ended with it.

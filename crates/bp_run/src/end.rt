@@ -37,7 +37,7 @@ fn line(end: &End) -> Option<&str>
     match end {
         End::Done => None,
         End::Fault(line) | End::Read(line) | End::Write(line) => Some(line.as_str()),
-        End::Usage => Some("usage: bpgen build|replay|graph|synth OPTIONS\n"),
+        End::Usage => Some("usage: bpgen build|replay|graph|synth|fmt|edit OPTIONS\n"),
         End::OutOfMemory => Some("bpgen: out of memory\n"),
     }
 }

@@ -170,6 +170,15 @@ fn make<R: Threads + Sync, G: Gate + Sync>(
     }
 }
 
+// How many workers do the job.
+fn workers_of(configuration: &Configuration) -> u32 {
+    match configuration {
+        Configuration::Build(words) => words.workers,
+        Configuration::Graph(words) => words.workers,
+        Configuration::Synth(words) => words.workers,
+    }
+}
+
 /// Does the job over the files that a list names: what it makes, or why nothing is made.
 pub fn do_job<R: Threads + Sync, S: Store, G: Gate + Sync>(
     rt: &R,
@@ -189,7 +198,7 @@ pub fn do_job<R: Threads + Sync, S: Store, G: Gate + Sync>(
     ensures files { S.files store.new ≡ S.files store.old }
     ensures writes { S.write_faults store.new ≡ S.write_faults store.old }
 {
-    let typed = load_listed(alloc, paths, store)?;
+    let typed = load_listed(rt, alloc, paths, store, workers_of(configuration))?;
     make(rt, alloc, configuration, &typed, gate)
 }
 
@@ -208,6 +217,6 @@ pub fn do_job_over<R: Threads + Sync, G: Gate + Sync>(
     ensures makes { GivesOrRunsOut (λ made. made) (SourcesMake configuration.now (sources files.now)) result }
     ensures asked { IfOk result (λ made. journal_path made.journal ≡ journal_of configuration.now) }
 {
-    let typed = load_files(alloc, files)?;
+    let typed = load_files(rt, alloc, files, workers_of(configuration))?;
     make(rt, alloc, configuration, &typed, gate)
 }

@@ -1,7 +1,8 @@
 //! What holds of all configurations and files: each law is the contract of a function that does nothing.
 
-ghost use Rattle.bp_run.specs.Laws.{OneJob, OneReplay, SomeListed, SomeJob, SomeReplay, HeadIsText};
+ghost use Rattle.bp_run.specs.Laws.{OneJob, OneReplay, OneRewrite, SomeListed, SomeJob, SomeReplay, SomeRewrite, HeadIsText};
 
+use bp_format::laws::{one_edit, one_format};
 use bp_load::laws::{one_list, one_load};
 use bp_pipeline::laws::{earlier_graphs, one_graph, one_order, some_graph, some_order, some_text};
 use build_actions::Actions;
@@ -26,6 +27,14 @@ pub fn one_replay()
     one_order();
 }
 
+/// The jobs of `fmt` and of `edit` have one outcome, since a text comes to one thing.
+pub fn one_rewrite()
+    ensures { OneRewrite }
+{
+    one_format();
+    one_edit();
+}
+
 /// The job of a sound replay has an outcome, over all files.
 pub fn some_replay()
     ensures { SomeReplay }
@@ -33,6 +42,14 @@ pub fn some_replay()
     one_list();
     one_load();
     some_order();
+}
+
+/// The jobs of `fmt` and of `edit` have an outcome, over all files.
+pub fn some_rewrite()
+    ensures { SomeRewrite }
+{
+    one_format();
+    one_edit();
 }
 
 /// A sound job has an outcome, since each of its phases has: a text or a fault, over all files.

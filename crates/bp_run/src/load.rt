@@ -13,24 +13,32 @@ use bp_load::load;
 use bp_ports::Store;
 use bp_props::Module;
 use std::alloc::Global;
+use std::thread::Threads;
 
-/// The modules of some files.
-pub fn load_files(alloc: Global, files: &[(Path, Vec<u8>)]) -> Result<Vec<Module>, Stop>
+/// The modules of some files, loaded by so many workers.
+pub fn load_files<R: Threads + Sync>(
+    rt: &R,
+    alloc: Global,
+    files: &[(Path, Vec<u8>)],
+    workers: u32,
+) -> Result<Vec<Module>, Stop>
     requires few { length files.now ≤ 2 ^ 14 }
     requires order { AreInFileOrder (map (λ f. f.0) (sources files.now)) }
     requires short { All (λ f. length f.1 ≤ 2 ^ 20) (sources files.now) }
     ensures gives { GivesOrRunsOut (λ typed. typed.items) (LoadMeans (sources files.now)) result }
     ensures few { IfOk result (λ typed. length typed.items ≤ 2 ^ 17) }
 {
-    let typed = load(alloc, files, 1)?;
+    let typed = load(rt, alloc, files, workers)?;
     Ok(typed)
 }
 
-/// The modules of the files that a list names. Their bytes are dropped.
-pub fn load_listed<S: Store>(
+/// The modules of the files that a list names, loaded by so many workers. Their bytes are dropped.
+pub fn load_listed<R: Threads + Sync, S: Store>(
+    rt: &R,
     alloc: Global,
     paths: &[Path],
     store: &mut S,
+    workers: u32,
 ) -> Result<Vec<Module>, Stop>
     requires few { length paths.now ≤ 2 ^ 14 }
     requires order { AreInFileOrder paths.now }
@@ -42,5 +50,5 @@ pub fn load_listed<S: Store>(
     ensures writes { S.write_faults store.new ≡ S.write_faults store.old }
 {
     let files = read_files(alloc, paths, store)?;
-    load_files(alloc, &files)
+    load_files(rt, alloc, &files, workers)
 }

@@ -77,7 +77,7 @@ fn replay_inputs<R: Threads + Sync>(
         (SourcesReplay words.now number (sources inputs.now.files.items, inputs.now.order.items)) result }
     ensures plain { IfOk result (λ made. made.journal ≡ None) }
 {
-    let typed = load_files(alloc, &inputs.files)?;
+    let typed = load_files(rt, alloc, &inputs.files, 1)?;
     let config = config_of(alloc, &words.targets)?;
     let text = replay(rt, alloc, &typed, &config, &inputs.order, number)?;
     Ok(Made {

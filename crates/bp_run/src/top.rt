@@ -4,7 +4,7 @@ ghost use Rattle.bp_run.specs.World.{world, stream};
 
 use crate::do_work;
 use crate::end::{report, status};
-use crate::laws::{one_job, one_replay};
+use crate::laws::{one_job, one_replay, one_rewrite};
 use bp_faults::Text;
 use bp_ports::{Gate, Sink, Store};
 use std::alloc::Global;
@@ -30,6 +30,7 @@ pub fn run<R: Threads + Sync, S: Store, O: Sink, D: Sink, G: Gate + Sync>(
     // Laws: so a job that was done is no fault, and the other way round.
     one_job();
     one_replay();
+    one_rewrite();
     let end = do_work(rt, alloc, words, store, out, gate);
     report(&end, diag);
     status(&end)

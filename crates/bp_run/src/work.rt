@@ -5,15 +5,16 @@ ghost use Rattle.command_words.specs.Sound.{IsSoundReplay};
 ghost use Rattle.bp_run.specs.End.{Ended, Stopped};
 ghost use Rattle.bp_run.specs.Lines.{synth_name};
 ghost use Rattle.bp_run.specs.Run.{Spares};
-ghost use Rattle.bp_run.specs.Words.{command_of, list_of, IsSound, IsSoundCommand};
+ghost use Rattle.bp_run.specs.Words.{command_of, list_of, IsSound, IsSoundRewriting, IsSoundCommand};
 ghost use Rattle.bp_run.specs.World.{world, IsSpared};
 ghost use Rattle.bp_run.specs.declared.words.Command.TheVariants.{Job, Replay as ReplayCommand};
+ghost use Rattle.bp_run.specs.declared.words.Command.TheVariants.{Rewrite as RewriteCommand};
 ghost use Rattle.bp_run.specs.declared.words.Configuration.TheVariants.{Synth as SynthCommand};
 
 use crate::deliver::{cannot_read, deliver, write_text};
 use crate::job::{do_job, do_job_over};
 use crate::read::read_list;
-use crate::{Command, Configuration, End, Stop, configure, do_replay};
+use crate::{Command, Configuration, End, Rewriting, Stop, configure, do_replay, do_rewrite};
 use bp_faults::{Fault, OutOfMemory, Path, Text, fault_line};
 use bp_ports::{Gate, Sink, Store};
 use command_words::{Replay, Synth};
@@ -176,6 +177,24 @@ fn carry_out_replay<R: Threads + Sync, S: Store, O: Sink>(
     }
 }
 
+// Does what `fmt` or `edit` asks for.
+fn carry_out_rewrite<S: Store, O: Sink>(
+    alloc: Global,
+    rewriting: &Rewriting,
+    store: &mut S,
+    out: &mut O,
+) -> End
+    requires { IsSoundRewriting rewriting.now }
+    ensures { Ended (Some (RewriteCommand rewriting.now))
+        (world S.Store O.Sink store.old out.old) (world S.Store O.Sink store.new out.new) result }
+{
+    let (from, to) = (rewriting.file(), rewriting.out());
+    match do_rewrite(alloc, rewriting, store) {
+        Ok(made) => write_text(alloc, to, &made, store, out),
+        Err(stop) => stopped(alloc, from.as_str(), &[], &stop),
+    }
+}
+
 // Does what a configuration asks for.
 fn carry_out<R: Threads + Sync, S: Store, O: Sink, G: Gate + Sync>(
     rt: &R,
@@ -222,6 +241,7 @@ fn obey<R: Threads + Sync, S: Store, O: Sink, G: Gate + Sync>(
     match command {
         Command::Job(configuration) => carry_out(rt, alloc, configuration, store, out, gate),
         Command::Replay(words) => carry_out_replay(rt, alloc, words, store, out),
+        Command::Rewrite(rewriting) => carry_out_rewrite(alloc, rewriting, store, out),
     }
 }
 

@@ -1,5 +1,5 @@
 -- A look-up in the list of pairs, and in the map's entries.
-use Rattle.std.proofs.Common.{◌≡◌, ℕ, Bool, true, false, cond, List, [], ◌∷◌, ◌++◌, map, Option, None, Some, option_map, refl, ap, sym, ◌∙◌, Bor, option_copied, Result, Ok, Err, OnOk}
+use Rattle.std.proofs.Common.{◌≡◌, ℕ, Bool, true, false, cond, List, [], ◌∷◌, ◌++◌, map, Option, None, Some, option_map, is_some, refl, ap, sym, ◌∙◌, Bor, option_copied, Result, Ok, Err, OnOk}
 use Rattle.std.specs.Str.{bytes_eq}
 use Rattle.std.specs.Map.{lookup}
 use Rattle.std.specs.Option.{option_or}
@@ -79,3 +79,11 @@ value_behind k xs ys none = lookup_append (bytes_eq k) xs ys ∙ ap (λ r. optio
 pub always : {T E P : Type 0} (r : Result T E) → P → OnOk r P
 always (Ok x) p = p
 always (Err e) p = tt
+
+-- a name with a value in a map's entries has one in their pairs
+pub has_pair : (test : List ℕ → Bool) (es : List (List ℕ × Value)) → is_some (lookup test es) ≡ is_some (lookup test (map pair_of es))
+has_pair test es = by (lookup test es) ∙ ap is_some (lookup_pairs test es)
+  where
+    by : (r : Option Value) → is_some r ≡ is_some (option_map meaning r)
+    by None = refl
+    by (Some v) = refl

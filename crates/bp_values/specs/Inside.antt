@@ -7,7 +7,8 @@ use Rattle.bp_parser.specs.Trees.{Tree, Trees, no_tree, tree_and, Terms, no_term
 use Rattle.bp_values.specs.References.{is_atom}
 use Rattle.bp_values.specs.declared.file.State.{State}
 use Rattle.bp_values.specs.declared.scope.Names.{Names}
-use Rattle.bp_values.specs.Values.{Field}
+use Rattle.bp_values.specs.declared.map_sum.MapSum.{MapSum}
+use Rattle.bp_values.specs.Values.{Meaning, Field, field_of, body}
 use Rattle.bp_values.specs.Scopes.{Pairs, pairs_of, layer_pairs}
 use Rattle.bp_values.specs.Sums.{has_name}
 use Rattle.bp_values.specs.Meaning.{Known, raw_of}
@@ -36,6 +37,10 @@ pub record HasMet (names : List (List ℕ)) (table : List (List ℕ × ℕ)) (fs
 -- The entries whose names are not among these.
 abbrev pub not_among : List (List ℕ) → List Field → List Field
 not_among names fs = filter (λ f. not (knows names f.name)) fs
+
+-- The map that a sum of maps is so far.
+abbrev pub sum_so_far : MapSum → Meaning
+sum_so_far total = body (map field_of total.entries.items)
 
 -- Whether a name is noted once those in an expression are, part by part.
 abbrev mutual

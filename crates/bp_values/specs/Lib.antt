@@ -1,6 +1,8 @@
 pub mod Values
 pub mod Depths
 pub mod Sums
+pub mod NameTree
+pub mod Layers
 pub mod Scopes
 pub mod Expressions
 pub mod References

@@ -1,13 +1,14 @@
 ghost use Rattle.std.specs.Prelude.{◌≡◌, map, ◌^◌, codes, Ok};
 ghost use Rattle.bp_parser.specs.Trees.{tree_of, map_of, entry_of, term_of, trees_then, terms_then, entries_then, no_tree, no_term, no_entry};
-ghost use Rattle.bp_values.specs.Values.{meaning, field_of, Items};
+ghost use Rattle.bp_values.specs.Values.{meaning, field_of, Items, body};
 ghost use Rattle.bp_faults.specs.Answers.{Answers, then_do};
 ghost use Rattle.bp_values.specs.Sums.{limited, sum as sum_of};
 ghost use Rattle.bp_values.specs.Scopes.{value_in};
-ghost use Rattle.bp_values.specs.Inside.{visible};
+ghost use Rattle.bp_values.specs.Inside.{visible, sum_so_far};
 ghost use Rattle.bp_values.specs.Expressions.{val, val_items, val_terms, val_entries, val_map, item_of, first_place as place_of, known as known_as};
 
 use crate::depth::within_depth;
+use crate::map_sum::MapSum;
 use crate::scope::Names;
 use crate::sums::{add, add_copy, too_many};
 use crate::value::{copy_value, make_entry, map_value};
@@ -94,7 +95,13 @@ pub fn value_of(alloc: Global, scope: &Names<'_>, expr: &Expr) -> Result<Value, 
         }
         Expr::Sum(first, terms) => {
             let first = value_of(alloc, scope, first)?;
-            add_terms(alloc, scope, terms.as_slice(), first)
+            if terms.len() == 1 {
+                return add_terms(alloc, scope, terms.as_slice(), first);
+            }
+            match first {
+                Value::Map(entries) => add_maps(alloc, scope, terms.as_slice(), entries),
+                first => add_terms(alloc, scope, terms.as_slice(), first),
+            }
         }
     }
 }
@@ -162,6 +169,37 @@ fn add_term(
     }
     let other = value_of(alloc, scope, term)?;
     add(alloc, total, other, at)
+}
+
+/// The sum of a map and the terms, in turn, with the names of the sum so far kept beside it.
+#[cycle(expressions)]
+fn add_maps(
+    alloc: Global,
+    scope: &Names<'_>,
+    terms: &[(Place, Expr)],
+    first: Vec<Entry>,
+) -> Result<Value, EvalError>
+    ensures { Answers meaning result (val_terms (visible scope.now) (body (map field_of first.items)) (terms_then (map term_of terms.now) no_term)) }
+{
+    let mut total = MapSum::of(alloc, first)?;
+    'terms: for (at, term) in terms {
+        total = add_map(alloc, scope, term, *at, total)?;
+    }
+    Ok(total.into_value())
+}
+
+#[cycle(expressions)]
+fn add_map(
+    alloc: Global,
+    scope: &Names<'_>,
+    term: &Expr,
+    at: Place,
+    total: MapSum,
+) -> Result<MapSum, EvalError>
+    ensures { Answers sum_so_far result (then_do (val (visible scope.now) (tree_of term.now)) (sum_of at (sum_so_far total))) }
+{
+    let other = value_of(alloc, scope, term)?;
+    total.add(alloc, other, at)
 }
 
 /// The entries of a map literal.

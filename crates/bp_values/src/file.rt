@@ -7,8 +7,9 @@ ghost use Rattle.bp_values.specs.Inside.{known_of};
 ghost use Rattle.bp_values.specs.Meaning.{raw_of, after_assignment, after_extension, after_module, after_definition, after_definitions, evaluated};
 
 use crate::expression::{entries_of, value_of};
+use crate::layer::Layer;
 use crate::marks::{mark, mark_entries};
-use crate::scope::{Layer, Names};
+use crate::scope::Names;
 use crate::sums::add;
 use crate::{Entry, EvalError, Scope};
 use bp_faults::{Fault, FaultKind, Place, Text};

@@ -10,7 +10,10 @@ mod depth;
 mod expression;
 mod file;
 pub mod laws;
+mod layer;
+mod map_sum;
 mod marks;
+mod name_tree;
 mod scope;
 mod sums;
 #[cfg(test)]

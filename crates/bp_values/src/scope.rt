@@ -1,28 +1,25 @@
-ghost use Rattle.std.specs.Prelude.{◌≡◌, ◌++◌, [], option_map, IfOk, OnOk, IsTrue, ◌↔◌, unwrap_or, false};
-ghost use Rattle.std.specs.Str.{bytes_eq};
-ghost use Rattle.indexmap.specs.IndexMap.{insert_entry};
-ghost use Rattle.bp_values.specs.Values.{Meaning, meaning, Truth};
-ghost use Rattle.bp_values.specs.Inside.{visible};
-ghost use Rattle.bp_values.specs.Scopes.{value_in, pairs_of, pairs_in, layer_pairs};
+ghost use Rattle.std.specs.Prelude.{◌≡◌, ◌++◌, ℕ, List, [], option_map, IfOk};
+ghost use Rattle.std.proofs.Props.{props};
+ghost use Rattle.bp_values.specs.Values.{meaning};
+ghost use Rattle.bp_values.specs.Layers.{value_in, pairs_in, layer_pairs, layer_of};
+ghost use Rattle.bp_values.specs.NameTree.{found};
 
 use crate::Value;
+use crate::layer::Layer;
+use crate::name_tree::NameTree;
 use bp_faults::{OutOfMemory, Text};
-use indexmap::IndexMap;
 use std::alloc::Global;
 use std::sync::Arc;
 
-/// Names and their values, in the order in which the names were first set. Contracts see the list of
-/// its pairs: those that a file inherits, and its own behind. What is inherited is shared.
+/// Names and their values, in the order in which the names were first set. Contracts see the list
+/// of its pairs: those that a file inherits, and its own behind. What is inherited is shared.
 #[derive(Drop)]
 pub struct Scope {
     // Those of the files that set names, the outermost first.
     layers: Arc<Vec<Arc<Layer>>>,
-}
-
-/// The names that one file sets, with their values.
-#[derive(Drop)]
-pub struct Layer {
-    values: IndexMap<Text, Value>,
+    // Each name with the number of its layer, so that no look-up goes through the layers.
+    names: NameTree,
+    ghost numbered: { (name : List ℕ) → found names name ≡ layer_of layers.value.items name } by { Prim.hlevel props },
 }
 
 /// The names that a file sees while it is evaluated: those that it inherits, and its own so far.
@@ -33,11 +30,14 @@ pub struct Names<'a> {
 }
 
 impl Scope {
+    ghost use Rattle.bp_values.specs.Scopes.{pairs_of};
+
     pub fn empty(alloc: Global) -> Result<Scope, OutOfMemory>
         ensures { IfOk result (λ scope. pairs_of scope ≡ []) }
     {
         Ok(Scope {
             layers: Arc::new(alloc, Vec::new(alloc))?,
+            names: NameTree::Empty,
         })
     }
 
@@ -45,12 +45,10 @@ impl Scope {
     pub fn get(&self, name: &Text) -> Option<&Value>
         ensures { option_map (λ v. meaning v.now) result ≡ value_in (pairs_of self.now) name.now }
     {
-        'layers: for layer in self.layers.iter() {
-            if let Some(value) = layer.get(name) {
-                return Some(value);
-            }
+        match self.names.number_of(name.as_str()) {
+            Some(number) => self.layers[number].get(name),
+            None => None,
         }
-        None
     }
 
     /// The scope of a file that inherits this one and sets those names.
@@ -60,18 +58,22 @@ impl Scope {
         if own.is_empty() {
             return Ok(Scope {
                 layers: self.layers.clone()?,
+                names: self.names.share()?,
             });
         }
         let mut layers = self.shared(alloc)?;
+        let names = own.numbered(alloc, &self.names, layers.len())?;
         layers.push(Arc::new(alloc, own)?)?;
         Ok(Scope {
             layers: Arc::new(alloc, layers)?,
+            names,
         })
     }
 
     /// The layers, with room for one more.
     fn shared(&self, alloc: Global) -> Result<Vec<Arc<Layer>>, OutOfMemory>
-        ensures { IfOk result (λ layers. pairs_in layers.items ≡ pairs_of self.now) }
+        ensures pairs { IfOk result (λ layers. pairs_in layers.items ≡ pairs_of self.now) }
+        ensures numbers { IfOk result (λ layers. (name : List ℕ) → layer_of layers.items name ≡ layer_of self.now.layers.value.items name) }
     {
         let mut shared = Vec::with_capacity(alloc, self.layers.len() + 1)?;
         'layers: for layer in self.layers.iter() {
@@ -81,48 +83,9 @@ impl Scope {
     }
 }
 
-impl Layer {
-    pub fn new(alloc: Global) -> Layer
-        ensures { layer_pairs result ≡ [] }
-    {
-        Layer {
-            values: IndexMap::new(alloc),
-        }
-    }
-
-    fn is_empty(&self) -> bool
-        ensures { IsTrue result ↔ (layer_pairs self.now ≡ []) }
-    {
-        self.values.is_empty()
-    }
-
-    /// The value of a name.
-    pub fn get(&self, name: &Text) -> Option<&Value>
-        ensures { option_map (λ v. meaning v.now) result ≡ value_in (layer_pairs self.now) name.now }
-    {
-        self.values.get(name)
-    }
-
-    /// Sets a name, in its old place where it has one. The old value is handed back.
-    pub fn put(&mut self, name: Text, value: Value) -> Result<Option<Value>, OutOfMemory>
-        ensures pairs { OnOk result (layer_pairs self.new ≡ insert_entry bytes_eq (layer_pairs self.old) name (meaning value)) }
-        ensures old { IfOk result (λ old. option_map meaning old ≡ value_in (layer_pairs self.old) name) }
-    {
-        Ok(self.values.insert(name, value)?)
-    }
-
-    /// Takes the value of a name, to put another there: `false` stands in its place until then, and is
-    /// the answer where the name has none.
-    pub fn take(&mut self, name: Text) -> Result<Value, OutOfMemory>
-        ensures taken { IfOk result (λ value. meaning value ≡ unwrap_or (value_in (layer_pairs self.old) name) (Truth false)) }
-        ensures place { OnOk result ((v : Meaning) → insert_entry bytes_eq (layer_pairs self.new) name v ≡ insert_entry bytes_eq (layer_pairs self.old) name v) }
-    {
-        let old = self.put(name, Value::Bool(false))?;
-        Ok(old.unwrap_or(Value::Bool(false)))
-    }
-}
-
 impl<'a> Names<'a> {
+    ghost use Rattle.bp_values.specs.Inside.{visible};
+
     /// The value of a name.
     pub fn get(&self, name: &Text) -> Option<&'a Value>
         ensures { option_map (λ v. meaning v.now) result ≡ value_in (visible self.now) name.now }

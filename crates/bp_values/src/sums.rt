@@ -27,7 +27,12 @@ fn word(value: &Value) -> &'static str
 }
 
 #[tactic(auto, unfolding(crate::specs::Sums::cannot_add))]
-fn cannot_add(alloc: Global, at: Place, a: &Value, b: &Value) -> Result<Fault, OutOfMemory>
+pub(crate) fn cannot_add(
+    alloc: Global,
+    at: Place,
+    a: &Value,
+    b: &Value,
+) -> Result<Fault, OutOfMemory>
     ensures { IfOk result (λ f. f ≡ cannot_be_added at (meaning a.now) (meaning b.now)) }
 {
     let first = word(a);
@@ -117,7 +122,9 @@ pub(crate) fn add(alloc: Global, a: Value, b: Value, at: Place) -> Result<Value,
 {
     match (a, b) {
         (Value::Strs(first), Value::Strs(second)) => append(alloc, at, first, second),
-        (Value::Map(first), Value::Map(second)) => unite(alloc, at, first, second),
+        (Value::Map(first), Value::Map(second)) => {
+            Ok(map_value(unite(alloc, at, first, second)?))
+        }
         (a, b) => add_copy(alloc, a, &b, at),
     }
 }
@@ -163,13 +170,13 @@ fn unite_copy(
 }
 
 /// The entries of `first`, each with its sum, then the others of `second`.
-fn unite(
+pub(crate) fn unite(
     alloc: Global,
     at: Place,
     first: Vec<Entry>,
     second: Vec<Entry>,
-) -> Result<Value, EvalError>
-    ensures { Answers meaning result (sum_of at (body (map field_of first.items)) (body (map field_of second.items))) }
+) -> Result<Vec<Entry>, EvalError>
+    ensures { Answers (λ es. body (map field_of es.items)) result (sum_of at (body (map field_of first.items)) (body (map field_of second.items))) }
 {
     let places = index(alloc, second.as_slice())?;
     let mut entries = sum_each(alloc, at, first, second.as_slice(), &places)?;
@@ -178,7 +185,7 @@ fn unite(
     let mut others = move_others(alloc, second, &met)?;
     drop(met);
     entries.append(&mut others)?;
-    Ok(map_value(entries))
+    Ok(entries)
 }
 
 /// Each entry of `first`, with its sum where `second` has its name.

@@ -1,6 +1,7 @@
 mod built;
 mod examples;
 mod faults;
+mod formatter;
 mod graphs;
 mod limits;
 mod orders;

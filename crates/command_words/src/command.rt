@@ -13,11 +13,13 @@ pub enum CommandName {
 }
 
 /// The commands that bpgen has, in the order in which help and usage line name them.
-pub const COMMANDS: [CommandName; 4] = [
+pub const COMMANDS: [CommandName; 6] = [
     CommandName::Build,
     CommandName::Replay,
     CommandName::Graph,
     CommandName::Synth,
+    CommandName::Format,
+    CommandName::Edit,
 ];
 
 impl CommandName {

@@ -2,9 +2,10 @@
 ///
 /// A test holds it against the table of options. `tools/words.py` makes the manual page and the completions of it.
 pub const HELP: &str = "\
-bpgen reads the Android.bp files of a source tree and writes one build.ninja.
+bpgen reads the Android.bp files of a source tree and writes one build.ninja. It
+also lays such files out, and sets lists in them.
 
-usage: bpgen build|replay|graph|synth OPTIONS
+usage: bpgen build|replay|graph|synth|fmt|edit OPTIONS
 
 Each command with its options, those that may be left out in brackets:
 
@@ -36,8 +37,22 @@ synth: print a summary of the job over a synthetic tree
  [-j, --jobs N]           workers, 1 to 64; default 4
   bpgen synth --seed 7 --modules 2000
 
+fmt: lay an Android.bp file out anew
+  -i, --in FILE           the file to read
+  -o, --out OUT           the file to write
+  bpgen fmt -i Android.bp -o Android.bp
+
+edit: set a property of a module to a list of strings
+  -i, --in FILE           the file to read
+  -o, --out OUT           the file to write
+  -m, --module MODULE     the name of the module
+  -p, --property PROPERTY the name of the property, an identifier
+ [    --items ITEMS]      the strings, joined by commas; default none
+  bpgen edit -i Android.bp -o Android.bp -m app -p srcs --items a.c,b.c
+
 An option is given once, as -l LIST, -lLIST, --list LIST or --list=LIST. Its
-value isn't empty and doesn't begin with -. OUT differs from LIST and PATH.
+value isn't empty and doesn't begin with -. OUT differs from LIST and PATH, and
+may be FILE.
 
 TARGETS are one or more of these, joined by commas, none twice: android_arm64,
 android_arm, android_x86_64, android_x86, linux_glibc_x86_64, linux_glibc_x86.

@@ -186,6 +186,17 @@ fn help_has_the_table_of_options(rt: HostRuntime) -> Result<(), Fail> {
     Ok(())
 }
 
+// The usage line, by the table of commands.
+fn usage_of_commands(alloc: Global) -> Result<String, AllocError> {
+    let mut line = String::from_str(alloc, "usage: bpgen ")?;
+    for (i, command) in COMMANDS.iter().enumerate() {
+        line.push_str(if i == 0 { "" } else { "|" })?;
+        line.push_str(command.name())?;
+    }
+    line.push_str(" OPTIONS\n")?;
+    Ok(line)
+}
+
 #[test]
 fn help_names_commands_that_are_read(rt: HostRuntime) -> Result<(), Fail> {
     for line in HELP.split('\n') {
@@ -194,6 +205,7 @@ fn help_names_commands_that_are_read(rt: HostRuntime) -> Result<(), Fail> {
             assert!(rt; found.as_str() != "None", "{example}");
         }
     }
+    assert_eq!(rt; usage_line(), usage_of_commands(rt.alloc())?.as_str());
     assert!(rt; HELP.contains(usage_line()));
     Ok(())
 }

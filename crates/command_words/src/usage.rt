@@ -5,5 +5,5 @@ ghost use Rattle.command_words.specs.Usage.{usage_line};
 pub fn usage_line() -> &'static str
     ensures { result.now ≡ usage_line }
 {
-    "usage: bpgen build|replay|graph|synth OPTIONS\n"
+    "usage: bpgen build|replay|graph|synth|fmt|edit OPTIONS\n"
 }

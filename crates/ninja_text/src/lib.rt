@@ -11,4 +11,4 @@ mod tests;
 
 pub use ninja_file::{NinjaFile, NinjaRule, Piece, Statement, is_well_formed};
 pub use ninja_read::{NinjaError, read};
-pub use ninja_write::{WriteError, write};
+pub use ninja_write::{WriteError, write, write_in};

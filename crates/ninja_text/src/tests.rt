@@ -1,7 +1,11 @@
-use crate::laws::written_and_read;
-use crate::{NinjaError, NinjaFile, is_well_formed, read, write};
+ghost use Rattle.std.specs.Prelude.{◌≤◌};
+
+use crate::laws::{written_alike, written_and_read};
+use crate::{NinjaError, NinjaFile, Statement, is_well_formed, read, write, write_in};
+use bp_faults::{OutOfMemory, Seq, Text};
 use std::alloc::Global;
 use std::test::Fail;
+use std::thread::Threads;
 
 /// A text, and what `write` makes of the file that it stands for, or the line that is refused.
 type Case = (&'static [u8], Result<&'static str, u32>);
@@ -270,5 +274,73 @@ fn well_formed_files_come_back(rt: HostRuntime) -> Result<(), Fail> {
             text
         );
     }
+    Ok(())
+}
+
+const ODD: &str = "a b:$";
+
+fn paths(alloc: Global, count: u32) -> Result<Seq<Text>, OutOfMemory> {
+    let mut paths = Vec::new(alloc);
+    for number in 0..count {
+        paths.push(Text::new(format!(in alloc; "{number}{ODD}")?))?;
+    }
+    Ok(Seq::new(paths))
+}
+
+fn statement(alloc: Global, number: u32, ins: u32) -> Result<Statement, OutOfMemory> {
+    let mut outs = Vec::new(alloc);
+    outs.push(Text::new(format!(in alloc; "out/{number}")?))?;
+    let mut vars = Vec::new(alloc);
+    vars.push((Text::from_str(alloc, "key")?, Text::from_str(alloc, ODD)?))?;
+    Ok(Statement {
+        outs: Seq::new(outs),
+        rule: Text::from_str(alloc, "phony")?,
+        ins: paths(alloc, ins)?,
+        implicit: Seq::new(Vec::new(alloc)),
+        order_only: paths(alloc, 1)?,
+        vars: Seq::new(vars),
+    })
+}
+
+// A file with 25,000 paths and variables, of which 7,000 are in one statement. Several threads print it.
+fn long_file(alloc: Global) -> Result<NinjaFile, OutOfMemory> {
+    let mut statements = Vec::new(alloc);
+    for number in 0..3000 {
+        let ins = if number == 1000 { 7000 } else { 3 };
+        statements.push(statement(alloc, number, ins)?)?;
+    }
+    Ok(NinjaFile {
+        rules: Seq::new(Vec::new(alloc)),
+        statements: Seq::new(statements),
+        defaults: paths(alloc, 2)?,
+    })
+}
+
+fn written_in<R: Threads + Sync>(
+    rt: &R,
+    alloc: Global,
+    file: &NinjaFile,
+    workers: u32,
+    text: &[u8],
+) -> Result<bool, Fail>
+    requires low { 1 ≤ workers }
+    requires high { workers ≤ 64 }
+{
+    Ok(write_in(rt, alloc, file, workers)?.as_slice() == text)
+}
+
+#[test]
+fn parallel_printing(rt: HostRuntime) -> Result<(), Fail> {
+    let alloc = rt.alloc();
+    let file = long_file(alloc)?;
+    let text = write(alloc, &file)?;
+    assert!(rt; written_in(&rt, alloc, &file, 1, &text)?);
+    assert!(rt; written_in(&rt, alloc, &file, 2, &text)?);
+    assert!(rt; written_in(&rt, alloc, &file, 64, &text)?);
+    let (alone, together) = written_alike(&rt, alloc, &file, 5);
+    assert!(rt; alone?.as_slice() == together?.as_slice());
+    let file = read(alloc, FORMED[1].0)?;
+    let text = write(alloc, &file)?;
+    assert!(rt; written_in(&rt, alloc, &file, 64, &text)?);
     Ok(())
 }

@@ -1,5 +1,6 @@
 pub mod Boundaries
 pub mod Bytes
+pub mod Cuts
 pub mod Grows
 pub mod Guarded
 pub mod Lines

@@ -8,7 +8,9 @@
 mod escaped;
 pub mod laws;
 mod output;
+mod part;
+mod parts;
 mod text;
 
 pub use output::WriteError;
-pub use text::write;
+pub use text::{write, write_in};

@@ -2,7 +2,7 @@ ghost use Rattle.std.specs.Prelude.{◌≡◌, ℕ, ◌≤◌, ◌^◌, List, []
 ghost use Rattle.std.specs.List.{flat_map};
 ghost use Rattle.ninja_write.specs.Inside.{Puts};
 
-use std::alloc::Global;
+use std::alloc::{AllocError, AllocFailed, Global};
 use std::marker::Model;
 use thiserror::Error;
 
@@ -14,6 +14,28 @@ pub enum WriteError {
     TooLarge,
     #[error("out of memory")]
     OutOfMemory,
+}
+
+impl From<AllocError> for WriteError {
+    ghost use Rattle.std.specs.Prelude.{◌≡◌};
+    ghost use Rattle.ninja_write.specs.declared.output.WriteError.TheVariants.{OutOfMemory as Want};
+
+    ghost from_gives = { λ _ error. error ≡ Want };
+
+    fn from(_: AllocError) -> Self {
+        WriteError::OutOfMemory
+    }
+}
+
+impl<T: Drop> From<AllocFailed<T>> for WriteError {
+    ghost use Rattle.std.specs.Prelude.{◌≡◌};
+    ghost use Rattle.ninja_write.specs.declared.output.WriteError.TheVariants.{OutOfMemory as Want};
+
+    ghost from_gives = { λ _ error. error ≡ Want };
+
+    fn from(_: AllocFailed<T>) -> Self {
+        WriteError::OutOfMemory
+    }
 }
 
 /// The most bytes that a text may have.
@@ -59,10 +81,21 @@ impl Output {
         if text.len() > LIMIT - self.text.len() {
             return Err(WriteError::TooLarge);
         }
-        match self.text.push_str(text) {
-            Ok(()) => Ok(()),
-            Err(_) => Err(WriteError::OutOfMemory),
+        self.text.push_str(text)?;
+        Ok(())
+    }
+
+    /// Makes room for texts, as far as the limit goes.
+    pub fn reserve_for(&mut self, texts: &[Output]) -> Result<(), WriteError>
+        ensures { Puts [] self.old self.new result }
+    {
+        let mut bytes = 0usize;
+        for one in texts {
+            bytes = bytes.saturating_add(one.text.len());
         }
+        let left = LIMIT - self.text.len();
+        self.text.reserve(bytes.min(left))?;
+        Ok(())
     }
 }
 
@@ -72,6 +105,15 @@ pub trait Written {
 
     fn put(&self, output: &mut Output) -> Result<(), WriteError>
         ensures { Puts (text self.now) output.old output.new result };
+}
+
+/// A text that was printed before.
+impl Written for Output {
+    ghost text = { λ text. text };
+
+    fn put(&self, output: &mut Output) -> Result<(), WriteError> {
+        output.put(self.text.as_str())
+    }
 }
 
 /// Puts the text of each, one behind the other.

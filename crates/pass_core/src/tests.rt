@@ -163,6 +163,30 @@ fn counted(alloc: Global, plan: &Plan) -> Result<usize, VisitError>
 }
 
 #[test]
+fn orders_of_no_nodes(rt: HostRuntime) -> Result<(), Fail> {
+    let alloc = rt.alloc();
+    let empty = plan(alloc, 0, &[])?;
+    let none = CountBut {
+        one: NONE,
+        other: NONE,
+    };
+    assert!(rt; falls(&empty));
+    assert_eq!(rt;
+        along(alloc, &empty, none, &nodes(alloc, &[])?),
+        ("results", 0)
+    );
+    let none = CountBut {
+        one: NONE,
+        other: NONE,
+    };
+    assert_eq!(rt;
+        along(alloc, &empty, none, &nodes(alloc, &[0])?),
+        ("not ready", 0)
+    );
+    Ok(())
+}
+
+#[test]
 fn large_and_empty_plans(rt: HostRuntime) -> Result<(), Fail> {
     let alloc = rt.alloc();
     for (chain, wide, deep) in [(100_000, 1_000, 200), (0, 0, 0)] {

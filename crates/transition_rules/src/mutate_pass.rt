@@ -52,7 +52,7 @@ impl<'a, 'b, P: Drop, M: Transition<P>> Visit for MutateVisit<'a, 'b, P, M> {
 }
 
 /// The payload of each node, from the bottom up.
-fn visit_nodes<R, P, M, G>(
+pub fn mutate_nodes<R, P, M, G>(
     rt: &R,
     alloc: Global,
     way: &Way<'_, G>,
@@ -118,7 +118,7 @@ where
     new_payloads_stay_valid::<P>();
     new_payloads_keep_modules::<P>();
     new_payloads_leave_axes_free::<P>();
-    let run = visit_nodes(rt, alloc, way, before, pass, &g, rule)?;
+    let run = mutate_nodes(rt, alloc, way, before, pass, &g, rule)?;
     let graph = renew(alloc, g, run.outs)?;
     Ok(MutatedGraph {
         graph,

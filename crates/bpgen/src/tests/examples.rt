@@ -46,7 +46,7 @@ cc_binary { name: "app" }
 cc_binary { name: "b", defaults: ["app"] }
 "#;
 
-const DEMO_TREE: &str = r#"@demo/Android.bp
+pub const DEMO_TREE: &str = r#"@demo/Android.bp
 package { default_applicable_licenses: ["demo_license"] }
 
 license {

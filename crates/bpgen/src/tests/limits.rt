@@ -100,6 +100,22 @@ fn long_lists_strings_and_files(rt: HostRuntime) -> Result<(), Fail> {
     Ok(())
 }
 
+/// The same library so many times, and what the call comes to.
+#[test]
+fn one_library_many_times(rt: HostRuntime) -> Result<(), Fail> {
+    let alloc = rt.alloc();
+    let first = "@Android.bp\ncc_binary { name: \"app\", static_libs: [";
+    let last = "] }\ncc_library_static { name: \"z\" }\n";
+    let tree = repeated(alloc, first, "\"z\",", 65_536, last)?;
+    let end =
+        "build out/m/app/android_arm64/bin/app: link out/m/z/android_arm64_static/bin/z.a\n  target = --target=aarch64-linux-android\nbuild out/m/z/android_arm64_static/bin/z.a: ar\nbuild out/all: phony out/m/app/android_arm64/bin/app out/m/z/android_arm64_static/bin/z.a\ndefault out/all\n";
+    assert!(rt; builds(&rt, alloc, tree_of(alloc, tree.as_str())?, end)?);
+    let tree = repeated(alloc, first, "\"z\",", 65_537, last)?;
+    let line = "Android.bp:1:39: error 30: too many: list\n";
+    assert!(rt; refuses(&rt, alloc, tree_of(alloc, tree.as_str())?, line)?);
+    Ok(())
+}
+
 // A list of so many files, each with so many modules, and the files but for the last `left`.
 fn many_files(
     alloc: Global,
@@ -145,13 +161,13 @@ fn many_files_and_modules(rt: HostRuntime) -> Result<(), Fail> {
             "list:16385:1: error 30: too many: files\n"
         )?
     );
-    let tree = many_files(alloc, 5, 26_300, 5)?;
+    let tree = many_files(alloc, 5, 30_000, 5)?;
     assert!(rt;
         refuses(
             &rt,
             alloc,
             tree,
-            "d00004/Android.bp:25873:1: error 30: too many: modules\n"
+            "d00004/Android.bp:11073:1: error 30: too many: modules\n"
         )?
     );
     Ok(())

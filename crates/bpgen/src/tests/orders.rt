@@ -66,6 +66,26 @@ fn refuses_order<R: Threads + Sync>(
     Ok(is_refused && store.held("build.ninja").is_none())
 }
 
+/// First lines that no order has, and how a fault shows them.
+const BAD_LINES: [(&str, &str); 6] = [
+    ("1 9\n", ": 1 9"),
+    ("01 0\n", ": 01 0"),
+    (" 1 0\n", ":  1 0"),
+    ("1 0\r\n", ": 1 0?"),
+    ("\n", ""),
+    ("14 0\n", ": 14 0"),
+];
+
+#[test]
+fn bad_first_lines(rt: HostRuntime) -> Result<(), Fail> {
+    let alloc = rt.alloc();
+    for (order, shown) in BAD_LINES {
+        let told = format!(in alloc; "order.txt:1:1: error 35: not ready{shown}\n")?;
+        assert!(rt; refuses_order(&rt, alloc, order, told.as_str())?, "{order}");
+    }
+    Ok(())
+}
+
 #[test]
 fn diamond(rt: HostRuntime) -> Result<(), Fail> {
     let alloc = rt.alloc();

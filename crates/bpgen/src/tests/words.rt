@@ -6,7 +6,7 @@ use std::test::Fail;
 const TREE: &str = "@Android.bp\ncc_binary { name: \"hello\", srcs: [\"hello.c\"] }\n";
 
 /// Words that give no configuration.
-const REFUSED: [&str; 22] = [
+const REFUSED: [&str; 26] = [
     "",
     "build",
     "build -l list",
@@ -28,6 +28,10 @@ const REFUSED: [&str; 22] = [
     "graph -l list",
     "synth --seed 4294967296 --modules 1",
     "synth --seed 1",
+    "fmt -i Android.bp",
+    "fmt -l Android.bp -o o",
+    "edit -i Android.bp -o o -m hello",
+    "edit -i Android.bp -o o -m hello -p 1st",
     "--help",
 ];
 
@@ -42,7 +46,7 @@ const ACCEPTED: [&str; 4] = [
 #[test]
 fn words(rt: HostRuntime) -> Result<(), Fail> {
     let alloc = rt.alloc();
-    let usage = b"usage: bpgen build|replay|graph|synth OPTIONS\n".as_slice();
+    let usage = b"usage: bpgen build|replay|graph|synth|fmt|edit OPTIONS\n".as_slice();
     for words in REFUSED {
         let mut store = store_of(alloc, tree_of(alloc, TREE)?)?;
         let ended = end_of(&rt, alloc, words, &mut store)?;

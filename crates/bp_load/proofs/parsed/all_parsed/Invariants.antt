@@ -4,4 +4,4 @@ use Rattle.bp_load.specs.Trees.{FileMeans, placed_of, sources}
 use Rattle.bp_load.proofs.parsed.all_parsed.Given as goal
 
 abbrev pub invariant-files : goal.invariant-files
-invariant-files l = (l.number ≡ 1 + l.file-index) × Each FileMeans 1 (take l.file-index (sources l.files)) (map placed_of l.all.items)
+invariant-files l = (l.next ≡ l.number + l.file-index) × Each FileMeans l.number (take l.file-index (sources l.files)) (map placed_of l.all.items)

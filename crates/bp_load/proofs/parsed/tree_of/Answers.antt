@@ -1,4 +1,4 @@
-use Rattle.std.proofs.Common.{List, Vec, Global, refl, subst}
+use Rattle.std.proofs.Common.{Vec, Global, refl, subst}
 use Rattle.std.specs.Prelude.{Ok, Err}
 use Rattle.bp_faults.specs.Answers.{Tells}
 use Rattle.bp_faults.proofs.Refusals.{tells, refused}

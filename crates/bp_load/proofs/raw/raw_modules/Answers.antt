@@ -1,4 +1,4 @@
-use Rattle.std.proofs.Common.{◌≡◌, List, Vec, Global, [], map, subst, sym, refl}
+use Rattle.std.proofs.Common.{Vec, Global, [], map, subst, sym, refl}
 use Rattle.std.specs.Prelude.{Err}
 use Rattle.std.specs.List.Sorted.{IsStrictlySortedBy}
 use Rattle.bp_load.specs.Directories.{directory_cmp}

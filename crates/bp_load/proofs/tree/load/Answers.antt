@@ -1,23 +1,42 @@
-use Rattle.std.proofs.Common.{Vec, Global, map, refl}
-use Rattle.std.specs.Prelude.{Err}
-use Rattle.bp_faults.specs.declared.path.Path.{Path}
-use Rattle.bp_faults.proofs.Refusals.{refused}
+use Rattle.std.proofs.Common.{Vec, Global, [], map, subst, sym, refl}
+use Rattle.std.specs.Prelude.{Ok, Err}
+use Rattle.std.specs.List.Sorted.{IsStrictlySortedBy}
+use Rattle.bp_faults.proofs.Refusals.{refused, unanswered}
 use Rattle.bp_props.specs.declared.module.Module.{Module}
-use Rattle.bp_values.specs.declared.file.RawModule.{RawModule}
-use Rattle.bp_load.specs.Trees.{sources}
-use Rattle.bp_load.specs.Inherited.{placed_raw, RawMean}
+use Rattle.bp_load.specs.declared.parsed.Parsed.{Parsed}
+use Rattle.bp_load.specs.Directories.{directory_cmp}
+use Rattle.bp_load.specs.Trees.{placed_of, sources, TreesMean}
+use Rattle.bp_load.specs.Inherited.{placed_raw, all_evaluated, RawMean}
 use Rattle.bp_load.specs.Loaded.{all_named, LoadMeans}
 use Rattle.bp_load.proofs.AsTexts.{answers_then}
+use Rattle.bp_load.proofs.Eachs.{each_directories}
 use Rattle.bp_load.proofs.tree.load.Goals as goal
 
+-- what is parsed stands in the order of the files
+pub evaluate_all-requires : goal.evaluate_all-requires
+evaluate_all-requires g c =
+    subst (IsStrictlySortedBy directory_cmp)
+    (sym (each_directories (sources c.args.files.now) (map placed_of c.in_ok-parsed.parsed.items) c.in_ok-parsed.ensures))
+    c.requires.order
+
+pub returns-in_err-parsed : goal.returns-in_err-parsed
+returns-in_err-parsed g c =
+    refused {T = Vec Parsed Global} {U = Vec Module Global} (λ parsed. map placed_of parsed.items)
+    (λ modules. modules.items) (TreesMean (sources c.args.files.now)) (LoadMeans (sources c.args.files.now))
+    (λ fault first. (Err fault, (Err fault, first, refl), refl)) c.in_err-parsed.field-0.0 c.from_residual.result
+    c.from_residual.ensures.1 c.in_err-parsed.ensures
+
 pub returns-in_err-raws : goal.returns-in_err-raws
-returns-in_err-raws c =
-    refused {T = Vec (Path × RawModule) Global} {U = Vec Module Global} (λ raws. map placed_raw raws.items)
-    (λ modules. modules.items) (RawMean (sources c.args.files.now)) (LoadMeans (sources c.args.files.now))
-    (λ fault first. (Err fault, first, refl)) c.in_err-raws.field-0.0 c.from_residual.result
-    c.from_residual.ensures.1 c.in_err-raws.ensures
+returns-in_err-raws g c =
+    let trees = map placed_of c.in_ok-parsed.parsed.items in
+    unanswered {U = Vec Module Global} (λ modules. modules.items) (all_evaluated [] trees)
+    (LoadMeans (sources c.args.files.now))
+    (λ fault is. (Err fault, (Ok trees, c.in_ok-parsed.ensures, is), refl)) c.in_err-raws.field-0.0
+    c.from_residual-in_err-raws.result c.from_residual-in_err-raws.ensures.1 c.in_err-raws.ensures
 
 pub returns : goal.returns
-returns c =
+returns g c =
+    let trees = map placed_of c.in_ok-parsed.parsed.items in
     answers_then {T = Vec Module Global} (λ modules. modules.items) (RawMean (sources c.args.files.now)) all_named
-    (map placed_raw c.in_ok-raws.raws.items) c.in_ok-raws.ensures c.typed_and_named.result c.typed_and_named.ensures
+    (map placed_raw c.in_ok-raws.raws.items) (Ok trees, c.in_ok-parsed.ensures, c.in_ok-raws.ensures)
+    c.typed_and_named.result c.typed_and_named.ensures

@@ -1,6 +1,7 @@
-use Rattle.std.proofs.Common.{rules, ◌≡◌, ◌++◌, map, sym, ap, ◌∙◌, Ok, Err}
+use Rattle.std.proofs.Common.{rules, refl, Vec, Global, ◌≡◌, ◌++◌, map, sym, ap, ◌∙◌, Ok, Err}
 use Rattle.std.proofs.lemmas.List.{map-append}
 use Rattle.bp_values.specs.Values.{field_of, body, fields_then, no_field, meaning}
+use Rattle.bp_values.specs.declared.value.Entry.{Entry}
 use Rattle.bp_values.specs.Sums.{sum_fields, others}
 use Rattle.bp_values.specs.Inside.{IsIndex, HasMet}
 use Rattle.bp_values.proofs.Unite.{sum_bodies, passes, summed_names}
@@ -12,7 +13,7 @@ returns-in_err-entries c =
     let first = map field_of c.args.first.items in
     let second = map field_of c.args.second.items in
     let r : c.from_residual-in_err-entries.result ≡ Err c.in_err-entries.field-0.0 = search rules in
-    let h = passes meaning c.from_residual-in_err-entries.result c.in_err-entries.field-0.0 (sum_fields c.args.at (fields_then first no_field) second) (λ hs. Ok (body (hs ++ others second first))) (search rules) r in
+    let h = passes (λ (es : Vec Entry Global). body (map field_of es.items)) c.from_residual-in_err-entries.result c.in_err-entries.field-0.0 (sum_fields c.args.at (fields_then first no_field) second) (λ hs. Ok (body (hs ++ others second first))) (search rules) r in
     rw (sum_bodies c.args.at first second) h
 
 pub returns : goal.returns
@@ -28,4 +29,4 @@ returns c =
     let left : map field_of c.in_ok-others.others.items ≡ others second first = c.in_ok-others.ensures ∙ others_of table c.in_ok-met.met first second index met in
     let all : map field_of c.append.new.self.items ≡ summed ++ others second first =
     ap (map field_of) c.in_ok-append.ensures.items ∙ map-append field_of c.in_ok-entries.entries.items c.in_ok-others.others.items ∙ ap (λ l. summed ++ l) left in
-    rw (sum_bodies c.args.at first second, each, ← all) (ap (λ v. Ok v) (sym c.map_value.ensures))
+    rw (sum_bodies c.args.at first second, each, ← all) refl

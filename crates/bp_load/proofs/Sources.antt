@@ -1,0 +1,54 @@
+-- Files as contracts see them: one of them, and those in front of a place and behind it.
+use Rattle.std.proofs.Common.{◌≡◌, ◌∙◌, ℕ, ◌+◌, ◌<◌, ◌≤◌, ◌^◌, List, [], ◌∷◌, ◌++◌, Vec, Global, length, take, get_or, ap, sym, subst, arith}
+use Rattle.std.specs.List.{All}
+use Rattle.std.proofs.lemmas.List.{get_or-map, length-map, map-append, get_or_append_left, get_or-append-add, length-append, take_more}
+use Rattle.bp_load.specs.Halves.{CanParse}
+use Rattle.bp_load.specs.Trees.{Source, sources}
+
+abbrev Files : Type 0
+Files = List (List ℕ × Vec ℕ Global)
+
+pub length_sources : (files : Files) → length (sources files) ≡ length files
+length_sources files = length-map {B = Source} files (λ f. (f.0, f.1.items))
+
+-- the file at an index
+pub source_at : (files : Files) (i : ℕ) (file : List ℕ × Vec ℕ Global) (d : Source) → i < length files → file ≡ get_or files i file → get_or (sources files) i d ≡ (file.0, file.1.items)
+source_at files i file d within is = get_or-map (λ f. (f.0, f.1.items)) files i file d within ∙ ap (λ f. (f.0, f.1.items)) (sym is)
+
+-- one file more
+pub take_source : (files : Files) (i : ℕ) (file : List ℕ × Vec ℕ Global) → i < length files → file ≡ get_or files i file
+    → take (i + 1) (sources files) ≡ take i (sources files) ++ (file.0, file.1.items) ∷ []
+take_source files i file within is =
+    let source : Source = (file.0, file.1.items) in
+    take_more (sources files) i source (omega (arith, length_sources files))
+    ∙ ap (λ f. take i (sources files) ++ f ∷ []) (source_at files i file source within is)
+
+abbrev AreShort : Files → Type 0
+AreShort files = All (λ f. length f.1 ≤ 2 ^ 20) (sources files)
+
+pub short_at : (files : Files) (i : ℕ) (file : List ℕ × Vec ℕ Global) → AreShort files → i < length files → file ≡ get_or files i file → length file.1.items ≤ 2 ^ 20
+short_at files i file short within is =
+    subst (λ f. length f.1 ≤ 2 ^ 20) (source_at files i file (file.0, file.1.items) within is) (short i (file.0, file.1.items) (omega (arith, length_sources files)))
+
+pub sources_append : (front back : Files) → sources (front ++ back) ≡ sources front ++ sources back
+sources_append front back = map-append {B = Source} (λ f. (f.0, f.1.items)) front back
+
+short_front : (front back : Files) → AreShort (front ++ back) → AreShort front
+short_front front back short k d below =
+    subst (λ f. length f.1 ≤ 2 ^ 20)
+    (ap (λ fs. get_or fs k d) (sources_append front back) ∙ get_or_append_left (sources front) (sources back) d k below)
+    (short k d (omega (arith, below, length_sources front, length_sources (front ++ back), length-append front back)))
+
+short_back : (front back : Files) → AreShort (front ++ back) → AreShort back
+short_back front back short k d below =
+    subst (λ f. length f.1 ≤ 2 ^ 20)
+    (ap (λ fs. get_or fs (length (sources front) + k) d) (sources_append front back) ∙ get_or-append-add (sources front) (sources back) k d)
+    (short (length (sources front) + k) d (omega (arith, below, length_sources front, length_sources back, length_sources (front ++ back), length-append front back)))
+
+-- files in front of a cut, and behind it
+
+pub can_front : (number : ℕ) (front back : Files) → CanParse number (front ++ back) → CanParse number front
+can_front number front back can = (omega (arith, can.0, length-append front back), short_front front back can.1)
+
+pub can_back : (number : ℕ) (front back : Files) → CanParse number (front ++ back) → CanParse (number + length front) back
+can_back number front back can = (omega (arith, can.0, length-append front back), short_back front back can.1)

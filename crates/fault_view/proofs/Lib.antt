@@ -1,0 +1,11 @@
+mod Numbers
+mod Prefixes
+mod Cuts
+mod Said
+mod Edits
+mod Least
+mod Names
+mod Texts
+mod Soft
+mod Views
+mod Hints

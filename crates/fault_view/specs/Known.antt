@@ -1,0 +1,24 @@
+-- The names that are known without a tree: module types and properties.
+use Rattle.std.specs.Prelude.{ℕ, List, [], ◌∷◌, ◌++◌, map, codes, if◌then◌else◌}
+use Rattle.std.specs.Str.{bytes_eq}
+use Rattle.property_tables.specs.Types.{types}
+use Rattle.property_tables.specs.Tables.{Property, properties, group_table, sanitize_table, arch_table, multilib_table}
+use Rattle.property_tables.specs.Tables.{target_table}
+
+-- The types that are built, and the two that are dropped.
+abbrev pub type_names : List (List ℕ)
+type_names = map (λ t. t.0) types ++ (codes "package" ∷ codes "license" ∷ [])
+
+-- The names of some properties.
+abbrev pub names_of : List Property → List (List ℕ)
+names_of table = map (λ p. p.name) table
+
+-- The properties that may stand in a group, and those of modules of any type where there is no group.
+abbrev pub table_names : List ℕ → List (List ℕ)
+table_names group =
+    if bytes_eq group [] then map (λ o. o.property.name) properties
+    else if bytes_eq group (codes "sanitize") then names_of sanitize_table
+    else if bytes_eq group (codes "arch") then names_of arch_table
+    else if bytes_eq group (codes "multilib") then names_of multilib_table
+    else if bytes_eq group (codes "target") then names_of target_table
+    else names_of group_table

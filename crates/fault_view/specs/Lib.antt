@@ -1,0 +1,10 @@
+pub mod Lines
+pub mod Excerpts
+pub mod Nearest
+pub mod Known
+pub mod Unknown
+pub mod ModuleNames
+pub mod View
+pub mod Inside
+pub mod Program
+pub mod Laws

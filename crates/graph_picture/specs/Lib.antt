@@ -1,0 +1,11 @@
+pub mod Lines
+pub mod Reading
+pub mod Reach
+pub mod Growing
+pub mod Drawing
+pub mod Grouping
+pub mod Words
+pub mod Picture
+pub mod Printed
+pub mod Laws
+pub mod Inside

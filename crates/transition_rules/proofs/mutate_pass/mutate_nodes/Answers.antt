@@ -1,0 +1,29 @@
+use Rattle.std.proofs.Common.{◌∙◌, ◌<◌, ap, subst, sym, length}
+use Rattle.pass_core.specs.declared.plan.Plan.{Plan}
+use Rattle.pass_core.specs.Plans.{HasNoCycle, predecessors}
+use Rattle.module_graph.specs.declared.direction.Direction.TheVariants.{BottomUp}
+use Rattle.pass_ways.specs.Ways.{AnswersWay}
+use Rattle.transition_rules.proofs.mutate_pass.mutate_nodes.Goals as goal
+
+pub run_by_way-requires-clause-free : goal.run_by_way-requires-clause-free
+run_by_way-requires-clause-free g c =
+    λ κs lives.
+    subst (λ (p : Plan). HasNoCycle p.edges) (sym c.in_ok-plan.ensures.exact)
+    (c.valid_plans_have_no_cycle.ensures c.args.g.now.nodes BottomUp c.requires.valid)
+
+pub run_by_way-requires-clause-takes : goal.run_by_way-requires-clause-takes
+run_by_way-requires-clause-takes g c = λ κs lives n lt.
+    let nodes = c.args.g.now.nodes in
+    let exact = c.in_ok-plan.ensures.exact in
+    let inside : n < length nodes = subst (λ (p : Plan). n < p.count) exact lt in (
+      record { may_run = c.requires.may; inside = inside },
+      ap (λ (p : Plan). length (predecessors p.edges n)) exact
+          ∙ ap length (c.predecessors_are_targets.ensures nodes n),
+    )
+
+pub returns : goal.returns
+returns g c =
+    subst
+    (λ (p : Plan). AnswersWay c.args.way.now ((g.M.Transition.meaning c.args.rule.now).mutate c.args.g.now.nodes)
+    p c.args.pass c.args.before.now c.run_by_way.result)
+    c.in_ok-plan.ensures.exact c.run_by_way.ensures

@@ -1,0 +1,1 @@
+extern "C" int android_version() { return 14; }

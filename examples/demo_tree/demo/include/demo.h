@@ -1,0 +1,1 @@
+int demo(int number);

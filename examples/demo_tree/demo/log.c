@@ -1,0 +1,3 @@
+int log_number(int number);
+
+int log_number(int number) { return number; }

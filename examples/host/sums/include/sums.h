@@ -1,0 +1,2 @@
+int add(int a, int b);
+int twice(int n);

@@ -1,0 +1,1 @@
+#define GREATEST_LEVEL 4

@@ -1,0 +1,3 @@
+#include "codec.h"
+
+int machine(void) { return 1; }

@@ -1,0 +1,2 @@
+int decode(int level);
+int machine(void);

@@ -1,0 +1,3 @@
+#include "codec.h"
+
+int main(void) { return decode(0); }
