@@ -108,8 +108,7 @@ one_names k v w is has e =
 
 variant_lacks : (k : ℕ) (v : Variant) → k < 2 ^ 32 → IsVariant v → Lacks 10 (variant_line k v)
 variant_lacks k v lt is =
-    joined 10 (decimal k) (32 ∷ (v.module ++ (32 ∷ v.variation))) (digits_lack 10 k (lit< tt) lt)
-    (
+    joined 10 (decimal k) (32 ∷ (v.module ++ (32 ∷ v.variation))) (digits_lack 10 k (lit< tt) lt) (
       (λ e. absurd (omega (arith, e))),
       joined 10 v.module (32 ∷ v.variation) (lacks 10 v.module is.owner.no_end)
           ((λ e. absurd (omega (arith, e))), lacks 10 v.variation is.variation.no_end),
