@@ -1,42 +1,49 @@
 -- The text of statements, and those of parts of them.
-use Rattle.std.proofs.Common.{◌≡◌, ℕ, ◌^◌, ◌<◌, List, ◌++◌, length, length-append, arith, ap, ◌∙◌, sym, Result, Ok, Err}
+use Rattle.std.proofs.Common.{◌≡◌, ℕ, ◌+◌, ◌^◌, ◌<◌, List, [], ◌++◌, length, length-append, append_assoc, arith, ap, ◌∙◌, sym, Result, Ok, Err}
 use Rattle.std.proofs.lemmas.Grind.{flat_map-append}
 use Rattle.std.specs.Result.{IsErrAnd}
 use Rattle.ninja_file.specs.declared.file.NinjaFile.{NinjaFile}
 use Rattle.ninja_file.specs.declared.file.Statement.{Statement}
 use Rattle.ninja_write.proofs.Lines.{text-parts}
 use Rattle.ninja_write.specs.declared.output.WriteError.{WriteError}
-use Rattle.ninja_write.specs.Inside.{Prints, joined_texts, statements_text}
-use Rattle.ninja_write.specs.Meaning.{joined, statement_lines, text_of}
+use Rattle.ninja_write.specs.declared.output.WriteError.TheVariants.{TooLarge}
+use Rattle.ninja_write.specs.Inside.{Puts, Prints, front_text, statements_text}
+use Rattle.ninja_write.specs.Meaning.{joined, ended, head_line, statement_lines, default_lines, text_of}
 
 -- the text of statements in two parts
 text-cut : (front back all : List Statement) → all ≡ front ++ back → statements_text all ≡ statements_text front ++ statements_text back
 text-cut front back all e = ap statements_text e ∙ flat_map-append (λ statement. joined (statement_lines statement)) front back
 
--- the texts of the first part and then those of the second
-pub text-joined : (firsts seconds texts : List (List ℕ)) (front back all : List Statement) → texts ≡ firsts ++ seconds → all ≡ front ++ back → joined_texts firsts ≡ statements_text front → joined_texts seconds ≡ statements_text back → joined_texts texts ≡ statements_text all
-text-joined firsts seconds texts front back all both e f s =
-    let cut = text-cut front back all e in
-    let same = ap joined_texts both ∙ flat_map-append (λ text. text) firsts seconds in
-    cc
+-- the text of the first part behind what was there, and then that of the second
+pub text-joined : (old first new : List ℕ) (front back all : List Statement) → all ≡ front ++ back → first ≡ old ++ statements_text front → new ≡ first ++ statements_text back → new ≡ old ++ statements_text all
+text-joined old first new front back all e f n = n ∙ ap (λ x. x ++ statements_text back) f ∙ append_assoc old (statements_text front) (statements_text back) ∙ ap (λ x. old ++ x) (sym (text-cut front back all e))
 
--- a text is longer than one of its parts
-abbrev pub IsLonger : List ℕ → List ℕ → Type 0
-IsLonger part all = (limit : ℕ) → limit < length part → limit < length all
+-- what would pass the limit with a part would with the whole
+abbrev pub IsShorter : List ℕ → List Statement → List ℕ → List Statement → Type 0
+IsShorter before part old all = (limit : ℕ) → limit < length before + length (statements_text part) → limit < length old + length (statements_text all)
 
-pub front-longer : (front back all : List Statement) → all ≡ front ++ back → IsLonger (statements_text front) (statements_text all)
-front-longer front back all e limit h = let l = ap length (text-cut front back all e) in omega (arith, simp length-append at l)
+pub front-shorter : (old : List ℕ) (front back all : List Statement) → all ≡ front ++ back → IsShorter old front old all
+front-shorter old front back all e limit h = let l = ap length (text-cut front back all e) in omega (arith, simp length-append at l)
 
-pub back-longer : (front back all : List Statement) → all ≡ front ++ back → IsLonger (statements_text back) (statements_text all)
-back-longer front back all e limit h = let l = ap length (text-cut front back all e) in omega (arith, simp length-append at l)
+pub back-shorter : (old : List ℕ) (front back all : List Statement) → all ≡ front ++ back → IsShorter [] back old all
+back-shorter old front back all e limit h = let l = ap length (text-cut front back all e) in omega (arith, simp length-append at l)
 
-middle-longer : (a b c d : List ℕ) → IsLonger c (a ++ (b ++ (c ++ d)))
-middle-longer a b c d limit h = omega (arith, length-append a (b ++ (c ++ d)), length-append b (c ++ d), length-append c d)
-
-pub file-longer : (f : NinjaFile) → IsLonger (statements_text f.statements) (text_of f)
-file-longer f limit h = rw (text-parts f) (middle-longer _ _ (statements_text f.statements) _ limit h)
+pub joined-shorter : (old first : List ℕ) (front back all : List Statement) → all ≡ front ++ back → first ≡ old ++ statements_text front → IsShorter first back old all
+joined-shorter old first front back all e f limit h =
+    let l = ap length (text-cut front back all e) in
+    let k = ap length f in
+    omega (arith, simp length-append at l, simp length-append at k)
 
 -- a refusal of a part is one of the whole
-pub part_refused : {X : Type 0} (shown : X → List ℕ) (part all : List Statement) (e : WriteError) (one whole : Result X WriteError) → IsLonger (statements_text part) (statements_text all) → one ≡ Err e → IsErrAnd whole (λ x. x ≡ e) → Prints shown part one → Prints shown all whole
-part_refused shown part all e one (Ok x) longer is same prints = absurd same
-part_refused shown part all e one (Err x) longer is same prints = record { ok = tt; too_large = λ h. longer (2 ^ 29) (prints.too_large (is ∙ ap Err (sym same) ∙ h)) }
+pub part_refused : (part all : List Statement) (before old : List ℕ) (e : WriteError) (one whole : Result (List ℕ) WriteError) → IsShorter before part old all → one ≡ Err e → IsErrAnd whole (λ x. x ≡ e) → Prints part before one → Prints all old whole
+part_refused part all before old e one (Ok x) shorter is same prints = absurd same
+part_refused part all before old e one (Err x) shorter is same prints = record { ok = tt; too_large = λ h. shorter (2 ^ 29) (prints.too_large (is ∙ ap Err (sym same) ∙ h)) }
+
+-- a refusal to put a part behind the one before it is one of the whole
+pub append_refused : (part all : List Statement) (before now old : List ℕ) (e : WriteError) (whole : Result (List ℕ) WriteError) → IsShorter before part old all → IsErrAnd whole (λ x. x ≡ e) → Puts (statements_text part) before now (Err e) → Prints all old whole
+append_refused part all before now old e (Ok x) shorter same puts = absurd same
+append_refused part all before now old e (Err x) shorter same puts = record { ok = tt; too_large = λ h. let large : x ≡ TooLarge = cc in shorter (2 ^ 29) (puts.too_large (ap Err (sym same ∙ large))) }
+
+-- the text of a file by what stands before the statements, the statements and the defaults
+pub text-thirds : (f : NinjaFile) → text_of f ≡ (front_text f ++ statements_text f.statements) ++ joined (default_lines f.defaults)
+text-thirds f = text-parts f ∙ sym (append_assoc (ended head_line) _ _) ∙ sym (append_assoc (front_text f) (statements_text f.statements) _)

@@ -1,10 +1,11 @@
 -- No public contract speaks of it: text that is put behind other text up to a limit, and text that is printed in parts.
 use Rattle.std.specs.Prelude.{◌≡◌, ℕ, ◌+◌, ◌^◌, ◌<◌, List, ◌++◌, length, Result, OnOk, IfOk, IsErrOf}
 use Rattle.std.specs.List.{flat_map}
+use Rattle.ninja_file.specs.declared.file.NinjaFile.{NinjaFile}
 use Rattle.ninja_file.specs.declared.file.Statement.{Statement}
 use Rattle.ninja_write.specs.declared.output.WriteError.{WriteError}
 use Rattle.ninja_write.specs.declared.output.WriteError.TheVariants.{TooLarge}
-use Rattle.ninja_write.specs.Meaning.{statement_lines, joined}
+use Rattle.ninja_write.specs.Meaning.{rule_lines, statement_lines, head_line, ended, joined}
 
 -- The text is put behind what was there, or it would pass the limit, or memory ran out.
 pub record Puts (text old new : List ℕ) (result : Result Unit WriteError) : Type 0 where
@@ -15,11 +16,11 @@ pub record Puts (text old new : List ℕ) (result : Result Unit WriteError) : Ty
 abbrev pub statements_text : List Statement → List ℕ
 statements_text statements = flat_map (λ statement. joined (statement_lines statement)) statements
 
--- Texts one behind the other.
-abbrev pub joined_texts : List (List ℕ) → List ℕ
-joined_texts texts = flat_map (λ text. text) texts
+-- What stands before the statements: the first line and the rules.
+abbrev pub front_text : NinjaFile → List ℕ
+front_text f = ended head_line ++ flat_map (λ rule. joined (rule_lines rule)) f.rules
 
--- What is printed shows the text of statements, or that text would pass the limit, or memory ran out.
-pub record Prints {X : Type 0} (shown : X → List ℕ) (all : List Statement) (result : Result X WriteError) : Type 0 where
-  pub ok : IfOk result (λ printed. shown printed ≡ statements_text all)
-  pub too_large : IsErrOf result TooLarge → 2 ^ 29 < length (statements_text all)
+-- The text of statements stands behind what was there, or it would pass the limit, or memory ran out.
+pub record Prints (all : List Statement) (old : List ℕ) (result : Result (List ℕ) WriteError) : Type 0 where
+  pub ok : IfOk result (λ new. new ≡ old ++ statements_text all)
+  pub too_large : IsErrOf result TooLarge → 2 ^ 29 < length old + length (statements_text all)

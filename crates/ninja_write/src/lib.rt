@@ -11,6 +11,7 @@ mod output;
 mod part;
 mod parts;
 mod text;
+mod weights;
 
 pub use output::WriteError;
 pub use text::{write, write_in};

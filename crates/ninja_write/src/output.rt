@@ -64,6 +64,13 @@ impl Output {
         }
     }
 
+    /// The text as a slice.
+    pub fn as_str(&self) -> &str
+        ensures { result.now ≡ self.now }
+    {
+        self.text.as_str()
+    }
+
     /// The text as bytes.
     pub fn into_bytes(self) -> Vec<u8>
         ensures bytes { result.items ≡ self }
@@ -85,17 +92,19 @@ impl Output {
         Ok(())
     }
 
-    /// Makes room for texts, as far as the limit goes.
-    pub fn reserve_for(&mut self, texts: &[Output]) -> Result<(), WriteError>
-        ensures { Puts [] self.old self.new result }
+    /// Puts another text behind what is there, and gives its memory back.
+    pub fn append(&mut self, text: Output) -> Result<(), WriteError>
+        ensures { Puts text self.old self.new result }
     {
-        let mut bytes = 0usize;
-        for one in texts {
-            bytes = bytes.saturating_add(one.text.len());
-        }
+        self.put(text.text.as_str())
+    }
+
+    /// Makes room for more bytes, as far as the limit goes. A text for which there is no room grows as it is put.
+    pub fn make_room(&mut self, bytes: usize)
+        ensures { self.new ≡ self.old }
+    {
         let left = LIMIT - self.text.len();
-        self.text.reserve(bytes.min(left))?;
-        Ok(())
+        let _room = self.text.reserve(bytes.min(left));
     }
 }
 
@@ -105,15 +114,6 @@ pub trait Written {
 
     fn put(&self, output: &mut Output) -> Result<(), WriteError>
         ensures { Puts (text self.now) output.old output.new result };
-}
-
-/// A text that was printed before.
-impl Written for Output {
-    ghost text = { λ text. text };
-
-    fn put(&self, output: &mut Output) -> Result<(), WriteError> {
-        output.put(self.text.as_str())
-    }
 }
 
 /// Puts the text of each, one behind the other.

@@ -1,79 +1,86 @@
 ghost use Rattle.std.specs.Prelude.{◌≡◌, ◌≤◌, ◌<◌, ◌++◌, IsTrue, length};
 
+use crate::weights::GROUP;
 use ninja_file::Statement;
 
-/// A part that weighs less, some 600 KB of text where paths have 40 bytes, is printed by one thread.
+/// There is at most one worker for each such weight, which is some 600 KB of text.
 const LEAST: usize = 1 << 14;
 
-/// Statements one after another, and what they weigh.
+/// How many bytes most paths and variables take at most, with what stands between them.
+const USUAL: usize = 48;
+
+/// Statements one after another, with the weights of their groups and of all. A text that begins with theirs makes
+/// room for some bytes.
 #[derive(Clone, Copy, Debug)]
 pub struct Part<'a> {
     pub statements: &'a [Statement],
+    pub weights: &'a [usize],
     pub weight: usize,
+    pub room: usize,
 }
 
-// How many paths and variables are printed for a statement. None of them is looked at.
-fn weight_of(statement: &Statement) -> usize {
-    statement
-        .outs
-        .as_slice()
-        .len()
-        .saturating_add(statement.ins.as_slice().len())
-        .saturating_add(statement.implicit.as_slice().len())
-        .saturating_add(statement.order_only.as_slice().len())
-        .saturating_add(statement.vars.as_slice().len())
-}
-
-// How many statements are within a share of the weight, and what they weigh. A statement is where its middle is.
-fn count_within(statements: &[Statement], share: usize) -> (usize, usize)
-    ensures { result.0 ≤ length statements.now }
+// How many of the last weights are within a share, and their sum. A group is where its middle is.
+fn last_within(weights: &[usize], share: usize) -> (usize, usize)
+    ensures { result.0 ≤ length weights.now }
 {
-    let mut before = 0usize;
-    for (index, statement) in statements.iter().enumerate() {
-        let weight = weight_of(statement);
-        if before.saturating_add(weight / 2) > share {
-            return (index, before);
+    let mut behind = 0usize;
+    for (count, weight) in weights.iter().rev().enumerate() {
+        if behind.saturating_add(*weight / 2) > share {
+            return (count, behind);
         }
-        before = before.saturating_add(weight);
+        behind = behind.saturating_add(*weight);
     }
-    (statements.len(), before)
+    (weights.len(), behind)
 }
 
 impl<'a> Part<'a> {
     /// All of some statements.
-    pub fn new(statements: &'a [Statement]) -> Part<'a>
+    pub fn new(statements: &'a [Statement], weights: &'a [usize]) -> Part<'a>
         ensures { result.statements.now ≡ statements.now }
     {
         let mut weight = 0usize;
-        for statement in statements {
-            weight = weight.saturating_add(weight_of(statement));
+        for group in weights {
+            weight = weight.saturating_add(*group);
         }
-        Part { statements, weight }
+        Part {
+            statements,
+            weights,
+            weight,
+            room: weight.saturating_mul(USUAL),
+        }
     }
 
-    /// Whether several workers should print it.
-    pub fn is_for_several(&self, workers: u32) -> bool
-        ensures { IsTrue result → 1 < workers }
-    {
-        workers > 1 && self.weight >= LEAST
+    /// How many of some workers should print it.
+    pub fn workers(&self, most: u32) -> u32 {
+        match u32::try_from(self.weight / LEAST) {
+            Ok(useful) => most.min(useful.saturating_add(1)),
+            Err(_) => most,
+        }
     }
 
-    /// Two parts, of which the first has about as much of the weight as some of the workers are of all.
-    pub fn cut(&self, some: u32, all: u32) -> (Part<'a>, Part<'a>)
-        requires { 0 < all }
+    /// Two parts, the second for one of some workers, and the first for the others, of whom one has to put the second
+    /// behind it. So the second has a half of the weight for 2 workers, three eighths for 3 and three tenths for 4.
+    pub fn cut(&self, workers: u32) -> (Part<'a>, Part<'a>)
+        requires { 1 < workers }
         ensures { self.now.statements.now ≡ result.0.statements.now ++ result.1.statements.now }
     {
-        let share = (self.weight / all as usize).saturating_mul(some as usize);
-        let (count, weight) = count_within(self.statements, share);
-        let (front, back) = self.statements.split_at(count);
+        let share = (self.weight / (2 * workers as usize + 2)).saturating_mul(3);
+        let (count, weight) = last_within(self.weights, share);
+        let (first, last) = self.weights.split_at(self.weights.len() - count);
+        let at = first.len().saturating_mul(GROUP).min(self.statements.len());
+        let (front, back) = self.statements.split_at(at);
         (
             Part {
                 statements: front,
-                weight,
+                weights: first,
+                weight: self.weight.saturating_sub(weight),
+                room: self.room,
             },
             Part {
                 statements: back,
-                weight: self.weight.saturating_sub(weight),
+                weights: last,
+                weight,
+                room: weight.saturating_mul(USUAL),
             },
         )
     }

@@ -1,55 +1,48 @@
-ghost use Rattle.std.specs.Prelude.{◌≡◌};
+ghost use Rattle.std.specs.Prelude.{◌≡◌, []};
 ghost use Rattle.std.specs.Thread.{IsSync};
-ghost use Rattle.ninja_write.specs.Inside.{Prints, joined_texts};
+ghost use Rattle.ninja_write.specs.Inside.{Prints};
 
 use crate::output::{Output, WriteError, put_all};
 use crate::part::Part;
 use std::alloc::Global;
 use std::thread::{Threads, join};
 
-fn print(alloc: Global, part: &Part<'_>) -> Result<Output, WriteError>
-    ensures { Prints (λ text. text) part.now.statements.now result }
+fn print(alloc: Global, before: &str, part: &Part<'_>) -> Result<Output, WriteError>
+    ensures { Prints part.now.statements.now before.now result }
 {
     let mut output = Output::new(alloc);
+    output.make_room(part.room);
+    output.put(before)?;
     put_all(&mut output, part.statements)?;
     Ok(output)
 }
 
-fn print_alone(alloc: Global, part: &Part<'_>) -> Result<Vec<Output>, WriteError>
-    ensures { Prints (λ texts. joined_texts texts.items) part.now.statements.now result }
-{
-    let mut texts = Vec::new(alloc);
-    texts.push(print(alloc, part)?)?;
-    Ok(texts)
-}
-
-/// The texts of a part, in order. Each is printed by a thread of its own, and there is at least one.
+/// A text, and that of a part behind it. The caller prints the first statements of the part where they belong. Each
+/// other worker prints more of them into a text of its own, which the caller then puts behind those before it.
 #[cycle(parts)]
-pub fn print_parts<R: Threads + Sync>(
+pub fn print_behind<R: Threads + Sync>(
     rt: &R,
     alloc: Global,
+    before: &str,
     part: &Part<'_>,
     workers: u32,
-) -> Result<Vec<Output>, WriteError>
-    ensures { Prints (λ texts. joined_texts texts.items) part.now.statements.now result }
+) -> Result<Output, WriteError>
+    ensures { Prints part.now.statements.now before.now result }
 {
-    if !part.is_for_several(workers) {
-        return print_alone(alloc, part);
+    if workers < 2 {
+        return print(alloc, before, part);
     }
-    let others = workers / 2;
-    let here = workers - others;
-    let (front, back) = part.cut(others, workers);
-    let first = move || -> Result<Vec<Output>, WriteError>
+    let (front, back) = part.cut(workers);
+    let others = workers - 1;
+    let last = move || -> Result<Output, WriteError>
+        ensures { Prints back.entry.statements.now [] result }
+    { print(alloc, "", &back) };
+    let first = move || -> Result<Output, WriteError>
         requires { IsSync R.row }
-        ensures { Prints (λ texts. joined_texts texts.items) front.entry.statements.now result }
-    { print_parts(rt, alloc, &front, others) };
-    let second = move || -> Result<Vec<Output>, WriteError>
-        requires { IsSync R.row }
-        ensures { Prints (λ texts. joined_texts texts.items) back.entry.statements.now result }
-    { print_parts(rt, alloc, &back, here) };
-    let (first, second) = join(rt, first, second);
-    let mut texts = first?;
-    let mut more = second?;
-    texts.append(&mut more)?;
-    Ok(texts)
+        ensures { Prints front.entry.statements.now before.entry.now result }
+    { print_behind(rt, alloc, before, &front, others) };
+    let (last, first) = join(rt, last, first);
+    let mut output = first?;
+    output.append(last?)?;
+    Ok(output)
 }

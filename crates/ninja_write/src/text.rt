@@ -1,7 +1,6 @@
 ghost use Rattle.std.specs.Prelude.{◌≡◌, ℕ, ◌^◌, ◌<◌, ◌≤◌, List, [], ◌∷◌, ◌++◌, IfOk, IsErrOf, IsUtf8, map};
 ghost use Rattle.std.specs.Prelude.{length, codes};
-ghost use Rattle.std.specs.List.{flat_map};
-ghost use Rattle.ninja_write.specs.Inside.{Puts, statements_text};
+ghost use Rattle.ninja_write.specs.Inside.{Puts, front_text};
 ghost use Rattle.ninja_write.specs.Escaped.{lead, value_text};
 ghost use Rattle.ninja_write.specs.Meaning.{piece_text, lead_of, pieces_text, binding_line, variable_line};
 ghost use Rattle.ninja_write.specs.Meaning.{spaced_path, marked, ins_text, build_line, rule_line, rule_lines};
@@ -11,7 +10,8 @@ ghost use Rattle.ninja_write.specs.Meaning.{text_of};
 use crate::escaped::put_escaped;
 use crate::output::{Output, WriteError, Written, put_all};
 use crate::part::Part;
-use crate::parts::print_parts;
+use crate::parts::print_behind;
+use crate::weights::weights;
 use bp_faults::{Seq, Text};
 use ninja_file::{Escape, NinjaFile, NinjaRule, Piece, Statement};
 use std::alloc::Global;
@@ -187,18 +187,19 @@ fn put_defaults(output: &mut Output, paths: &[Text]) -> Result<(), WriteError>
     output.put("\n")
 }
 
-// The statements are given as they are, or as texts that were printed of them.
-fn put_file<W: Written>(
-    output: &mut Output,
-    file: &NinjaFile,
-    statements: &[W],
-) -> Result<(), WriteError>
-    requires { flat_map W.text statements.now ≡ statements_text file.now.statements }
-    ensures { Puts (text_of file.now) output.old output.new result }
+// What stands before the statements: the first line and the rules.
+fn put_front(output: &mut Output, file: &NinjaFile) -> Result<(), WriteError>
+    ensures { Puts (front_text file.now) output.old output.new result }
 {
     put_head(output)?;
-    put_all(output, file.rules.as_slice())?;
-    put_all(output, statements)?;
+    put_all(output, file.rules.as_slice())
+}
+
+fn put_file(output: &mut Output, file: &NinjaFile) -> Result<(), WriteError>
+    ensures { Puts (text_of file.now) output.old output.new result }
+{
+    put_front(output, file)?;
+    put_all(output, file.statements.as_slice())?;
     put_defaults(output, file.defaults.as_slice())
 }
 
@@ -210,7 +211,7 @@ pub fn write(alloc: Global, f: &NinjaFile) -> Result<Vec<u8>, WriteError>
     ensures too_large { IsErrOf result WriteError.TooLarge → 2 ^ 29 < length (text_of f.now) }
 {
     let mut output = Output::new(alloc);
-    put_file(&mut output, f, f.statements.as_slice())?;
+    put_file(&mut output, f)?;
     Ok(output.into_bytes())
 }
 
@@ -227,13 +228,14 @@ pub fn write_in<R: Threads + Sync>(
     ensures utf8 { IfOk result (λ text. IsUtf8 text.items) }
     ensures too_large { IsErrOf result WriteError.TooLarge → 2 ^ 29 < length (text_of f.now) }
 {
-    let all = Part::new(f.statements.as_slice());
-    if !all.is_for_several(workers) {
+    if workers == 1 {
         return write(alloc, f);
     }
-    let texts = print_parts(rt, alloc, &all, workers)?;
-    let mut output = Output::new(alloc);
-    output.reserve_for(texts.as_slice())?;
-    put_file(&mut output, f, texts.as_slice())?;
+    let weights = weights(rt, alloc, f.statements.as_slice(), workers)?;
+    let all = Part::new(f.statements.as_slice(), weights.as_slice());
+    let mut front = Output::new(alloc);
+    put_front(&mut front, f)?;
+    let mut output = print_behind(rt, alloc, front.as_str(), &all, all.workers(workers))?;
+    put_defaults(&mut output, f.defaults.as_slice())?;
     Ok(output.into_bytes())
 }
