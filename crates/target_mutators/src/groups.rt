@@ -26,7 +26,8 @@ pub fn append_groups(
 
 /// A record with some of its groups appended.
 pub fn with_groups(alloc: Global, own: &Record, ids: &[GroupId]) -> Result<Record, OutOfMemory>
-    ensures { IfOk result (λ made. made ≡ with_groups own.now ids.now) }
+    ensures appended { IfOk result (λ made. made ≡ with_groups own.now ids.now) }
+    ensures groups { IfOk result (λ made. made.groups ≡ own.now.groups) }
 {
     append_groups(alloc, own.copy(alloc)?, own.props(), ids)
 }
