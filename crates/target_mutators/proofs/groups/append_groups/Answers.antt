@@ -1,6 +1,5 @@
-use Rattle.std.proofs.Common.{sym, ap, ◌∙◌}
+use Rattle.std.proofs.Common.{◌∙◌}
 use Rattle.bp_props.specs.declared.group_id.GroupId.TheVariants as G
-use Rattle.target_mutators.specs.Groups.{with_groups}
 use Rattle.target_mutators.proofs.Appended.{groups_next}
 use Rattle.target_mutators.proofs.groups.append_groups.Goals as goal
 
