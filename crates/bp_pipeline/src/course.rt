@@ -13,6 +13,7 @@ ghost use Rattle.bp_pipeline.specs.Runs.{MayStart, MayStep, AnswersCourse};
 use crate::GenError;
 use crate::first::first_graph;
 use crate::mutators::{BUILT, passes_of};
+use crate::records::with_own_records;
 use crate::sizes::{Sizes, sizes_of};
 use crate::steps::step;
 use crate::workshop::Workshop;
@@ -20,6 +21,7 @@ use bp_faults::{NodeId, Refusal};
 use bp_ports::Gate;
 use bp_props::{Module, Props};
 use module_graph::Graph;
+use module_rules::Record;
 use mutator_rules::Config;
 use pass_ways::Way;
 use std::alloc::Global;
@@ -33,8 +35,8 @@ fn run_passes<R: Threads + Sync, G: Gate + Sync>(
     journal: &mut Vec<(u32, NodeId)>,
     from: u32,
     to: u32,
-    before: Graph<Props>,
-) -> Result<Graph<Props>, Refusal>
+    before: Graph<Record>,
+) -> Result<Graph<Record>, Refusal>
     requires may { MayStep shop.now journal.old.items before.nodes }
     requires begun { IsJournal shop.now.mods.now shop.now.config.now from before.nodes journal.old.items }
     requires visits { All IsVisit journal.old.items }
@@ -75,7 +77,34 @@ pub fn run_mutators<R: Threads + Sync, G: Gate + Sync>(
         graph = run_passes(rt, alloc, shop, journal, from, to, graph)?;
         sizes.push(sizes_of(&graph))?;
     }
-    Ok(graph)
+    Ok(with_own_records(alloc, graph)?)
+}
+
+/// The graph after the first k mutators, with the records that its nodes share, or the first fault.
+fn shared_graph_after<R: Threads + Sync, G: Gate + Sync>(
+    rt: &R,
+    alloc: Global,
+    mods: &[Module],
+    c: &Config,
+    k: u32,
+    workers: u32,
+    gate: &G,
+) -> Result<Graph<Record>, GenError>
+    requires few { length mods.now ≤ 2 ^ 17 }
+    requires targets { TargetsDiffer c.now }
+    requires built { k ≤ built }
+    requires workers { (1 ≤ workers) × (workers ≤ 64) }
+    ensures means { Tells (λ g. g.nodes) (GraphAfter mods.now c.now k) result }
+    ensures valid { IfOk result (λ g. IsValid g.nodes) }
+{
+    let shop = Workshop {
+        mods,
+        config: c,
+        way: Way::Workers { workers, gate },
+    };
+    let mut journal = Vec::new(alloc);
+    let first = first_graph(alloc, mods)?;
+    run_passes(rt, alloc, &shop, &mut journal, 0, passes_of(k), first)
 }
 
 /// The graph after the first k mutators, or the first fault.
@@ -98,12 +127,8 @@ pub fn graph_after<R: Threads + Sync, G: Gate + Sync>(
     ensures means { Tells (λ g. g.nodes) (GraphAfter mods.now c.now k) result }
     ensures valid { IfOk result (λ g. IsValid g.nodes) }
 {
-    let shop = Workshop {
-        mods,
-        config: c,
-        way: Way::Workers { workers, gate },
-    };
-    let mut journal = Vec::new(alloc);
-    let first = first_graph(alloc, mods)?;
-    run_passes(rt, alloc, &shop, &mut journal, 0, passes_of(k), first)
+    match shared_graph_after(rt, alloc, mods, c, k, workers, gate) {
+        Ok(last) => Ok(with_own_records(alloc, last)?),
+        Err(refusal) => Err(refusal),
+    }
 }

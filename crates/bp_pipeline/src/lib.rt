@@ -15,6 +15,7 @@ mod limits;
 mod mutators;
 mod passes;
 mod ran;
+mod records;
 mod replayed;
 mod shown;
 mod sizes;

@@ -3,8 +3,8 @@ ghost use Rattle.module_graph.specs.Graphs.{IsNumbered};
 ghost use Rattle.variant_graphs.specs.Limits.{all_edges};
 ghost use Rattle.bp_pipeline.specs.Generated.{sizes_of};
 
-use bp_props::Props;
 use module_graph::{Graph, Node};
+use module_rules::Record;
 
 /// The numbers of nodes and of edges of a graph.
 #[derive(Clone, Copy, Debug, PartialEq, Eq)]
@@ -13,7 +13,7 @@ pub struct Sizes {
     pub edges: u32,
 }
 
-fn edge_count(nodes: &[Node<Props>]) -> u32
+fn edge_count(nodes: &[Node<Record>]) -> u32
     requires { length (all_edges nodes.now) < 2 ^ 32 }
     ensures { result ≡ length (all_edges nodes.now) }
 {
@@ -25,7 +25,7 @@ fn edge_count(nodes: &[Node<Props>]) -> u32
 }
 
 /// The size of a graph.
-pub fn sizes_of(g: &Graph<Props>) -> Sizes
+pub fn sizes_of(g: &Graph<Record>) -> Sizes
     requires { IsNumbered g.now.nodes }
     ensures { result ≡ sizes_of g.now.nodes }
 {

@@ -22,13 +22,13 @@ use crate::passes::{Pass, pass_at};
 use crate::workshop::Workshop;
 use bp_faults::{NodeId, Refusal};
 use bp_ports::Gate;
-use bp_props::Props;
 use defaults_mutator::{DefaultsDeps, DefaultsMerge};
 use info_mutators::laws::own_variations_differ;
 use info_mutators::{Info, Sanitize, SdkLevel};
 use linkage_mutator::laws::{link_variants_differ, source_variants_differ};
 use linkage_mutator::{DepsAsk, LinkSplit, PerSource, PluginsAsk, module_names};
 use module_graph::Graph;
+use module_rules::Record;
 use mutator_kinds::{PassGraph, run_bottom_up_by, run_top_down_by};
 use mutator_rules::{BottomUp, Split};
 use pass_core::laws::outs_are_many;
@@ -40,15 +40,15 @@ use target_mutators::{ArchSplit, ImageSplit};
 use transition_rules::{run_mutate_by, run_wants_by};
 
 /// A pass of a rule from the bottom up.
-fn run_rule<R: Threads + Sync, M: BottomUp<Props> + Sync, G: Gate + Sync>(
+fn run_rule<R: Threads + Sync, M: BottomUp<Record> + Sync, G: Gate + Sync>(
     rt: &R,
     alloc: Global,
     shop: &Workshop<'_, G>,
     journal: &mut Vec<(u32, NodeId)>,
     pass: u32,
-    graph: Graph<Props>,
+    graph: Graph<Record>,
     rule: &M,
-) -> Result<PassGraph<Props>, Refusal>
+) -> Result<PassGraph<Record>, Refusal>
     requires may { MayStep shop.now journal.old.items graph.nodes }
     requires free { IsFreeFor (M.splits_along rule.now) graph.nodes }
     requires differ { DifferFor (M.meaning rule.now) graph.nodes (M.splits_along rule.now) }
@@ -69,15 +69,15 @@ fn run_rule<R: Threads + Sync, M: BottomUp<Props> + Sync, G: Gate + Sync>(
 }
 
 /// A mutator that asks.
-fn ask<R: Threads + Sync, M: BottomUp<Props> + Sync, G: Gate + Sync>(
+fn ask<R: Threads + Sync, M: BottomUp<Record> + Sync, G: Gate + Sync>(
     rt: &R,
     alloc: Global,
     shop: &Workshop<'_, G>,
     journal: &mut Vec<(u32, NodeId)>,
     pass: u32,
-    graph: Graph<Props>,
+    graph: Graph<Record>,
     rule: &M,
-) -> Result<Graph<Props>, Refusal>
+) -> Result<Graph<Record>, Refusal>
     requires may { MayStep shop.now journal.old.items graph.nodes }
     requires along { M.splits_along rule.now ≡ None }
     requires accepts { (m : ℕ) → M.accepts rule.now m ↔ places_in (length shop.now.mods.now) m }
@@ -88,21 +88,21 @@ fn ask<R: Threads + Sync, M: BottomUp<Props> + Sync, G: Gate + Sync>(
     ensures free { IfOk result (λ g. StayFree None graph.nodes g.nodes) }
 {
     // A law: so each asking node is a node.
-    outs_are_many::<Split<Props>>();
+    outs_are_many::<Split<Record>>();
     let made = run_rule(rt, alloc, shop, journal, pass, graph, rule)?;
     apply(alloc, shop.mods, made.graph, made.asked.as_slice())
 }
 
 /// A mutator that asks nothing.
-fn make<R: Threads + Sync, M: BottomUp<Props> + Sync, G: Gate + Sync>(
+fn make<R: Threads + Sync, M: BottomUp<Record> + Sync, G: Gate + Sync>(
     rt: &R,
     alloc: Global,
     shop: &Workshop<'_, G>,
     journal: &mut Vec<(u32, NodeId)>,
     pass: u32,
-    graph: Graph<Props>,
+    graph: Graph<Record>,
     rule: &M,
-) -> Result<Graph<Props>, Refusal>
+) -> Result<Graph<Record>, Refusal>
     requires may { MayStep shop.now journal.old.items graph.nodes }
     requires free { IsFreeFor (M.splits_along rule.now) graph.nodes }
     requires differ { DifferFor (M.meaning rule.now) graph.nodes (M.splits_along rule.now) }
@@ -123,8 +123,8 @@ fn ask_plugins<R: Threads + Sync, G: Gate + Sync>(
     shop: &Workshop<'_, G>,
     journal: &mut Vec<(u32, NodeId)>,
     pass: u32,
-    graph: Graph<Props>,
-) -> Result<Graph<Props>, Refusal>
+    graph: Graph<Record>,
+) -> Result<Graph<Record>, Refusal>
     requires may { MayStep shop.now journal.old.items graph.nodes }
     ensures tells { TellsStep shop.now AskPlugins pass graph.nodes journal.old.items journal.new.items result }
     ensures usable { IfOk result (λ g. IsUsable (length shop.now.mods.now) g.nodes) }
@@ -141,8 +141,8 @@ fn split_targets<R: Threads + Sync, G: Gate + Sync>(
     shop: &Workshop<'_, G>,
     journal: &mut Vec<(u32, NodeId)>,
     pass: u32,
-    graph: Graph<Props>,
-) -> Result<Graph<Props>, Refusal>
+    graph: Graph<Record>,
+) -> Result<Graph<Record>, Refusal>
     requires may { MayStep shop.now journal.old.items graph.nodes }
     requires free { HasFreeAxis Target graph.nodes }
     ensures tells { TellsStep shop.now SplitTargets pass graph.nodes journal.old.items journal.new.items result }
@@ -160,8 +160,8 @@ fn split_images<R: Threads + Sync, G: Gate + Sync>(
     shop: &Workshop<'_, G>,
     journal: &mut Vec<(u32, NodeId)>,
     pass: u32,
-    graph: Graph<Props>,
-) -> Result<Graph<Props>, Refusal>
+    graph: Graph<Record>,
+) -> Result<Graph<Record>, Refusal>
     requires may { MayStep shop.now journal.old.items graph.nodes }
     requires free { HasFreeAxis Image graph.nodes }
     ensures tells { TellsStep shop.now SplitImages pass graph.nodes journal.old.items journal.new.items result }
@@ -179,8 +179,8 @@ fn split_links<R: Threads + Sync, G: Gate + Sync>(
     shop: &Workshop<'_, G>,
     journal: &mut Vec<(u32, NodeId)>,
     pass: u32,
-    graph: Graph<Props>,
-) -> Result<Graph<Props>, Refusal>
+    graph: Graph<Record>,
+) -> Result<Graph<Record>, Refusal>
     requires may { MayStep shop.now journal.old.items graph.nodes }
     requires free { HasFreeAxis Link graph.nodes }
     ensures tells { TellsStep shop.now SplitLinks pass graph.nodes journal.old.items journal.new.items result }
@@ -198,8 +198,8 @@ fn split_sources<R: Threads + Sync, G: Gate + Sync>(
     shop: &Workshop<'_, G>,
     journal: &mut Vec<(u32, NodeId)>,
     pass: u32,
-    graph: Graph<Props>,
-) -> Result<Graph<Props>, Refusal>
+    graph: Graph<Record>,
+) -> Result<Graph<Record>, Refusal>
     requires may { MayStep shop.now journal.old.items graph.nodes }
     requires free { HasFreeAxis SourceAxis graph.nodes }
     ensures tells { TellsStep shop.now SplitSources pass graph.nodes journal.old.items journal.new.items result }
@@ -218,8 +218,8 @@ fn split_sanitized<R: Threads + Sync, G: Gate + Sync>(
     shop: &Workshop<'_, G>,
     journal: &mut Vec<(u32, NodeId)>,
     pass: u32,
-    graph: Graph<Props>,
-) -> Result<Graph<Props>, Refusal>
+    graph: Graph<Record>,
+) -> Result<Graph<Record>, Refusal>
     requires may { MayStep shop.now journal.old.items graph.nodes }
     requires free { HasFreeAxis SanitizeAxis graph.nodes }
     ensures tells { TellsStep shop.now SplitSanitized pass graph.nodes journal.old.items journal.new.items result }
@@ -244,8 +244,8 @@ fn mark_sanitized<R: Threads + Sync, G: Gate + Sync>(
     shop: &Workshop<'_, G>,
     journal: &mut Vec<(u32, NodeId)>,
     pass: u32,
-    graph: Graph<Props>,
-) -> Result<Graph<Props>, Refusal>
+    graph: Graph<Record>,
+) -> Result<Graph<Record>, Refusal>
     requires may { MayStep shop.now journal.old.items graph.nodes }
     ensures tells { TellsStep shop.now MarkSanitized pass graph.nodes journal.old.items journal.new.items result }
     ensures usable { IfOk result (λ g. IsUsable (length shop.now.mods.now) g.nodes) }
@@ -267,8 +267,8 @@ fn hand_levels<R: Threads + Sync, G: Gate + Sync>(
     shop: &Workshop<'_, G>,
     journal: &mut Vec<(u32, NodeId)>,
     pass: u32,
-    graph: Graph<Props>,
-) -> Result<Graph<Props>, Refusal>
+    graph: Graph<Record>,
+) -> Result<Graph<Record>, Refusal>
     requires may { MayStep shop.now journal.old.items graph.nodes }
     ensures tells { TellsStep shop.now HandLevels pass graph.nodes journal.old.items journal.new.items result }
     ensures usable { IfOk result (λ g. IsUsable (length shop.now.mods.now) g.nodes) }
@@ -291,8 +291,8 @@ pub fn step<R: Threads + Sync, G: Gate + Sync>(
     shop: &Workshop<'_, G>,
     journal: &mut Vec<(u32, NodeId)>,
     number: u32,
-    graph: Graph<Props>,
-) -> Result<Graph<Props>, Refusal>
+    graph: Graph<Record>,
+) -> Result<Graph<Record>, Refusal>
     requires may { MayStep shop.now journal.old.items graph.nodes }
     requires free { AreFreeAt number graph.nodes }
     requires last { number < passes }

@@ -5,9 +5,9 @@ ghost use Rattle.module_rules.specs.Shaped.{asks_shaped};
 ghost use Rattle.mutator_rules.specs.Conditions.{places_in};
 
 use bp_faults::{NodeId, OutOfMemory, Payload, Seq};
-use bp_props::{Module, Props};
+use bp_props::Module;
 use module_graph::{EdgeKind, Graph, Node};
-use module_rules::{NO_VARIATIONS, Seen, ask, one_variant};
+use module_rules::{NO_VARIATIONS, Record, Seen, ask, one_variant};
 use mutator_rules::{Axis, BottomUp, Config, Request, Split};
 use pass_core::VisitError;
 use std::alloc::Global;
@@ -42,17 +42,17 @@ impl<'a> DefaultsDeps<'a> {
 fn ask_defaults(
     alloc: Global,
     item: &Module,
-    node: &Node<Props>,
+    node: &Node<Record>,
 ) -> Result<Seq<Request>, OutOfMemory>
     ensures { IfOk result (λ asked. asked ≡ defaults_asked item.now node.now) }
 {
     let mut asked = Seq::new(Vec::new(alloc));
-    let list = &node.payload.defaults;
+    let list = &node.payload.props().defaults;
     ask(alloc, &mut asked, EdgeKind::Defaults, NO_VARIATIONS, list)?;
     Ok(asked)
 }
 
-impl<'a> BottomUp<Props> for DefaultsDeps<'a> {
+impl<'a> BottomUp<Record> for DefaultsDeps<'a> {
     ghost splits_along = { λ rule. None };
 
     ghost meaning = { λ rule. asks defaults_asked rule };
@@ -66,10 +66,10 @@ impl<'a> BottomUp<Props> for DefaultsDeps<'a> {
     fn visit(
         &self,
         alloc: Global,
-        g: &Graph<Props>,
+        g: &Graph<Record>,
         n: NodeId,
-        _ins: &[Arc<Split<Props>>],
-    ) -> Result<Split<Props>, VisitError> {
+        _ins: &[Arc<Split<Record>>],
+    ) -> Result<Split<Record>, VisitError> {
         let at = Seen::at(self.mods, g, n);
         let asked = ask_defaults(alloc, at.module, at.node)?;
         Ok(one_variant(alloc, at.node.payload.copy(alloc)?, asked)?)

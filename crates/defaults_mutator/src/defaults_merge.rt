@@ -9,7 +9,7 @@ use crate::following::followed;
 use bp_faults::{NodeId, OutOfMemory, Payload, Seq};
 use bp_props::{Module, ModuleKind, Props};
 use module_graph::{Graph, Node};
-use module_rules::{Seen, one_variant};
+use module_rules::{Record, Seen, one_variant};
 use mutator_rules::{Axis, BottomUp, Config, Split};
 use pass_core::VisitError;
 use std::alloc::Global;
@@ -44,17 +44,17 @@ impl<'a> DefaultsMerge<'a> {
 fn over_defaults(
     alloc: Global,
     kind: ModuleKind,
-    own: &Props,
+    own: &Record,
     given: Option<Props>,
-) -> Result<Props, OutOfMemory>
+) -> Result<Record, OutOfMemory>
     ensures { IfOk result (λ made. made ≡ over_defaults kind own.now given) }
 {
     match given {
         None => own.copy(alloc),
         Some(mut made) => {
-            made.over(alloc, own)?;
+            made.over(alloc, own.props())?;
             made.restrict(kind);
-            Ok(made)
+            Record::new(alloc, made)
         }
     }
 }
@@ -63,9 +63,9 @@ fn over_defaults(
 fn merge(
     alloc: Global,
     item: &Module,
-    node: &Node<Props>,
-    ins: &[Arc<Split<Props>>],
-) -> Result<Props, OutOfMemory>
+    node: &Node<Record>,
+    ins: &[Arc<Split<Record>>],
+) -> Result<Record, OutOfMemory>
     requires { length ins.now ≡ length node.now.edges }
     ensures { IfOk result (λ made. made ≡ defaults_merged item.now node.now (map arc_value ins.now)) }
 {
@@ -73,7 +73,7 @@ fn merge(
     over_defaults(alloc, item.kind, &node.payload, given)
 }
 
-impl<'a> BottomUp<Props> for DefaultsMerge<'a> {
+impl<'a> BottomUp<Record> for DefaultsMerge<'a> {
     ghost splits_along = { λ rule. None };
 
     ghost meaning = { λ rule. renews defaults_merged rule };
@@ -87,10 +87,10 @@ impl<'a> BottomUp<Props> for DefaultsMerge<'a> {
     fn visit(
         &self,
         alloc: Global,
-        g: &Graph<Props>,
+        g: &Graph<Record>,
         n: NodeId,
-        ins: &[Arc<Split<Props>>],
-    ) -> Result<Split<Props>, VisitError> {
+        ins: &[Arc<Split<Record>>],
+    ) -> Result<Split<Record>, VisitError> {
         let at = Seen::at(self.mods, g, n);
         let made = merge(alloc, at.module, at.node, ins)?;
         Ok(one_variant(alloc, made, Seq::new(Vec::new(alloc)))?)

@@ -6,13 +6,13 @@ ghost use Rattle.defaults_mutator.specs.Merged.{record_along, records_followed, 
 use bp_faults::{OutOfMemory, Payload};
 use bp_props::Props;
 use module_graph::{Edge, EdgeKind};
-use module_rules::first_record;
+use module_rules::{Record, first_record};
 use mutator_rules::Split;
 use std::alloc::Global;
 use std::sync::Arc;
 
 /// The record that an edge gives, if it is of kind Defaults.
-fn record_along<'a>(edge: &Edge, made: &'a Split<Props>) -> Option<&'a Props>
+fn record_along<'a>(edge: &Edge, made: &'a Split<Record>) -> Option<&'a Props>
     ensures { option_copied result ≡ record_along (edge.now, made.now) }
 {
     match edge.kind {
@@ -38,7 +38,7 @@ fn join(alloc: Global, all: &mut Option<Props>, one: &Props) -> Result<(), OutOf
 pub fn followed(
     alloc: Global,
     edges: &[Edge],
-    ins: &[Arc<Split<Props>>],
+    ins: &[Arc<Split<Record>>],
 ) -> Result<Option<Props>, OutOfMemory>
     requires { length ins.now ≡ length edges.now }
     ensures { IfOk result (λ all. all ≡ records_followed (defaults_given edges.now (map arc_value ins.now))) }

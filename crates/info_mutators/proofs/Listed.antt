@@ -7,7 +7,6 @@ use Rattle.bp_faults.specs.declared.limits.TheConstants.{LONGEST_LINE}
 use Rattle.std.specs.Borrow.{Bor}
 use Rattle.std.specs.List.{list_any, flat_map}
 use Rattle.std.proofs.lemmas.List.{map-append, reverse-append, take_more}
-use Rattle.std.proofs.lemmas.List.Folds.{list_any-append}
 use Rattle.std.proofs.lemmas.List.Sums.{fold-append}
 use Rattle.indexmap.specs.IndexSet.{insert_key, insert_all}
 use Rattle.bp_faults.specs.declared.ids.NodeId.{NodeId}
@@ -15,11 +14,10 @@ use Rattle.info_mutators.specs.Kept.{last_of_each, first_of_each, if_short}
 use Rattle.info_mutators.specs.Inside.{values_behind}
 use Rattle.info_mutators.specs.Info.{is_same_node, line_part, link_line_of, shared_part, needed_part, slibs_of, own_includes, include_part, includes_of, export_part, exports_of}
 use Rattle.pass_core.specs.Orders.{numbers}
-use Rattle.bp_faults.specs.declared.place.Item.{Item}
 use Rattle.std.specs.Str.{bytes_eq}
 use Rattle.bp_props.specs.declared.props.Props.{Props}
 use Rattle.info_mutators.specs.Dependencies.{Dependency}
-use Rattle.info_mutators.proofs.Noted.{or_false, last_kept, first_kept, some_short, none_short, both_long, both_same, short_then, short_reversed, short_behind}
+use Rattle.info_mutators.proofs.Noted.{last_kept, first_kept, some_short, none_short, both_long, both_same, short_then, short_reversed, short_behind}
 
 pub map-reverse : {A B : Type 0} (f : A → B) (xs : List A) → map f (reverse xs) ≡ reverse (map f xs)
 map-reverse f [] = refl

@@ -2,7 +2,7 @@
 use Rattle.std.proofs.Common.{◌≡◌, ◌<◌, ◌+◌, ◌++◌, ℕ, zero, suc, List, [], ◌∷◌, Bool, true, false, cond, length, map, get_or, take, Some, None, Result, Ok, Err, refl, sym, ap, subst, ◌∙◌, arith}
 use Rattle.std.specs.List.{zip, AllByRecursion}
 use Rattle.std.proofs.lemmas.List.Elements.{All-from_recursion}
-use Rattle.std.proofs.lemmas.List.{get_or_read, map-append, length-map}
+use Rattle.std.proofs.lemmas.List.{get_or_read, map-append}
 use Rattle.bp_faults.specs.declared.fault.Fault.{Fault}
 use Rattle.bp_props.specs.declared.module.Module.{Module}
 use Rattle.bp_props.specs.declared.props.Props.{Props}
@@ -13,7 +13,7 @@ use Rattle.std.specs.Option.{option_map_or}
 use Rattle.mutator_rules.specs.declared.split.Split.{Split}
 use Rattle.info_mutators.proofs.Zipped.{zip_more}
 use Rattle.info_mutators.specs.Dependencies.{record_made}
-use Rattle.module_rules.specs.Seen.{node_empty, module_empty, node_at, module_at, module_of, at_module, empty_result, IsSeen}
+use Rattle.module_rules.specs.Seen.{node_empty, module_empty, node_at, module_at, at_module, empty_result, IsSeen}
 use Rattle.info_mutators.specs.Dependencies.{Dependency, dependency_along, dependencies_of}
 use Rattle.info_mutators.specs.Info.{info_over, info_meant, with_lists, has_short_lists, too_long}
 use Rattle.module_rules.specs.Results.{one_variant}

@@ -1,15 +1,13 @@
 -- The shape of what `info` answers, as the ghost item `shaped` of its implementation wants it.
-use Rattle.std.specs.Prelude.{◌≡◌, ℕ, Bool, true, false, List, [], None, Result, Ok, Err, if◌then◌else◌}
+use Rattle.std.specs.Prelude.{Bool, true, false, List, [], None, Ok, Err, if◌then◌else◌}
 use Rattle.std.proofs.Common.{refl}
 use Rattle.bp_faults.specs.declared.fault.Fault.{Fault}
 use Rattle.bp_props.specs.declared.module.Module.{Module}
 use Rattle.bp_props.specs.declared.props.Props.{Props}
-use Rattle.module_graph.specs.declared.graph.Node.{Node}
 use Rattle.module_rules.specs.Results.{one_variant}
 use Rattle.module_rules.specs.Shaped.{AnswerHasShape, shaped_at}
-use Rattle.mutator_rules.specs.declared.split.Split.{Split}
 use Rattle.mutator_rules.specs.Shapes.{AreShaped}
-use Rattle.info_mutators.specs.Dependencies.{Dependency, dependencies_of}
+use Rattle.info_mutators.specs.Dependencies.{dependencies_of}
 use Rattle.info_mutators.specs.Info.{info_over, info_meant, too_long, with_lists, has_short_lists}
 
 -- A record or a fault: the record is one variant.

@@ -2,9 +2,8 @@ ghost use Rattle.std.specs.Prelude.{◌≡◌};
 ghost use Rattle.info_mutators.specs.Dependencies.{is_archived, is_linked_against, record_made};
 
 use bp_faults::{NodeId, Path, Text};
-use bp_props::Props;
 use module_graph::EdgeKind;
-use module_rules::first_record;
+use module_rules::{Record, first_record};
 use mutator_rules::Split;
 use std::marker::Model;
 
@@ -14,7 +13,7 @@ pub struct Dependency<'a> {
     kind: EdgeKind,
     node: NodeId,
     name: &'a Text,
-    made: &'a Split<Props>,
+    made: &'a Split<Record>,
 }
 
 impl<'a> Model for Dependency<'a> {
@@ -37,7 +36,7 @@ impl<'a> Dependency<'a> {
         kind: EdgeKind,
         node: NodeId,
         name: &'a Text,
-        made: &'a Split<Props>,
+        made: &'a Split<Record>,
     ) -> Dependency<'a>
         ensures { result ≡ record { kind = kind; node = node; name = name.now; props = record_made made.now } }
     {

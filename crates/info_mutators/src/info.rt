@@ -14,7 +14,7 @@ use crate::paths::includes_of;
 use bp_faults::{Fault, FaultKind, NodeId, OutOfMemory, Payload, Seq};
 use bp_props::{Module, Props};
 use module_graph::{Axis, Edge, Graph, Variations, label};
-use module_rules::{Seen, one_variant};
+use module_rules::{Record, Seen, one_variant};
 use mutator_rules::{BottomUp, Config, Split};
 use pass_core::VisitError;
 use std::alloc::Global;
@@ -25,9 +25,9 @@ use std::sync::Arc;
 fn dependencies_of<'a>(
     alloc: Global,
     mods: &'a [Module],
-    g: &'a Graph<Props>,
+    g: &'a Graph<Record>,
     edges: &'a [Edge],
-    made: &'a [Arc<Split<Props>>],
+    made: &'a [Arc<Split<Record>>],
 ) -> Result<Vec<Dependency<'a>>, OutOfMemory>
     requires may { MayRun (places_in (length mods.now)) g.now.nodes }
     requires ends { AllByRecursion (λ (e : Edge). e.to.0 < length g.now.nodes) edges.now }
@@ -99,7 +99,7 @@ impl<'a> Info<'a> {
     }
 }
 
-impl<'a> BottomUp<Props> for Info<'a> {
+impl<'a> BottomUp<Record> for Info<'a> {
     ghost splits_along = { λ rule. None };
 
     ghost meaning = { λ rule. info_meant rule };
@@ -113,15 +113,18 @@ impl<'a> BottomUp<Props> for Info<'a> {
     fn visit(
         &self,
         alloc: Global,
-        g: &Graph<Props>,
+        g: &Graph<Record>,
         n: NodeId,
-        ins: &[Arc<Split<Props>>],
-    ) -> Result<Split<Props>, VisitError> {
+        ins: &[Arc<Split<Record>>],
+    ) -> Result<Split<Record>, VisitError> {
         let at = Seen::at(self.mods, g, n);
         let edges = at.node.edges.as_slice();
         let dependencies = dependencies_of(alloc, self.mods, g, edges, ins)?;
-        match with_short_lists(alloc, &at.node.payload, &dependencies)? {
-            Some(props) => Ok(one_variant(alloc, props, Seq::new(Vec::new(alloc)))?),
+        match with_short_lists(alloc, at.node.payload.props(), &dependencies)? {
+            Some(props) => {
+                let made = Record::new(alloc, props)?;
+                Ok(one_variant(alloc, made, Seq::new(Vec::new(alloc)))?)
+            }
             None => Err(VisitError::Bad(too_long(alloc, at.module, &at.node.vars)?)),
         }
     }

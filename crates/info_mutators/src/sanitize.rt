@@ -9,7 +9,7 @@ use crate::dependency::is_archived;
 use bp_faults::{NodeId, OutOfMemory, Payload, Text};
 use bp_props::{Listed, Module, Props};
 use module_graph::{Axis, Edge, EdgeKind, Graph, Variation};
-use module_rules::{Seen, is_true_or};
+use module_rules::{Record, Seen, is_true_or};
 use mutator_rules::{Config, Transition};
 use pass_core::VisitError;
 use std::alloc::Global;
@@ -60,12 +60,12 @@ fn is_sanitized(kind: EdgeKind, props: &Props) -> bool
 }
 
 /// Whether a Whole or Static dependency has code of the sanitizer in it.
-fn has_sanitized(edges: &[Edge], ins: &[Arc<Props>]) -> bool
+fn has_sanitized(edges: &[Edge], ins: &[Arc<Record>]) -> bool
     requires { length ins.now ≡ length edges.now }
     ensures { result ≡ has_sanitized edges.now (map arc_value ins.now) }
 {
     for (place, edge) in edges.iter().enumerate() {
-        if is_sanitized(edge.kind, &ins[place]) {
+        if is_sanitized(edge.kind, ins[place].props()) {
             return true;
         }
     }
@@ -74,17 +74,20 @@ fn has_sanitized(edges: &[Edge], ins: &[Arc<Props>]) -> bool
 
 fn with_sanitizer(
     alloc: Global,
-    own: &Props,
+    own: &Record,
     compiles: bool,
     has: bool,
-) -> Result<Props, OutOfMemory>
+) -> Result<Record, OutOfMemory>
     ensures { IfOk result (λ made. made ≡ with_sanitizer compiles has own.now) }
 {
-    let mut made = own.copy(alloc)?;
+    if !compiles && !has && !own.props().asan {
+        return own.copy(alloc);
+    }
+    let mut made = own.props().copy(alloc)?;
     add_flag_if(alloc, &mut made.base.cflags, compiles)?;
     add_flag_if(alloc, &mut made.base.ldflags, has)?;
     made.asan = has;
-    Ok(made)
+    Record::new(alloc, made)
 }
 
 /// The rule `sanitize`: which variants are built with the address sanitizer. Contracts see it as the list of all
@@ -112,7 +115,7 @@ impl<'a> Sanitize<'a> {
     }
 }
 
-impl<'a> Transition<Props> for Sanitize<'a> {
+impl<'a> Transition<Record> for Sanitize<'a> {
     ghost meaning = { λ rule. sanitize_meant };
 
     ghost accepts = { λ rule. places_in (length rule) };
@@ -124,16 +127,16 @@ impl<'a> Transition<Props> for Sanitize<'a> {
     fn split(
         &self,
         alloc: Global,
-        g: &Graph<Props>,
+        g: &Graph<Record>,
         n: NodeId,
     ) -> Result<Vec<Variation>, VisitError> {
-        let props = &Seen::at(self.mods, g, n).node.payload;
+        let props = Seen::at(self.mods, g, n).node.payload.props();
         let mut list = Vec::new(alloc);
         list.push(asan_or(Variation::Empty, props))?;
         Ok(list)
     }
 
-    fn outgoing(&self, _g: &Graph<Props>, _n: NodeId, kind: EdgeKind, v: Variation) -> Variation {
+    fn outgoing(&self, _g: &Graph<Record>, _n: NodeId, kind: EdgeKind, v: Variation) -> Variation {
         if is_archived(kind) {
             v
         } else {
@@ -141,8 +144,8 @@ impl<'a> Transition<Props> for Sanitize<'a> {
         }
     }
 
-    fn incoming(&self, g: &Graph<Props>, n: NodeId, w: Variation) -> Variation {
-        let props = &Seen::at(self.mods, g, n).node.payload;
+    fn incoming(&self, g: &Graph<Record>, n: NodeId, w: Variation) -> Variation {
+        let props = Seen::at(self.mods, g, n).node.payload.props();
         if is_never(props) {
             Variation::Empty
         } else {
@@ -153,13 +156,15 @@ impl<'a> Transition<Props> for Sanitize<'a> {
     fn mutate(
         &self,
         alloc: Global,
-        g: &Graph<Props>,
+        g: &Graph<Record>,
         n: NodeId,
-        ins: &[Arc<Props>],
-    ) -> Result<Props, VisitError> {
+        ins: &[Arc<Record>],
+    ) -> Result<Record, VisitError> {
         let node = Seen::at(self.mods, g, n).node;
         let compiles = is_asan(node.vars.get(Axis::Sanitize));
-        let has = node.payload.asan || compiles || has_sanitized(node.edges.as_slice(), ins);
+        let has = node.payload.props().asan
+            || compiles
+            || has_sanitized(node.edges.as_slice(), ins);
         Ok(with_sanitizer(alloc, &node.payload, compiles, has)?)
     }
 }

@@ -1,12 +1,12 @@
-ghost use Rattle.std.specs.Prelude.{◌≡◌, Some, map, length, if◌then◌else◌};
+ghost use Rattle.std.specs.Prelude.{◌≡◌, IfOk, Some, map, length, if◌then◌else◌};
 ghost use Rattle.std.specs.Arc.{arc_value};
 ghost use Rattle.mutator_rules.specs.Conditions.{places_in};
 ghost use Rattle.info_mutators.specs.SdkLevel.{is_level_handed, lesser, least, handed_levels, own_level_or, level_meant};
 
-use bp_faults::{NodeId, Payload};
-use bp_props::{Given, Module, Props};
+use bp_faults::{NodeId, OutOfMemory, Payload};
+use bp_props::{Given, Module};
 use module_graph::{EdgeKind, Graph};
-use module_rules::Seen;
+use module_rules::{Record, Seen};
 use mutator_rules::{Config, TopDown};
 use pass_core::VisitError;
 use std::alloc::Global;
@@ -43,13 +43,13 @@ fn with_edge(least: Option<u32>, kind: EdgeKind, level: u32) -> Option<u32>
 }
 
 /// The least level that is handed to a node.
-fn least_handed(kinds: &[EdgeKind], ins: &[Arc<Props>]) -> Option<u32>
+fn least_handed(kinds: &[EdgeKind], ins: &[Arc<Record>]) -> Option<u32>
     requires { length ins.now ≡ length kinds.now }
     ensures { result ≡ least (handed_levels kinds.now (map arc_value ins.now)) }
 {
     let mut least = None;
     for (place, kind) in kinds.iter().enumerate() {
-        least = with_edge(least, *kind, ins[place].level);
+        least = with_edge(least, *kind, ins[place].props().level);
     }
     least
 }
@@ -61,6 +61,18 @@ fn own_level_or(level: u32, set: Option<Given<u32>>) -> u32
         Some(given) => given.value,
         None => level,
     }
+}
+
+/// A record with a level.
+fn at_level(alloc: Global, own: &Record, level: u32) -> Result<Record, OutOfMemory>
+    ensures { IfOk result (λ made. made ≡ record (own.now) { level = level }) }
+{
+    if own.props().level == level {
+        return own.copy(alloc);
+    }
+    let mut made = own.props().copy(alloc)?;
+    made.level = level;
+    Record::new(alloc, made)
 }
 
 /// The rule `sdk`: the level of the SDK that a module is built for. Contracts see it as the list of all modules.
@@ -87,7 +99,7 @@ impl<'a> SdkLevel<'a> {
     }
 }
 
-impl<'a> TopDown<Props> for SdkLevel<'a> {
+impl<'a> TopDown<Record> for SdkLevel<'a> {
     ghost meaning = { λ rule. level_meant };
 
     ghost accepts = { λ rule. places_in (length rule) };
@@ -95,15 +107,14 @@ impl<'a> TopDown<Props> for SdkLevel<'a> {
     fn visit(
         &self,
         alloc: Global,
-        g: &Graph<Props>,
+        g: &Graph<Record>,
         n: NodeId,
         kinds: &[EdgeKind],
-        ins: &[Arc<Props>],
-    ) -> Result<Props, VisitError> {
+        ins: &[Arc<Record>],
+    ) -> Result<Record, VisitError> {
         let own = &Seen::at(self.mods, g, n).node.payload;
         let handed = least_handed(kinds, ins).unwrap_or(NO_LEVEL);
-        let mut made = own.copy(alloc)?;
-        made.level = own_level_or(handed, own.min_sdk_version);
-        Ok(made)
+        let level = own_level_or(handed, own.props().min_sdk_version);
+        Ok(at_level(alloc, own, level)?)
     }
 }

@@ -13,7 +13,7 @@ use crate::{Info, Sanitize, SdkLevel};
 use bp_faults::{FaultKind, Item, ModuleId, NodeId, OutOfMemory, Path, Payload, Place, Seq, Text};
 use bp_props::{Given, Module, ModuleKind, Props};
 use module_graph::{Axis, Edge, EdgeKind, Graph, Node, Variation, Variations};
-use module_rules::one_variant;
+use module_rules::{Record, one_variant};
 use mutator_rules::{BottomUp, Config, Split, TopDown, Transition};
 use pass_core::VisitError;
 use std::alloc::Global;
@@ -65,7 +65,7 @@ fn edge(kind: EdgeKind, to: u32) -> Edge
     }
 }
 
-fn node(alloc: Global, module: u32, payload: Props, edges: Vec<Edge>) -> Node<Props>
+fn node(alloc: Global, module: u32, payload: Record, edges: Vec<Edge>) -> Node<Record>
     ensures module { result.«module».0 ≡ «module» }
     ensures edges { result.edges ≡ edges.items }
 {
@@ -81,7 +81,7 @@ fn node(alloc: Global, module: u32, payload: Props, edges: Vec<Edge>) -> Node<Pr
 #[derive(Drop)]
 struct World {
     mods: Vec<Module>,
-    graph: Graph<Props>,
+    graph: Graph<Record>,
 }
 
 /// The app's record is given, and that of the module that it depends on in three ways.
@@ -101,8 +101,10 @@ fn small_world(alloc: Global, app: Props, other: Props) -> Result<World, OutOfMe
     edges.push(edge(EdgeKind::Header, 2))?;
     edges.push(edge(EdgeKind::Whole, 2))?;
     let mut nodes = Vec::new(alloc);
+    let (app, other) = (Record::new(alloc, app)?, Record::new(alloc, other)?);
+    let library = Record::new(alloc, Props::empty(alloc))?;
     nodes.push(node(alloc, 0, app, edges))?;
-    nodes.push(node(alloc, 1, Props::empty(alloc), Vec::new(alloc)))?;
+    nodes.push(node(alloc, 1, library, Vec::new(alloc)))?;
     nodes.push(node(alloc, 2, other, Vec::new(alloc)))?;
     let graph = Graph {
         nodes: Seq::new(nodes),
@@ -122,8 +124,8 @@ fn library(alloc: Global, made: Made) -> Result<Props, OutOfMemory> {
     Ok(record)
 }
 
-fn done(alloc: Global, record: Props) -> Result<Arc<Split<Props>>, OutOfMemory> {
-    let made = one_variant(alloc, record, Seq::new(Vec::new(alloc)))?;
+fn done(alloc: Global, props: Props) -> Result<Arc<Split<Record>>, OutOfMemory> {
+    let made = one_variant(alloc, Record::new(alloc, props)?, Seq::new(Vec::new(alloc)))?;
     Ok(Arc::new(alloc, made)?)
 }
 
@@ -160,15 +162,16 @@ fn add_nodes(alloc: Global, text: &mut String, nodes: &[NodeId]) -> Result<(), O
 }
 
 /// The four lists of the first variant, or the fault's kind and subject.
-fn lists(alloc: Global, answer: &Result<Split<Props>, VisitError>) -> Result<String, OutOfMemory> {
+fn lists(alloc: Global, answer: &Result<Split<Record>, VisitError>) -> Result<String, OutOfMemory> {
     let mut text = String::new(alloc);
     match answer {
         Ok(made) => {
             for (_, record) in made.variants.as_slice() {
-                add_paths(&mut text, record.exports.as_slice())?;
-                add_paths(&mut text, record.includes.as_slice())?;
-                add_nodes(alloc, &mut text, record.line.as_slice())?;
-                add_nodes(alloc, &mut text, record.slibs.as_slice())?;
+                let props = record.props();
+                add_paths(&mut text, props.exports.as_slice())?;
+                add_paths(&mut text, props.includes.as_slice())?;
+                add_nodes(alloc, &mut text, props.line.as_slice())?;
+                add_nodes(alloc, &mut text, props.slibs.as_slice())?;
             }
         }
         Err(VisitError::Bad(fault)) => {
@@ -237,10 +240,10 @@ fn how_long_a_line_may_be(rt: HostRuntime) -> Result<(), Fail> {
     Ok(())
 }
 
-fn leveled(alloc: Global, level: u32) -> Result<Arc<Props>, OutOfMemory> {
-    let mut record = Props::empty(alloc);
-    record.level = level;
-    Ok(Arc::new(alloc, record)?)
+fn leveled(alloc: Global, level: u32) -> Result<Arc<Record>, OutOfMemory> {
+    let mut props = Props::empty(alloc);
+    props.level = level;
+    Ok(Arc::new(alloc, Record::new(alloc, props)?)?)
 }
 
 /// The level of the module that the app depends on as a shared, a header and a whole library.
@@ -254,7 +257,7 @@ fn level_with(alloc: Global, other: Props, levels: [u32; 3]) -> Result<u32, OutO
     let config = config(alloc);
     let rule = SdkLevel::new(&world.mods, &config);
     match rule.visit(alloc, &world.graph, NodeId(2), &kinds, &ins) {
-        Ok(record) => Ok(record.level),
+        Ok(record) => Ok(record.props().level),
         Err(_) => Err(OutOfMemory),
     }
 }
@@ -269,10 +272,10 @@ fn levels_come_from_dependents(rt: HostRuntime) -> Result<(), Fail> {
     Ok(())
 }
 
-fn sanitized(alloc: Global, asan: bool) -> Result<Arc<Props>, OutOfMemory> {
-    let mut record = Props::empty(alloc);
-    record.asan = asan;
-    Ok(Arc::new(alloc, record)?)
+fn sanitized(alloc: Global, asan: bool) -> Result<Arc<Record>, OutOfMemory> {
+    let mut props = Props::empty(alloc);
+    props.asan = asan;
+    Ok(Arc::new(alloc, Record::new(alloc, props)?)?)
 }
 
 /// How many flags the app is compiled and linked with, where the results of its four dependencies have that field.
@@ -287,8 +290,8 @@ fn flags_with(alloc: Global, asan: [bool; 4]) -> Result<(usize, usize), OutOfMem
     let rule = Sanitize::new(&world.mods, &config);
     match rule.mutate(alloc, &world.graph, NodeId(0), &ins) {
         Ok(record) => Ok((
-            record.base.cflags.items.as_slice().len(),
-            record.base.ldflags.items.as_slice().len(),
+            record.props().base.cflags.items.as_slice().len(),
+            record.props().base.ldflags.items.as_slice().len(),
         )),
         Err(_) => Err(OutOfMemory),
     }

@@ -9,7 +9,7 @@ use crate::wanting::own_with;
 use bp_faults::{NodeId, OutOfMemory, Payload, Seq};
 use bp_props::{Module, ModuleKind, Props, Source};
 use module_graph::{EdgeKind, Graph, Node, Variation, Variations};
-use module_rules::{COMMON, Seen, ask, one_variant, request};
+use module_rules::{COMMON, Record, Seen, ask, one_variant, request};
 use mutator_rules::{Axis, BottomUp, Config, Request, Split, Wanted};
 use pass_core::VisitError;
 use std::alloc::Global;
@@ -98,13 +98,17 @@ fn deps_of(
     Ok(asked)
 }
 
-fn deps_asked(alloc: Global, item: &Module, node: &Node<Props>) -> Result<Seq<Request>, OutOfMemory>
+fn deps_asked(
+    alloc: Global,
+    item: &Module,
+    node: &Node<Record>,
+) -> Result<Seq<Request>, OutOfMemory>
     ensures { IfOk result (λ asked. asked ≡ deps_asked item.now node.now) }
 {
-    deps_of(alloc, item.kind, &node.vars, &node.payload)
+    deps_of(alloc, item.kind, &node.vars, node.payload.props())
 }
 
-impl<'a> BottomUp<Props> for DepsAsk<'a> {
+impl<'a> BottomUp<Record> for DepsAsk<'a> {
     ghost splits_along = { λ rule. None };
 
     ghost meaning = { λ rule. asks deps_asked rule };
@@ -118,10 +122,10 @@ impl<'a> BottomUp<Props> for DepsAsk<'a> {
     fn visit(
         &self,
         alloc: Global,
-        g: &Graph<Props>,
+        g: &Graph<Record>,
         n: NodeId,
-        _ins: &[Arc<Split<Props>>],
-    ) -> Result<Split<Props>, VisitError> {
+        _ins: &[Arc<Split<Record>>],
+    ) -> Result<Split<Record>, VisitError> {
         let at = Seen::at(self.mods, g, n);
         let asked = deps_asked(alloc, at.module, at.node)?;
         Ok(one_variant(alloc, at.node.payload.copy(alloc)?, asked)?)

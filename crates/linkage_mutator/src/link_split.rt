@@ -7,9 +7,9 @@ ghost use Rattle.module_rules.specs.Shaped.{splits_shaped};
 ghost use Rattle.mutator_rules.specs.Conditions.{places_in};
 
 use bp_faults::{NodeId, OutOfMemory, Payload, Seq, Text};
-use bp_props::{GroupId, Module, ModuleKind, Props};
+use bp_props::{GroupId, Module, ModuleKind};
 use module_graph::{Graph, Node, Variation};
-use module_rules::{Seen, add_if_enabled, append_group};
+use module_rules::{Record, Seen, add_if_enabled, append_group};
 use mutator_rules::{Axis, BottomUp, Config, Split};
 use pass_core::VisitError;
 use std::alloc::Global;
@@ -40,21 +40,19 @@ impl<'a> LinkSplit<'a> {
     }
 }
 
-/// A copy of a record with its group of an id appended.
-fn with_group(alloc: Global, own: &Props, id: GroupId) -> Result<Props, OutOfMemory>
+/// A record with its group of an id appended.
+fn with_group(alloc: Global, own: &Record, id: GroupId) -> Result<Record, OutOfMemory>
     ensures { IfOk result (λ made. made ≡ with_group own.now id) }
 {
-    let mut made = own.copy(alloc)?;
-    append_group(alloc, &mut made, own, id)?;
-    Ok(made)
+    append_group(alloc, own.copy(alloc)?, own.props(), id)
 }
 
 /// The variants as they are linked, without the flag.
 fn links_of(
     alloc: Global,
     kind: ModuleKind,
-    own: &Props,
-) -> Result<Seq<(Variation, Props)>, OutOfMemory>
+    own: &Record,
+) -> Result<Seq<(Variation, Record)>, OutOfMemory>
     ensures { IfOk result (λ variants. variants ≡ links_of kind own.now) }
 {
     let mut variants = Seq::new(Vec::new(alloc));
@@ -72,13 +70,13 @@ fn links_of(
     Ok(variants)
 }
 
-fn with_pic(alloc: Global, own: Props) -> Result<Props, OutOfMemory>
+fn with_pic(alloc: Global, own: Record) -> Result<Record, OutOfMemory>
     ensures { IfOk result (λ made. made ≡ with_pic own) }
 {
-    let mut made = own;
+    let mut made = own.into_props(alloc)?;
     let flag = Text::from_str(alloc, "-fPIC")?;
     made.base.cflags.items.push(flag)?;
-    Ok(made)
+    Record::new(alloc, made)
 }
 
 fn has_link(variation: Variation) -> bool
@@ -89,8 +87,8 @@ fn has_link(variation: Variation) -> bool
 
 fn pic_if_linked(
     alloc: Global,
-    variant: (Variation, Props),
-) -> Result<(Variation, Props), OutOfMemory>
+    variant: (Variation, Record),
+) -> Result<(Variation, Record), OutOfMemory>
     ensures { IfOk result (λ made. made ≡ pic_if_linked variant) }
 {
     let (variation, own) = variant;
@@ -104,8 +102,8 @@ fn pic_if_linked(
 fn link_variants(
     alloc: Global,
     item: &Module,
-    node: &Node<Props>,
-) -> Result<Seq<(Variation, Props)>, OutOfMemory>
+    node: &Node<Record>,
+) -> Result<Seq<(Variation, Record)>, OutOfMemory>
     ensures { IfOk result (λ variants. variants ≡ link_variants item.now node.now) }
 {
     let links = links_of(alloc, item.kind, &node.payload)?;
@@ -116,7 +114,7 @@ fn link_variants(
     Ok(variants)
 }
 
-impl<'a> BottomUp<Props> for LinkSplit<'a> {
+impl<'a> BottomUp<Record> for LinkSplit<'a> {
     ghost splits_along = { λ rule. Some Link };
 
     ghost meaning = { λ rule. splits link_variants rule };
@@ -130,10 +128,10 @@ impl<'a> BottomUp<Props> for LinkSplit<'a> {
     fn visit(
         &self,
         alloc: Global,
-        g: &Graph<Props>,
+        g: &Graph<Record>,
         n: NodeId,
-        _ins: &[Arc<Split<Props>>],
-    ) -> Result<Split<Props>, VisitError> {
+        _ins: &[Arc<Split<Record>>],
+    ) -> Result<Split<Record>, VisitError> {
         let at = Seen::at(self.mods, g, n);
         Ok(Split {
             variants: link_variants(alloc, at.module, at.node)?,

@@ -10,7 +10,7 @@ ghost use Rattle.mutator_rules.specs.Conditions.{places_in};
 use bp_faults::{NodeId, OutOfMemory, Payload, Seq};
 use bp_props::{Given, Module, ModuleKind, Props, Source};
 use module_graph::{Graph, Node, Variation};
-use module_rules::{Seen, is_true_or};
+use module_rules::{Record, Seen, is_true_or};
 use mutator_rules::{Axis, BottomUp, Config, Split};
 use pass_core::VisitError;
 use std::alloc::Global;
@@ -42,21 +42,21 @@ impl<'a> PerSource<'a> {
 }
 
 /// A copy of a record with one source alone. The record has none, so that no other source is copied.
-fn with_source(alloc: Global, bare: &Props, source: &Source) -> Result<Props, OutOfMemory>
+fn with_source(alloc: Global, bare: &Props, source: &Source) -> Result<Record, OutOfMemory>
     ensures { IfOk result (λ made. made ≡ with_sources bare.now (source.now ∷ [])) }
 {
     let mut made = bare.copy(alloc)?;
     let mut items = Seq::new(Vec::new(alloc));
     items.push(source.copy(alloc)?)?;
     made.base.srcs.items = items;
-    Ok(made)
+    Record::new(alloc, made)
 }
 
 fn by_source(
     alloc: Global,
     own: &Props,
     sources: &[Source],
-) -> Result<Seq<(Variation, Props)>, OutOfMemory>
+) -> Result<Seq<(Variation, Record)>, OutOfMemory>
     ensures { IfOk result (λ variants. variants ≡ by_number (variant_of_source own.now) 1 sources.now) }
 {
     let mut bare = own.copy(alloc)?;
@@ -72,13 +72,13 @@ fn by_source(
 fn each_source(
     alloc: Global,
     split: bool,
-    own: &Props,
+    own: &Record,
     sources: &[Source],
-) -> Result<Seq<(Variation, Props)>, OutOfMemory>
+) -> Result<Seq<(Variation, Record)>, OutOfMemory>
     ensures { IfOk result (λ variants. variants ≡ each_source split own.now sources.now) }
 {
     if split && !sources.is_empty() {
-        return by_source(alloc, own, sources);
+        return by_source(alloc, own.props(), sources);
     }
     let mut variants = Seq::new(Vec::new(alloc));
     variants.push((Variation::Empty, own.copy(alloc)?))?;
@@ -97,16 +97,16 @@ fn is_split(kind: ModuleKind, flag: &Option<Given<bool>>) -> bool
 fn source_variants(
     alloc: Global,
     item: &Module,
-    node: &Node<Props>,
-) -> Result<Seq<(Variation, Props)>, OutOfMemory>
+    node: &Node<Record>,
+) -> Result<Seq<(Variation, Record)>, OutOfMemory>
     ensures { IfOk result (λ variants. variants ≡ source_variants item.now node.now) }
 {
-    let own = &node.payload;
+    let own = node.payload.props();
     let split = is_split(item.kind, &own.test_per_src);
-    each_source(alloc, split, own, own.base.srcs.items.as_slice())
+    each_source(alloc, split, &node.payload, own.base.srcs.items.as_slice())
 }
 
-impl<'a> BottomUp<Props> for PerSource<'a> {
+impl<'a> BottomUp<Record> for PerSource<'a> {
     ghost splits_along = { λ rule. Some SourceAxis };
 
     ghost meaning = { λ rule. splits source_variants rule };
@@ -120,10 +120,10 @@ impl<'a> BottomUp<Props> for PerSource<'a> {
     fn visit(
         &self,
         alloc: Global,
-        g: &Graph<Props>,
+        g: &Graph<Record>,
         n: NodeId,
-        _ins: &[Arc<Split<Props>>],
-    ) -> Result<Split<Props>, VisitError> {
+        _ins: &[Arc<Split<Record>>],
+    ) -> Result<Split<Record>, VisitError> {
         let at = Seen::at(self.mods, g, n);
         Ok(Split {
             variants: source_variants(alloc, at.module, at.node)?,

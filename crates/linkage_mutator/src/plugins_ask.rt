@@ -9,9 +9,9 @@ ghost use Rattle.mutator_rules.specs.Conditions.{places_in};
 use crate::wanting::own_with;
 use bp_faults::{Item, NodeId, OutOfMemory, Payload, Seq, Text};
 use bp_names::NameTable;
-use bp_props::{Module, ModuleKind, Props};
+use bp_props::{Module, ModuleKind};
 use module_graph::{EdgeKind, Graph, Node, Variation, Variations};
-use module_rules::{Seen, one_variant, request};
+use module_rules::{Record, Seen, one_variant, request};
 use mutator_rules::{Axis, BottomUp, Config, Request, Split};
 use pass_core::VisitError;
 use std::alloc::Global;
@@ -155,12 +155,12 @@ impl<'a, 't> PluginsAsk<'a, 't> {
         &self,
         alloc: Global,
         item: &Module,
-        node: &Node<Props>,
+        node: &Node<Record>,
     ) -> Result<Seq<Request>, OutOfMemory>
         ensures { IfOk result (λ asked. asked ≡ plugins_asked self.now item.now node.now) }
     {
         if is_shared(node.vars.get(Axis::Link)) {
-            let items = node.payload.plugin_of.items.as_slice();
+            let items = node.payload.props().plugin_of.items.as_slice();
             self.plugin_requests(alloc, &node.vars, items)
         } else {
             Ok(Seq::new(Vec::new(alloc)))
@@ -168,7 +168,7 @@ impl<'a, 't> PluginsAsk<'a, 't> {
     }
 }
 
-impl<'a, 't> BottomUp<Props> for PluginsAsk<'a, 't> {
+impl<'a, 't> BottomUp<Record> for PluginsAsk<'a, 't> {
     ghost splits_along = { λ rule. None };
 
     ghost meaning = { λ rule. asks (plugins_asked rule) rule };
@@ -182,10 +182,10 @@ impl<'a, 't> BottomUp<Props> for PluginsAsk<'a, 't> {
     fn visit(
         &self,
         alloc: Global,
-        g: &Graph<Props>,
+        g: &Graph<Record>,
         n: NodeId,
-        _ins: &[Arc<Split<Props>>],
-    ) -> Result<Split<Props>, VisitError> {
+        _ins: &[Arc<Split<Record>>],
+    ) -> Result<Split<Record>, VisitError> {
         let at = Seen::at(self.mods, g, n);
         let asked = self.plugins_asked(alloc, at.module, at.node)?;
         Ok(one_variant(alloc, at.node.payload.copy(alloc)?, asked)?)

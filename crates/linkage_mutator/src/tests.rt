@@ -8,6 +8,7 @@ use crate::{DepsAsk, LinkSplit, PerSource, PluginsAsk, module_names};
 use bp_faults::{Item, ModuleId, NodeId, OutOfMemory, Path, Place, Seq, Target, Text};
 use bp_props::{Given, GroupId, GroupProps, Module, ModuleKind, Props, Source};
 use module_graph::{Axis, Graph, Node, Variation, Variations};
+use module_rules::Record;
 use mutator_rules::{BottomUp, Config, Split};
 use pass_core::VisitError;
 use std::alloc::Global;
@@ -201,7 +202,7 @@ fn modules(alloc: Global, kind: ModuleKind) -> Result<Vec<Module>, OutOfMemory>
 }
 
 /// A graph of one node, without edges, for a device's vendor image.
-fn graph(alloc: Global, link: Variation, own: Props) -> Result<Graph<Props>, OutOfMemory>
+fn graph(alloc: Global, link: Variation, own: Props) -> Result<Graph<Record>, OutOfMemory>
     ensures may { IfOk result (λ g. MayVisit (places_in 5) g.nodes 0) }
     ensures targets { IfOk result (λ g. targets g.nodes 0 ≡ []) }
 {
@@ -213,7 +214,7 @@ fn graph(alloc: Global, link: Variation, own: Props) -> Result<Graph<Props>, Out
     nodes.push(Node {
         module: ModuleId(0),
         vars,
-        payload: own,
+        payload: Record::new(alloc, own)?,
         edges: Seq::new(Vec::new(alloc)),
     })?;
     Ok(Graph {
@@ -228,8 +229,9 @@ fn spelled(alloc: Global, variation: Variation) -> Result<String, OutOfMemory> {
     Ok(format!(in alloc; "{variation:?}")?)
 }
 
-fn add_variants(alloc: Global, out: &mut String, made: &Split<Props>) -> Result<(), OutOfMemory> {
-    for (variation, own) in made.variants.as_slice() {
+fn add_variants(alloc: Global, out: &mut String, made: &Split<Record>) -> Result<(), OutOfMemory> {
+    for (variation, record) in made.variants.as_slice() {
+        let own = record.props();
         out.push_str(format!(in alloc; "{variation:?} ")?.as_str())?;
         for flag in own.base.cflags.items.as_slice() {
             out.push_str(flag.as_str())?;
@@ -243,7 +245,7 @@ fn add_variants(alloc: Global, out: &mut String, made: &Split<Props>) -> Result<
     Ok(())
 }
 
-fn add_requests(alloc: Global, out: &mut String, made: &Split<Props>) -> Result<(), OutOfMemory> {
+fn add_requests(alloc: Global, out: &mut String, made: &Split<Record>) -> Result<(), OutOfMemory> {
     for request in made.requests.as_slice() {
         let kind = request.kind;
         let name = request.name.as_str();
@@ -258,10 +260,10 @@ fn add_requests(alloc: Global, out: &mut String, made: &Split<Props>) -> Result<
 }
 
 /// What a rule answers at the node.
-fn answer<M: BottomUp<Props>>(
+fn answer<M: BottomUp<Record>>(
     alloc: Global,
     rule: &M,
-    g: &Graph<Props>,
+    g: &Graph<Record>,
 ) -> Result<String, OutOfMemory>
     requires may { MayVisit (M.accepts rule.now) g.now.nodes 0 }
     requires targets { targets g.now.nodes 0 ≡ [] }

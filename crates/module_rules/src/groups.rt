@@ -1,24 +1,27 @@
-ghost use Rattle.std.specs.Prelude.{◌≡◌, OnOk};
+ghost use Rattle.std.specs.Prelude.{◌≡◌, IfOk};
 ghost use Rattle.module_rules.specs.Groups.{with_group};
 
+use crate::Record;
 use bp_faults::OutOfMemory;
 use bp_props::{GroupId, Props};
 use std::alloc::Global;
 
-/// Appends to a record its own group of an id, if it has one. `own` is a record with the same groups, such as the one
-/// that it is a copy of.
+/// A record with its own group of an id appended, if it has one. `own` has the same groups, such as the properties of
+/// which the record is a copy. Where there is no such group the record stays shared.
 pub fn append_group(
     alloc: Global,
-    made: &mut Props,
+    made: Record,
     own: &Props,
     id: GroupId,
-) -> Result<(), OutOfMemory>
-    requires { made.old.groups ≡ own.now.groups }
-    ensures appended { OnOk result (made.new ≡ with_group made.old id) }
-    ensures groups { OnOk result (made.new.groups ≡ own.now.groups) }
+) -> Result<Record, OutOfMemory>
+    requires { made.groups ≡ own.now.groups }
+    ensures appended { IfOk result (λ new. new ≡ with_group made id) }
+    ensures groups { IfOk result (λ new. new.groups ≡ own.now.groups) }
 {
-    if let Some(group) = own.group(id) {
-        made.append(alloc, group)?;
-    }
-    Ok(())
+    let Some(group) = own.group(id) else {
+        return Ok(made);
+    };
+    let mut props = made.into_props(alloc)?;
+    props.append(alloc, group)?;
+    Record::new(alloc, props)
 }

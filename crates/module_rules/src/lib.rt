@@ -8,12 +8,14 @@
 mod asking;
 mod groups;
 pub mod laws;
+mod record;
 mod results;
 mod seen;
 mod variants;
 
 pub use asking::{COMMON, NO_VARIATIONS, ask, request};
 pub use groups::append_group;
+pub use record::Record;
 pub use results::{first_record, one_variant};
 pub use seen::Seen;
 pub use variants::{add_if_enabled, is_enabled, is_true_or};

@@ -1,6 +1,7 @@
 ghost use Rattle.std.specs.Prelude.{◌≡◌, IfOk, option_copied};
 ghost use Rattle.module_rules.specs.Results.{one_variant, first_record};
 
+use crate::Record;
 use bp_faults::{OutOfMemory, Seq};
 use bp_props::Props;
 use module_graph::Variation;
@@ -10,9 +11,9 @@ use std::alloc::Global;
 /// A result of one variant.
 pub fn one_variant(
     alloc: Global,
-    record: Props,
+    record: Record,
     requests: Seq<Request>,
-) -> Result<Split<Props>, OutOfMemory>
+) -> Result<Split<Record>, OutOfMemory>
     ensures { IfOk result (λ made. made ≡ one_variant «record» requests) }
 {
     let mut variants = Seq::new(Vec::new(alloc));
@@ -21,11 +22,11 @@ pub fn one_variant(
 }
 
 /// The record of a result's first variant.
-pub fn first_record(made: &Split<Props>) -> Option<&Props>
+pub fn first_record(made: &Split<Record>) -> Option<&Props>
     ensures { option_copied result ≡ first_record made.now }
 {
     match made.variants.as_slice() {
         [] => None,
-        [first, ..] => Some(&first.1),
+        [first, ..] => Some(first.1.props()),
     }
 }

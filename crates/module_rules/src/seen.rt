@@ -2,20 +2,21 @@ ghost use Rattle.std.specs.Prelude.{length};
 ghost use Rattle.module_rules.specs.Seen.{IsSeen};
 ghost use Rattle.mutator_rules.specs.Conditions.{MayVisit, places_in};
 
+use crate::Record;
 use bp_faults::NodeId;
-use bp_props::{Module, Props};
+use bp_props::Module;
 use module_graph::{Graph, Node};
 
 /// What a rule sees at a node.
 #[derive(Clone, Copy)]
 pub struct Seen<'a> {
     pub module: &'a Module,
-    pub node: &'a Node<Props>,
+    pub node: &'a Node<Record>,
 }
 
 impl<'a> Seen<'a> {
     /// The module and the node that a rule sees at node `n`.
-    pub fn at(mods: &'a [Module], g: &'a Graph<Props>, n: NodeId) -> Seen<'a>
+    pub fn at(mods: &'a [Module], g: &'a Graph<Record>, n: NodeId) -> Seen<'a>
         requires { MayVisit (places_in (length mods.now)) g.now.nodes n.0 }
         ensures { IsSeen mods.now g.now.nodes n.0 result.module.now result.node.now }
     {

@@ -2,6 +2,7 @@ ghost use Rattle.std.specs.Prelude.{◌≡◌, ◌++◌, OnOk};
 ghost use Rattle.module_rules.specs.Flags.{is_true_or, is_enabled};
 ghost use Rattle.module_rules.specs.Variants.{if_enabled};
 
+use crate::Record;
 use bp_faults::{OutOfMemory, Seq};
 use bp_props::{Given, Props};
 use module_graph::Variation;
@@ -26,13 +27,13 @@ pub fn is_enabled(own: &Props) -> bool
 
 /// Adds a variant, unless its record isn't enabled.
 pub fn add_if_enabled(
-    variants: &mut Seq<(Variation, Props)>,
+    variants: &mut Seq<(Variation, Record)>,
     variation: Variation,
-    made: Props,
+    made: Record,
 ) -> Result<(), OutOfMemory>
     ensures { OnOk result (variants.new ≡ variants.old ++ if_enabled variation made) }
 {
-    if is_enabled(&made) {
+    if is_enabled(made.props()) {
         variants.push((variation, made))?;
     }
     Ok(())

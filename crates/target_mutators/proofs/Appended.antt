@@ -1,6 +1,5 @@
 -- Groups are appended one after another.
-use Rattle.std.proofs.Common.{◌≡◌, ◌<◌, ◌+◌, ◌++◌, ℕ, List, [], ◌∷◌, length, drop, get_or, fold, refl, ap, sym, ◌∙◌}
-use Rattle.std.proofs.lemmas.List.Sums.{fold-append}
+use Rattle.std.proofs.Common.{◌≡◌, ◌<◌, ◌+◌, ℕ, List, [], ◌∷◌, length, drop, get_or, refl, ap, sym, ◌∙◌}
 use Rattle.bp_faults.proofs.Lists.{drop-here}
 use Rattle.bp_props.specs.declared.group_id.GroupId.{GroupId}
 use Rattle.bp_props.specs.declared.props.Props.{Props}

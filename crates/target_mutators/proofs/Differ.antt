@@ -16,7 +16,7 @@ use Rattle.module_rules.specs.Groups.{with_group}
 use Rattle.module_rules.specs.Laws.{VariantsDiffer}
 use Rattle.target_mutators.specs.Arch.{is_built, target_variants, variants_of}
 use Rattle.target_mutators.specs.Groups.{with_groups}
-use Rattle.target_mutators.specs.Images.{is_for_device, is_in_system, is_in_vendor, is_in_recovery, image_variant, device_images, images_of}
+use Rattle.target_mutators.specs.Images.{is_for_device, is_in_system, is_in_vendor, is_in_recovery, device_images, images_of}
 use Rattle.target_mutators.specs.Targets.{groups_of}
 
 abbrev Differ : Variation × Props → Variation × Props → Type 0

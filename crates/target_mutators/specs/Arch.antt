@@ -1,5 +1,5 @@
 -- `arch`: for which targets a module is built.
-use Rattle.std.specs.Prelude.{Bool, true, false, ◌&&◌, not, ◌++◌, List, [], ◌∷◌, Option, cond}
+use Rattle.std.specs.Prelude.{Bool, true, false, ◌&&◌, not, ◌++◌, List, [], ◌∷◌, cond}
 use Rattle.std.specs.List.{list_any}
 use Rattle.std.specs.Option.{option_map_or}
 use Rattle.bp_faults.specs.declared.target.Target.{Target}

@@ -1,5 +1,5 @@
 -- `image`: on which images of a device a module is installed.
-use Rattle.std.specs.Prelude.{Bool, true, false, ◌||◌, not, ◌++◌, List, [], ◌∷◌, cond}
+use Rattle.std.specs.Prelude.{Bool, false, ◌||◌, not, ◌++◌, List, [], ◌∷◌, cond}
 use Rattle.bp_props.specs.declared.group_id.GroupId.{GroupId}
 use Rattle.bp_props.specs.declared.group_id.GroupId.TheVariants as G
 use Rattle.bp_props.specs.declared.module.Module.{Module}

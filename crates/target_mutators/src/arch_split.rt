@@ -11,12 +11,12 @@ ghost use Rattle.target_mutators.specs.Arch.{is_taken, is_built, target_variant,
 ghost use Rattle.target_mutators.specs.Groups.{with_groups};
 ghost use Rattle.target_mutators.specs.Targets.{row_of, groups_of};
 
-use crate::groups::append_groups;
+use crate::groups::{append_groups, with_groups};
 use crate::targets::{Bits, Class, bits_group, class_groups, row_of};
 use bp_faults::{NodeId, OutOfMemory, Payload, Seq, Target};
 use bp_props::{GroupId, Module, ModuleKind, Multi, Props};
 use module_graph::{Graph, Node, Variation};
-use module_rules::{Seen, add_if_enabled, is_true_or};
+use module_rules::{Record, Seen, add_if_enabled, is_true_or};
 use mutator_rules::{Axis, BottomUp, Config, Split};
 use pass_core::VisitError;
 use std::alloc::Global;
@@ -94,29 +94,28 @@ fn is_built(kind: ModuleKind, own: &Props, before: &[Target], target: Target) ->
     is_supported(row_of(target).class, own) && is_taken(multilib_of(kind, own), before, target)
 }
 
-/// A copy of a record with the groups of a target appended.
-fn for_target(alloc: Global, target: Target, own: &Props) -> Result<Props, OutOfMemory>
+/// A record with the groups of a target appended.
+fn for_target(alloc: Global, target: Target, own: &Record) -> Result<Record, OutOfMemory>
     ensures { IfOk result (λ made. made ≡ with_groups own.now (groups_of target)) }
 {
     let row = row_of(target);
-    let mut made = own.copy(alloc)?;
-    append_groups(alloc, &mut made, own, &[row.arch, bits_group(row.bits)])?;
-    append_groups(alloc, &mut made, own, class_groups(row.class))?;
-    append_groups(alloc, &mut made, own, &[GroupId::Named(target)])?;
-    Ok(made)
+    let props = own.props();
+    let made = with_groups(alloc, own, &[row.arch, bits_group(row.bits)])?;
+    let made = append_groups(alloc, made, props, class_groups(row.class))?;
+    append_groups(alloc, made, props, &[GroupId::Named(target)])
 }
 
 fn add_target(
     alloc: Global,
-    variants: &mut Seq<(Variation, Props)>,
+    variants: &mut Seq<(Variation, Record)>,
     kind: ModuleKind,
-    own: &Props,
+    own: &Record,
     before: &[Target],
     target: Target,
 ) -> Result<(), OutOfMemory>
     ensures { OnOk result (variants.new ≡ variants.old ++ target_variant kind own.now before.now target) }
 {
-    if is_built(kind, own, before, target) {
+    if is_built(kind, own.props(), before, target) {
         let made = for_target(alloc, target, own)?;
         add_if_enabled(variants, Variation::Target(target), made)?;
     }
@@ -126,9 +125,9 @@ fn add_target(
 fn target_variants(
     alloc: Global,
     kind: ModuleKind,
-    own: &Props,
+    own: &Record,
     targets: &[Target],
-) -> Result<Seq<(Variation, Props)>, OutOfMemory>
+) -> Result<Seq<(Variation, Record)>, OutOfMemory>
     ensures { IfOk result (λ variants. variants ≡ target_variants kind own.now [] targets.now) }
 {
     let mut variants = Seq::new(Vec::new(alloc));
@@ -138,7 +137,7 @@ fn target_variants(
     Ok(variants)
 }
 
-fn common_variant(alloc: Global, own: &Props) -> Result<Seq<(Variation, Props)>, OutOfMemory>
+fn common_variant(alloc: Global, own: &Record) -> Result<Seq<(Variation, Record)>, OutOfMemory>
     ensures { IfOk result (λ variants. variants ≡ if_enabled Common own.now) }
 {
     let mut variants = Seq::new(Vec::new(alloc));
@@ -150,8 +149,8 @@ fn arch_variants(
     alloc: Global,
     config: &Config,
     item: &Module,
-    node: &Node<Props>,
-) -> Result<Seq<(Variation, Props)>, OutOfMemory>
+    node: &Node<Record>,
+) -> Result<Seq<(Variation, Record)>, OutOfMemory>
     ensures { IfOk result (λ variants. variants ≡ arch_variants config.now item.now node.now) }
 {
     let own = &node.payload;
@@ -189,7 +188,7 @@ impl<'a> ArchSplit<'a> {
     }
 }
 
-impl<'a> BottomUp<Props> for ArchSplit<'a> {
+impl<'a> BottomUp<Record> for ArchSplit<'a> {
     ghost splits_along = { λ rule. Some TargetAxis };
 
     ghost meaning = { λ rule. splits (arch_variants rule.1) rule.0 };
@@ -203,10 +202,10 @@ impl<'a> BottomUp<Props> for ArchSplit<'a> {
     fn visit(
         &self,
         alloc: Global,
-        g: &Graph<Props>,
+        g: &Graph<Record>,
         n: NodeId,
-        _ins: &[Arc<Split<Props>>],
-    ) -> Result<Split<Props>, VisitError> {
+        _ins: &[Arc<Split<Record>>],
+    ) -> Result<Split<Record>, VisitError> {
         let at = Seen::at(self.mods, g, n);
         Ok(Split {
             variants: arch_variants(alloc, self.config, at.module, at.node)?,

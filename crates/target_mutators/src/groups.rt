@@ -1,33 +1,33 @@
-ghost use Rattle.std.specs.Prelude.{◌≡◌, IfOk, OnOk};
+ghost use Rattle.std.specs.Prelude.{◌≡◌, IfOk};
 ghost use Rattle.target_mutators.specs.Groups.{with_groups};
 
 use bp_faults::{OutOfMemory, Payload};
 use bp_props::{GroupId, Props};
-use module_rules::append_group;
+use module_rules::{Record, append_group};
 use std::alloc::Global;
 
-/// Appends to a record some of its own groups, in order. `own` is a record with the same groups.
+/// A record with some of its own groups appended, in order. `own` has the same groups.
 pub fn append_groups(
     alloc: Global,
-    made: &mut Props,
+    made: Record,
     own: &Props,
     ids: &[GroupId],
-) -> Result<(), OutOfMemory>
-    requires { made.old.groups ≡ own.now.groups }
-    ensures appended { OnOk result (made.new ≡ with_groups made.old ids.now) }
-    ensures groups { OnOk result (made.new.groups ≡ own.now.groups) }
+) -> Result<Record, OutOfMemory>
+    requires { made.groups ≡ own.now.groups }
+    ensures appended { IfOk result (λ new. new ≡ with_groups made ids.now) }
+    ensures groups { IfOk result (λ new. new.groups ≡ own.now.groups) }
 {
+    let mut all = made;
     for id in ids {
-        append_group(alloc, made, own, *id)?;
+        all = append_group(alloc, all, own, *id)?;
     }
-    Ok(())
+    Ok(all)
 }
 
-/// A copy of a record with some of its groups appended.
-pub fn with_groups(alloc: Global, own: &Props, ids: &[GroupId]) -> Result<Props, OutOfMemory>
-    ensures { IfOk result (λ made. made ≡ with_groups own.now ids.now) }
+/// A record with some of its groups appended.
+pub fn with_groups(alloc: Global, own: &Record, ids: &[GroupId]) -> Result<Record, OutOfMemory>
+    ensures appended { IfOk result (λ made. made ≡ with_groups own.now ids.now) }
+    ensures groups { IfOk result (λ made. made.groups ≡ own.now.groups) }
 {
-    let mut made = own.copy(alloc)?;
-    append_groups(alloc, &mut made, own, ids)?;
-    Ok(made)
+    append_groups(alloc, own.copy(alloc)?, own.props(), ids)
 }

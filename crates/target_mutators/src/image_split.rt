@@ -13,7 +13,7 @@ use crate::targets::Class;
 use bp_faults::{NodeId, OutOfMemory, Payload, Seq};
 use bp_props::{GroupId, Module, Props};
 use module_graph::{Graph, Node, Variation};
-use module_rules::{Seen, add_if_enabled, is_true_or};
+use module_rules::{Record, Seen, add_if_enabled, is_true_or};
 use mutator_rules::{Axis, BottomUp, Config, Split};
 use pass_core::VisitError;
 use std::alloc::Global;
@@ -50,9 +50,9 @@ fn is_in_system(own: &Props) -> bool
 /// Adds the module as it is.
 fn add_own(
     alloc: Global,
-    variants: &mut Seq<(Variation, Props)>,
+    variants: &mut Seq<(Variation, Record)>,
     is_in: bool,
-    own: &Props,
+    own: &Record,
 ) -> Result<(), OutOfMemory>
     ensures { OnOk result (variants.new ≡ variants.old ++ cond is_in ((Empty, own.now) ∷ []) []) }
 {
@@ -65,11 +65,11 @@ fn add_own(
 /// Adds the variant of an image.
 fn add_image(
     alloc: Global,
-    variants: &mut Seq<(Variation, Props)>,
+    variants: &mut Seq<(Variation, Record)>,
     is_in: bool,
     v: Variation,
     id: GroupId,
-    own: &Props,
+    own: &Record,
 ) -> Result<(), OutOfMemory>
     ensures { OnOk result (variants.new ≡ variants.old ++ image_variant is_in v id own.now) }
 {
@@ -79,16 +79,17 @@ fn add_image(
     Ok(())
 }
 
-fn device_images(alloc: Global, own: &Props) -> Result<Seq<(Variation, Props)>, OutOfMemory>
+fn device_images(alloc: Global, own: &Record) -> Result<Seq<(Variation, Record)>, OutOfMemory>
     ensures { IfOk result (λ variants. variants ≡ device_images own.now) }
 {
     let mut variants = Seq::new(Vec::new(alloc));
     let to = &mut variants;
-    add_own(alloc, to, is_in_system(own), own)?;
+    let props = own.props();
+    add_own(alloc, to, is_in_system(props), own)?;
     add_image(
         alloc,
         to,
-        is_in_vendor(own),
+        is_in_vendor(props),
         Variation::Vendor,
         GroupId::Vendor,
         own,
@@ -96,7 +97,7 @@ fn device_images(alloc: Global, own: &Props) -> Result<Seq<(Variation, Props)>, 
     add_image(
         alloc,
         to,
-        is_in_recovery(own),
+        is_in_recovery(props),
         Variation::Recovery,
         GroupId::Recovery,
         own,
@@ -104,7 +105,7 @@ fn device_images(alloc: Global, own: &Props) -> Result<Seq<(Variation, Props)>, 
     Ok(variants)
 }
 
-fn system_alone(alloc: Global, own: &Props) -> Result<Seq<(Variation, Props)>, OutOfMemory>
+fn system_alone(alloc: Global, own: &Record) -> Result<Seq<(Variation, Record)>, OutOfMemory>
     ensures { IfOk result (λ variants. variants ≡ (Empty, own.now) ∷ []) }
 {
     let mut variants = Seq::new(Vec::new(alloc));
@@ -115,8 +116,8 @@ fn system_alone(alloc: Global, own: &Props) -> Result<Seq<(Variation, Props)>, O
 fn image_variants(
     alloc: Global,
     item: &Module,
-    node: &Node<Props>,
-) -> Result<Seq<(Variation, Props)>, OutOfMemory>
+    node: &Node<Record>,
+) -> Result<Seq<(Variation, Record)>, OutOfMemory>
     ensures { IfOk result (λ variants. variants ≡ image_variants item.now node.now) }
 {
     let own = &node.payload;
@@ -152,7 +153,7 @@ impl<'a> ImageSplit<'a> {
     }
 }
 
-impl<'a> BottomUp<Props> for ImageSplit<'a> {
+impl<'a> BottomUp<Record> for ImageSplit<'a> {
     ghost splits_along = { λ rule. Some Image };
 
     ghost meaning = { λ rule. splits image_variants rule };
@@ -166,10 +167,10 @@ impl<'a> BottomUp<Props> for ImageSplit<'a> {
     fn visit(
         &self,
         alloc: Global,
-        g: &Graph<Props>,
+        g: &Graph<Record>,
         n: NodeId,
-        _ins: &[Arc<Split<Props>>],
-    ) -> Result<Split<Props>, VisitError> {
+        _ins: &[Arc<Split<Record>>],
+    ) -> Result<Split<Record>, VisitError> {
         let at = Seen::at(self.mods, g, n);
         Ok(Split {
             variants: image_variants(alloc, at.module, at.node)?,

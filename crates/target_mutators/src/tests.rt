@@ -9,6 +9,7 @@ use crate::{ArchSplit, ImageSplit};
 use bp_faults::{ModuleId, NodeId, OutOfMemory, Path, Payload, Place, Seq, Target, Text};
 use bp_props::{Given, GroupId, GroupProps, Module, ModuleKind, Multi, Props};
 use module_graph::{Axis, Graph, Node, Variation, Variations, variation_name};
+use module_rules::Record;
 use mutator_rules::{BottomUp, Config, Split};
 use std::alloc::Global;
 use std::test::Fail;
@@ -103,7 +104,7 @@ fn record(alloc: Global, settings: &[Setting]) -> Result<Props, OutOfMemory> {
 #[derive(Drop)]
 struct World {
     mods: Vec<Module>,
-    graph: Graph<Props>,
+    graph: Graph<Record>,
 }
 
 fn one_module(
@@ -129,7 +130,7 @@ fn one_module(
     nodes.push(Node {
         module: ModuleId(0),
         vars,
-        payload: record,
+        payload: Record::new(alloc, record)?,
         edges: Seq::new(Vec::new(alloc)),
     })?;
     let graph = Graph {
@@ -138,12 +139,12 @@ fn one_module(
     Ok(World { mods, graph })
 }
 
-fn shown(alloc: Global, made: &Split<Props>) -> Result<String, OutOfMemory> {
+fn shown(alloc: Global, made: &Split<Record>) -> Result<String, OutOfMemory> {
     let mut out = String::new(alloc);
     for (variation, record) in made.variants.as_slice() {
         out.push_str(variation_name(alloc, *variation)?.as_str())?;
         out.push_str(":")?;
-        for flag in record.base.cflags.items.as_slice() {
+        for flag in record.props().base.cflags.items.as_slice() {
             out.push_str(" ")?;
             out.push_str(flag.as_str())?;
         }
@@ -153,10 +154,10 @@ fn shown(alloc: Global, made: &Split<Props>) -> Result<String, OutOfMemory> {
 }
 
 /// What a rule answers at the node, by its trait.
-fn answer<M: BottomUp<Props>>(
+fn answer<M: BottomUp<Record>>(
     alloc: Global,
     rule: &M,
-    graph: &Graph<Props>,
+    graph: &Graph<Record>,
 ) -> Result<String, OutOfMemory>
     requires may { MayVisit (M.accepts rule.now) graph.now.nodes 0 }
     requires alone { targets graph.now.nodes 0 ≡ [] }

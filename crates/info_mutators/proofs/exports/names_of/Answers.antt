@@ -1,4 +1,4 @@
-use Rattle.std.proofs.Common.{◌≡◌, ◌∙◌, sym, subst, take, List, ℕ}
+use Rattle.std.proofs.Common.{sym, subst, take, List, ℕ}
 use Rattle.bp_faults.proofs.Lists.{map-take-more}
 use Rattle.bp_faults.specs.declared.place.Item.{Item}
 use Rattle.bp_names.specs.Meaning.{IsSetOf}

@@ -1,4 +1,4 @@
-use Rattle.std.proofs.Common.{◌≡◌, ◌<◌, ◌+◌, ◌-◌, ◌≤◌, length, arith, ◌∙◌}
+use Rattle.std.proofs.Common.{◌-◌, arith, ◌∙◌}
 use Rattle.info_mutators.proofs.Listed.{node_left}
 use Rattle.info_mutators.proofs.nodes.note_from_end.Goals as goal
 

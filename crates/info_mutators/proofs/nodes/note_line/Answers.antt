@@ -1,4 +1,4 @@
-use Rattle.std.proofs.Common.{◌≡◌, ◌<◌, ◌+◌, ◌-◌, ◌≤◌, length, arith, nat_eq}
+use Rattle.std.proofs.Common.{◌-◌, arith, nat_eq}
 use Rattle.pass_core.specs.Orders.{numbers}
 use Rattle.info_mutators.specs.Dependencies.{Dependency}
 use Rattle.info_mutators.specs.Info.{line_part}

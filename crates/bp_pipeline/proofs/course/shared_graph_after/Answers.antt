@@ -5,7 +5,7 @@ use Rattle.module_graph.specs.declared.graph.Graph.{Graph}
 use Rattle.pass_ways.specs.declared.way.Way.TheVariants.{Workers}
 use Rattle.bp_pipeline.specs.Course.{CourseMeans}
 use Rattle.bp_pipeline.proofs.Stepping.{course_tells}
-use Rattle.bp_pipeline.proofs.course.graph_after.Goals as goal
+use Rattle.bp_pipeline.proofs.course.shared_graph_after.Goals as goal
 
 pub returns-clause-means : goal.returns-clause-means
 returns-clause-means g c =
