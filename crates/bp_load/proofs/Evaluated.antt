@@ -1,8 +1,8 @@
 -- Files evaluated in parts: a trunk and its branches, and two halves of which the second begins a branch.
 use Rattle.std.proofs.Common.{◌≡◌, ℕ, List, [], ◌++◌, Vec, Global, map, take, drop, ap, sym, subst, ◌∙◌}
-use Rattle.std.specs.Prelude.{Result, Ok, Err}
+use Rattle.std.specs.Prelude.{Result}
 use Rattle.std.specs.List.Sorted.{IsStrictlySortedBy}
-use Rattle.std.proofs.lemmas.List.{map-append, take-map, drop-map, take-append-drop}
+use Rattle.std.proofs.lemmas.List.{map-append, take-map, drop-map}
 use Rattle.bp_faults.specs.declared.fault.Fault.{Fault}
 use Rattle.bp_values.specs.declared.file.RawModule.{RawModule}
 use Rattle.bp_values.specs.Scopes.{Pairs}
@@ -10,10 +10,10 @@ use Rattle.bp_load.specs.declared.parsed.Parsed.{Parsed}
 use Rattle.bp_load.specs.Directories.{directory_cmp}
 use Rattle.bp_load.specs.Trees.{Placed, placed_of}
 use Rattle.bp_load.specs.Inherited.{placed_raw}
-use Rattle.bp_load.specs.Opened.{Turn, scope_in, innermost, evaluated_in, all_turned, no_turn}
+use Rattle.bp_load.specs.Opened.{Turn, evaluated_in, all_turned, no_turn}
 use Rattle.bp_load.specs.Branches.{directories_of, IsTrunk, IsBranch}
 use Rattle.bp_load.proofs.Joined.{taken_and_dropped, and_then}
-use Rattle.bp_load.proofs.Turns.{Modules, goes_none}
+use Rattle.bp_load.proofs.Turns.{goes_none}
 use Rattle.bp_load.proofs.Bases.{behind, trunk_first, evaluated_apart, AreAbove, AreSeparate}
 use Rattle.bp_load.proofs.Branches.{separate_at, trunk_above, sorted_front, sorted_back}
 

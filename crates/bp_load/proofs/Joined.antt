@@ -100,7 +100,7 @@ abbrev pub and_then : {V : Type 0} → Result (List V) Fault → Result (List V)
 and_then front back = then_do front (λ ms. then_do back (λ more. Ok (ms ++ more)))
 
 module _ {T V : Type 0} (show : Vec T Global → List V)
-  (joins : (front back all : Vec T Global) → all.items ≡ front.items ++ back.items → show all ≡ show front ++ show back) where
+    (joins : (front back all : Vec T Global) → all.items ≡ front.items ++ back.items → show all ≡ show front ++ show back) where
   pub both_answered : (first second : Result (List V) Fault) (front back whole : Result (Vec T Global) Refusal) → Answers show front first
       → Answers show back second → AreJoined front back whole → Answers show whole (and_then first second)
   both_answered first second (Err (Bad fault)) back whole a b is =

@@ -1,4 +1,4 @@
-use Rattle.std.proofs.Common.{◌≡◌, ℕ, ◌+◌, ◌≤◌, ◌<◌, List, [], length, get_or, map, subst, ap, sym, ◌∙◌, arith, false, true}
+use Rattle.std.proofs.Common.{◌≡◌, ℕ, ◌+◌, List, [], length, get_or, map, subst, ap, sym, ◌∙◌, arith, false}
 use Rattle.std.proofs.lemmas.List.{length-map}
 use Rattle.bp_load.specs.declared.parsed.Parsed.{Parsed}
 use Rattle.bp_load.specs.Directories.{is_above}
@@ -10,7 +10,7 @@ use Rattle.bp_load.proofs.evaluating.cut.Goals.{then-not-is_above+then-abs_diff-
 
 pub files-preserved : goal.files-preserved
 files-preserved c = elim c.if-not-is_above.branch [
-  then-not-is_above+then-abs_diff-farthest w ↦ (
+  | then-not-is_above+then-abs_diff-farthest w ↦ (
     ap (λ n. n + 1) at,
     omega (arith, at, w.best-is),
     subst (IsBranch all) (sym (w.best-is ∙ at)) (begins w.if-not-is_above.true),

@@ -1,4 +1,4 @@
-use Rattle.std.proofs.Common.{◌≡◌, ◌≤◌, length}
+use Rattle.std.proofs.Common.{◌≡◌, ◌≤◌}
 use Rattle.bp_load.specs.Branches.{directories_of, IsBranch}
 use Rattle.bp_load.proofs.Branches.{IsOpenBranch}
 use Rattle.bp_load.proofs.evaluating.cut.Given as goal
