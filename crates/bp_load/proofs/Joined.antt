@@ -94,10 +94,29 @@ module _ {A B : Type 0} (Means : ℕ → A → Result B Fault → Type 0) where
     both = λ ys ws front back. each_append n xs zs ys ws front back;
   }
 
--- modules that are typed, one half behind the other
+-- what both halves come to, where each means a list or a fault
 
-abbrev and_then : Result (List Module) Fault → Result (List Module) Fault → Result (List Module) Fault
+abbrev pub and_then : {V : Type 0} → Result (List V) Fault → Result (List V) Fault → Result (List V) Fault
 and_then front back = then_do front (λ ms. then_do back (λ more. Ok (ms ++ more)))
+
+module _ {T V : Type 0} (show : Vec T Global → List V)
+    (joins : (front back all : Vec T Global) → all.items ≡ front.items ++ back.items → show all ≡ show front ++ show back) where
+  pub both_answered : (first second : Result (List V) Fault) (front back whole : Result (Vec T Global) Refusal) → Answers show front first
+      → Answers show back second → AreJoined front back whole → Answers show whole (and_then first second)
+  both_answered first second (Err (Bad fault)) back whole a b is =
+      subst (λ r. Answers show r (and_then first second)) (sym is) (ap (λ o. and_then o second) a)
+  both_answered first second (Err OutOfMemory) back whole a b is =
+      subst (λ r. Answers show r (and_then first second)) (sym is) tt
+  both_answered first second (Ok front) (Err (Bad fault)) whole a b is =
+      subst (λ r. Answers show r (and_then first second)) (sym is) (ap (λ o. and_then o second) a ∙ ap (and_then (Ok (show front))) b)
+  both_answered first second (Ok front) (Err OutOfMemory) whole a b is =
+      subst (λ r. Answers show r (and_then first second)) (sym is) tt
+  both_answered first second (Ok front) (Ok back) (Ok all) a b is =
+      ap (λ o. and_then o second) a ∙ ap (and_then (Ok (show front))) b ∙ ap Ok (sym (joins front back all is))
+  both_answered first second (Ok front) (Ok back) (Err refusal) a b is =
+      subst (λ r. Answers show (Err r) (and_then first second)) (sym is) tt
+
+-- modules that are typed, one half behind the other
 
 typed_append : (xs ys : List (List ℕ × Raw)) → all_typed (xs ++ ys) ≡ and_then (all_typed xs) (all_typed ys)
 typed_append [] ys = by (all_typed ys)
@@ -118,25 +137,10 @@ typed_append (x ∷ xs) ys = by (typed x.1 x.0) (all_typed xs) (all_typed ys) (t
 abbrev items : Vec Module Global → List Module
 items made = made.items
 
-both_typed : (first second : Result (List Module) Fault) (front back whole : Result (Vec Module Global) Refusal) → Answers items front first
-    → Answers items back second → AreJoined front back whole → Answers items whole (and_then first second)
-both_typed first second (Err (Bad fault)) back whole a b is =
-    subst (λ r. Answers items r (and_then first second)) (sym is) (ap (λ o. and_then o second) a)
-both_typed first second (Err OutOfMemory) back whole a b is =
-    subst (λ r. Answers items r (and_then first second)) (sym is) tt
-both_typed first second (Ok front) (Err (Bad fault)) whole a b is =
-    subst (λ r. Answers items r (and_then first second)) (sym is) (ap (λ o. and_then o second) a ∙ ap (and_then (Ok front.items)) b)
-both_typed first second (Ok front) (Err OutOfMemory) whole a b is =
-    subst (λ r. Answers items r (and_then first second)) (sym is) tt
-both_typed first second (Ok front) (Ok back) (Ok all) a b is =
-    ap (λ o. and_then o second) a ∙ ap (and_then (Ok front.items)) b ∙ ap Ok (sym is)
-both_typed first second (Ok front) (Ok back) (Err refusal) a b is =
-    subst (λ r. Answers items (Err r) (and_then first second)) (sym is) tt
-
 pub typed_joined : (all xs ys : List (List ℕ × RawModule)) → xs ++ ys ≡ all → (front back whole : Result (Vec Module Global) Refusal)
     → Answers items front (all_typed (map placed_raw xs)) → Answers items back (all_typed (map placed_raw ys)) → AreJoined front back whole
     → Answers items whole (all_typed (map placed_raw all))
 typed_joined all xs ys is front back whole a b joins =
     let parts : all_typed (map placed_raw all) ≡ and_then (all_typed (map placed_raw xs)) (all_typed (map placed_raw ys)) =
     ap (λ raws. all_typed (map placed_raw raws)) (sym is) ∙ ap all_typed (map-append placed_raw xs ys) ∙ typed_append (map placed_raw xs) (map placed_raw ys) in
-    subst (Answers items whole) (sym parts) (both_typed (all_typed (map placed_raw xs)) (all_typed (map placed_raw ys)) front back whole a b joins)
+    subst (Answers items whole) (sym parts) (both_answered items (λ front back all is. is) (all_typed (map placed_raw xs)) (all_typed (map placed_raw ys)) front back whole a b joins)

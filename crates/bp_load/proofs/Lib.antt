@@ -4,6 +4,9 @@ pub mod Joined
 pub mod Above
 pub mod Stack
 pub mod Turns
+pub mod Bases
+pub mod Branches
+pub mod Evaluated
 pub mod Orders
 pub mod Members
 pub mod Listing

@@ -28,7 +28,7 @@ pub record IsOpen (finished opened : List Finished) : Type 0 where
 pub open_none : IsOpen [] []
 open_none = record { stay = λ d before. refl; before = λ d before. tt }
 
-not_above : (a b d : List (List ℕ)) → directory_cmp a b ≡ Less → directory_cmp b d ≡ Less → is_above a b ≡ false → is_above a d ≡ false
+pub not_above : (a b d : List (List ℕ)) → directory_cmp a b ≡ Less → directory_cmp b d ≡ Less → is_above a b ≡ false → is_above a d ≡ false
 not_above a b d first second apart = by (is_above a d) refl
   where
     by : (above : Bool) → is_above a d ≡ above → is_above a d ≡ false

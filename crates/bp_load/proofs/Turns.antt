@@ -1,4 +1,4 @@
--- Files evaluated in turn: what is known after some of them.
+-- Files evaluated in turn, while the directories above stay open, give what they give by the nearest above.
 use Rattle.std.specs.declared.cmp.Ordering.{Ordering}
 use Rattle.std.proofs.Common.{◌≡◌, ℕ, ◌+◌, ◌<◌, Bool, true, false, cond, List, [], ◌∷◌, ◌++◌, length, get_or, map, drop, refl, ap, sym, subst, ◌∙◌, arith, suc, append_assoc}
 use Rattle.std.specs.Prelude.{reverse, filter, None, Result, Ok, Err}
@@ -6,7 +6,7 @@ use Rattle.std.specs.List.{AllByRecursion, fold}
 use Rattle.std.specs.List.Sorted.{IsStrictlySortedBy}
 use Rattle.std.specs.declared.cmp.Ordering.TheVariants.{Less}
 use Rattle.std.proofs.Math.Seq.{drop-cons}
-use Rattle.std.proofs.lemmas.List.{append-nil, map-append, drop_all}
+use Rattle.std.proofs.lemmas.List.{append-nil, map-append}
 use Rattle.std.proofs.lemmas.List.Kept.{IsStrictlySortedBy-filter}
 use Rattle.bp_faults.specs.declared.fault.Fault.{Fault}
 use Rattle.bp_faults.specs.Answers.{then_do}
@@ -14,11 +14,11 @@ use Rattle.bp_values.specs.Scopes.{Pairs}
 use Rattle.bp_values.specs.Meaning.{Raw, evaluated}
 use Rattle.bp_load.specs.Directories.{is_above, directory_cmp}
 use Rattle.bp_load.specs.Trees.{Placed}
-use Rattle.bp_load.specs.Inherited.{Finished, nearer, scope_of, inherited, in_directory, all_evaluated}
-use Rattle.bp_load.specs.Opened.{Turn, closed, innermost, turned}
+use Rattle.bp_load.specs.Inherited.{Finished, nearer, nearest, in_directory}
+use Rattle.bp_load.specs.Opened.{Turn, scope_in, evaluated_in, closed, innermost, turned, all_turned, no_turn}
 use Rattle.bp_load.proofs.Stack.{Before, IsOpen, open_none, open_more, nearest_last}
 
-abbrev Modules : Type 0
+abbrev pub Modules : Type 0
 Modules = List (List ℕ × Raw)
 
 -- all files before the one at a directory are before it
@@ -65,92 +65,92 @@ nearest_of : (d : List (List ℕ)) (files : List Finished) → IsStrictlySortedB
 nearest_of d [] sorted all = refl
 nearest_of d (f ∷ files) sorted all = nearest_last d f files sorted all
 
-inherits : (d : List (List ℕ)) (files opened : List Finished) → IsStrictlySortedBy directory_cmp (map (λ f. f.0) files) → IsOpen files opened → Before d files → inherited d files ≡ scope_of (innermost (closed d opened))
+inherits : (d : List (List ℕ)) (files opened : List Finished) → IsStrictlySortedBy directory_cmp (map (λ f. f.0) files) → IsOpen files opened → Before d files → nearest d files ≡ innermost (closed d opened)
 inherits d files opened sorted is before =
-    ap scope_of (nearest_of d (filter (λ f. is_above f.0 d) files) (IsStrictlySortedBy-filter file_cmp (λ f. is_above f.0 d) files (sorted_files files sorted)) (all_above d files))
-    ∙ ap (λ o. scope_of (innermost o)) (sym (is.stay d before))
+    nearest_of d (filter (λ f. is_above f.0 d) files) (IsStrictlySortedBy-filter file_cmp (λ f. is_above f.0 d) files (sorted_files files sorted)) (all_above d files)
+    ∙ ap innermost (sym (is.stay d before))
 
-abbrev goes_on : Modules → Result Modules Fault → Result Modules Fault
+-- modules in front of others
+
+abbrev pub goes_on : Modules → Result Modules Fault → Result Modules Fault
 goes_on done rest = then_do rest (λ more. Ok (done ++ more))
 
-goes_none : (rest : Result Modules Fault) → goes_on [] rest ≡ rest
+pub goes_none : (rest : Result Modules Fault) → goes_on [] rest ≡ rest
 goes_none (Ok more) = refl
 goes_none (Err fault) = refl
 
-goes_more : (done here : Modules) (rest : Result Modules Fault) → goes_on done (then_do rest (λ more. Ok (here ++ more))) ≡ goes_on (done ++ here) rest
+pub goes_more : (done here : Modules) (rest : Result Modules Fault) → goes_on done (then_do rest (λ more. Ok (here ++ more))) ≡ goes_on (done ++ here) rest
 goes_more done here (Ok more) = ap Ok (sym (append_assoc done here more))
 goes_more done here (Err fault) = refl
 
--- After some files: what is left to evaluate behind them gives what all give.
-pub record Reads (all : List Placed) (i : ℕ) (turn : Turn) : Type 0 where
-  pub finished : List Finished
-  pub directories : map (λ f. f.0) finished ++ map (λ p. p.directory) (drop i all) ≡ map (λ p. p.directory) all
-  pub opened : IsOpen finished turn.opened
-  pub rest : all_evaluated [] all ≡ goes_on turn.modules (all_evaluated finished (drop i all))
+-- what is left to evaluate behind some files
 
-pub reads_none : (all : List Placed) → Reads all 0 (record { opened = []; modules = [] })
-reads_none all = record { finished = []; directories = refl; opened = open_none; rest = sym (goes_none (all_evaluated [] all)) }
+abbrev pub with_file : Turn → List Finished → Placed → List Raw × Pairs → Turn
+with_file turn stay file values = record { opened = (file.directory, values.1) ∷ stay; modules = turn.modules ++ in_directory file.dir values.0 }
 
-pub reads_all : (all : List Placed) (turn : Turn) → Reads all (length all) turn → all_evaluated [] all ≡ Ok turn.modules
-reads_all all turn reads = reads.rest ∙ ap (λ files. goes_on turn.modules (all_evaluated reads.finished files)) (drop_all (length all) all (omega arith)) ∙ ap Ok (append-nil turn.modules)
+abbrev pub modules_of : Result Turn Fault → Result Modules Fault
+modules_of turn = then_do turn (λ t. Ok t.modules)
 
--- the next file
+abbrev directories_of : List Placed → List (List (List ℕ))
+directories_of files = map (λ p. p.directory) files
 
-one_more : (i : ℕ) → suc i ≡ i + 1
-one_more i = omega arith
+module _ (base : Pairs) where
+  abbrev AllTurn : List Placed → Type 0
+  AllTurn files = (finished : List Finished) (turn : Turn) → IsOpen finished turn.opened → IsStrictlySortedBy directory_cmp (map (λ f. f.0) finished ++ directories_of files)
+      → modules_of (all_turned base turn files) ≡ goes_on turn.modules (evaluated_in base finished files)
+
+  one_more : (file : Placed) (files : List Placed) → AllTurn files → AllTurn (file ∷ files)
+  one_more file files more finished turn is sorted = same (evaluated (scope_in base (innermost stay)) file.defs)
+      ∙ ap (λ scope. by_nearest (evaluated (scope_in base scope) file.defs)) (sym (inherits file.directory finished turn.opened split.1 is before))
+    where
+      stay : List Finished
+      stay = closed file.directory turn.opened
+
+      split : AllByRecursion (λ x. directory_cmp x file.directory ≡ Less) (map (λ f. f.0) finished) × IsStrictlySortedBy directory_cmp (map (λ f. f.0) finished)
+      split = keys_split (map (λ f. f.0) finished) (directories_of files) file.directory sorted
+
+      before : Before file.directory finished
+      before = before_keys file.directory finished split.0
+
+      by_stack : Result (List Raw × Pairs) Fault → Result Modules Fault
+      by_stack values = modules_of (then_do (then_do values (λ v. Ok (with_file turn stay file v))) (λ next. all_turned base next files))
+
+      by_nearest : Result (List Raw × Pairs) Fault → Result Modules Fault
+      by_nearest values = goes_on turn.modules (then_do values (λ v. then_do (evaluated_in base (finished ++ (file.directory, v.1) ∷ []) files) (λ more. Ok (in_directory file.dir v.0 ++ more))))
+
+      keys : (scope : Pairs) → map (λ f. f.0) finished ++ directories_of (file ∷ files) ≡ map (λ f. f.0) (finished ++ (file.directory, scope) ∷ []) ++ directories_of files
+      keys scope =
+          sym (append_assoc (map (λ f. f.0) finished) (file.directory ∷ []) (directories_of files))
+          ∙ ap (λ ks. ks ++ directories_of files) (sym (map-append (λ f. f.0) finished ((file.directory, scope) ∷ [])))
+
+      same : (values : Result (List Raw × Pairs) Fault) → by_stack values ≡ by_nearest values
+      same (Err fault) = refl
+      same (Ok v) =
+          more (finished ++ (file.directory, v.1) ∷ []) (with_file turn stay file v) (open_more finished turn.opened file.directory v.1 is before) (subst (IsStrictlySortedBy directory_cmp) (keys v.1) sorted)
+          ∙ sym (goes_more turn.modules (in_directory file.dir v.0) (evaluated_in base (finished ++ (file.directory, v.1) ∷ []) files))
+
+  all_turn : (files : List Placed) → AllTurn files
+  all_turn [] finished turn is sorted = ap Ok (sym (append-nil turn.modules))
+  all_turn (file ∷ files) finished turn is sorted = one_more file files (all_turn files) finished turn is sorted
+
+  -- all files, from the first
+  pub turned_first : (files : List Placed) → IsStrictlySortedBy directory_cmp (directories_of files) → modules_of (all_turned base no_turn files) ≡ evaluated_in base [] files
+  turned_first files sorted = all_turn files [] no_turn open_none sorted ∙ goes_none (evaluated_in base [] files)
+
+-- one file more
+
+one_behind : (i : ℕ) → suc i ≡ i + 1
+one_behind i = omega arith
 
 from_here : (all : List Placed) (i : ℕ) (file : Placed) → i < length all → file ≡ get_or all i file → drop i all ≡ file ∷ drop (i + 1) all
-from_here all i file within is = drop-cons all i file within ∙ ap (λ f. f ∷ drop (suc i) all) (sym is) ∙ ap (λ n. file ∷ drop n all) (one_more i)
+from_here all i file within is = drop-cons all i file within ∙ ap (λ f. f ∷ drop (suc i) all) (sym is) ∙ ap (λ n. file ∷ drop n all) (one_behind i)
 
-record Here (all : List Placed) (i : ℕ) (turn : Turn) (file : Placed) (reads : Reads all i turn) : Type 0 where
-  pub from : drop i all ≡ file ∷ drop (i + 1) all
-  pub before : Before file.directory reads.finished
-  pub inherits : inherited file.directory reads.finished ≡ scope_of (innermost (closed file.directory turn.opened))
+module _ (base : Pairs) (all : List Placed) (i : ℕ) (turn : Turn) (file : Placed) (within : i < length all) (here : file ≡ get_or all i file) (so_far : all_turned base no_turn all ≡ all_turned base turn (drop i all)) where
+  with_next : (next : Result Turn Fault) → turned base turn file ≡ next → all_turned base no_turn all ≡ then_do next (λ t. all_turned base t (drop (i + 1) all))
+  with_next next is = so_far ∙ ap (all_turned base turn) (from_here all i file within here) ∙ ap (λ r. then_do r (λ t. all_turned base t (drop (i + 1) all))) is
 
-here_of : (all : List Placed) (i : ℕ) (turn : Turn) (file : Placed) → IsStrictlySortedBy directory_cmp (map (λ p. p.directory) all) → i < length all → file ≡ get_or all i file → (reads : Reads all i turn) → Here all i turn file reads
-here_of all i turn file sorted within is reads =
-    let from : drop i all ≡ file ∷ drop (i + 1) all = from_here all i file within is in
-    let keys : map (λ f. f.0) reads.finished ++ file.directory ∷ map (λ p. p.directory) (drop (i + 1) all) ≡ map (λ p. p.directory) all =
-    ap (λ (ps : List Placed). map (λ f. f.0) reads.finished ++ map (λ p. p.directory) ps) (sym from) ∙ reads.directories in
-    let split = keys_split (map (λ f. f.0) reads.finished) (map (λ p. p.directory) (drop (i + 1) all)) file.directory (subst (IsStrictlySortedBy directory_cmp) (sym keys) sorted) in
-    let before : Before file.directory reads.finished = before_keys file.directory reads.finished split.0 in
-    record { from = from; before = before; inherits = inherits file.directory reads.finished turn.opened split.1 reads.opened before }
+  pub turned_more : (new : Turn) → turned base turn file ≡ Ok new → all_turned base no_turn all ≡ all_turned base new (drop (i + 1) all)
+  turned_more new is = with_next (Ok new) is
 
--- what all files give, once the values of the next are known
-valued : (all : List Placed) (i : ℕ) (turn : Turn) (file : Placed) (reads : Reads all i turn) → Here all i turn file reads → (values : Result (List Raw × Pairs) Fault) → evaluated (scope_of (innermost (closed file.directory turn.opened))) file.defs ≡ values
-    → all_evaluated [] all ≡ goes_on turn.modules (then_do values (λ v. then_do (all_evaluated (reads.finished ++ (file.directory, v.1) ∷ []) (drop (i + 1) all)) (λ more. Ok (in_directory file.dir v.0 ++ more))))
-valued all i turn file reads here values is =
-    reads.rest
-    ∙ ap (λ files. goes_on turn.modules (all_evaluated reads.finished files)) here.from
-    ∙ ap (λ vs. goes_on turn.modules (then_do vs (λ v. then_do (all_evaluated (reads.finished ++ (file.directory, v.1) ∷ []) (drop (i + 1) all)) (λ more. Ok (in_directory file.dir v.0 ++ more))))) (ap (λ scope. evaluated scope file.defs) here.inherits ∙ is)
-
-abbrev with_file : Turn → Placed → List Raw × Pairs → Turn
-with_file turn file values = record { opened = (file.directory, values.1) ∷ closed file.directory turn.opened; modules = turn.modules ++ in_directory file.dir values.0 }
-
-reads_with : (all : List Placed) (i : ℕ) (turn : Turn) (file : Placed) (reads : Reads all i turn) → Here all i turn file reads → (values : List Raw × Pairs) → evaluated (scope_of (innermost (closed file.directory turn.opened))) file.defs ≡ Ok values → Reads all (i + 1) (with_file turn file values)
-reads_with all i turn file reads here values is = record {
-  finished = reads.finished ++ (file.directory, values.1) ∷ [];
-  directories =
-      ap (λ ks. ks ++ map (λ p. p.directory) (drop (i + 1) all)) (map-append (λ f. f.0) reads.finished ((file.directory, values.1) ∷ []))
-      ∙ append_assoc (map (λ f. f.0) reads.finished) (file.directory ∷ []) (map (λ p. p.directory) (drop (i + 1) all))
-      ∙ ap (λ (ps : List Placed). map (λ f. f.0) reads.finished ++ map (λ p. p.directory) ps) (sym here.from)
-      ∙ reads.directories;
-  opened = open_more reads.finished turn.opened file.directory values.1 reads.opened here.before;
-  rest = valued all i turn file reads here (Ok values) is ∙ goes_more turn.modules (in_directory file.dir values.0) (all_evaluated (reads.finished ++ (file.directory, values.1) ∷ []) (drop (i + 1) all));
-}
-
-pub reads_more : (all : List Placed) (i : ℕ) (turn new : Turn) (file : Placed) → IsStrictlySortedBy directory_cmp (map (λ p. p.directory) all) → i < length all → file ≡ get_or all i file → Reads all i turn → turned turn file ≡ Ok new → Reads all (i + 1) new
-reads_more all i turn new file sorted within is reads turns =
-    by (evaluated (scope_of (innermost (closed file.directory turn.opened))) file.defs) refl turns
-  where
-    by : (values : Result (List Raw × Pairs) Fault) → evaluated (scope_of (innermost (closed file.directory turn.opened))) file.defs ≡ values → then_do values (λ v. Ok (with_file turn file v)) ≡ Ok new → Reads all (i + 1) new
-    by (Ok v) values turns = subst (Reads all (i + 1)) (cc) (reads_with all i turn file reads (here_of all i turn file sorted within is reads) v values)
-    by (Err fault) values turns = absurd (cc)
-
-pub reads_fault : (all : List Placed) (i : ℕ) (turn : Turn) (file : Placed) (fault : Fault) → IsStrictlySortedBy directory_cmp (map (λ p. p.directory) all) → i < length all → file ≡ get_or all i file → Reads all i turn → turned turn file ≡ Err fault → all_evaluated [] all ≡ Err fault
-reads_fault all i turn file fault sorted within is reads turns =
-    by (evaluated (scope_of (innermost (closed file.directory turn.opened))) file.defs) refl turns
-  where
-    by : (values : Result (List Raw × Pairs) Fault) → evaluated (scope_of (innermost (closed file.directory turn.opened))) file.defs ≡ values → then_do values (λ v. Ok (with_file turn file v)) ≡ Err fault → all_evaluated [] all ≡ Err fault
-    by (Ok v) values turns = absurd (cc)
-    by (Err other) values turns = valued all i turn file reads (here_of all i turn file sorted within is reads) (Err other) values ∙ (cc)
+  pub turned_fault : (fault : Fault) → turned base turn file ≡ Err fault → all_turned base no_turn all ≡ Err fault
+  turned_fault fault is = with_next (Err fault) is

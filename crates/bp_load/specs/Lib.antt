@@ -6,5 +6,6 @@ pub mod Trees
 pub mod Inherited
 pub mod Halves
 pub mod Opened
+pub mod Branches
 pub mod Loaded
 pub mod Laws

@@ -2,13 +2,26 @@
 use Rattle.std.specs.Prelude.{ℕ, List, [], ◌∷◌, ◌++◌, map, reverse, Option, Some, None, Result, Ok, if◌then◌else◌}
 use Rattle.bp_faults.specs.declared.fault.Fault.{Fault}
 use Rattle.bp_faults.specs.Answers.{then_do}
-use Rattle.bp_values.specs.Scopes.{pairs_of}
+use Rattle.bp_values.specs.Scopes.{Pairs, pairs_of}
 use Rattle.bp_values.specs.Meaning.{Raw, evaluated}
 use Rattle.bp_load.specs.declared.opened.Open.{Open}
 use Rattle.bp_load.specs.declared.opened.Evaluation.{Evaluation}
 use Rattle.bp_load.specs.Directories.{is_above}
 use Rattle.bp_load.specs.Trees.{Placed}
-use Rattle.bp_load.specs.Inherited.{Finished, scope_of, in_directory, placed_raw}
+use Rattle.bp_load.specs.Inherited.{Finished, nearest, in_directory, placed_raw}
+
+-- The scope of a file, and the base where there is none.
+abbrev pub scope_in : Pairs → Option Finished → Pairs
+scope_in base None = base
+scope_in base (Some file) = file.1
+
+-- The modules of the files in turn, behind files that are finished. Where none of these is above a file, it inherits the base.
+abbrev pub evaluated_in : Pairs → List Finished → List Placed → Result (List (List ℕ × Raw)) Fault
+evaluated_in base finished [] = Ok []
+evaluated_in base finished (file ∷ files) =
+    then_do (evaluated (scope_in base (nearest file.directory finished)) file.defs)
+    (λ values. then_do (evaluated_in base (finished ++ (file.directory, values.1) ∷ []) files)
+    (λ modules. Ok (in_directory file.dir values.0 ++ modules)))
 
 -- An open directory, with the final scope of its file.
 abbrev pub open_of : Open → Finished
@@ -34,11 +47,20 @@ innermost [] = None
 innermost (o ∷ more) = Some o
 
 -- A file is evaluated in the scope of the innermost directory that stays open, and opens its own.
-abbrev pub with_values : Turn → List Finished → Placed → Result Turn Fault
-with_values turn stay file =
-    then_do (evaluated (scope_of (innermost stay)) file.defs)
+abbrev pub with_values : Pairs → Turn → List Finished → Placed → Result Turn Fault
+with_values base turn stay file =
+    then_do (evaluated (scope_in base (innermost stay)) file.defs)
     (λ values. Ok (record { opened = (file.directory, values.1) ∷ stay; modules = turn.modules ++ in_directory file.dir values.0 }))
 
 -- One file more is evaluated.
-abbrev pub turned : Turn → Placed → Result Turn Fault
-turned turn file = with_values turn (closed file.directory turn.opened) file
+abbrev pub turned : Pairs → Turn → Placed → Result Turn Fault
+turned base turn file = with_values base turn (closed file.directory turn.opened) file
+
+-- The files are evaluated in turn.
+abbrev pub all_turned : Pairs → Turn → List Placed → Result Turn Fault
+all_turned base turn [] = Ok turn
+all_turned base turn (file ∷ files) = then_do (turned base turn file) (λ next. all_turned base next files)
+
+-- No directory is open yet, and there are no modules.
+abbrev pub no_turn : Turn
+no_turn = record { opened = []; modules = [] }

@@ -21,6 +21,9 @@ pub fn joined<T: Drop>(
 {
     let mut all = front?;
     let mut rest = back?;
+    if all.is_empty() {
+        return Ok(rest);
+    }
     all.append(&mut rest)?;
     Ok(all)
 }

@@ -6,6 +6,7 @@
 #![tactic(auto)]
 
 mod directory;
+mod evaluating;
 mod halves;
 pub mod laws;
 mod list_file;

@@ -14,12 +14,13 @@ use bp_lexer::tokens;
 use bp_parser::{FileTree, parse};
 use std::alloc::Global;
 
-/// A file as it is parsed: its directory, by components and as a path, and its tree.
+/// A file as it is parsed: its directory, by components and as a path, its tree, and how many bytes it has.
 #[derive(Drop)]
 pub struct Parsed {
     pub directory: Directory,
     pub dir: Path,
     pub tree: FileTree,
+    pub bytes: usize,
 }
 
 /// The directory of a file, as a path.
@@ -66,6 +67,7 @@ fn parse_file(alloc: Global, file: &(Path, Vec<u8>), number: u32) -> Result<Pars
         directory: Directory::of(alloc, &file.0)?,
         dir: dir_of(alloc, &file.0)?,
         tree,
+        bytes: file.1.len(),
     })
 }
 

@@ -347,3 +347,62 @@ fn several_workers_load_what_one_loads(rt: HostRuntime) -> Result<(), Fail> {
     }
     Ok(())
 }
+
+// Modules in the scope of a definition that stands before them.
+fn modules_behind(
+    alloc: Global,
+    definition: &str,
+    letter: &str,
+    count: u32,
+) -> Result<String, OutOfMemory> {
+    let mut text = String::from_str(alloc, definition)?;
+    text.push_str("\n")?;
+    text.push_str(modules(alloc, letter, count)?.as_str())?;
+    Ok(text)
+}
+
+// The root's file is above two branches, in more bytes than one worker evaluates. In each branch a file inherits from the
+// file of its own branch, which inherits from the root's.
+#[test]
+fn branches_inherit_from_the_trunk(rt: HostRuntime) -> Result<(), Fail> {
+    let alloc = rt.alloc();
+    let list = "Android.bp\na/Android.bp\na/b/Android.bp\nc/Android.bp\nc/d/Android.bp";
+    let a = modules_behind(alloc, "x = r + \"a\"", "a", 1_500)?;
+    let c = modules_behind(alloc, "x = r + \"c\"", "c", 1_500)?;
+    let contents = [
+        "r = \"r\"\nfilegroup { name: r }",
+        a.as_str(),
+        "filegroup { name: x + \"b\" }",
+        c.as_str(),
+        "filegroup { name: x + \"d\" }",
+    ];
+    let one = loaded_by(&rt, alloc, list, &contents, 1)?;
+    assert_eq!(rt; one.as_str().lines().count(), 3_003);
+    assert!(rt; one.as_str().starts_with(":r\na:a0\n"));
+    assert!(rt; one.as_str().contains("\na/b:rab\nc:c0\n"));
+    assert!(rt; one.as_str().ends_with("\nc/d:rcd\n"));
+    for workers in [2, 3, 64] {
+        let several = loaded_by(&rt, alloc, list, &contents, workers)?;
+        assert_eq!(rt; several.as_str(), one.as_str(), "by {workers}");
+    }
+    Ok(())
+}
+
+// The fault at the end of the large file is found after that of the small one, which is of another branch.
+#[test]
+fn the_front_branchs_fault_is_told(rt: HostRuntime) -> Result<(), Fail> {
+    let alloc = rt.alloc();
+    let mut large = modules(alloc, "m", 3_000)?;
+    large.push_str("y = z\n")?;
+    let list = "Android.bp\na/Android.bp\na/b/Android.bp\nb/Android.bp";
+    let contents = ["r = \"r\"", large.as_str(), "", "y = r + z"];
+    for workers in [1, 2, 64] {
+        let line = loaded_by(&rt, alloc, list, &contents, workers)?;
+        assert_eq!(rt;
+            line.as_str(),
+            "2:9001:5: error 10: unknown variable: z\n",
+            "by {workers}"
+        );
+    }
+    Ok(())
+}

@@ -7,8 +7,8 @@ ghost use Rattle.bp_load.specs.Inherited.{placed_raw};
 ghost use Rattle.bp_load.specs.Loaded.{all_named, LoadMeans};
 
 use crate::LoadError;
+use crate::evaluating::evaluate_by;
 use crate::names::test_names;
-use crate::opened::evaluate_all;
 use crate::parsing::parsed_by;
 use crate::typing::type_by;
 use bp_faults::Path;
@@ -36,8 +36,8 @@ fn typed_and_named<R: Threads + Sync>(
 /// Where there are none, the first fault of the first phase that has one is told: parsing of every file,
 /// evaluation of every file, typing of every module, and names. In the phase of names each module in order is
 /// first counted, *too many* `modules` beyond 2^17, and then compared with the earlier names, *duplicate
-/// module name*. So many workers parse and type, and one evaluates and tests names; their number makes no
-/// difference to the answer.
+/// module name*. So many workers parse, evaluate and type, and one tests names; their number makes
+/// no difference to the answer.
 pub fn load<R: Threads + Sync>(
     rt: &R,
     alloc: Global,
@@ -50,6 +50,6 @@ pub fn load<R: Threads + Sync>(
     ensures { Tells (λ modules. modules.items) (LoadMeans (sources files.now)) result }
 {
     let parsed = parsed_by(rt, alloc, files, 1, workers)?;
-    let raws = evaluate_all(alloc, parsed)?;
+    let raws = evaluate_by(rt, alloc, parsed, workers)?;
     typed_and_named(rt, alloc, raws, workers)
 }

@@ -13,8 +13,8 @@ use Rattle.bp_load.proofs.Eachs.{each_directories}
 use Rattle.bp_load.proofs.tree.load.Goals as goal
 
 -- what is parsed stands in the order of the files
-pub evaluate_all-requires : goal.evaluate_all-requires
-evaluate_all-requires g c =
+pub evaluate_by-requires-after_bounds : goal.evaluate_by-requires-after_bounds
+evaluate_by-requires-after_bounds g c κs within =
     subst (IsStrictlySortedBy directory_cmp)
     (sym (each_directories (sources c.args.files.now) (map placed_of c.in_ok-parsed.parsed.items) c.in_ok-parsed.ensures))
     c.requires.order
