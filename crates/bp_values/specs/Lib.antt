@@ -3,6 +3,7 @@ pub mod Depths
 pub mod Sums
 pub mod NameTree
 pub mod Places
+pub mod KeptPlaces
 pub mod Layers
 pub mod Scopes
 pub mod Expressions

@@ -8,7 +8,7 @@ use Rattle.bp_faults.specs.declared.fault.Fault.{Fault}
 use Rattle.bp_faults.specs.Answers.{then_do}
 use Rattle.bp_values.specs.declared.value.Value.{Value}
 use Rattle.bp_values.specs.declared.name_tree.NameTree.{NameTree}
-use Rattle.bp_values.specs.Values.{Meaning, meaning, Field}
+use Rattle.bp_values.specs.Values.{Meaning, Body, meaning, Field, fields_of}
 use Rattle.bp_values.specs.Sums.{sum, field_then, met}
 use Rattle.bp_values.specs.NameTree.{Search, found}
 
@@ -35,6 +35,12 @@ pub record IsPlaced (search : Search) (names : List (List ℕ)) : Type 0 where
 abbrev pub Places : Option NameTree → List (List ℕ) → Type 0
 Places None names = ⊤
 Places (Some tree) names = IsPlaced (found tree) names
+
+-- The same of a variable's value: the tree, if there is one, finds the place of each name of a map.
+abbrev pub PlacesOf : Option NameTree → Option Meaning → Type 0
+PlacesOf None value = ⊤
+PlacesOf (Some tree) (Some (Body fields)) = IsPlaced (found tree) (names_in (fields_of fields))
+PlacesOf (Some tree) _ = ⊥
 
 -- The place is that one.
 abbrev pub is_place : Option ℕ → ℕ → Bool

@@ -3,7 +3,7 @@ ghost use Rattle.std.specs.Option.{option_or};
 ghost use Rattle.bp_values.specs.Values.{meaning, field_of, body};
 ghost use Rattle.bp_values.specs.Sums.{sum as sum_of};
 ghost use Rattle.bp_values.specs.NameTree.{found};
-ghost use Rattle.bp_values.specs.Places.{IsPlaced, Places, names_in, value_for, unplaced, is_place, value_at_place, sum_place, sum_places};
+ghost use Rattle.bp_values.specs.Places.{IsPlaced, Places, PlacesOf, names_in, value_for, unplaced, is_place, value_at_place, sum_place, sum_places};
 ghost use Rattle.bp_values.specs.Inside.{sum_so_far, HasPlaces};
 ghost use Rattle.bp_faults.specs.Answers.{Answers, Leaves};
 
@@ -21,8 +21,7 @@ use std::sync::Arc;
 #[derive(Drop)]
 pub struct MapSum {
     entries: Vec<Entry>,
-    // The place of each name. It's made when the first map is added, and stays unknown where two
-    // names are equal.
+    // The place of each name, once another map was added, unless two names are equal.
     names: Option<NameTree>,
 }
 
@@ -60,6 +59,27 @@ impl MapSum {
         ensures { meaning result ≡ sum_so_far self }
     {
         map_value(self.entries)
+    }
+}
+
+/// The sum of a value and one more, from the places of the first one's names to those of the sum's.
+pub fn add_to(
+    alloc: Global,
+    first: Value,
+    names: Option<NameTree>,
+    other: Value,
+    at: Place,
+) -> Result<(Value, Option<NameTree>), EvalError>
+    requires { PlacesOf names (Some (meaning first)) }
+    ensures value { Answers (λ r. meaning r.0) result (sum_of at (meaning first) (meaning other)) }
+    ensures places { IfOk result (λ r. PlacesOf r.1 (Some (meaning r.0))) }
+{
+    match first {
+        Value::Map(entries) => {
+            let MapSum { entries, names } = MapSum { entries, names }.add(alloc, other, at)?;
+            Ok((map_value(entries), names))
+        }
+        first => Ok((add(alloc, first, other, at)?, None)),
     }
 }
 
