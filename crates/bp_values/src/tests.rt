@@ -90,7 +90,7 @@ fn the_first_fault_is_reported(rt: HostRuntime) -> Result<(), Fail> {
         ),
         (
             "x = {a: 1}\nx += {b: 2}\nx += {b: true, a: \"s\"}",
-            ":3:3: error 14: cannot add: integer + string\n",
+            ":3:1: error 14: cannot add: integer + string\n",
         ),
         ("x += [y]", ":1:1: error 10: unknown variable: x\n"),
         (
