@@ -1,12 +1,11 @@
 -- The places that are kept for variables, once one is set or extended.
-use Rattle.std.proofs.Common.{◌≡◌, ℕ, Bool, true, false, cond, List, [], ◌∷◌, map, Option, None, Some, unwrap_or, option_map, refl, ap, sym, ◌∙◌, subst, Bor, ◌++◌}
+use Rattle.std.proofs.Common.{◌≡◌, ℕ, Bool, true, false, cond, List, [], ◌∷◌, Option, None, Some, unwrap_or, refl, ap, sym, ◌∙◌, subst, ◌++◌}
 use Rattle.std.specs.Str.{bytes_eq}
 use Rattle.std.specs.Cmp.Lexicographic.{nat_list_eq_equiv}
 use Rattle.std.proofs.lemmas.Slice.Eq.{bytes_eq-Decides}
 use Rattle.indexmap.specs.IndexMap.{insert_entry}
-use Rattle.bp_values.specs.declared.value.Value.{Value}
 use Rattle.bp_values.specs.declared.name_tree.NameTree.{NameTree}
-use Rattle.bp_values.specs.Values.{Meaning, Truth, Field, body, meaning}
+use Rattle.bp_values.specs.Values.{Meaning, Truth, Field, body}
 use Rattle.bp_values.specs.Scopes.{Pairs, value_in}
 use Rattle.bp_values.specs.NameTree.{found}
 use Rattle.bp_values.specs.Places.{IsPlaced, Places, PlacesOf, names_in}

@@ -22,10 +22,10 @@ use Rattle.bp_faults.specs.Answers.{then_do, Refuses}
 use Rattle.bp_names.specs.Meaning.{number_for}
 use Rattle.bp_values.specs.declared.value.Value.{Value}
 use Rattle.bp_values.specs.declared.value.Entry.{Entry, out-Entry}
-use Rattle.bp_values.specs.Values.{Meaning, meaning, Field, field_of, fields_of, fields_then, no_field, body, Body}
+use Rattle.bp_values.specs.Values.{Meaning, meaning, Field, field_of, fields_then, no_field, body}
 use Rattle.bp_values.specs.Sums.{sum, sum_fields, field_then, met, value_at, has_name, others}
 use Rattle.bp_values.specs.NameTree.{Search}
-use Rattle.bp_values.specs.Places.{names_in, place_in, AreApart, IsPlaced, Places, is_place, value_for, unplaced, sum_places, sum_place}
+use Rattle.bp_values.specs.Places.{names_in, place_in, AreApart, IsPlaced, is_place, value_for, unplaced, sum_places, sum_place}
 use Rattle.bp_values.proofs.Views.{field_out}
 use Rattle.bp_values.proofs.Steps.{map_take_more}
 use Rattle.bp_values.proofs.Unite.{sum_bodies}

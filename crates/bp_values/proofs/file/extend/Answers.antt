@@ -1,5 +1,4 @@
 use Rattle.std.proofs.Common.{rules, ◌≡◌, false, ap, sym, ◌∙◌, option_map, Ok, Err, unwrap_or, cond, None}
-use Rattle.std.specs.List.{list_any}
 use Rattle.std.specs.Str.{bytes_eq}
 use Rattle.indexmap.specs.IndexMap.{insert_entry}
 use Rattle.bp_faults.specs.Answers.{then_do, Refuses}

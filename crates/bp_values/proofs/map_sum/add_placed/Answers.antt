@@ -1,11 +1,11 @@
-use Rattle.std.proofs.Common.{rules, arith, ◌≡◌, ◌++◌, ◌≤◌, length, Ok, Err, map, ap, sym, ◌∙◌, subst}
+use Rattle.std.proofs.Common.{rules, arith, ◌≡◌, ◌++◌, length, Err, map, ap, sym, ◌∙◌, subst}
 use Rattle.std.proofs.lemmas.List.{map-append, length-map}
-use Rattle.bp_faults.specs.Answers.{Answers, Refuses}
+use Rattle.bp_faults.specs.Answers.{Answers}
 use Rattle.bp_values.specs.Values.{Field, field_of, body}
 use Rattle.bp_values.specs.NameTree.{found}
 use Rattle.bp_values.specs.Sums.{sum}
 use Rattle.bp_values.specs.Inside.{sum_so_far}
-use Rattle.bp_values.specs.Places.{names_in, value_at_place, sum_places}
+use Rattle.bp_values.specs.Places.{names_in, value_at_place}
 use Rattle.bp_values.proofs.Places.{none_behind, placed_before, placed_sum, placed_refusal}
 use Rattle.bp_values.proofs.map_sum.add_placed.Goals as goal
 

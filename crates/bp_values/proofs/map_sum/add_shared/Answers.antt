@@ -1,4 +1,4 @@
-use Rattle.std.proofs.Common.{rules, arith, subst, ℕ, List, ◌≡◌, ◌∷◌, [], Ok, Err, map, ap, sym, ◌∙◌, refl, Vec, Global}
+use Rattle.std.proofs.Common.{rules, arith, subst, ℕ, List, ◌≡◌, [], Ok, Err, map, ap, sym, ◌∙◌, refl, Vec, Global}
 use Rattle.std.proofs.lemmas.Map.Iter.{rest_more, rest_all}
 use Rattle.std.specs.Map.{keys_of}
 use Rattle.std.specs.Ordering.{nat_cmp}

@@ -1,4 +1,4 @@
-use Rattle.std.proofs.Common.{rules, ◌≡◌, map, Ok, ap, sym, ◌∙◌}
+use Rattle.std.proofs.Common.{rules, ◌≡◌, map}
 use Rattle.bp_values.specs.declared.value.Value.{the_lemmas}
 use Rattle.bp_values.specs.declared.value.Value.TheViews.{the_lemmas as the_views}
 use Rattle.bp_values.specs.Values.{meaning, field_of, body}

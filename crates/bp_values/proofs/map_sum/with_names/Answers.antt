@@ -1,8 +1,7 @@
-use Rattle.std.proofs.Common.{rules, arith, ◌≡◌, false, is_some, ap, sym, ◌∙◌, take}
+use Rattle.std.proofs.Common.{rules, arith, ◌≡◌, false, is_some, ap, sym, ◌∙◌}
 use Rattle.std.specs.Option.{option_or}
 use Rattle.bp_names.specs.Meaning.{number_for}
 use Rattle.bp_values.specs.declared.value.Entry.{out-Entry}
-use Rattle.bp_values.specs.Values.{field_of}
 use Rattle.bp_values.specs.NameTree.{found}
 use Rattle.bp_values.proofs.Views.{name_out}
 use Rattle.bp_values.proofs.Places.{placed_entry, placed_all}
