@@ -2,6 +2,8 @@ pub mod Values
 pub mod Depths
 pub mod Sums
 pub mod NameTree
+pub mod Places
+pub mod KeptPlaces
 pub mod Layers
 pub mod Scopes
 pub mod Expressions

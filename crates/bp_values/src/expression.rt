@@ -1,10 +1,10 @@
-ghost use Rattle.std.specs.Prelude.{◌≡◌, map, ◌^◌, codes, Ok};
+ghost use Rattle.std.specs.Prelude.{◌≡◌, map, ◌^◌, codes, Ok, IfOk};
 ghost use Rattle.bp_parser.specs.Trees.{tree_of, map_of, entry_of, term_of, trees_then, terms_then, entries_then, no_tree, no_term, no_entry};
 ghost use Rattle.bp_values.specs.Values.{meaning, field_of, Items, body};
 ghost use Rattle.bp_faults.specs.Answers.{Answers, then_do};
 ghost use Rattle.bp_values.specs.Sums.{limited, sum as sum_of};
 ghost use Rattle.bp_values.specs.Scopes.{value_in};
-ghost use Rattle.bp_values.specs.Inside.{visible, sum_so_far};
+ghost use Rattle.bp_values.specs.Inside.{visible, sum_so_far, HasPlaces};
 ghost use Rattle.bp_values.specs.Expressions.{val, val_items, val_terms, val_entries, val_map, item_of, first_place as place_of, known as known_as};
 
 use crate::depth::within_depth;
@@ -171,7 +171,7 @@ fn add_term(
     add(alloc, total, other, at)
 }
 
-/// The sum of a map and the terms, in turn, with the names of the sum so far kept beside it.
+/// The sum of a map and the terms, in turn, with the places of the sum's names kept beside it.
 #[cycle(expressions)]
 fn add_maps(
     alloc: Global,
@@ -181,7 +181,7 @@ fn add_maps(
 ) -> Result<Value, EvalError>
     ensures { Answers meaning result (val_terms (visible scope.now) (body (map field_of first.items)) (terms_then (map term_of terms.now) no_term)) }
 {
-    let mut total = MapSum::of(alloc, first)?;
+    let mut total = MapSum::of(first);
     'terms: for (at, term) in terms {
         total = add_map(alloc, scope, term, *at, total)?;
     }
@@ -196,7 +196,9 @@ fn add_map(
     at: Place,
     total: MapSum,
 ) -> Result<MapSum, EvalError>
-    ensures { Answers sum_so_far result (then_do (val (visible scope.now) (tree_of term.now)) (sum_of at (sum_so_far total))) }
+    requires { HasPlaces total }
+    ensures total { Answers sum_so_far result (then_do (val (visible scope.now) (tree_of term.now)) (sum_of at (sum_so_far total))) }
+    ensures places { IfOk result HasPlaces }
 {
     let other = value_of(alloc, scope, term)?;
     total.add(alloc, other, at)

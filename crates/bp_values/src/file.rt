@@ -3,14 +3,15 @@ ghost use Rattle.bp_parser.specs.Trees.{tree_of, map_of, definition_of, Assigns,
 ghost use Rattle.bp_values.specs.Values.{meaning};
 ghost use Rattle.bp_faults.specs.Answers.{Answers, Refuses, Leaves};
 ghost use Rattle.bp_values.specs.Scopes.{pairs_of, value_in};
-ghost use Rattle.bp_values.specs.Inside.{known_of};
+ghost use Rattle.bp_values.specs.Inside.{known_of, KeepsPlaces};
 ghost use Rattle.bp_values.specs.Meaning.{raw_of, after_assignment, after_extension, after_module, after_definition, after_definitions, evaluated};
 
 use crate::expression::{entries_of, value_of};
+use crate::kept_places::KeptPlaces;
 use crate::layer::Layer;
+use crate::map_sum::add_to;
 use crate::marks::{mark, mark_entries};
 use crate::scope::Names;
-use crate::sums::add;
 use crate::{Entry, EvalError, Scope};
 use bp_faults::{Fault, FaultKind, Place, Text};
 use bp_names::NameSet;
@@ -30,6 +31,8 @@ pub struct RawModule {
 #[derive(Drop)]
 pub struct State<'a> {
     own: Layer,
+    // Those of the names of maps that were extended, so that the next `+=` looks its keys up.
+    kept: KeptPlaces<'a>,
     used: NameSet<'a>,
     modules: Vec<RawModule>,
 }
@@ -43,7 +46,9 @@ fn assign<'a>(
     at: Place,
     value: &'a Expr,
 ) -> Result<(), EvalError>
-    ensures { Leaves (known_of (pairs_of inherited.now)) state.new result (after_assignment (known_of (pairs_of inherited.now) state.old) name.now at (tree_of value.now) (value_in (known_of (pairs_of inherited.now) state.old).scope name.now)) }
+    requires { KeepsPlaces state.old }
+    ensures known { Leaves (known_of (pairs_of inherited.now)) state.new result (after_assignment (known_of (pairs_of inherited.now) state.old) name.now at (tree_of value.now) (value_in (known_of (pairs_of inherited.now) state.old).scope name.now)) }
+    ensures places { OnOk result (KeepsPlaces state.new) }
 {
     let names = Names {
         inherited,
@@ -63,12 +68,14 @@ fn extend<'a>(
     alloc: Global,
     inherited: &Scope,
     state: &mut State<'a>,
-    name: &Text,
+    name: &'a Text,
     at: Place,
     value: &'a Expr,
 ) -> Result<(), EvalError>
-    requires { value_in (pairs_of inherited.now) name.now ≡ None }
-    ensures { Leaves (known_of (pairs_of inherited.now)) state.new result (after_extension (known_of (pairs_of inherited.now) state.old) name.now at (tree_of value.now) (value_in (known_of (pairs_of inherited.now) state.old).scope name.now)) }
+    requires own { value_in (pairs_of inherited.now) name.now ≡ None }
+    requires places { KeepsPlaces state.old }
+    ensures known { Leaves (known_of (pairs_of inherited.now)) state.new result (after_extension (known_of (pairs_of inherited.now) state.old) name.now at (tree_of value.now) (value_in (known_of (pairs_of inherited.now) state.old).scope name.now)) }
+    ensures places { OnOk result (KeepsPlaces state.new) }
 {
     let names = Names {
         inherited,
@@ -87,7 +94,10 @@ fn extend<'a>(
             let other = value_of(alloc, &names, value)?;
             mark(&mut state.used, value)?;
             let old = state.own.take(name.copy(alloc)?)?;
-            let new = add(alloc, old, other, at)?;
+            let variable = name.as_str();
+            let places = state.kept.keep(variable, None)?;
+            let (new, places) = add_to(alloc, old, places, other, at)?;
+            state.kept.keep(variable, places)?;
             state.own.put(name.copy(alloc)?, new)?;
             Ok(())
         }
@@ -109,7 +119,9 @@ fn declare<'a>(
     at: Place,
     body: &'a MapExpr,
 ) -> Result<(), EvalError>
-    ensures { Leaves (known_of (pairs_of inherited.now)) state.new result (after_module (known_of (pairs_of inherited.now) state.old) kind.now at (map_of body.now)) }
+    requires { KeepsPlaces state.old }
+    ensures known { Leaves (known_of (pairs_of inherited.now)) state.new result (after_module (known_of (pairs_of inherited.now) state.old) kind.now at (map_of body.now)) }
+    ensures places { OnOk result (KeepsPlaces state.new) }
 {
     let names = Names {
         inherited,
@@ -132,7 +144,9 @@ fn define<'a>(
     state: &mut State<'a>,
     def: &'a Def,
 ) -> Result<(), EvalError>
-    ensures { Leaves (known_of (pairs_of inherited.now)) state.new result (after_definition (pairs_of inherited.now) (known_of (pairs_of inherited.now) state.old) (definition_of def.now)) }
+    requires { KeepsPlaces state.old }
+    ensures known { Leaves (known_of (pairs_of inherited.now)) state.new result (after_definition (pairs_of inherited.now) (known_of (pairs_of inherited.now) state.old) (definition_of def.now)) }
+    ensures places { OnOk result (KeepsPlaces state.new) }
 {
     match def {
         Def::Assign { name, at, value } => assign(alloc, inherited, state, name, *at, value),
@@ -158,7 +172,9 @@ fn define_all<'a>(
     state: &mut State<'a>,
     defs: &'a [Def],
 ) -> Result<(), EvalError>
-    ensures { Leaves (known_of (pairs_of inherited.now)) state.new result (after_definitions (pairs_of inherited.now) (known_of (pairs_of inherited.now) state.old) (map definition_of defs.now)) }
+    requires { KeepsPlaces state.old }
+    ensures known { Leaves (known_of (pairs_of inherited.now)) state.new result (after_definitions (pairs_of inherited.now) (known_of (pairs_of inherited.now) state.old) (map definition_of defs.now)) }
+    ensures places { OnOk result (KeepsPlaces state.new) }
 {
     'defs: for def in defs {
         define(alloc, inherited, state, def)?;
@@ -180,6 +196,7 @@ pub fn evaluate(
 {
     let mut state = State {
         own: Layer::new(alloc),
+        kept: KeptPlaces::new(alloc),
         used: NameSet::new(alloc),
         modules: Vec::new(alloc),
     };

@@ -9,6 +9,7 @@
 mod depth;
 mod expression;
 mod file;
+mod kept_places;
 pub mod laws;
 mod layer;
 mod map_sum;

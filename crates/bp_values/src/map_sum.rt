@@ -1,53 +1,53 @@
-ghost use Rattle.std.specs.Prelude.{◌≡◌, ◌||◌, ◌++◌, ℕ, List, map, is_some, true, false, IfOk};
-ghost use Rattle.std.proofs.Props.{props};
+ghost use Rattle.std.specs.Prelude.{◌≡◌, ◌≤◌, ◌<◌, ℕ, List, map, length, take, is_some, None, Some, IfOk, IfSome, OnOk, if◌then◌else◌, option_map};
+ghost use Rattle.std.specs.Option.{option_or};
 ghost use Rattle.bp_values.specs.Values.{meaning, field_of, body};
-ghost use Rattle.bp_values.specs.Sums.{sum as sum_of, has_name};
+ghost use Rattle.bp_values.specs.Sums.{sum as sum_of};
 ghost use Rattle.bp_values.specs.NameTree.{found};
-ghost use Rattle.bp_faults.specs.Answers.{Answers};
+ghost use Rattle.bp_values.specs.Places.{IsPlaced, Places, PlacesOf, names_in, value_for, unplaced, is_place, value_at_place, sum_place, sum_places};
+ghost use Rattle.bp_values.specs.Inside.{sum_so_far, HasPlaces};
+ghost use Rattle.bp_faults.specs.Answers.{Answers, Leaves};
 
 use crate::name_tree::NameTree;
-use crate::sums::{cannot_add, unite};
-use crate::value::map_value;
+use crate::sums::{add, cannot_add, unite};
+use crate::value::{make_entry, map_value};
 use crate::{Entry, EvalError, Value};
-use bp_faults::{OutOfMemory, Place};
+use bp_faults::{OutOfMemory, Place, Text};
 use std::alloc::Global;
+use std::collections::BTreeMap;
+use std::mem;
 use std::sync::Arc;
 
 /// A map to which others are added in turn.
 #[derive(Drop)]
 pub struct MapSum {
     entries: Vec<Entry>,
-    // Those of the entries. A map that has none of them goes behind, and no entry is looked at.
-    names: NameTree,
-    ghost named: { (q : List ℕ) → has_name (map field_of entries.items) q ≡ true → is_some (found names q) ≡ true } by { Prim.hlevel props },
+    // The place of each name, once another map was added, unless two names are equal.
+    names: Option<NameTree>,
 }
 
 impl MapSum {
-    ghost use Rattle.bp_values.specs.Inside.{sum_so_far};
-
-    pub fn of(alloc: Global, entries: Vec<Entry>) -> Result<MapSum, OutOfMemory>
-        ensures { IfOk result (λ sum. sum_so_far sum ≡ body (map field_of entries.items)) }
+    pub fn of(entries: Vec<Entry>) -> MapSum
+        ensures total { sum_so_far result ≡ body (map field_of entries.items) }
+        ensures places { HasPlaces result }
     {
-        let names = with_names(alloc, NameTree::Empty, entries.as_slice())?;
-        Ok(MapSum { entries, names })
+        MapSum {
+            entries,
+            names: None,
+        }
     }
 
     /// The sum with one value more.
     pub fn add(self, alloc: Global, other: Value, at: Place) -> Result<MapSum, EvalError>
-        ensures { Answers sum_so_far result (sum_of at (sum_so_far self) (meaning other)) }
+        requires { HasPlaces self }
+        ensures total { Answers sum_so_far result (sum_of at (sum_so_far self) (meaning other)) }
+        ensures places { IfOk result HasPlaces }
     {
         let MapSum { entries, names } = self;
         match other {
-            Value::Map(second) => {
-                let apart = is_apart(&names, second.as_slice());
-                let names = with_names(alloc, names, second.as_slice())?;
-                if apart {
-                    let entries = append(entries, second)?;
-                    return Ok(MapSum { entries, names });
-                }
-                let entries = unite(alloc, at, entries, second)?;
-                Ok(MapSum { entries, names })
-            }
+            Value::Map(second) => match known(alloc, names, entries.as_slice())? {
+                Some(names) => add_placed(alloc, at, entries, names, second),
+                None => Ok(MapSum::of(unite(alloc, at, entries, second)?)),
+            },
             other => {
                 let first = map_value(entries);
                 Err(EvalError::Bad(cannot_add(alloc, at, &first, &other)?))
@@ -62,34 +62,158 @@ impl MapSum {
     }
 }
 
-/// The entries of both, those of `first` first.
-fn append(mut first: Vec<Entry>, mut second: Vec<Entry>) -> Result<Vec<Entry>, OutOfMemory>
-    ensures { IfOk result (λ all. map field_of all.items ≡ map field_of first.items ++ map field_of second.items) }
+/// The sum of a value and one more, from the places of the first one's names to those of the sum's.
+pub fn add_to(
+    alloc: Global,
+    first: Value,
+    names: Option<NameTree>,
+    other: Value,
+    at: Place,
+) -> Result<(Value, Option<NameTree>), EvalError>
+    requires { PlacesOf names (Some (meaning first)) }
+    ensures value { Answers (λ r. meaning r.0) result (sum_of at (meaning first) (meaning other)) }
+    ensures places { IfOk result (λ r. PlacesOf r.1 (Some (meaning r.0))) }
 {
-    first.append(&mut second)?;
-    Ok(first)
-}
-
-/// Whether no entry has one of the names.
-fn is_apart(names: &NameTree, entries: &[Entry]) -> bool
-    ensures { result ≡ true → (q : List ℕ) → has_name (map field_of entries.now) q ≡ true → is_some (found names.now q) ≡ false }
-{
-    for entry in entries {
-        if names.number_of(entry.name.as_str()).is_some() {
-            return false;
+    match first {
+        Value::Map(entries) => {
+            let MapSum { entries, names } = MapSum { entries, names }.add(alloc, other, at)?;
+            Ok((map_value(entries), names))
         }
+        first => Ok((add(alloc, first, other, at)?, None)),
     }
-    true
 }
 
-/// The names, and those of the entries.
-fn with_names(alloc: Global, names: NameTree, entries: &[Entry]) -> Result<NameTree, OutOfMemory>
-    ensures { IfOk result (λ all. (q : List ℕ) → is_some (found all q) ≡ (is_some (found names q) || has_name (map field_of entries.now) q)) }
+/// The places of the names, unless two of them are equal.
+fn known(
+    alloc: Global,
+    names: Option<NameTree>,
+    entries: &[Entry],
+) -> Result<Option<NameTree>, OutOfMemory>
+    requires { Places names (names_in (map field_of entries.now)) }
+    ensures { IfOk result (λ all. Places all (names_in (map field_of entries.now))) }
+{
+    match names {
+        Some(names) => Ok(Some(names)),
+        None => with_names(alloc, NameTree::Empty, entries, 0),
+    }
+}
+
+/// The places of the names, those of the entries from one on put to the others, unless two names are
+/// equal.
+fn with_names(
+    alloc: Global,
+    names: NameTree,
+    entries: &[Entry],
+    from: usize,
+) -> Result<Option<NameTree>, OutOfMemory>
+    requires within { from ≤ length entries.now }
+    requires placed { IsPlaced (found names) (names_in (map field_of (take from entries.now))) }
+    ensures { IfOk result (λ all. Places all (names_in (map field_of entries.now))) }
 {
     let mut all = names;
-    for entry in entries {
+    for place in from..entries.len() {
+        let entry = &entries[place];
+        if all.number_of(entry.name.as_str()).is_some() {
+            return Ok(None);
+        }
         let name = Arc::new(alloc, entry.name.copy(alloc)?)?;
-        all = all.with(alloc, &name, 0)?;
+        all = all.with(alloc, &name, place)?;
     }
-    Ok(all)
+    Ok(Some(all))
+}
+
+/// The sum of two maps, by the places of the first one's names.
+///
+/// Shared names are added in the order of their places, as the first fault is that of the first place.
+fn add_placed(
+    alloc: Global,
+    at: Place,
+    first: Vec<Entry>,
+    names: NameTree,
+    second: Vec<Entry>,
+) -> Result<MapSum, EvalError>
+    requires { IsPlaced (found names) (names_in (map field_of first.items)) }
+    ensures total { Answers sum_so_far result (sum_of at (body (map field_of first.items)) (body (map field_of second.items))) }
+    ensures places { IfOk result HasPlaces }
+{
+    let (shared, mut others) = split(alloc, &names, second)?;
+    let mut entries = add_shared(alloc, at, first, shared)?;
+    let from = entries.len();
+    entries.append(&mut others)?;
+    let names = with_names(alloc, names, entries.as_slice(), from)?;
+    Ok(MapSum { entries, names })
+}
+
+/// The values whose names have places, by their places, and the other entries.
+fn split(
+    alloc: Global,
+    names: &NameTree,
+    second: Vec<Entry>,
+) -> Result<(BTreeMap<usize, Value>, Vec<Entry>), OutOfMemory>
+    ensures shared { IfOk result (λ r. (i : ℕ) → value_at_place r.0 i ≡ value_for (found names.now) i (map field_of second.items)) }
+    ensures others { IfOk result (λ r. map field_of r.1.items ≡ unplaced (found names.now) (map field_of second.items)) }
+{
+    let mut shared = BTreeMap::new(alloc);
+    let mut others = Vec::new(alloc);
+    for entry in second {
+        match names.number_of(entry.name.as_str()) {
+            Some(place) => put_first(&mut shared, place, entry.value)?,
+            None => others.push(entry)?,
+        }
+    }
+    Ok((shared, others))
+}
+
+/// Puts a value at a place, unless there is one.
+fn put_first(
+    shared: &mut BTreeMap<usize, Value>,
+    place: usize,
+    value: Value,
+) -> Result<(), OutOfMemory>
+    ensures { OnOk result ((i : ℕ) → value_at_place shared.new i ≡ option_or (value_at_place shared.old i) (if is_place (Some place) i then Some (meaning value) else None)) }
+{
+    if !shared.contains_key(&place) {
+        shared.insert(place, value)?;
+    }
+    Ok(())
+}
+
+/// The entries, each with the sum where there is a value for its place.
+fn add_shared(
+    alloc: Global,
+    at: Place,
+    first: Vec<Entry>,
+    shared: BTreeMap<usize, Value>,
+) -> Result<Vec<Entry>, EvalError>
+    requires { (i : ℕ) → length first.items ≤ i → value_at_place shared i ≡ None }
+    ensures { Answers (λ es. map field_of es.items) result (sum_places at (map field_of first.items) (value_at_place shared)) }
+{
+    let mut entries = first;
+    for (place, value) in shared {
+        add_at(alloc, at, &mut entries, place, value)?;
+    }
+    Ok(entries)
+}
+
+/// Adds a value to that of an entry.
+fn add_at(
+    alloc: Global,
+    at: Place,
+    entries: &mut Vec<Entry>,
+    place: usize,
+    other: Value,
+) -> Result<(), EvalError>
+    requires { place < length entries.old.items }
+    ensures len { length entries.new.items ≡ length entries.old.items }
+    ensures sum { Leaves (λ es. map field_of es.items) entries.new result (sum_place at (map field_of entries.old.items) place (meaning other)) }
+{
+    let blank = make_entry(Text::new(String::new(alloc)), at, Value::Bool(false));
+    let Entry {
+        name,
+        at: named_at,
+        value,
+    } = mem::replace(&mut entries[place], blank);
+    let value = add(alloc, value, other, at)?;
+    entries[place] = make_entry(name, named_at, value);
+    Ok(())
 }

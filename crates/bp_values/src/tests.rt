@@ -84,6 +84,14 @@ fn the_first_fault_is_reported(rt: HostRuntime) -> Result<(), Fail> {
             "x = {a: 1, b: 2} + {b: \"s\", a: [\"t\"]}",
             ":1:18: error 14: cannot add: integer + list\n",
         ),
+        (
+            "x = {a: 1, b: 2} + {c: 3} + {b: \"s\", a: [\"t\"]}",
+            ":1:27: error 14: cannot add: integer + list\n",
+        ),
+        (
+            "x = {a: 1}\nx += {b: 2}\nx += {b: true, a: \"s\"}",
+            ":3:1: error 14: cannot add: integer + string\n",
+        ),
         ("x += [y]", ":1:1: error 10: unknown variable: x\n"),
         (
             "cc { a: y }\ny = 1",
@@ -142,6 +150,18 @@ fn sums_are_the_values_written_out(rt: HostRuntime) -> Result<(), Fail> {
         (
             "x = {a: \"p\"}\nx += {a: \"q\", b: false}",
             "x = {a: \"pq\",\n              b: false}",
+        ),
+        (
+            "x = {a: 1, b: 2} + {c: 3} + {b: 4, d: 5} + {d: 6, a: 7}",
+            "x = {a: 8, b: 6,    c: 3,          d: 11}",
+        ),
+        (
+            "x = {a: 1}\nx += {b: 2}\nx += {a: 3, c: 4}\nx += {c: 5, b: 6}",
+            "x = {a: 4,\n      b: 8,\n            c: 9}",
+        ),
+        (
+            "x = {a: {b: \"p\"}} + {a: {b: \"q\",\n d: 2}} +\n {c: 1}",
+            "x = {a: {b: \"pq\",\n d: 2},\n  c: 1}",
         ),
     ] {
         assert!(rt; text.len() <= 1 << 20 && plain.len() <= 1 << 20);

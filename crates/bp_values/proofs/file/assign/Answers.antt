@@ -1,4 +1,4 @@
-use Rattle.std.proofs.Common.{rules, ◌≡◌, false, is_some, ap, ◌∙◌}
+use Rattle.std.proofs.Common.{rules, ◌≡◌, false, is_some, ap, sym, ◌∙◌}
 use Rattle.std.specs.Str.{bytes_eq}
 use Rattle.indexmap.specs.IndexMap.{insert_entry}
 use Rattle.bp_parser.specs.Trees.{tree_of}
@@ -7,11 +7,14 @@ use Rattle.bp_values.specs.Scopes.{pairs_of, layer_pairs}
 use Rattle.bp_values.specs.Inside.{known_of}
 use Rattle.bp_names.specs.Meaning.{knows}
 use Rattle.bp_values.proofs.Noted.{noted_is}
+use Rattle.bp_values.specs.KeptPlaces.{kept_for}
+use Rattle.bp_values.proofs.Kept.{kept_assigned}
+use Rattle.bp_values.proofs.Pairs.{absent_first, value_behind}
 use Rattle.bp_values.proofs.Setting.{is_absent, is_assigned}
 use Rattle.bp_values.proofs.file.assign.Goals as goal
 
-pub returns : goal.returns
-returns c =
+pub returns-clause-known : goal.returns-clause-known
+returns-clause-known c =
     let inherited = pairs_of c.args.inherited.now in
     let own = layer_pairs c.args.state.now.own in
     let known = known_of inherited c.args.state.now in
@@ -20,3 +23,14 @@ returns c =
     is_assigned inherited own (layer_pairs c.put.new.self) known.is_used (knows c.mark.new.used) known.modules c.args.name.now c.args.at (tree_of c.args.value.now) v
     (is_absent (λ v. meaning v.now) c.get.result _ absent c.get.ensures) c.in_ok-new.ensures (λ q. c.in_ok-mark.ensures q ∙ noted_is (tree_of c.args.value.now) (known.is_used q) q)
     (c.in_ok-put.ensures.pairs ∙ ap (λ n. insert_entry bytes_eq own n v) c.in_ok-copy-2.ensures)
+
+pub returns-clause-places : goal.returns-clause-places
+returns-clause-places c =
+    let inherited = pairs_of c.args.inherited.now in
+    let own = layer_pairs c.args.state.now.own in
+    let absent : is_some c.get.result ≡ false = search rules in
+    let v = meaning c.in_ok-new.new in
+    let none = is_absent (λ v. meaning v.now) c.get.result _ absent c.get.ensures in
+    kept_assigned (kept_for c.args.state.now.kept) own (layer_pairs c.put.new.self) c.args.name.now v
+    (sym (value_behind c.args.name.now inherited own (absent_first c.args.name.now inherited own none)) ∙ none)
+    (c.in_ok-put.ensures.pairs ∙ ap (λ n. insert_entry bytes_eq own n v) c.in_ok-copy-2.ensures) c.requires

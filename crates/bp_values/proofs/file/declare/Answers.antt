@@ -12,8 +12,8 @@ use Rattle.bp_values.proofs.Noted.{entries_noted}
 use Rattle.bp_values.proofs.Setting.{is_declared}
 use Rattle.bp_values.proofs.file.declare.Goals as goal
 
-pub returns : goal.returns
-returns c =
+pub returns-clause-known : goal.returns-clause-known
+returns-clause-known c =
     let inherited = pairs_of c.args.inherited.now in
     let known = known_of inherited c.args.state.now in
     let body = map_of c.args.body.now in

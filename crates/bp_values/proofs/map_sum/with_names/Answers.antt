@@ -1,20 +1,21 @@
-use Rattle.std.proofs.Common.{rules, ◌≡◌, ◌++◌, ◌∷◌, [], ◌+◌, is_some, map, take, ap, sym, ◌∙◌}
+use Rattle.std.proofs.Common.{rules, arith, ◌≡◌, false, is_some, ap, sym, ◌∙◌}
 use Rattle.std.specs.Option.{option_or}
 use Rattle.bp_names.specs.Meaning.{number_for}
 use Rattle.bp_values.specs.declared.value.Entry.{out-Entry}
-use Rattle.bp_values.specs.Values.{field_of}
 use Rattle.bp_values.specs.NameTree.{found}
-use Rattle.bp_values.proofs.Apart.{learns_more}
-use Rattle.bp_values.proofs.Steps.{map_take_more}
 use Rattle.bp_values.proofs.Views.{name_out}
+use Rattle.bp_values.proofs.Places.{placed_entry, placed_all}
 use Rattle.bp_values.proofs.map_sum.with_names.Goals as goal
 
-pub loop-entry-preserved : goal.loop-entry-preserved
-loop-entry-preserved c q =
+pub loop-place-preserved : goal.loop-place-preserved
+loop-place-preserved c =
     let entries = c.args.entries.now in
-    let i = c.loop-entry.entry-index in
-    let item = c.entry-item.result in
+    let item = c.index-entries-place.result in
+    let missed : is_some (found c.loop-place.all (out-Entry item).name) ≡ false = search rules in
     let same : c.in_ok-name.name.value ≡ (out-Entry item).name = search rules in
-    learns_more (is_some (found c.args.names q)) (found c.loop-entry.all q) (found c.in_ok-all.all q) (map field_of (take i entries)) (map field_of (take (i + 1) entries)) (field_of item) 0 q (c.loop-entry.invariant q)
-    (c.in_ok-all.ensures q ∙ ap (λ n. option_or (found c.loop-entry.all q) (number_for n 0 q)) (same ∙ sym (name_out item)))
-    (map_take_more field_of entries i item c.loop-entry-test.true ∙ ap (λ e. map field_of (take i entries) ++ field_of e ∷ []) (sym c.entry-item.is))
+    placed_entry (found c.loop-place.all) (found c.in_ok-all.all) entries c.loop-place.place item c.loop-place-test.true c.index-entries-place.is c.loop-place.invariant
+    (ap (λ n. is_some (found c.loop-place.all n)) (name_out item) ∙ missed)
+    (λ q. c.in_ok-all.ensures q ∙ ap (λ n. option_or (found c.loop-place.all q) (number_for n c.loop-place.place q)) (same ∙ sym (name_out item)))
+
+pub returns : goal.returns
+returns c = placed_all (found c.loop-place.all) c.args.entries.now c.loop-place.place (omega arith) c.loop-place.invariant

@@ -1,0 +1,97 @@
+-- The places that are kept for variables, once one is set or extended.
+use Rattle.std.proofs.Common.{◌≡◌, ℕ, Bool, true, false, cond, List, [], ◌∷◌, Option, None, Some, unwrap_or, refl, ap, sym, ◌∙◌, subst, ◌++◌}
+use Rattle.std.specs.Str.{bytes_eq}
+use Rattle.std.specs.Cmp.Lexicographic.{nat_list_eq_equiv}
+use Rattle.std.proofs.lemmas.Slice.Eq.{bytes_eq-Decides}
+use Rattle.indexmap.specs.IndexMap.{insert_entry}
+use Rattle.bp_values.specs.declared.name_tree.NameTree.{NameTree}
+use Rattle.bp_values.specs.Values.{Meaning, Truth, Field, body}
+use Rattle.bp_values.specs.Scopes.{Pairs, value_in}
+use Rattle.bp_values.specs.NameTree.{found}
+use Rattle.bp_values.specs.Places.{IsPlaced, Places, PlacesOf, names_in}
+use Rattle.bp_values.specs.KeptPlaces.{if_any}
+use Rattle.bp_values.proofs.Pairs.{value_behind}
+use Rattle.bp_values.proofs.Unite.{fields_back}
+
+-- places kept for a map are those of its names
+pub places_in : (names : Option NameTree) (fs : List Field) (m : Meaning) → m ≡ body fs → PlacesOf names (Some m) → Places names (names_in fs)
+places_in None fs m is of = tt
+places_in (Some tree) fs m is of =
+    let there : PlacesOf (Some tree) (Some (body fs)) = subst (λ (x : Meaning). PlacesOf (Some tree) (Some x)) is of in
+    subst (λ (l : List Field). IsPlaced (found tree) (names_in l)) (fields_back fs) there
+
+pub places_of : (names : Option NameTree) (fs : List Field) (m : Meaning) → m ≡ body fs → Places names (names_in fs) → PlacesOf names (Some m)
+places_of None fs m is places = tt
+places_of (Some tree) fs m is places =
+    let there : PlacesOf (Some tree) (Some (body fs)) = subst (λ (l : List Field). IsPlaced (found tree) (names_in l)) (sym (fields_back fs)) places in
+    subst (λ (x : Meaning). PlacesOf (Some tree) (Some x)) (sym is) there
+
+-- the value of a name, once another name or it is set
+value_put : (name q : List ℕ) (v : Meaning) (ps : Pairs) → value_in (insert_entry bytes_eq ps name v) q ≡ cond (bytes_eq name q) (Some v) (value_in ps q)
+value_put name q v [] = ap (λ b. cond b (Some v) None) (nat_list_eq_equiv.symm q name)
+value_put name q v (p ∷ ps) = by (bytes_eq name p.0) refl (value_put name q v ps)
+  where
+    last : (b c : Bool) → bytes_eq q p.0 ≡ b → bytes_eq name q ≡ c → bytes_eq name p.0 ≡ false
+        → cond b (Some p.1) (cond c (Some v) (value_in ps q)) ≡ cond c (Some v) (cond b (Some p.1) (value_in ps q))
+    last true true there here apart =
+        let never : true ≡ false = sym here ∙ ap (λ n. bytes_eq name n) ((bytes_eq-Decides q p.0).0 there) ∙ apart in
+        cc
+    last true false there here apart = refl
+    last false c there here apart = refl
+
+    by : (b : Bool) → bytes_eq name p.0 ≡ b → value_in (insert_entry bytes_eq ps name v) q ≡ cond (bytes_eq name q) (Some v) (value_in ps q)
+        → value_in (cond b ((p.0, v) ∷ ps) (p ∷ insert_entry bytes_eq ps name v)) q ≡ cond (bytes_eq name q) (Some v) (cond (bytes_eq q p.0) (Some p.1) (value_in ps q))
+    by true same rest =
+        ap (λ n. cond (bytes_eq q n) (Some v) (value_in ps q)) (sym ((bytes_eq-Decides name p.0).0 same))
+        ∙ ap (λ b. cond b (Some v) (value_in ps q)) (nat_list_eq_equiv.symm q name)
+        ∙ here (bytes_eq name q) refl
+      where
+        here : (c : Bool) → bytes_eq name q ≡ c → cond c (Some v) (value_in ps q) ≡ cond c (Some v) (cond (bytes_eq q p.0) (Some p.1) (value_in ps q))
+        here true is = refl
+        here false is =
+            let apart : bytes_eq q p.0 ≡ false = nat_list_eq_equiv.symm q p.0 ∙ ap (λ n. bytes_eq n q) (sym ((bytes_eq-Decides name p.0).0 same)) ∙ is in
+            ap (λ b. cond b (Some p.1) (value_in ps q)) (sym apart)
+    by false apart rest =
+        ap (λ r. cond (bytes_eq q p.0) (Some p.1) r) rest ∙ last (bytes_eq q p.0) (bytes_eq name q) refl refl apart
+
+none_kept : (names : Option NameTree) (v : Option Meaning) → PlacesOf names None → PlacesOf names v
+none_kept None v places = tt
+none_kept (Some tree) v places = absurd places
+
+-- a new name has no places
+pub kept_assigned : (kept : List ℕ → Option NameTree) (old new : Pairs) (name : List ℕ) (v : Meaning) → value_in old name ≡ None → new ≡ insert_entry bytes_eq old name v
+    → ((q : List ℕ) → PlacesOf (kept q) (value_in old q)) → (q : List ℕ) → PlacesOf (kept q) (value_in new q)
+kept_assigned kept old new name v none put keeps q =
+    subst (λ (o : Option Meaning). PlacesOf (kept q) o) (sym (ap (λ ps. value_in ps q) put ∙ value_put name q v old)) (by (bytes_eq name q) refl)
+  where
+    by : (b : Bool) → bytes_eq name q ≡ b → PlacesOf (kept q) (cond b (Some v) (value_in old q))
+    by false apart = keeps q
+    by true same =
+        let is = (bytes_eq-Decides name q).0 same in
+        none_kept (kept q) (Some v) (subst (λ (o : Option Meaning). PlacesOf (kept q) o) (ap (value_in old) (sym is) ∙ none) (keeps q))
+
+-- a name that is extended gets the places of the sum
+pub kept_extended : (kept mid now : List ℕ → Option NameTree) (old new : Pairs) (name : List ℕ) (v : Meaning) (names : Option NameTree)
+    → ((q : List ℕ) → mid q ≡ cond (bytes_eq name q) None (kept q)) → ((q : List ℕ) → now q ≡ cond (bytes_eq name q) names (mid q)) → new ≡ insert_entry bytes_eq old name v
+    → PlacesOf names (Some v) → ((q : List ℕ) → PlacesOf (kept q) (value_in old q)) → (q : List ℕ) → PlacesOf (now q) (value_in new q)
+kept_extended kept mid now old new name v names taken given put places keeps q =
+    subst (λ (o : Option Meaning). PlacesOf (now q) o) (sym (ap (λ ps. value_in ps q) put ∙ value_put name q v old))
+    (subst (λ (t : Option NameTree). PlacesOf t (cond (bytes_eq name q) (Some v) (value_in old q))) (sym (given q ∙ ap (λ t. cond (bytes_eq name q) names t) (taken q))) (by (bytes_eq name q)))
+  where
+    by : (b : Bool) → PlacesOf (cond b names (cond b None (kept q))) (cond b (Some v) (value_in old q))
+    by true = places
+    by false = keeps q
+
+-- the places that are kept for the value that is taken
+pub kept_taken : (kept : List ℕ → Option NameTree) (inherited own : Pairs) (name : List ℕ) (old first : Meaning) (had : Option NameTree) → value_in inherited name ≡ None → value_in (inherited ++ own) name ≡ Some old
+    → first ≡ unwrap_or (value_in own name) (Truth false) → had ≡ kept name → ((q : List ℕ) → PlacesOf (kept q) (value_in own q)) → PlacesOf had (Some first)
+kept_taken kept inherited own name old first had none has taken is keeps =
+    let there : value_in own name ≡ Some old = sym (value_behind name inherited own none) ∙ has in
+    let same : first ≡ old = taken ∙ ap (λ r. unwrap_or r (Truth false)) there in
+    subst (λ (t : Option NameTree). PlacesOf t (Some first)) (sym is)
+    (subst (λ (o : Option Meaning). PlacesOf (kept name) o) (there ∙ ap (λ m. Some m) (sym same)) (keeps name))
+
+-- what is put for a variable, and what the others have
+pub any_put : (b : Bool) (names : Option NameTree) (old : Option (Option NameTree)) → if_any (cond b (Some names) old) ≡ cond b names (if_any old)
+any_put true names old = refl
+any_put false names old = refl
