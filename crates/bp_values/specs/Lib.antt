@@ -2,6 +2,7 @@ pub mod Values
 pub mod Depths
 pub mod Sums
 pub mod NameTree
+pub mod Places
 pub mod Layers
 pub mod Scopes
 pub mod Expressions

@@ -54,7 +54,7 @@ fn assign<'a>(
     }
     let new = value_of(alloc, &names, value)?;
     mark(&mut state.used, value)?;
-    state.own.put(name.copy(alloc)?, new)?;
+    state.own.set(alloc, name.copy(alloc)?, new)?;
     Ok(())
 }
 
@@ -86,9 +86,9 @@ fn extend<'a>(
             }
             let other = value_of(alloc, &names, value)?;
             mark(&mut state.used, value)?;
-            let old = state.own.take(name.copy(alloc)?)?;
+            let old = state.own.take(name);
             let new = add(alloc, old, other, at)?;
-            state.own.put(name.copy(alloc)?, new)?;
+            state.own.replace(name, new);
             Ok(())
         }
         None => Err(EvalError::Bad(Fault::on(

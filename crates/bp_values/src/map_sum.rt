@@ -11,7 +11,6 @@ use crate::value::map_value;
 use crate::{Entry, EvalError, Value};
 use bp_faults::{OutOfMemory, Place};
 use std::alloc::Global;
-use std::sync::Arc;
 
 /// A map to which others are added in turn.
 #[derive(Drop)]
@@ -88,8 +87,7 @@ fn with_names(alloc: Global, names: NameTree, entries: &[Entry]) -> Result<NameT
 {
     let mut all = names;
     for entry in entries {
-        let name = Arc::new(alloc, entry.name.copy(alloc)?)?;
-        all = all.with(alloc, &name, 0)?;
+        all = all.with(alloc, entry.name.copy(alloc)?, 0)?;
     }
     Ok(all)
 }

@@ -1,13 +1,11 @@
-use Rattle.std.proofs.Common.{rules, ◌≡◌, false, ap, sym, ◌∙◌, option_map, Ok, Err, unwrap_or}
-use Rattle.std.specs.List.{list_any}
-use Rattle.std.specs.Str.{bytes_eq}
-use Rattle.indexmap.specs.IndexMap.{insert_entry}
+use Rattle.std.proofs.Common.{rules, ◌≡◌, false, ap, sym, ◌∙◌, option_map, Ok, Err}
 use Rattle.bp_faults.specs.Answers.{then_do, Refuses}
 use Rattle.bp_parser.specs.Trees.{tree_of}
-use Rattle.bp_values.specs.Values.{meaning, Truth}
+use Rattle.bp_values.specs.Values.{meaning}
 use Rattle.bp_values.specs.Sums.{sum}
-use Rattle.bp_values.specs.Scopes.{pairs_of, layer_pairs, value_in}
+use Rattle.bp_values.specs.Scopes.{pairs_of, layer_pairs}
 use Rattle.bp_values.specs.Inside.{known_of}
+use Rattle.bp_values.specs.Meaning.{with_other}
 use Rattle.bp_names.specs.Meaning.{knows}
 use Rattle.bp_values.proofs.Noted.{noted_is}
 use Rattle.bp_values.proofs.Setting.{is_extended, leaves, known}
@@ -22,17 +20,16 @@ returns-in_err-new-in-Some c =
     let e = tree_of c.args.value.now in
     let has = sym c.get.ensures ∙ ap (option_map (λ v. meaning v.now)) c.in-Some.is in
     let unused : now.is_used name ≡ false = search rules in
-    let taken = c.in_ok-old-in-Some.ensures.taken ∙ ap (λ n. unwrap_or (value_in own n) (Truth false)) c.in_ok-copy-in-Some-2.ensures in
     let whole =
-    is_extended inherited own now.is_used (knows c.mark.new.used) now.modules name c.args.at e (meaning c.in-Some.field-0.now) (meaning c.in_ok-old-in-Some.old) (meaning c.in_ok-other-in-Some.other)
-    c.requires has unused c.in_ok-other-in-Some.ensures (λ q. c.in_ok-mark-in-Some.ensures q ∙ noted_is e (now.is_used q) q) taken in
-    let refused : Refuses c.in_err-new-in-Some.field-0.0 (sum c.args.at (meaning c.in_ok-old-in-Some.old) (meaning c.in_ok-other-in-Some.other)) = search rules in
+    is_extended inherited own now.is_used (knows c.mark.new.used) now.modules name c.args.at e (meaning c.in-Some.field-0.now) (meaning c.take-old.result) (meaning c.in_ok-other-in-Some.other)
+    c.requires has unused c.in_ok-other-in-Some.ensures (λ q. c.in_ok-mark-in-Some.ensures q ∙ noted_is e (now.is_used q) q) c.take-old.ensures.taken in
+    let refused : Refuses c.in_err-new-in-Some.field-0.0 (sum c.args.at (meaning c.take-old.result) (meaning c.in_ok-other-in-Some.other)) = search rules in
     let is : c.from_residual-in_err-new-in-Some.result ≡ Err c.in_err-new-in-Some.field-0.0 = search rules in
-    leaves (known_of inherited) (record { own = c.take.new.self; used = c.mark.new.used; modules = c.args.state.now.modules }) c.from_residual-in_err-new-in-Some.result c.in_err-new-in-Some.field-0.0 _ (sum c.args.at (meaning c.in_ok-old-in-Some.old) (meaning c.in_ok-other-in-Some.other))
-    (λ v. Ok (known inherited (insert_entry bytes_eq own name v) (knows c.mark.new.used) now.modules)) whole refused is
+    leaves (known_of inherited) (record { own = c.take-old.new.self; used = c.mark.new.used; modules = c.args.state.now.modules }) c.from_residual-in_err-new-in-Some.result c.in_err-new-in-Some.field-0.0 _ (sum c.args.at (meaning c.take-old.result) (meaning c.in_ok-other-in-Some.other))
+    (λ v. Ok (known inherited (with_other own name v) (knows c.mark.new.used) now.modules)) whole refused is
 
-pub returns-in_ok-put-in-Some : goal.returns-in_ok-put-in-Some
-returns-in_ok-put-in-Some c =
+pub returns-in_ok-new-in-Some : goal.returns-in_ok-new-in-Some
+returns-in_ok-new-in-Some c =
     let inherited = pairs_of c.args.inherited.now in
     let own = layer_pairs c.args.state.now.own in
     let now = known_of inherited c.args.state.now in
@@ -41,13 +38,9 @@ returns-in_ok-put-in-Some c =
     let v = meaning c.in_ok-new-in-Some.new in
     let has = sym c.get.ensures ∙ ap (option_map (λ v. meaning v.now)) c.in-Some.is in
     let unused : now.is_used name ≡ false = search rules in
-    let taken = c.in_ok-old-in-Some.ensures.taken ∙ ap (λ n. unwrap_or (value_in own n) (Truth false)) c.in_ok-copy-in-Some-2.ensures in
     let whole =
-    is_extended inherited own now.is_used (knows c.mark.new.used) now.modules name c.args.at e (meaning c.in-Some.field-0.now) (meaning c.in_ok-old-in-Some.old) (meaning c.in_ok-other-in-Some.other)
-    c.requires has unused c.in_ok-other-in-Some.ensures (λ q. c.in_ok-mark-in-Some.ensures q ∙ noted_is e (now.is_used q) q) taken in
-    let place =
-    ap (λ n. insert_entry bytes_eq (layer_pairs c.take.new.self) n v) (sym c.in_ok-copy-in-Some-2.ensures) ∙ c.in_ok-old-in-Some.ensures.place v
-    ∙ ap (λ n. insert_entry bytes_eq own n v) c.in_ok-copy-in-Some-2.ensures in
-    whole ∙ ap (λ r. then_do r (λ v. Ok (known inherited (insert_entry bytes_eq own name v) (knows c.mark.new.used) now.modules))) c.in_ok-new-in-Some.ensures
+    is_extended inherited own now.is_used (knows c.mark.new.used) now.modules name c.args.at e (meaning c.in-Some.field-0.now) (meaning c.take-old.result) (meaning c.in_ok-other-in-Some.other)
+    c.requires has unused c.in_ok-other-in-Some.ensures (λ q. c.in_ok-mark-in-Some.ensures q ∙ noted_is e (now.is_used q) q) c.take-old.ensures.taken in
+    whole ∙ ap (λ r. then_do r (λ v. Ok (known inherited (with_other own name v) (knows c.mark.new.used) now.modules))) c.in_ok-new-in-Some.ensures
     ∙ ap (λ pairs. Ok (known inherited pairs (knows c.mark.new.used) now.modules))
-    (sym (c.in_ok-put-in-Some.ensures.pairs ∙ ap (λ n. insert_entry bytes_eq (layer_pairs c.take.new.self) n v) c.in_ok-copy-in-Some-3.ensures ∙ place))
+    (sym (c.replace.ensures.pairs ∙ c.take-old.ensures.place v))

@@ -14,7 +14,7 @@ loop-entry-preserved c q =
     let entries = c.args.entries.now in
     let i = c.loop-entry.entry-index in
     let item = c.entry-item.result in
-    let same : c.in_ok-name.name.value ≡ (out-Entry item).name = search rules in
+    let same : c.in_ok-copy.field-0 ≡ (out-Entry item).name = search rules in
     learns_more (is_some (found c.args.names q)) (found c.loop-entry.all q) (found c.in_ok-all.all q) (map field_of (take i entries)) (map field_of (take (i + 1) entries)) (field_of item) 0 q (c.loop-entry.invariant q)
     (c.in_ok-all.ensures q ∙ ap (λ n. option_or (found c.loop-entry.all q) (number_for n 0 q)) (same ∙ sym (name_out item)))
     (map_take_more field_of entries i item c.loop-entry-test.true ∙ ap (λ e. map field_of (take i entries) ++ field_of e ∷ []) (sym c.entry-item.is))
