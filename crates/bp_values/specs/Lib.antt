@@ -2,7 +2,7 @@ pub mod Values
 pub mod Depths
 pub mod Sums
 pub mod NameTree
-pub mod Places
+pub mod NamePlaces
 pub mod Layers
 pub mod Scopes
 pub mod Expressions

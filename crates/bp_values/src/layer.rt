@@ -3,7 +3,7 @@ ghost use Rattle.std.proofs.Props.{props};
 ghost use Rattle.std.specs.Option.{option_or};
 ghost use Rattle.bp_values.specs.Values.{Meaning, meaning, Truth};
 ghost use Rattle.bp_values.specs.NameTree.{found};
-ghost use Rattle.bp_values.specs.Places.{place_in};
+ghost use Rattle.bp_values.specs.NamePlaces.{place_in};
 
 use crate::Value;
 use crate::name_tree::NameTree;

@@ -1,9 +1,9 @@
 use Rattle.std.proofs.Common.{rules, ◌≡◌, Some, None, ◌<◌, length, ap, sym, ◌∙◌, option_map}
 use Rattle.std.specs.Str.{bytes_eq}
 use Rattle.bp_values.specs.Values.{meaning}
-use Rattle.bp_values.specs.Places.{place_in}
+use Rattle.bp_values.specs.NamePlaces.{place_in}
 use Rattle.bp_values.proofs.Pairs.{lookup_pairs}
-use Rattle.bp_values.proofs.Places.{found_at, found_nowhere, place_within}
+use Rattle.bp_values.proofs.NamePlaces.{found_at, found_nowhere, place_within}
 use Rattle.bp_values.proofs.layer.Layer.get.Goals as goal
 
 pub index-requires : goal.index-requires

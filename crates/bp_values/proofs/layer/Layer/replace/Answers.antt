@@ -2,11 +2,11 @@ use Rattle.std.proofs.Common.{rules, ◌≡◌, Some, None, ◌<◌, length, map
 use Rattle.std.specs.Prelude.{slice_set}
 use Rattle.std.specs.Str.{bytes_eq}
 use Rattle.bp_values.specs.Values.{meaning}
-use Rattle.bp_values.specs.Places.{place_in}
+use Rattle.bp_values.specs.NamePlaces.{place_in}
 use Rattle.bp_values.specs.Layers.{layer_pairs, pair_of}
 use Rattle.bp_values.specs.Meaning.{with_other}
 use Rattle.bp_values.proofs.Pairs.{lookup_pairs, other_nowhere}
-use Rattle.bp_values.proofs.Places.{found_at, found_nowhere, place_within, place_kept, set_at}
+use Rattle.bp_values.proofs.NamePlaces.{found_at, found_nowhere, place_within, place_kept, set_at}
 use Rattle.bp_values.proofs.layer.Layer.replace.Goals as goal
 
 pub index_mut-requires : goal.index_mut-requires

@@ -1,8 +1,8 @@
 use Rattle.std.proofs.Common.{rules, ◌≡◌, ◌++◌, ◌∷◌, [], length, ap, sym, ◌∙◌}
 use Rattle.std.specs.Option.{option_or}
 use Rattle.bp_names.specs.Meaning.{number_for}
-use Rattle.bp_values.specs.Places.{place_in}
-use Rattle.bp_values.proofs.Places.{place_pushed}
+use Rattle.bp_values.specs.NamePlaces.{place_in}
+use Rattle.bp_values.proofs.NamePlaces.{place_pushed}
 use Rattle.bp_values.proofs.layer.Layer.with.Goals as goal
 
 pub invariant_of-result : goal.invariant_of-result

@@ -8,7 +8,7 @@ use Rattle.std.proofs.lemmas.Cmp.{nat_list_eq_equiv}
 use Rattle.bp_names.specs.Meaning.{number_for}
 use Rattle.bp_values.specs.declared.value.Value.{Value}
 use Rattle.bp_values.specs.Values.{meaning}
-use Rattle.bp_values.specs.Places.{place_in}
+use Rattle.bp_values.specs.NamePlaces.{place_in}
 use Rattle.bp_values.specs.Scopes.{pair_of}
 use Rattle.bp_values.specs.Meaning.{with_other}
 
