@@ -4,7 +4,6 @@ use Rattle.std.specs.Prelude.{◌^◌, codes}
 use Rattle.std.specs.Option.{option_or}
 use Rattle.std.specs.Map.{lookup}
 use Rattle.std.specs.Str.{bytes_eq}
-use Rattle.std.specs.Cmp.Lexicographic.{nat_list_eq_equiv}
 use Rattle.std.proofs.lemmas.Slice.Eq.{bytes_eq-Decides}
 use Rattle.std.proofs.lemmas.Bool.{false≢true}
 use Rattle.bp_faults.specs.Answers.{then_do}
@@ -12,16 +11,15 @@ use Rattle.bp_faults.specs.Faults.{fault_on}
 use Rattle.bp_faults.specs.declared.fault.Fault.{Fault}
 use Rattle.bp_faults.specs.declared.kind.FaultKind.TheVariants.{AfterUse}
 use Rattle.bp_faults.specs.declared.place.Place.{Place}
-use Rattle.bp_faults.specs.declared.place.Item.{Item}
 use Rattle.bp_parser.specs.Trees as tree
 use Rattle.bp_parser.specs.Trees.{Tree, Atom, Trees, Terms, Entries, no_tree, tree_and, no_term, term_and, no_entry, entry_and, Map, Definition, Assigns, Extends, Declares}
-use Rattle.bp_values.specs.Values.{Meaning, Field, Items, body}
+use Rattle.bp_values.specs.Values.{Meaning, Items, body}
 use Rattle.bp_values.specs.Depths.{nested}
 use Rattle.bp_values.specs.Sums.{sum, limited}
 use Rattle.bp_values.specs.Scopes.{Pairs, value_in}
 use Rattle.bp_values.specs.Expressions.{val, val_atom, val_items, val_terms, val_entries, val_map, known, item_of, first_place}
 use Rattle.bp_values.specs.References.{is_in_entries}
-use Rattle.bp_values.specs.Meaning.{Raw, Known, with_new, with_other, uses_with, known_with, after_assignment, after_extension, after_own_extension, after_module, after_definition, after_definitions, known_first, evaluated}
+use Rattle.bp_values.specs.Meaning.{Known, with_new, with_other, uses_with, known_with, after_assignment, after_extension, after_own_extension, after_definition, after_definitions, known_first, evaluated}
 use Rattle.bp_values.specs.Laws.{HasSameValues, IsSameOutcome}
 use Rattle.bp_values.proofs.Pairs.{lookup_append}
 

@@ -1,13 +1,13 @@
 -- The names of each map differ in what a file means, where they do in the file and in what it inherits.
-use Rattle.std.specs.Prelude.{◌≢◌, ℤ, ◌+ℤ◌, ◌^◌, codes, IfOk, IfSome, ⊤, filter}
-use Rattle.std.specs.List.{All, AllPairs, Contains, list_any}
+use Rattle.std.specs.Prelude.{◌≢◌, ℤ, ◌+ℤ◌, ◌^◌, codes, IfOk, IfSome, ⊤}
+use Rattle.std.specs.List.{All, AllPairs, list_any}
 use Rattle.std.specs.Str.{bytes_eq}
 use Rattle.std.specs.Cmp.Lexicographic.{nat_list_eq_equiv}
-use Rattle.std.proofs.Common.{◌≡◌, ℕ, zero, suc, ◌+◌, ◌<◌, Bool, true, false, not, ◌||◌, cond, List, [], ◌∷◌, ◌++◌, map, length, get_or, Option, None, Some, Result, Ok, Err, refl, ap, sym, subst, ◌∙◌, arith, if◌then◌else◌}
+use Rattle.std.proofs.Common.{◌≡◌, ℕ, suc, ◌<◌, Bool, true, false, not, ◌||◌, cond, List, [], ◌∷◌, ◌++◌, map, length, get_or, Option, None, Some, Result, Ok, Err, refl, ap, sym, subst, ◌∙◌, arith, if◌then◌else◌}
 use Rattle.std.proofs.lemmas.Bool.{false≢true}
 use Rattle.std.proofs.lemmas.List.{get_or-map, length-map}
 use Rattle.std.proofs.lemmas.Map.Views.{list_any-from_Contains}
-use Rattle.std.proofs.lemmas.List.Elements.{Contains-get_or, All-nil, All-cons, All-head, All-tail, All-append, All-push, All-filter, All-map, filter_passes}
+use Rattle.std.proofs.lemmas.List.Elements.{Contains-get_or, All-nil, All-cons, All-head, All-tail, All-append, All-push, All-filter, filter_passes}
 use Rattle.std.proofs.lemmas.List.Kept.{AllPairs-cons, AllPairs-filter}
 use Rattle.std.proofs.lemmas.Result.{IfOk-at_ok}
 use Rattle.bp_faults.specs.Answers.{then_do}
@@ -22,10 +22,10 @@ use Rattle.bp_parser.specs.Names as written
 use Rattle.bp_parser.specs.Names.{AreDistinct, DefinitionHasDistinctNames}
 use Rattle.bp_values.specs.Values.{Meaning, Truth, Number, Str, Items, Body, Fields, no_field, field_and, Field, fields_of, fields_then, body}
 use Rattle.bp_values.specs.Depths.{nested}
-use Rattle.bp_values.specs.Sums.{sum, sum_fields, sum_body, sum_number, sum_numbers, sum_text, sum_item, limited, fits, met, value_at, has_name, others}
+use Rattle.bp_values.specs.Sums.{sum, sum_fields, sum_body, sum_number, sum_text, sum_item, limited, fits, met, value_at, has_name, others}
 use Rattle.bp_values.specs.Scopes.{Pairs, value_in}
-use Rattle.bp_values.specs.Expressions.{val, val_atom, val_items, val_terms, val_entries, val_map, known, item_of, first_place}
-use Rattle.bp_values.specs.Meaning.{Raw, Known, with_new, with_other, known_with, after_assignment, after_extension, after_own_extension, after_module, after_definition, after_definitions, known_first, evaluated}
+use Rattle.bp_values.specs.Expressions.{val, val_atom, val_items, val_terms, val_entries, val_map, known}
+use Rattle.bp_values.specs.Meaning.{Raw, Known, with_new, with_other, known_with, after_assignment, after_extension, after_own_extension, after_definition, after_definitions, known_first, evaluated}
 use Rattle.bp_values.specs.Names.{names_of, HasDistinctNames, FieldsHaveDistinctNames, ModuleHasDistinctNames, ScopeHasDistinctNames}
 
 -- results

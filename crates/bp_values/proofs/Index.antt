@@ -1,11 +1,6 @@
 -- What the first place of a name in a list of entries says.
-use Rattle.std.proofs.Common.{◌≡◌, ℕ, ◌+◌, ◌<◌, Bool, true, false, List, [], ◌∷◌, ◌++◌, length, get_or, map, Option, None, Some, option_map, is_some, unwrap_or, ◌||◌, if◌then◌else◌, cond, suc, refl, sym, ap, ◌∙◌, arith, take, length-take-le}
-use Rattle.std.specs.Option.{option_or}
-use Rattle.std.proofs.lemmas.List.{length-map}
+use Rattle.std.proofs.Common.{◌≡◌, ℕ, ◌+◌, ◌<◌, Bool, true, false, List, [], ◌∷◌, length, get_or, map, Option, None, Some, option_map, is_some, ◌||◌, if◌then◌else◌, cond, suc, refl, ap, ◌∙◌, arith}
 use Rattle.std.specs.Str.{bytes_eq}
-use Rattle.std.specs.Cmp.Lexicographic.{nat_list_eq_equiv}
-use Rattle.std.proofs.lemmas.Slice.Eq.{bytes_eq-Decides}
-use Rattle.bp_values.proofs.Steps.{map_take_more}
 use Rattle.bp_names.specs.Meaning.{first_number, first_number_from}
 use Rattle.bp_values.specs.Values.{Field, field_of}
 use Rattle.bp_values.specs.declared.value.Entry.{Entry}

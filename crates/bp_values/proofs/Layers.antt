@@ -1,5 +1,5 @@
 -- The layers of a scope: in which of them a name is found, and what one more changes.
-use Rattle.std.proofs.Common.{◌≡◌, ℕ, suc, ◌+◌, ◌<◌, Bool, true, false, cond, List, [], ◌∷◌, ◌++◌, take, drop, get_or, length, Option, None, Some, option_map, is_some, refl, ap, sym, ◌∙◌, add-one, append_assoc, append-nil, arith, if◌then◌else◌}
+use Rattle.std.proofs.Common.{◌≡◌, ℕ, suc, ◌+◌, ◌<◌, Bool, true, false, cond, List, [], ◌∷◌, ◌++◌, drop, get_or, length, Option, None, Some, option_map, is_some, refl, ap, sym, ◌∙◌, add-one, append_assoc, append-nil, arith, if◌then◌else◌}
 use Rattle.std.specs.Option.{option_or}
 use Rattle.std.specs.Str.{bytes_eq}
 use Rattle.std.specs.Map.{lookup}
@@ -12,7 +12,7 @@ use Rattle.bp_names.specs.Meaning.{number_for}
 use Rattle.bp_values.specs.declared.layer.Layer.{Layer}
 use Rattle.bp_values.specs.Values.{Meaning}
 use Rattle.bp_values.specs.Layers.{Pairs, layer_pairs, pairs_in, value_in, layer_of}
-use Rattle.bp_values.proofs.Pairs.{value_before, value_behind, lookup_append}
+use Rattle.bp_values.proofs.Pairs.{value_before, value_behind}
 
 -- a layer has the name
 abbrev pub has : {Z : Type 0} → Arc Layer Z → List ℕ → Bool

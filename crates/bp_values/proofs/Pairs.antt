@@ -3,11 +3,10 @@ use Rattle.std.proofs.Common.{◌≡◌, ℕ, Bool, true, false, cond, List, [],
 use Rattle.std.specs.Str.{bytes_eq}
 use Rattle.std.specs.Map.{lookup}
 use Rattle.std.specs.Option.{option_or}
-use Rattle.std.specs.Cmp.Lexicographic.{nat_list_eq_equiv}
-use Rattle.indexmap.specs.IndexMap.{insert_entry}
 use Rattle.bp_values.specs.declared.value.Value.{Value}
 use Rattle.bp_values.specs.Values.{Meaning, meaning}
 use Rattle.bp_values.specs.Scopes.{Pairs, pair_of, value_in}
+use Rattle.bp_values.specs.Meaning.{with_other}
 
 pub lookup_pairs : (test : List ℕ → Bool) (es : List (List ℕ × Value)) → option_map meaning (lookup test es) ≡ lookup test (map pair_of es)
 lookup_pairs test [] = refl
@@ -22,23 +21,23 @@ borrowed None = refl
 borrowed (Some v) = refl
 
 -- of two values that a name gets, the second stays
-pub insert_again : (k : List ℕ) (v w : Meaning) (es : Pairs) → insert_entry bytes_eq (insert_entry bytes_eq es k v) k w ≡ insert_entry bytes_eq es k w
-insert_again k v w [] = rw (nat_list_eq_equiv.refl k) refl
-insert_again k v w (e ∷ es) = by (bytes_eq k e.0) refl (insert_again k v w es)
+pub other_again : (k : List ℕ) (v w : Meaning) (es : Pairs) → with_other (with_other es k v) k w ≡ with_other es k w
+other_again k v w [] = refl
+other_again k v w (e ∷ es) = by (bytes_eq k e.0) refl (other_again k v w es)
   where
-    by : (b : Bool) → bytes_eq k e.0 ≡ b → insert_entry bytes_eq (insert_entry bytes_eq es k v) k w ≡ insert_entry bytes_eq es k w
-        → insert_entry bytes_eq (cond b ((e.0, v) ∷ es) (e ∷ insert_entry bytes_eq es k v)) k w ≡ cond b ((e.0, w) ∷ es) (e ∷ insert_entry bytes_eq es k w)
+    by : (b : Bool) → bytes_eq k e.0 ≡ b → with_other (with_other es k v) k w ≡ with_other es k w
+        → with_other (cond b ((e.0, v) ∷ es) (e ∷ with_other es k v)) k w ≡ cond b ((e.0, w) ∷ es) (e ∷ with_other es k w)
     by true at h = rw at refl
     by false at h = rw at (ap (λ l. e ∷ l) h)
 
-pub insert_pairs : (k : List ℕ) (v : Value) (es : List (List ℕ × Value)) → map pair_of (insert_entry bytes_eq es k v) ≡ insert_entry bytes_eq (map pair_of es) k (meaning v)
-insert_pairs k v [] = refl
-insert_pairs k v (e ∷ es) = by (bytes_eq k e.0) (insert_pairs k v es)
+-- a name that has no value gets none
+pub other_nowhere : (k : List ℕ) (v : Meaning) (es : Pairs) → value_in es k ≡ None → es ≡ with_other es k v
+other_nowhere k v [] none = refl
+other_nowhere k v (e ∷ es) none = by (bytes_eq k e.0) none (other_nowhere k v es)
   where
-    by : (b : Bool) → map pair_of (insert_entry bytes_eq es k v) ≡ insert_entry bytes_eq (map pair_of es) k (meaning v)
-        → map pair_of (cond b ((e.0, v) ∷ es) (e ∷ insert_entry bytes_eq es k v)) ≡ cond b ((e.0, meaning v) ∷ map pair_of es) (pair_of e ∷ insert_entry bytes_eq (map pair_of es) k (meaning v))
-    by true h = refl
-    by false h = ap (λ l. pair_of e ∷ l) h
+    by : (b : Bool) → cond b (Some e.1) (value_in es k) ≡ None → (value_in es k ≡ None → es ≡ with_other es k v) → e ∷ es ≡ cond b ((e.0, v) ∷ es) (e ∷ with_other es k v)
+    by true none rest = cc
+    by false none rest = ap (λ l. e ∷ l) (rest none)
 
 -- the first pair of a name in two lists
 pub lookup_append : (test : List ℕ → Bool) (xs ys : Pairs) → lookup test (xs ++ ys) ≡ option_or (lookup test xs) (lookup test ys)
@@ -50,12 +49,12 @@ lookup_append test (x ∷ xs) ys = by (test x.0) (lookup_append test xs ys)
     by false h = h
 
 -- a name that the first list lacks gets its value in the second
-pub insert_behind : (k : List ℕ) (v : Meaning) (xs ys : Pairs) → value_in xs k ≡ None → insert_entry bytes_eq (xs ++ ys) k v ≡ xs ++ insert_entry bytes_eq ys k v
-insert_behind k v [] ys none = refl
-insert_behind k v (x ∷ xs) ys none = by (bytes_eq k x.0) none (insert_behind k v xs ys)
+pub other_behind : (k : List ℕ) (v : Meaning) (xs ys : Pairs) → value_in xs k ≡ None → with_other (xs ++ ys) k v ≡ xs ++ with_other ys k v
+other_behind k v [] ys none = refl
+other_behind k v (x ∷ xs) ys none = by (bytes_eq k x.0) none (other_behind k v xs ys)
   where
-    by : (b : Bool) → cond b (Some x.1) (value_in xs k) ≡ None → (value_in xs k ≡ None → insert_entry bytes_eq (xs ++ ys) k v ≡ xs ++ insert_entry bytes_eq ys k v)
-        → cond b ((x.0, v) ∷ (xs ++ ys)) (x ∷ insert_entry bytes_eq (xs ++ ys) k v) ≡ x ∷ (xs ++ insert_entry bytes_eq ys k v)
+    by : (b : Bool) → cond b (Some x.1) (value_in xs k) ≡ None → (value_in xs k ≡ None → with_other (xs ++ ys) k v ≡ xs ++ with_other ys k v)
+        → cond b ((x.0, v) ∷ (xs ++ ys)) (x ∷ with_other (xs ++ ys) k v) ≡ x ∷ (xs ++ with_other ys k v)
     by true none rest = cc
     by false none rest = ap (λ l. x ∷ l) (rest none)
 

@@ -1,8 +1,5 @@
 -- A name that is set or extended is new, or the file's own: what is inherited stays before it.
-use Rattle.std.proofs.Common.{◌≡◌, ℕ, Bool, true, false, ◌||◌, cond, [], ◌∷◌, if◌then◌else◌, List, ◌++◌, Option, None, Some, Result, Ok, Err, option_map, is_some, unwrap_or, ap, refl, sym, subst, ◌∙◌}
-use Rattle.std.specs.List.{list_any}
-use Rattle.std.specs.Str.{bytes_eq}
-use Rattle.indexmap.specs.IndexMap.{insert_entry}
+use Rattle.std.proofs.Common.{◌≡◌, ℕ, Bool, false, ◌||◌, [], ◌∷◌, if◌then◌else◌, List, ◌++◌, Option, None, Some, Result, Ok, Err, option_map, is_some, unwrap_or, ap, refl, sym, subst, ◌∙◌, append_assoc}
 use Rattle.bp_faults.specs.Answers.{then_do, Leaves, Refuses}
 use Rattle.bp_faults.specs.Faults.{fault_on}
 use Rattle.bp_faults.specs.declared.kind.FaultKind.TheVariants.{AfterUse}
@@ -17,7 +14,7 @@ use Rattle.bp_values.specs.Scopes.{Pairs, value_in}
 use Rattle.bp_values.specs.Expressions.{val, val_map}
 use Rattle.bp_values.specs.References.{is_in, is_in_entries}
 use Rattle.bp_values.specs.Meaning.{Raw, Known, with_new, with_other, uses_with, known_with, with_module, after_assignment, after_extension, after_module}
-use Rattle.bp_values.proofs.Pairs.{insert_behind, absent_first, value_behind}
+use Rattle.bp_values.proofs.Pairs.{other_behind, value_behind}
 
 -- what is not there has no value
 pub is_absent : {A B : Type 0} (f : A → B) (r : Option A) (value : Option B) → is_some r ≡ false → option_map f r ≡ value → value ≡ None
@@ -27,36 +24,16 @@ is_absent f (Some x) value lacks is = cc
 abbrev pub known : Pairs → Pairs → (List ℕ → Bool) → List Raw → Known
 known inherited own is_used modules = record { scope = inherited ++ own; is_used = is_used; modules = modules }
 
--- a name that a scope lacks goes behind
-insert_new : (name : List ℕ) (v : Meaning) (ps : Pairs) → value_in ps name ≡ None → insert_entry bytes_eq ps name v ≡ with_new ps name v
-insert_new name v [] none = refl
-insert_new name v (p ∷ ps) none = by (bytes_eq name p.0) none (insert_new name v ps)
-  where
-    by : (b : Bool) → cond b (Some p.1) (value_in ps name) ≡ None → (value_in ps name ≡ None → insert_entry bytes_eq ps name v ≡ with_new ps name v)
-        → cond b ((p.0, v) ∷ ps) (p ∷ insert_entry bytes_eq ps name v) ≡ p ∷ with_new ps name v
-    by true none rest = cc
-    by false none rest = ap (λ l. p ∷ l) (rest none)
-
--- a name that a scope has gets the value in its place
-insert_other : (name : List ℕ) (v w : Meaning) (ps : Pairs) → value_in ps name ≡ Some w → insert_entry bytes_eq ps name v ≡ with_other ps name v
-insert_other name v w [] has = cc
-insert_other name v w (p ∷ ps) has = by (bytes_eq name p.0) has (insert_other name v w ps)
-  where
-    by : (b : Bool) → cond b (Some p.1) (value_in ps name) ≡ Some w → (value_in ps name ≡ Some w → insert_entry bytes_eq ps name v ≡ with_other ps name v)
-        → cond b ((p.0, v) ∷ ps) (p ∷ insert_entry bytes_eq ps name v) ≡ cond b ((p.0, v) ∷ ps) (p ∷ with_other ps name v)
-    by true has rest = refl
-    by false has rest = ap (λ l. p ∷ l) (rest has)
-
 -- the names that are noted, once those of an expression are
 noted_with : (later used : List ℕ → Bool) (e : Tree) → ((q : List ℕ) → later q ≡ (used q || is_in q e)) → uses_with used e ≡ later
 noted_with later used e noted = λ i q. sym (noted q) i
 
 pub is_assigned : (inherited own now : Pairs) (used later : List ℕ → Bool) (modules : List Raw) (name : List ℕ) (at : Place) (e : Tree) (v : Meaning)
-    → value_in (inherited ++ own) name ≡ None → val (inherited ++ own) e ≡ Ok v → ((q : List ℕ) → later q ≡ (used q || is_in q e)) → now ≡ insert_entry bytes_eq own name v
+    → value_in (inherited ++ own) name ≡ None → val (inherited ++ own) e ≡ Ok v → ((q : List ℕ) → later q ≡ (used q || is_in q e)) → now ≡ own ++ (name, v) ∷ []
     → after_assignment (known inherited own used modules) name at e (value_in (inherited ++ own) name) ≡ Ok (known inherited now later modules)
 is_assigned inherited own now used later modules name at e v none value noted put =
     let scope : with_new (inherited ++ own) name v ≡ inherited ++ now =
-    sym (insert_new name v (inherited ++ own) none) ∙ insert_behind name v inherited own (absent_first name inherited own none) ∙ ap (λ l. inherited ++ l) (sym put) in
+    append_assoc inherited own ((name, v) ∷ []) ∙ ap (λ l. inherited ++ l) (sym put) in
     ap (after_assignment (known inherited own used modules) name at e) none
     ∙ ap (λ r. then_do r (λ v. Ok (known_with (known inherited own used modules) (with_new (inherited ++ own) name v) e))) value
     ∙ (λ i. Ok (record { scope = scope i; is_used = noted_with later used e noted i; modules = modules }))
@@ -70,7 +47,7 @@ pub is_extended : (inherited own : Pairs) (used later : List ℕ → Bool) (modu
     → value_in inherited name ≡ None → value_in (inherited ++ own) name ≡ Some old → used name ≡ false → val (inherited ++ own) e ≡ Ok w
     → ((q : List ℕ) → later q ≡ (used q || is_in q e)) → first ≡ unwrap_or (value_in own name) (Truth false)
     → after_extension (known inherited own used modules) name at e (value_in (inherited ++ own) name)
-    ≡ then_do (sum at first w) (λ v. Ok (known inherited (insert_entry bytes_eq own name v) later modules))
+    ≡ then_do (sum at first w) (λ v. Ok (known inherited (with_other own name v) later modules))
 is_extended inherited own used later modules name at e old first w none has unused value noted taken =
     let same : first ≡ old = taken ∙ ap (λ r. unwrap_or r (Truth false)) (sym (value_behind name inherited own none) ∙ has) in
     ap (after_extension (known inherited own used modules) name at e) has
@@ -79,9 +56,9 @@ is_extended inherited own used later modules name at e old first w none has unus
   where
     by : (r : Result Meaning Fault)
         → then_do r (λ v. Ok (known_with (known inherited own used modules) (with_other (inherited ++ own) name v) e))
-        ≡ then_do r (λ v. Ok (known inherited (insert_entry bytes_eq own name v) later modules))
+        ≡ then_do r (λ v. Ok (known inherited (with_other own name v) later modules))
     by (Ok v) = λ i. Ok (record {
-      scope = (sym (insert_other name v old (inherited ++ own) has) ∙ insert_behind name v inherited own none) i;
+      scope = other_behind name v inherited own none i;
       is_used = noted_with later used e noted i;
       modules = modules;
     })

@@ -19,7 +19,7 @@ pair_of p = (p.0, meaning p.1)
 
 -- The names that one file sets.
 abbrev pub layer_pairs : Layer → Pairs
-layer_pairs layer = map pair_of layer.values.entries
+layer_pairs layer = map pair_of layer.values.items
 
 -- The names of several files, one file behind the other.
 abbrev pub pairs_in : {Z : Type 0} → List (Arc Layer Z) → Pairs

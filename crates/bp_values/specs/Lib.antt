@@ -2,6 +2,7 @@ pub mod Values
 pub mod Depths
 pub mod Sums
 pub mod NameTree
+pub mod NamePlaces
 pub mod Places
 pub mod KeptPlaces
 pub mod Layers

@@ -1,5 +1,5 @@
 -- What a search of a tree finds. No public contract speaks of it.
-use Rattle.std.specs.Prelude.{ℕ, List, Option, Some, None}
+use Rattle.std.specs.Prelude.{ℕ, suc, ◌+◌, List, Option, Some, None}
 use Rattle.std.specs.Ordering.{nat_cmp, match_ordering}
 use Rattle.std.specs.Cmp.Lexicographic.{slice_cmp}
 use Rattle.std.specs.Arc.{arc_value}
@@ -25,7 +25,7 @@ tree_step (layer.Fork node) = arc_value node
 
 -- One layer of a node, with what is found in each part.
 abbrev pub node_step : Node-F Search Search → Search
-node_step n = found_between n.before (arc_value n.name) n.number n.behind
+node_step n = found_between n.before n.name n.number n.behind
 
 -- The number that a tree finds for a name.
 abbrev pub found : NameTree → Search
@@ -34,3 +34,20 @@ found = fold-NameTree Search Search tree_step node_step
 -- The number that a node, or what is below it, finds for a name.
 abbrev pub found_below : Node → Search
 found_below = fold-Node Search Search tree_step node_step
+
+-- One layer of a tree, with how many nodes each part has.
+abbrev pub tree_nodes : NameTree-F ℕ ℕ → ℕ
+tree_nodes layer.Empty = 0
+tree_nodes (layer.Fork node) = arc_value node
+
+-- One layer of a node, with how many nodes each part has.
+abbrev pub node_nodes : Node-F ℕ ℕ → ℕ
+node_nodes n = suc (n.before + n.behind)
+
+-- How many nodes a tree has.
+abbrev pub nodes : NameTree → ℕ
+nodes = fold-NameTree ℕ ℕ tree_nodes node_nodes
+
+-- How many nodes there are from a node on.
+abbrev pub nodes_below : Node → ℕ
+nodes_below = fold-Node ℕ ℕ tree_nodes node_nodes

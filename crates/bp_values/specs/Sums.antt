@@ -1,6 +1,6 @@
 -- The sum of two values, by their types.
 -- Source: Soong reference, "Android.bp file format", operators.
-use Rattle.std.specs.Prelude.{◌≡◌, ℕ, ℤ, ◌+ℤ◌, ◌^◌, ◌-◌, Bool, not, List, [], ◌∷◌, ◌++◌, length, filter, codes, Option, None, Some, Result, Ok, Err, if◌then◌else◌, nat_le, int_le, ◌&&◌, pos, negsuc}
+use Rattle.std.specs.Prelude.{ℕ, ℤ, ◌+ℤ◌, ◌^◌, ◌-◌, Bool, not, List, [], ◌∷◌, ◌++◌, length, filter, codes, Option, None, Some, Result, Ok, Err, if◌then◌else◌, nat_le, int_le, ◌&&◌, pos, negsuc}
 use Rattle.std.specs.Str.{bytes_eq}
 use Rattle.std.specs.List.{list_any}
 use Rattle.bp_faults.specs.declared.place.Place.{Place}

@@ -59,7 +59,7 @@ fn assign<'a>(
     }
     let new = value_of(alloc, &names, value)?;
     mark(&mut state.used, value)?;
-    state.own.put(name.copy(alloc)?, new)?;
+    state.own.set(alloc, name.copy(alloc)?, new)?;
     Ok(())
 }
 
@@ -93,12 +93,12 @@ fn extend<'a>(
             }
             let other = value_of(alloc, &names, value)?;
             mark(&mut state.used, value)?;
-            let old = state.own.take(name.copy(alloc)?)?;
+            let old = state.own.take(name);
             let variable = name.as_str();
             let places = state.kept.keep(variable, None)?;
             let (new, places) = add_to(alloc, old, places, other, at)?;
             state.kept.keep(variable, places)?;
-            state.own.put(name.copy(alloc)?, new)?;
+            state.own.replace(name, new);
             Ok(())
         }
         None => Err(EvalError::Bad(Fault::on(

@@ -1,30 +1,35 @@
-ghost use Rattle.std.specs.Prelude.{◌≡◌, ◌↔◌, ℕ, List, [], option_map, is_some, IfOk, OnOk, IsTrue, unwrap_or, false, Some, None, if◌then◌else◌};
+ghost use Rattle.std.specs.Prelude.{◌≡◌, ◌++◌, ◌∷◌, ◌↔◌, ℕ, List, [], option_map, is_some, IfOk, OnOk, IsTrue, unwrap_or, false, Some, None, if◌then◌else◌};
+ghost use Rattle.std.proofs.Props.{props};
 ghost use Rattle.std.specs.Option.{option_or};
-ghost use Rattle.std.specs.Str.{bytes_eq};
-ghost use Rattle.indexmap.specs.IndexMap.{insert_entry};
 ghost use Rattle.bp_values.specs.Values.{Meaning, meaning, Truth};
-ghost use Rattle.bp_values.specs.Layers.{value_in, layer_pairs};
 ghost use Rattle.bp_values.specs.NameTree.{found};
+ghost use Rattle.bp_values.specs.NamePlaces.{place_in};
 
 use crate::Value;
 use crate::name_tree::NameTree;
 use bp_faults::{OutOfMemory, Text};
-use indexmap::IndexMap;
 use std::alloc::Global;
-use std::sync::Arc;
+use std::mem;
 
-/// The names that one file sets, with their values.
+/// The names that one file sets, with their values, in the order in which they were set.
 #[derive(Drop)]
 pub struct Layer {
-    values: IndexMap<Text, Value>,
+    values: Vec<(Text, Value)>,
+    // Each name with its place.
+    places: NameTree,
+    ghost placed: { (name : List ℕ) → found places name ≡ place_in values.items name } by { Prim.hlevel props },
 }
 
 impl Layer {
+    ghost use Rattle.bp_values.specs.Layers.{value_in, layer_pairs};
+    ghost use Rattle.bp_values.specs.Meaning.{with_other};
+
     pub fn new(alloc: Global) -> Layer
         ensures { layer_pairs result ≡ [] }
     {
         Layer {
-            values: IndexMap::new(alloc),
+            values: Vec::new(alloc),
+            places: NameTree::Empty,
         }
     }
 
@@ -38,25 +43,51 @@ impl Layer {
     pub fn get(&self, name: &Text) -> Option<&Value>
         ensures { option_map (λ v. meaning v.now) result ≡ value_in (layer_pairs self.now) name.now }
     {
-        self.values.get(name)
+        match self.places.number_of(name.as_str()) {
+            Some(place) => Some(&self.values[place].1),
+            None => None,
+        }
     }
 
-    /// Sets a name, in its old place where it has one. The old value is handed back.
-    pub fn put(&mut self, name: Text, value: Value) -> Result<Option<Value>, OutOfMemory>
-        ensures pairs { OnOk result (layer_pairs self.new ≡ insert_entry bytes_eq (layer_pairs self.old) name (meaning value)) }
-        ensures old { IfOk result (λ old. option_map meaning old ≡ value_in (layer_pairs self.old) name) }
+    /// These names, and one more behind them.
+    pub fn with(self, alloc: Global, name: Text, value: Value) -> Result<Layer, OutOfMemory>
+        ensures { IfOk result (λ layer. layer_pairs layer ≡ layer_pairs self ++ (name, meaning value) ∷ []) }
     {
-        Ok(self.values.insert(name, value)?)
+        let Layer { values, places } = self;
+        let mut values = values;
+        let places = places.with(alloc, name.copy(alloc)?, values.len())?;
+        values.push((name, value))?;
+        Ok(Layer { values, places })
+    }
+
+    /// Sets a name that has no value.
+    pub fn set(&mut self, alloc: Global, name: Text, value: Value) -> Result<(), OutOfMemory>
+        ensures { OnOk result (layer_pairs self.new ≡ layer_pairs self.old ++ (name, meaning value) ∷ []) }
+    {
+        let layer = mem::replace(self, Layer::new(alloc));
+        *self = layer.with(alloc, name, value)?;
+        Ok(())
+    }
+
+    /// Gives a name that has a value another, in its place. The old value is handed back.
+    pub fn replace(&mut self, name: &Text, value: Value) -> Option<Value>
+        ensures pairs { layer_pairs self.new ≡ with_other (layer_pairs self.old) name.now (meaning value) }
+        ensures old { option_map meaning result ≡ value_in (layer_pairs self.old) name.now }
+    {
+        match self.places.number_of(name.as_str()) {
+            Some(place) => Some(mem::replace(&mut self.values[place].1, value)),
+            None => None,
+        }
     }
 
     /// Takes the value of a name, to put another there: `false` stands in its place until then, and
     /// is the answer where the name has none.
-    pub fn take(&mut self, name: Text) -> Result<Value, OutOfMemory>
-        ensures taken { IfOk result (λ value. meaning value ≡ unwrap_or (value_in (layer_pairs self.old) name) (Truth false)) }
-        ensures place { OnOk result ((v : Meaning) → insert_entry bytes_eq (layer_pairs self.new) name v ≡ insert_entry bytes_eq (layer_pairs self.old) name v) }
+    pub fn take(&mut self, name: &Text) -> Value
+        ensures taken { meaning result ≡ unwrap_or (value_in (layer_pairs self.old) name.now) (Truth false) }
+        ensures place { (v : Meaning) → with_other (layer_pairs self.new) name.now v ≡ with_other (layer_pairs self.old) name.now v }
     {
-        let old = self.put(name, Value::Bool(false))?;
-        Ok(old.unwrap_or(Value::Bool(false)))
+        let old = self.replace(name, Value::Bool(false));
+        old.unwrap_or(Value::Bool(false))
     }
 
     /// The names of a tree, and behind them those of this layer, which get its number.
@@ -69,12 +100,8 @@ impl Layer {
         ensures { IfOk result (λ tree. (q : List ℕ) → found tree q ≡ option_or (found names.now q) (if is_some (value_in (layer_pairs self.now) q) then Some number else None)) }
     {
         let mut tree = names.share()?;
-        for place in 0..self.values.len() {
-            let Some((name, _)) = self.values.get_index(place) else {
-                unreachable!()
-            };
-            let name = Arc::new(alloc, name.copy(alloc)?)?;
-            tree = tree.with(alloc, &name, number)?;
+        'values: for entry in self.values.iter() {
+            tree = tree.with(alloc, entry.0.copy(alloc)?, number)?;
         }
         Ok(tree)
     }

@@ -15,7 +15,6 @@ use bp_faults::{OutOfMemory, Place, Text};
 use std::alloc::Global;
 use std::collections::BTreeMap;
 use std::mem;
-use std::sync::Arc;
 
 /// A map to which others are added in turn.
 #[derive(Drop)]
@@ -116,8 +115,7 @@ fn with_names(
         if all.number_of(entry.name.as_str()).is_some() {
             return Ok(None);
         }
-        let name = Arc::new(alloc, entry.name.copy(alloc)?)?;
-        all = all.with(alloc, &name, place)?;
+        all = all.with(alloc, entry.name.copy(alloc)?, place)?;
     }
     Ok(Some(all))
 }

@@ -1,15 +1,15 @@
-ghost use Rattle.std.specs.Prelude.{◌≡◌, List, ℕ, None, Some, IfOk};
+ghost use Rattle.std.specs.Prelude.{◌≡◌, List, ℕ, None, Some, IfOk, OnOk};
 ghost use Rattle.std.specs.Option.{option_or};
 ghost use Rattle.bp_names.specs.Meaning.{number_for};
-ghost use Rattle.bp_values.specs.NameTree.{found, found_below, found_between};
+ghost use Rattle.bp_values.specs.NameTree.{found, found_below, found_between, nodes, nodes_below};
 
 use bp_faults::{OutOfMemory, Text};
 use std::alloc::Global;
 use std::cmp::Ordering;
+use std::mem;
 use std::sync::Arc;
 
-/// Names with numbers, in a balanced tree that is never written over: with one name more it is
-/// another tree, which shares all but the way to that name.
+/// Names with numbers, in a balanced tree. What it shares with other trees is never written over.
 #[cycle(name_tree)]
 #[derive(Drop)]
 pub enum NameTree {
@@ -19,16 +19,16 @@ pub enum NameTree {
 
 /// A name with its number, between the names before it and those behind it.
 ///
-/// A level is how many nodes stand one below the other on the way along `before`. It is one less in
-/// `before`, and at most as high in `behind`, where it is less two steps further.
+/// The height is how many nodes stand one below the other on the longest way, this one among them.
+/// Those of the two sides differ by at most one.
 #[cycle(name_tree)]
 #[derive(Drop)]
 pub struct Node {
     before: NameTree,
-    name: Arc<Text>,
+    name: Text,
     number: usize,
     behind: NameTree,
-    level: u32,
+    height: u32,
 }
 
 impl NameTree {
@@ -48,34 +48,62 @@ impl NameTree {
     }
 
     /// These names and one more, unless it has a number here.
-    #[cycle(with)]
-    pub fn with(
-        &self,
-        alloc: Global,
-        name: &Arc<Text>,
-        number: usize,
-    ) -> Result<NameTree, OutOfMemory>
-        ensures { IfOk result (λ tree. (q : List ℕ) → found tree q ≡ option_or (found self.now q) (number_for name.now.value number q)) }
+    pub fn with(self, alloc: Global, name: Text, number: usize) -> Result<NameTree, OutOfMemory>
+        ensures { IfOk result (λ tree. (q : List ℕ) → found tree q ≡ option_or (found self q) (number_for name number q)) }
     {
-        let NameTree::Fork(node) = self else {
-            return Ok(leaf(alloc, name, number)?);
-        };
-        match name.as_str().cmp(node.name.as_str()) {
-            Ordering::Less => {
-                let before = node.before.with(alloc, name, number)?;
-                Ok(balanced(alloc, before, node, node.behind.share()?)?)
-            }
-            Ordering::Equal => Ok(self.share()?),
-            Ordering::Greater => {
-                let behind = node.behind.with(alloc, name, number)?;
-                Ok(balanced(alloc, node.before.share()?, node, behind)?)
-            }
-        }
+        let mut tree = self;
+        tree.insert(alloc, name, number)?;
+        Ok(tree)
     }
 
-    /// The same index.
+    /// One name more, unless it has a number here. A node that another tree shares is copied first.
+    #[cycle(insert)]
+    fn insert(&mut self, alloc: Global, name: Text, number: usize) -> Result<(), OutOfMemory>
+        ensures { OnOk result ((q : List ℕ) → found self.new q ≡ option_or (found self.old q) (number_for name number q)) }
+    {
+        let NameTree::Fork(shared) = self else {
+            *self = leaf(alloc, name, number)?;
+            return Ok(());
+        };
+        unshare(alloc, shared)?;
+        // Nobody else holds the node now, so there is no such error.
+        let Some(node) = Arc::get_mut(shared) else {
+            return Err(OutOfMemory);
+        };
+        let height = node.height;
+        match name.as_str().cmp(node.name.as_str()) {
+            Ordering::Less => {
+                node.before.insert(alloc, name, number)?;
+                if node.before.height() == height {
+                    self.balance(alloc)?;
+                }
+            }
+            Ordering::Equal => {}
+            Ordering::Greater => {
+                node.behind.insert(alloc, name, number)?;
+                if node.behind.height() == height {
+                    self.balance(alloc)?;
+                }
+            }
+        }
+        Ok(())
+    }
+
+    /// Sets the height, once a side has grown to the height of the node, and evens out the two sides.
+    fn balance(&mut self, alloc: Global) -> Result<(), OutOfMemory>
+        ensures { OnOk result ((q : List ℕ) → found self.new q ≡ found self.old q) }
+    {
+        if let NameTree::Fork(node) = mem::replace(self, NameTree::Empty) {
+            let node = taken(alloc, node)?;
+            *self = fork(alloc, balanced(alloc, node)?)?;
+        }
+        Ok(())
+    }
+
+    /// The same tree.
     pub fn share(&self) -> Result<NameTree, OutOfMemory>
-        ensures { IfOk result (λ tree. (q : List ℕ) → found tree q ≡ found self.now q) }
+        ensures found { IfOk result (λ tree. (q : List ℕ) → found tree q ≡ found self.now q) }
+        ensures nodes { IfOk result (λ tree. nodes tree ≡ nodes self.now) }
     {
         match self {
             NameTree::Empty => Ok(NameTree::Empty),
@@ -83,26 +111,58 @@ impl NameTree {
         }
     }
 
-    fn level(&self) -> u32 {
+    fn height(&self) -> u32 {
         match self {
             NameTree::Empty => 0,
-            NameTree::Fork(node) => node.level,
+            NameTree::Fork(node) => node.height,
         }
     }
 }
 
-/// One name alone.
-fn leaf(alloc: Global, name: &Arc<Text>, number: usize) -> Result<NameTree, OutOfMemory>
-    ensures { IfOk result (λ tree. (q : List ℕ) → found tree q ≡ number_for name.now.value number q) }
+/// Copies a node that another tree shares.
+fn unshare(alloc: Global, node: &mut Arc<Node>) -> Result<(), OutOfMemory>
+    ensures found { OnOk result ((q : List ℕ) → found_below node.new.value q ≡ found_below node.old.value q) }
+    ensures nodes { OnOk result (nodes_below node.new.value ≡ nodes_below node.old.value) }
 {
-    let node = Node {
-        before: NameTree::Empty,
-        name: name.clone()?,
-        number,
-        behind: NameTree::Empty,
-        level: 1,
-    };
-    Ok(fork(alloc, node)?)
+    if Arc::strong_count(node) != 1 {
+        let copy = copied(alloc, node)?;
+        *node = Arc::new(alloc, copy)?;
+    }
+    Ok(())
+}
+
+/// A copy of a node, which shares the two sides.
+fn copied(alloc: Global, node: &Node) -> Result<Node, OutOfMemory>
+    ensures found { IfOk result (λ copy. (q : List ℕ) → found_below copy q ≡ found_below node.now q) }
+    ensures nodes { IfOk result (λ copy. nodes_below copy ≡ nodes_below node.now) }
+{
+    Ok(Node {
+        before: node.before.share()?,
+        name: node.name.copy(alloc)?,
+        number: node.number,
+        behind: node.behind.share()?,
+        height: node.height,
+    })
+}
+
+/// The node itself, or a copy where another tree shares it.
+fn taken(alloc: Global, node: Arc<Node>) -> Result<Node, OutOfMemory>
+    ensures { IfOk result (λ own. (q : List ℕ) → found_below own q ≡ found_below node.value q) }
+{
+    match Arc::try_unwrap(node) {
+        Ok(own) => Ok(own),
+        Err(shared) => copied(alloc, &shared),
+    }
+}
+
+/// One name alone.
+fn leaf(alloc: Global, name: Text, number: usize) -> Result<NameTree, OutOfMemory>
+    ensures { IfOk result (λ tree. (q : List ℕ) → found tree q ≡ number_for name number q) }
+{
+    Ok(fork(
+        alloc,
+        joined(NameTree::Empty, name, number, NameTree::Empty),
+    )?)
 }
 
 fn fork(alloc: Global, node: Node) -> Result<NameTree, OutOfMemory>
@@ -111,32 +171,74 @@ fn fork(alloc: Global, node: Node) -> Result<NameTree, OutOfMemory>
     Ok(NameTree::Fork(Arc::new(alloc, node)?))
 }
 
-/// The name of a node between others.
-fn balanced(
-    alloc: Global,
-    before: NameTree,
-    node: &Node,
-    behind: NameTree,
-) -> Result<NameTree, OutOfMemory>
-    ensures { IfOk result (λ tree. (q : List ℕ) → found tree q ≡ found_between (found before) node.now.name.value node.now.number (found behind) q) }
+/// A name between others.
+fn joined(before: NameTree, name: Text, number: usize, behind: NameTree) -> Node
+    ensures { (q : List ℕ) → found_below result q ≡ found_between (found before) name number (found behind) q }
 {
-    let node = Node {
+    let height = before.height().max(behind.height()).saturating_add(1);
+    Node {
         before,
-        name: node.name.clone()?,
-        number: node.number,
+        name,
+        number,
         behind,
-        level: node.level,
-    };
-    let turned = lowered_before(alloc, node)?;
-    let node = lowered_behind(alloc, turned)?;
-    Ok(fork(alloc, node)?)
+        height,
+    }
 }
 
-/// Turns the node where `before` is as high as the node.
+/// Evens out a node, one side of which may be two higher than the other.
+fn balanced(alloc: Global, node: Node) -> Result<Node, OutOfMemory>
+    ensures { IfOk result (λ new. (q : List ℕ) → found_below new q ≡ found_below node q) }
+{
+    let Node {
+        before,
+        name,
+        number,
+        behind,
+        ..
+    } = node;
+    let (first, second) = (before.height(), behind.height());
+    if first > second.saturating_add(1) {
+        let before = higher_before(alloc, before)?;
+        Ok(before_on_top(alloc, joined(before, name, number, behind))?)
+    } else if second > first.saturating_add(1) {
+        let behind = higher_behind(alloc, behind)?;
+        Ok(behind_on_top(alloc, joined(before, name, number, behind))?)
+    } else {
+        Ok(joined(before, name, number, behind))
+    }
+}
+
+/// Turns a tree that is higher behind its top.
+fn higher_before(alloc: Global, tree: NameTree) -> Result<NameTree, OutOfMemory>
+    ensures { IfOk result (λ new. (q : List ℕ) → found new q ≡ found tree q) }
+{
+    match tree {
+        NameTree::Fork(node) if node.behind.height() > node.before.height() => {
+            let node = taken(alloc, node)?;
+            Ok(fork(alloc, behind_on_top(alloc, node)?)?)
+        }
+        tree => Ok(tree),
+    }
+}
+
+/// Turns a tree that is higher before its top.
+fn higher_behind(alloc: Global, tree: NameTree) -> Result<NameTree, OutOfMemory>
+    ensures { IfOk result (λ new. (q : List ℕ) → found new q ≡ found tree q) }
+{
+    match tree {
+        NameTree::Fork(node) if node.before.height() > node.behind.height() => {
+            let node = taken(alloc, node)?;
+            Ok(fork(alloc, before_on_top(alloc, node)?)?)
+        }
+        tree => Ok(tree),
+    }
+}
+
+/// Puts the next name along `before` in the place of a node.
 ///
 /// Both turns test the order of the two names, so that what they find needs no other fact about the
 /// tree.
-fn lowered_before(alloc: Global, node: Node) -> Result<Node, OutOfMemory>
+fn before_on_top(alloc: Global, node: Node) -> Result<Node, OutOfMemory>
     ensures { IfOk result (λ new. (q : List ℕ) → found_below new q ≡ found_below node q) }
 {
     let Node {
@@ -144,37 +246,21 @@ fn lowered_before(alloc: Global, node: Node) -> Result<Node, OutOfMemory>
         name,
         number,
         behind,
-        level,
+        ..
     } = node;
-    if let NameTree::Fork(top) = &before {
-        if top.level == level && top.name.as_str().cmp(name.as_str()) == Ordering::Less {
-            let lower = Node {
-                before: top.behind.share()?,
-                name,
-                number,
-                behind,
-                level,
-            };
-            return Ok(Node {
-                before: top.before.share()?,
-                name: top.name.clone()?,
-                number: top.number,
-                behind: fork(alloc, lower)?,
-                level,
-            });
-        }
+    let NameTree::Fork(first) = before else {
+        return Ok(joined(NameTree::Empty, name, number, behind));
+    };
+    let top = taken(alloc, first)?;
+    if top.name.as_str().cmp(name.as_str()) != Ordering::Less {
+        return Ok(joined(fork(alloc, top)?, name, number, behind));
     }
-    Ok(Node {
-        before,
-        name,
-        number,
-        behind,
-        level,
-    })
+    let lower = joined(top.behind, name, number, behind);
+    Ok(joined(top.before, top.name, top.number, fork(alloc, lower)?))
 }
 
-/// Turns the node where the second step along `behind` is as high as the node.
-fn lowered_behind(alloc: Global, node: Node) -> Result<Node, OutOfMemory>
+/// Puts the next name along `behind` in the place of a node.
+fn behind_on_top(alloc: Global, node: Node) -> Result<Node, OutOfMemory>
     ensures { IfOk result (λ new. (q : List ℕ) → found_below new q ≡ found_below node q) }
 {
     let Node {
@@ -182,31 +268,15 @@ fn lowered_behind(alloc: Global, node: Node) -> Result<Node, OutOfMemory>
         name,
         number,
         behind,
-        level,
+        ..
     } = node;
-    if let NameTree::Fork(top) = &behind {
-        if top.behind.level() == level && name.as_str().cmp(top.name.as_str()) == Ordering::Less {
-            let lower = Node {
-                before,
-                name,
-                number,
-                behind: top.before.share()?,
-                level,
-            };
-            return Ok(Node {
-                before: fork(alloc, lower)?,
-                name: top.name.clone()?,
-                number: top.number,
-                behind: top.behind.share()?,
-                level: level.saturating_add(1),
-            });
-        }
+    let NameTree::Fork(second) = behind else {
+        return Ok(joined(before, name, number, NameTree::Empty));
+    };
+    let top = taken(alloc, second)?;
+    if name.as_str().cmp(top.name.as_str()) != Ordering::Less {
+        return Ok(joined(before, name, number, fork(alloc, top)?));
     }
-    Ok(Node {
-        before,
-        name,
-        number,
-        behind,
-        level,
-    })
+    let lower = joined(before, name, number, top.before);
+    Ok(joined(fork(alloc, lower)?, top.name, top.number, top.behind))
 }

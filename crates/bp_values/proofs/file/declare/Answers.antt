@@ -1,13 +1,13 @@
-use Rattle.std.proofs.Common.{rules, ◌≡◌, ◌++◌, ◌∷◌, [], List, map, ap, sym, ◌∙◌}
+use Rattle.std.proofs.Common.{rules, ◌≡◌, ◌++◌, ◌∷◌, [], map, ap, ◌∙◌}
 use Rattle.std.proofs.lemmas.List.{map-append}
-use Rattle.bp_parser.specs.Trees.{Entries, map_of, entry_of, entries_then, no_entry}
+use Rattle.bp_parser.specs.Trees.{map_of, entry_of, entries_then, no_entry}
 use Rattle.bp_parser.specs.declared.tree.Expr.{the_lemmas}
 use Rattle.bp_parser.specs.declared.tree.Expr.TheViews.{the_lemmas as the_views}
 use Rattle.bp_names.specs.Meaning.{knows}
 use Rattle.bp_values.specs.Values.{field_of}
 use Rattle.bp_values.specs.Scopes.{pairs_of, layer_pairs}
 use Rattle.bp_values.specs.Inside.{known_of, noted_entries}
-use Rattle.bp_values.specs.Meaning.{Raw, raw_of}
+use Rattle.bp_values.specs.Meaning.{raw_of}
 use Rattle.bp_values.proofs.Noted.{entries_noted}
 use Rattle.bp_values.proofs.Setting.{is_declared}
 use Rattle.bp_values.proofs.file.declare.Goals as goal

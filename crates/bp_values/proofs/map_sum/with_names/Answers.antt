@@ -12,7 +12,7 @@ loop-place-preserved c =
     let entries = c.args.entries.now in
     let item = c.index-entries-place.result in
     let missed : is_some (found c.loop-place.all (out-Entry item).name) ≡ false = search rules in
-    let same : c.in_ok-name.name.value ≡ (out-Entry item).name = search rules in
+    let same : c.in_ok-copy.field-0 ≡ (out-Entry item).name = search rules in
     placed_entry (found c.loop-place.all) (found c.in_ok-all.all) entries c.loop-place.place item c.loop-place-test.true c.index-entries-place.is c.loop-place.invariant
     (ap (λ n. is_some (found c.loop-place.all n)) (name_out item) ∙ missed)
     (λ q. c.in_ok-all.ensures q ∙ ap (λ n. option_or (found c.loop-place.all q) (number_for n c.loop-place.place q)) (same ∙ sym (name_out item)))

@@ -1,4 +1,4 @@
-use Rattle.std.proofs.Common.{◌≡◌, ◌||◌, ℕ, List, map, drop}
+use Rattle.std.proofs.Common.{◌≡◌, ℕ, List, map, drop}
 use Rattle.bp_parser.specs.Trees.{tree_of, entry_of, term_of, trees_then, terms_then, entries_then, no_tree, no_term, no_entry}
 use Rattle.bp_names.specs.Meaning.{knows}
 use Rattle.bp_values.specs.Inside.{noted_items, noted_terms, noted_entries}

@@ -1,6 +1,6 @@
-use Rattle.std.proofs.Common.{rules, refl, Vec, Global, ◌≡◌, ◌++◌, map, sym, ap, ◌∙◌, Ok, Err}
+use Rattle.std.proofs.Common.{rules, refl, Vec, Global, ◌≡◌, ◌++◌, map, ap, ◌∙◌, Ok, Err}
 use Rattle.std.proofs.lemmas.List.{map-append}
-use Rattle.bp_values.specs.Values.{field_of, body, fields_then, no_field, meaning}
+use Rattle.bp_values.specs.Values.{field_of, body, fields_then, no_field}
 use Rattle.bp_values.specs.declared.value.Entry.{Entry}
 use Rattle.bp_values.specs.Sums.{sum_fields, others}
 use Rattle.bp_values.specs.Inside.{IsIndex, HasMet}

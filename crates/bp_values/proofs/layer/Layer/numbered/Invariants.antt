@@ -5,6 +5,6 @@ use Rattle.std.specs.Map.{lookup}
 use Rattle.bp_values.specs.NameTree.{found}
 use Rattle.bp_values.proofs.layer.Layer.numbered.Given as goal
 
-abbrev pub invariant-loop-place : goal.invariant-loop-place
-invariant-loop-place l =
-    (q : List ℕ) → found l.tree q ≡ option_or (found l.names q) (if is_some (lookup (bytes_eq q) (take l.place l.self.values.entries)) then Some l.number else None)
+abbrev pub invariant-values : goal.invariant-values
+invariant-values l =
+    (q : List ℕ) → found l.tree q ≡ option_or (found l.names q) (if is_some (lookup (bytes_eq q) (take l.entry-index l.entry-items)) then Some l.number else None)

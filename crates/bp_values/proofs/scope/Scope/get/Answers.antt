@@ -1,4 +1,4 @@
-use Rattle.std.proofs.Common.{rules, ◌≡◌, ℕ, Option, Some, None, ◌<◌, length, get_or, ap, sym, ◌∙◌}
+use Rattle.std.proofs.Common.{rules, ◌≡◌, Some, ◌<◌, length, get_or, ap, sym, ◌∙◌}
 use Rattle.std.specs.Arc.{arc_value}
 use Rattle.bp_values.specs.Layers.{layer_pairs, layer_of, value_in}
 use Rattle.bp_values.proofs.Layers.{found_in, found_nowhere, number_within}

@@ -1,0 +1,79 @@
+-- A name's place in a list, and what stands there.
+use Rattle.std.proofs.Common.{◌≡◌, ℕ, suc, ◌<◌, Bool, true, false, cond, List, [], ◌∷◌, ◌++◌, map, get_or, length, Option, None, Some, option_map, refl, ap, arith, if◌then◌else◌}
+use Rattle.std.specs.Prelude.{zero, slice_set}
+use Rattle.std.specs.Option.{option_or}
+use Rattle.std.specs.Str.{bytes_eq}
+use Rattle.std.specs.Map.{lookup}
+use Rattle.std.proofs.lemmas.Cmp.{nat_list_eq_equiv}
+use Rattle.bp_names.specs.Meaning.{number_for}
+use Rattle.bp_values.specs.declared.value.Value.{Value}
+use Rattle.bp_values.specs.Values.{meaning}
+use Rattle.bp_values.specs.NamePlaces.{place_in}
+use Rattle.bp_values.specs.Scopes.{pair_of}
+use Rattle.bp_values.specs.Meaning.{with_other}
+
+-- a name with a place is found there
+pub found_at : {V : Type 0} (es : List (List ℕ × V)) (q : List ℕ) (n : ℕ) (d : List ℕ × V) → place_in es q ≡ Some n → (n < length es) × (lookup (bytes_eq q) es ≡ Some (get_or es n d).1)
+found_at [] q n d is = cc
+found_at (e ∷ es) q n d is = by (bytes_eq q e.0) (place_in es q) (λ m. found_at es q m d) is
+  where
+    by : (b : Bool) (o : Option ℕ) → ((m : ℕ) → o ≡ Some m → (m < length es) × (lookup (bytes_eq q) es ≡ Some (get_or es m d).1))
+        → cond b (Some 0) (option_map suc o) ≡ Some n
+        → (n < length (e ∷ es)) × (cond b (Some e.1) (lookup (bytes_eq q) es) ≡ Some (get_or (e ∷ es) n d).1)
+    by true o rest is = let first : n ≡ 0 = cc in (omega arith, rw first refl)
+    by false None rest is = cc
+    by false (Some m) rest is =
+        let next : n ≡ suc m = cc in
+        let there = rest m refl in
+        let within : m < length es = there.0 in
+        (omega arith, rw next there.1)
+
+pub place_within : {V : Type 0} (es : List (List ℕ × V)) (q : List ℕ) (n : ℕ) → place_in es q ≡ Some n → n < length es
+place_within [] q n is = cc
+place_within (e ∷ es) q n is = by (bytes_eq q e.0) (place_in es q) (place_within es q) is
+  where
+    by : (b : Bool) (o : Option ℕ) → ((m : ℕ) → o ≡ Some m → m < length es) → cond b (Some 0) (option_map suc o) ≡ Some n → n < length (e ∷ es)
+    by true o rest is = let first : n ≡ 0 = cc in omega arith
+    by false None rest is = cc
+    by false (Some m) rest is = let next : n ≡ suc m = cc in let within : m < length es = rest m refl in omega arith
+
+-- a name without a place
+pub found_nowhere : {V : Type 0} (es : List (List ℕ × V)) (q : List ℕ) → place_in es q ≡ None → lookup (bytes_eq q) es ≡ None
+found_nowhere [] q is = refl
+found_nowhere (e ∷ es) q is = by (bytes_eq q e.0) (place_in es q) (found_nowhere es q) is
+  where
+    by : (b : Bool) (o : Option ℕ) → (o ≡ None → lookup (bytes_eq q) es ≡ None) → cond b (Some 0) (option_map suc o) ≡ None → cond b (Some e.1) (lookup (bytes_eq q) es) ≡ None
+    by true o rest is = cc
+    by false (Some m) rest is = cc
+    by false None rest is = rest refl
+
+-- one entry more
+pub place_pushed : {V : Type 0} (es : List (List ℕ × V)) (e : List ℕ × V) (q : List ℕ) → place_in (es ++ e ∷ []) q ≡ option_or (place_in es q) (number_for e.0 (length es) q)
+place_pushed [] e q = ap (λ b. if b then Some 0 else None) (nat_list_eq_equiv.symm q e.0)
+place_pushed (x ∷ es) e q = by (bytes_eq q x.0) (place_in es q) (bytes_eq e.0 q) (place_pushed es e q)
+  where
+    by : (b : Bool) (o : Option ℕ) (c : Bool) → place_in (es ++ e ∷ []) q ≡ option_or o (if c then Some (length es) else None)
+        → (if b then Some 0 else option_map suc (place_in (es ++ e ∷ []) q)) ≡ option_or (if b then Some 0 else option_map suc o) (if c then Some (suc (length es)) else None)
+    by true o c rest = refl
+    by false None true rest = ap (option_map suc) rest
+    by false None false rest = ap (option_map suc) rest
+    by false (Some n) c rest = ap (option_map suc) rest
+
+-- an entry gets another value
+pub place_kept : {V : Type 0} (es : List (List ℕ × V)) (n : ℕ) (d : List ℕ × V) (w : V) (q : List ℕ) → place_in (slice_set es n ((get_or es n d).0, w)) q ≡ place_in es q
+place_kept [] n d w q = refl
+place_kept (e ∷ es) zero d w q = refl
+place_kept (e ∷ es) (suc n) d w q = ap (λ o. if bytes_eq q e.0 then Some 0 else option_map suc o) (place_kept es n d w q)
+
+-- the entry of a name gets another value
+pub set_at : (es : List (List ℕ × Value)) (q : List ℕ) (n : ℕ) (d : List ℕ × Value) (w : Value) → place_in es q ≡ Some n
+    → map pair_of (slice_set es n ((get_or es n d).0, w)) ≡ with_other (map pair_of es) q (meaning w)
+set_at [] q n d w is = cc
+set_at (e ∷ es) q n d w is = by (bytes_eq q e.0) (place_in es q) (λ m. set_at es q m d w) is
+  where
+    by : (b : Bool) (o : Option ℕ) → ((m : ℕ) → o ≡ Some m → map pair_of (slice_set es m ((get_or es m d).0, w)) ≡ with_other (map pair_of es) q (meaning w))
+        → cond b (Some 0) (option_map suc o) ≡ Some n
+        → map pair_of (slice_set (e ∷ es) n ((get_or (e ∷ es) n d).0, w)) ≡ cond b ((e.0, meaning w) ∷ map pair_of es) (pair_of e ∷ with_other (map pair_of es) q (meaning w))
+    by true o rest is = let first : n ≡ 0 = cc in rw first refl
+    by false None rest is = cc
+    by false (Some m) rest is = let next : n ≡ suc m = cc in rw next (ap (λ l. pair_of e ∷ l) (rest m refl))
