@@ -58,14 +58,14 @@ fn cut(files: &[Parsed], share: usize) -> usize
     let mut bytes: usize = 0;
     let mut branch = 0;
     let mut best = 0;
-    let mut farthest = usize::MAX;
+    let mut nearest = usize::MAX;
     let mut at = 0;
     'files: for file in files {
         if !files[branch].directory.is_above(&file.directory) {
             branch = at;
-            if bytes.abs_diff(share) < farthest {
+            if bytes.abs_diff(share) < nearest {
                 best = at;
-                farthest = bytes.abs_diff(share);
+                nearest = bytes.abs_diff(share);
             }
         }
         bytes = bytes.saturating_add(file.bytes);

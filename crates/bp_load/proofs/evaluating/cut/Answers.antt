@@ -6,17 +6,17 @@ use Rattle.bp_load.specs.Trees.{Placed, placed_of}
 use Rattle.bp_load.specs.Branches.{directories_of, IsBranch}
 use Rattle.bp_load.proofs.Branches.{key_at, IsOpenBranch, branch_goes_on, branch_begins, branch_opens}
 use Rattle.bp_load.proofs.evaluating.cut.Goals as goal
-use Rattle.bp_load.proofs.evaluating.cut.Goals.{then-not-is_above+then-abs_diff-farthest, then-not-is_above+else-abs_diff-farthest, else-not-is_above}
+use Rattle.bp_load.proofs.evaluating.cut.Goals.{then-not-is_above+then-abs_diff-nearest, then-not-is_above+else-abs_diff-nearest, else-not-is_above}
 
 pub files-preserved : goal.files-preserved
 files-preserved c = elim c.if-not-is_above.branch [
-  | then-not-is_above+then-abs_diff-farthest w ↦ (
+  | then-not-is_above+then-abs_diff-nearest w ↦ (
     ap (λ n. n + 1) at,
     omega (arith, at, w.best-is),
     subst (IsBranch all) (sym (w.best-is ∙ at)) (begins w.if-not-is_above.true),
     subst (λ b. IsOpenBranch all b (i + 1)) (sym (w.branch'-is ∙ at)) (branch_opens all i (begins w.if-not-is_above.true)),
   )
-  | then-not-is_above+else-abs_diff-farthest w ↦ (
+  | then-not-is_above+else-abs_diff-nearest w ↦ (
     ap (λ n. n + 1) at,
     omega (arith, w.best-is, c.files.invariant.1),
     subst (IsBranch all) (sym w.best-is) c.files.invariant.2,
