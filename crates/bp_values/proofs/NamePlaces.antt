@@ -1,5 +1,5 @@
 -- A name's place in a list, and what stands there.
-use Rattle.std.proofs.Common.{◌≡◌, ℕ, suc, ◌<◌, Bool, true, false, cond, List, [], ◌∷◌, ◌++◌, map, get_or, length, Option, None, Some, option_map, refl, ap, arith, if◌then◌else◌}
+use Rattle.std.proofs.Common.{◌≡◌, ℕ, suc, ◌<◌, Bool, true, false, cond, List, [], ◌∷◌, ◌++◌, map, get_or, length, Option, None, Some, option_map, is_some, refl, ap, arith, if◌then◌else◌}
 use Rattle.std.specs.Prelude.{zero, slice_set}
 use Rattle.std.specs.Option.{option_or}
 use Rattle.std.specs.Str.{bytes_eq}
@@ -77,3 +77,14 @@ set_at (e ∷ es) q n d w is = by (bytes_eq q e.0) (place_in es q) (λ m. set_at
     by true o rest is = let first : n ≡ 0 = cc in rw first refl
     by false None rest is = cc
     by false (Some m) rest is = let next : n ≡ suc m = cc in rw next (ap (λ l. pair_of e ∷ l) (rest m refl))
+
+-- one number for all that have a place
+pub one_number : {V : Type 0} (es : List (List ℕ × V)) (n : ℕ) (q : List ℕ) → option_map (λ old. n) (place_in es q) ≡ (if is_some (lookup (bytes_eq q) es) then Some n else None)
+one_number [] n q = refl
+one_number (e ∷ es) n q = by (bytes_eq q e.0) (place_in es q) (one_number es n q)
+  where
+    by : (b : Bool) (o : Option ℕ) → option_map (λ old. n) o ≡ (if is_some (lookup (bytes_eq q) es) then Some n else None)
+        → option_map (λ old. n) (cond b (Some 0) (option_map suc o)) ≡ (if is_some (cond b (Some e.1) (lookup (bytes_eq q) es)) then Some n else None)
+    by true o rest = refl
+    by false None rest = rest
+    by false (Some m) rest = rest

@@ -1,5 +1,5 @@
 -- What searches find once a tree is turned, or has one name more.
-use Rattle.std.proofs.Common.{◌≡◌, ℕ, List, Option, None, Some, refl, ap, sym, ◌∙◌, if◌then◌else◌}
+use Rattle.std.proofs.Common.{◌≡◌, ℕ, List, Option, None, Some, option_map, refl, ap, sym, ◌∙◌, if◌then◌else◌}
 use Rattle.std.specs.Option.{option_or}
 use Rattle.std.specs.Ordering.{nat_cmp, is_eq, match_ordering}
 use Rattle.std.specs.declared.cmp.Ordering.{Ordering}
@@ -30,6 +30,16 @@ alone name n q = by (slice_cmp nat_cmp q name) ∙ sym (number_test name n q)
 -- what is found in the parts is found
 pub in_parts : (f g f2 g2 : Search) (name : List ℕ) (n : ℕ) (q : List ℕ) → f q ≡ f2 q → g q ≡ g2 q → found_between f name n g q ≡ found_between f2 name n g2 q
 in_parts f g f2 g2 name n q e h = λ i. match_ordering (slice_cmp nat_cmp q name) (e i) (Some n) (h i)
+
+-- each part gets one number
+pub one_number : (f g f2 g2 : Search) (name : List ℕ) (m n : ℕ) (q : List ℕ) → f2 q ≡ option_map (λ old. n) (f q) → g2 q ≡ option_map (λ old. n) (g q)
+    → found_between f2 name n g2 q ≡ option_map (λ old. n) (found_between f name m g q)
+one_number f g f2 g2 name m n q e h = in_parts f2 g2 (λ r. option_map (λ old. n) (f r)) (λ r. option_map (λ old. n) (g r)) name n q e h ∙ by (slice_cmp nat_cmp q name)
+  where
+    by : (o : Ordering) → match_ordering o (option_map (λ old. n) (f q)) (Some n) (option_map (λ old. n) (g q)) ≡ option_map (λ old. n) (match_ordering o (f q) (Some m) (g q))
+    by Less = refl
+    by Equal = refl
+    by Greater = refl
 
 -- two names that ascend, the first over the second or the second over the first
 turned : (a b c : Search) (k l : List ℕ) (m n : ℕ) (q : List ℕ) → slice_cmp nat_cmp k l ≡ Less → found_between a k m (found_between b l n c) q ≡ found_between (found_between a k m b) l n c q

@@ -99,6 +99,9 @@ impl Layer {
     ) -> Result<NameTree, OutOfMemory>
         ensures { IfOk result (λ tree. (q : List ℕ) → found tree q ≡ option_or (found names.now q) (if is_some (value_in (layer_pairs self.now) q) then Some number else None)) }
     {
+        if let NameTree::Empty = names {
+            return Ok(self.places.renumbered(alloc, number)?);
+        }
         let mut tree = names.share()?;
         'values: for entry in self.values.iter() {
             tree = tree.with(alloc, entry.0.copy(alloc)?, number)?;

@@ -1,4 +1,4 @@
-ghost use Rattle.std.specs.Prelude.{◌≡◌, List, ℕ, None, Some, IfOk, OnOk};
+ghost use Rattle.std.specs.Prelude.{◌≡◌, List, ℕ, None, Some, option_map, IfOk, OnOk};
 ghost use Rattle.std.specs.Option.{option_or};
 ghost use Rattle.bp_names.specs.Meaning.{number_for};
 ghost use Rattle.bp_values.specs.NameTree.{found, found_below, found_between, nodes, nodes_below};
@@ -93,11 +93,46 @@ impl NameTree {
     fn balance(&mut self, alloc: Global) -> Result<(), OutOfMemory>
         ensures { OnOk result ((q : List ℕ) → found self.new q ≡ found self.old q) }
     {
+        if self.raise() {
+            return Ok(());
+        }
         if let NameTree::Fork(node) = mem::replace(self, NameTree::Empty) {
             let node = taken(alloc, node)?;
             *self = fork(alloc, balanced(alloc, node)?)?;
         }
         Ok(())
+    }
+
+    /// Sets the height of the top, unless the two sides have to be evened out first.
+    fn raise(&mut self) -> bool
+        ensures { (q : List ℕ) → found self.new q ≡ found self.old q }
+    {
+        let NameTree::Fork(shared) = self else {
+            return true;
+        };
+        let Some(node) = Arc::get_mut(shared) else {
+            return false;
+        };
+        let (before, behind) = (node.before.height(), node.behind.height());
+        if before.abs_diff(behind) > 1 {
+            return false;
+        }
+        node.height = before.max(behind).saturating_add(1);
+        true
+    }
+
+    /// The same names, each with this number.
+    #[cycle(renumbered)]
+    pub fn renumbered(&self, alloc: Global, number: usize) -> Result<NameTree, OutOfMemory>
+        ensures { IfOk result (λ tree. (q : List ℕ) → found tree q ≡ option_map (λ old. number) (found self.now q)) }
+    {
+        let NameTree::Fork(node) = self else {
+            return Ok(NameTree::Empty);
+        };
+        let before = node.before.renumbered(alloc, number)?;
+        let behind = node.behind.renumbered(alloc, number)?;
+        let name = node.name.copy(alloc)?;
+        Ok(fork(alloc, joined(before, name, number, behind))?)
     }
 
     /// The same tree.

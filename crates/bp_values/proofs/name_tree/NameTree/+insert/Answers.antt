@@ -1,17 +1,14 @@
 use Rattle.std.proofs.Common.{rules, ◌≡◌, ◌+◌, ◌<◌, suc, List, ℕ, arith, refl, sym, ◌∙◌}
-use Rattle.std.specs.Arc.{arc_value, arc_with_value}
+use Rattle.std.specs.Arc.{arc_with_value}
 use Rattle.std.specs.Ordering.{nat_cmp}
 use Rattle.std.specs.Cmp.Lexicographic.{slice_cmp}
 use Rattle.std.specs.declared.cmp.Ordering.TheVariants.{Less, Equal, Greater}
 use Rattle.bp_values.specs.NameTree.{found, found_below, found_between, nodes, nodes_below}
 use Rattle.bp_values.specs.declared.name_tree.NameTree.{the_lemmas}
 use Rattle.bp_values.specs.declared.name_tree.NameTree.TheViews.{the_lemmas as the_views, Fork, roll-Node}
+use Rattle.bp_values.proofs.Nodes.{found_fork}
 use Rattle.bp_values.proofs.Searches.{more_before, more_behind, no_more}
 use Rattle.bp_values.proofs.name_tree.NameTree.+insert.Goals as goal
-
--- what is found from the top on
-found_fork : (a : _) (q : List ℕ) → found (Fork a) q ≡ found_below (arc_value a) q
-found_fork a q = search (rules, the_lemmas, the_views)
 
 pub insert-requires : goal.insert-requires
 insert-requires t c =
