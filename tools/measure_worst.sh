@@ -7,7 +7,7 @@ set -eu
 top=$(cd "$(dirname "$0")/.." && pwd)
 program=${1:-$top/crates/bpgen/out/bpgen}
 [ $# -eq 0 ] || shift
-cases=${*:-references maps shared_keys extensions assignments long_paths link_lines chain cycle wide modules empty_lines
+cases=${*:-references maps shared_keys extensions nested_keys assignments inheritors long_paths link_lines chain cycle wide modules empty_lines
     components tokens doubling groups sources edges dots one_line order names}
 runs=${RUNS:-3}
 if [ ! -x "$program" ]; then
@@ -79,9 +79,31 @@ tree_of() {
         extensions)
             echo "a map with one entry, and 20,000 times \`+=\` of another"
             awk 'BEGIN { print "x = {a:1}"; for (n = 1; n < 20000; n++) printf "x += {a%d:1}\n", n }' | alone ;;
+        nested_keys)
+            echo "a sum of a map in which a map with 10,000 entries stands, and of 20,000 that have one of its keys there"
+            awk 'BEGIN {
+                printf "x = {m:{"
+                for (n = 0; n < 10000; n++) printf "a%d:1,", n
+                printf "}}"
+                for (n = 0; n < 20000; n++) printf "+{m:{a%d:1}}", n % 10000
+                print ""
+            }' | alone ;;
         assignments)
             echo "60 files side by side with 100,000 variables each"
             awk 'BEGIN {
+                for (file = 0; file < 60; file++) {
+                    path = "d" file "/Android.bp"
+                    print path > "list"
+                    system("mkdir -p d" file)
+                    for (n = 0; n < 100000; n++) print "a" n "=1" > path
+                    close(path)
+                }
+            }' ;;
+        inheritors)
+            echo "the same below a directory that sets a variable"
+            awk 'BEGIN {
+                print "Android.bp" > "list"
+                print "b=1" > "Android.bp"
                 for (file = 0; file < 60; file++) {
                     path = "d" file "/Android.bp"
                     print path > "list"
