@@ -50,6 +50,30 @@ chain_of() {
     awk '{ print "v" NR " = \"x\"" > $0; close($0) }' list
 }
 
+# A sum of a map with 10,000 entries and of 20,000 maps with one of its keys each, every map between two texts: `keys BEFORE BEHIND`.
+keys() {
+    awk -v before="$1" -v behind="$2" 'BEGIN {
+        printf "x = %s{", before
+        for (n = 0; n < 10000; n++) printf "a%d:1,", n
+        printf "}%s", behind
+        for (n = 0; n < 20000; n++) printf "+%s{a%d:1}%s", before, n % 10000, behind
+        print ""
+    }' | alone
+}
+
+# 60 more files side by side, which set 100,000 variables each.
+variables() {
+    awk 'BEGIN {
+        for (file = 0; file < 60; file++) {
+            path = "d" file "/Android.bp"
+            print path >> "list"
+            system("mkdir -p d" file)
+            for (n = 0; n < 100000; n++) print "a" n "=1" > path
+            close(path)
+        }
+    }'
+}
+
 # What each case is, and its tree.
 tree_of() {
     case $1 in
@@ -69,49 +93,20 @@ tree_of() {
             awk 'BEGIN { printf "x = {a:1}"; for (n = 1; n < 20000; n++) printf "+{a%d:1}", n; print "" }' | alone ;;
         shared_keys)
             echo "a sum of a map with 10,000 entries and of 20,000 maps with one of its keys each"
-            awk 'BEGIN {
-                printf "x = {"
-                for (n = 0; n < 10000; n++) printf "a%d:1,", n
-                printf "}"
-                for (n = 0; n < 20000; n++) printf "+{a%d:1}", n % 10000
-                print ""
-            }' | alone ;;
+            keys "" "" ;;
         extensions)
             echo "a map with one entry, and 20,000 times \`+=\` of another"
             awk 'BEGIN { print "x = {a:1}"; for (n = 1; n < 20000; n++) printf "x += {a%d:1}\n", n }' | alone ;;
         nested_keys)
             echo "a sum of a map in which a map with 10,000 entries stands, and of 20,000 that have one of its keys there"
-            awk 'BEGIN {
-                printf "x = {m:{"
-                for (n = 0; n < 10000; n++) printf "a%d:1,", n
-                printf "}}"
-                for (n = 0; n < 20000; n++) printf "+{m:{a%d:1}}", n % 10000
-                print ""
-            }' | alone ;;
+            keys "{m:" "}" ;;
         assignments)
             echo "60 files side by side with 100,000 variables each"
-            awk 'BEGIN {
-                for (file = 0; file < 60; file++) {
-                    path = "d" file "/Android.bp"
-                    print path > "list"
-                    system("mkdir -p d" file)
-                    for (n = 0; n < 100000; n++) print "a" n "=1" > path
-                    close(path)
-                }
-            }' ;;
+            variables ;;
         inheritors)
             echo "the same below a directory that sets a variable"
-            awk 'BEGIN {
-                print "Android.bp" > "list"
-                print "b=1" > "Android.bp"
-                for (file = 0; file < 60; file++) {
-                    path = "d" file "/Android.bp"
-                    print path > "list"
-                    system("mkdir -p d" file)
-                    for (n = 0; n < 100000; n++) print "a" n "=1" > path
-                    close(path)
-                }
-            }' ;;
+            echo b=1 | alone
+            variables ;;
         long_paths)
             echo "100,000 modules in a chain of 1,000 directories, whose paths have 1,000 bytes on average"
             chain_of 1000
