@@ -32,6 +32,3 @@ pub use refusal::{OutOfMemory, Refusal};
 pub use seq::Seq;
 pub use target::Target;
 pub use text::Text;
-
-#[cfg(test)]
-mod tests;

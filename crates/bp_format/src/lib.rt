@@ -18,8 +18,6 @@ mod layout;
 mod quote;
 mod spans;
 mod spot;
-#[cfg(test)]
-mod tests;
 
 pub use bp_faults::{Refusal as EditError, Refusal as FormatError};
 pub use edit::set_list;

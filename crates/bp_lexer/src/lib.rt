@@ -16,8 +16,6 @@ mod lex;
 mod place;
 mod punct;
 mod span;
-#[cfg(test)]
-mod tests;
 mod token;
 mod value;
 

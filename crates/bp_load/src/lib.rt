@@ -16,8 +16,6 @@ mod opened;
 mod parsed;
 mod parsing;
 mod raw;
-#[cfg(test)]
-mod tests;
 mod tree;
 mod typing;
 

@@ -13,6 +13,3 @@ mod table;
 pub use named::Named;
 pub use set::NameSet;
 pub use table::NameTable;
-
-#[cfg(test)]
-mod tests;

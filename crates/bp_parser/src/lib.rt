@@ -12,8 +12,6 @@ mod file;
 mod flaw;
 pub mod laws;
 mod stop;
-#[cfg(test)]
-mod tests;
 mod tree;
 mod words;
 

@@ -30,6 +30,3 @@ pub use mutators::mutators_to;
 pub use replayed::{replay, replay_lines};
 pub use shown::show_graph;
 pub use sizes::Sizes;
-
-#[cfg(test)]
-mod tests;

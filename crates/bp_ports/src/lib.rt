@@ -35,6 +35,3 @@ pub use pair_gate::PairGate;
 pub use sink::Sink;
 pub use std_sink::StdSink;
 pub use store::{ReadError, Store};
-
-#[cfg(test)]
-mod tests;

@@ -34,6 +34,3 @@ pub use module::Module;
 pub use multi::Multi;
 pub use props::Props;
 pub use source::Source;
-
-#[cfg(test)]
-mod tests;

@@ -17,8 +17,6 @@ mod marks;
 mod name_tree;
 mod scope;
 mod sums;
-#[cfg(test)]
-mod tests;
 mod value;
 
 pub use bp_faults::Refusal as EvalError;

@@ -28,6 +28,3 @@ pub use notices::{Notice, notice_of};
 pub use option::{OptionName, options};
 pub use usage::usage_line;
 pub use words::configure;
-
-#[cfg(test)]
-mod tests;

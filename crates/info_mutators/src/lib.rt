@@ -18,6 +18,3 @@ mod sdk_level;
 pub use info::Info;
 pub use sanitize::Sanitize;
 pub use sdk_level::SdkLevel;
-
-#[cfg(test)]
-mod tests;

@@ -18,6 +18,3 @@ pub use link_split::LinkSplit;
 pub use names::module_names;
 pub use per_source::PerSource;
 pub use plugins_ask::PluginsAsk;
-
-#[cfg(test)]
-mod tests;

@@ -32,10 +32,3 @@ pub use names::{label, variant_name, variation_name};
 pub use pass_core::heights;
 pub use variation::Variation;
 pub use variations::{Axis, Variations};
-
-#[cfg(test)]
-mod cycle_tests;
-#[cfg(test)]
-mod listing_tests;
-#[cfg(test)]
-mod tests;

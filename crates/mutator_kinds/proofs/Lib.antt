@@ -6,6 +6,5 @@ pub mod Ended
 pub mod May
 pub mod Lasting
 pub mod OneOutcome
-pub mod Tested
 pub mod SomeOutcome
 pub mod Keeping

@@ -19,6 +19,3 @@ mod upward;
 pub use downward::{run_top_down, run_top_down_by};
 pub use pass_graph::PassGraph;
 pub use upward::{run_bottom_up, run_bottom_up_by};
-
-#[cfg(test)]
-mod tests;

@@ -24,6 +24,3 @@ pub use request::{Request, Wanted};
 pub use split::Split;
 pub use top_down::TopDown;
 pub use transition::Transition;
-
-#[cfg(test)]
-mod tests;

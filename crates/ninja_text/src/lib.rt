@@ -6,8 +6,6 @@
 #![tactic(auto)]
 
 pub mod laws;
-#[cfg(test)]
-mod tests;
 
 pub use ninja_file::{NinjaFile, NinjaRule, Piece, Statement, is_well_formed};
 pub use ninja_read::{NinjaError, read};

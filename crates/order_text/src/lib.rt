@@ -13,6 +13,3 @@ mod lines;
 
 pub use journal::journal_text;
 pub use lines::order_lines;
-
-#[cfg(test)]
-mod tests;

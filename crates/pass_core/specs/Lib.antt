@@ -17,4 +17,3 @@ pub mod Shown
 pub mod OrderOutcomes
 pub mod PassAsOrder
 pub mod OrderLaws
-pub mod Examples

@@ -36,6 +36,3 @@ pub use published::Published;
 pub use serial::run_serial;
 pub use step::{Step, StepError};
 pub use visit::{Visit, VisitError};
-
-#[cfg(test)]
-mod tests;

@@ -3,4 +3,3 @@ pub mod OrderFiles
 pub mod Ways
 pub mod Inside
 pub mod Laws
-pub mod Examples

@@ -14,6 +14,3 @@ mod way_run;
 pub use error::WayError;
 pub use way::{OrderLine, OrderLines, Way};
 pub use way_run::{WayRun, run_by_way};
-
-#[cfg(test)]
-mod tests;

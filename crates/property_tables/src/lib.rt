@@ -29,6 +29,3 @@ pub use tables::{
     arch, cc, defaults, filegroup, group, library, multilib, sanitize, shared_library, target, test,
 };
 pub use typing::typed;
-
-#[cfg(test)]
-mod tests;

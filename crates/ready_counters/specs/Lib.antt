@@ -9,4 +9,3 @@ pub mod Seen
 pub mod Inside
 pub mod Shows
 pub mod Laws
-pub mod Examples

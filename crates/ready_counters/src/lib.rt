@@ -25,6 +25,3 @@ pub use board::Board;
 pub use claim::Claim;
 pub use receipt::Receipt;
 pub use seat::Seat;
-
-#[cfg(test)]
-mod tests;

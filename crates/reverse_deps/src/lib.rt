@@ -14,6 +14,3 @@ mod resolving;
 
 pub use applied::apply;
 pub use resolving::resolve;
-
-#[cfg(test)]
-mod tests;

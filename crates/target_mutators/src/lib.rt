@@ -13,6 +13,3 @@ mod targets;
 
 pub use arch_split::ArchSplit;
 pub use image_split::ImageSplit;
-
-#[cfg(test)]
-mod tests;

@@ -7,7 +7,6 @@ pub mod Equation
 pub mod WantsSplit
 pub mod Spellings
 pub mod Rising
-pub mod Examples
 pub mod Answered
 pub mod Steps
 pub mod OneTransition

@@ -16,6 +16,3 @@ mod wants_pass;
 pub use mutate_pass::{MutatedGraph, run_mutate_by};
 pub use transition_pass::{TransitionGraph, run_transition};
 pub use wants_pass::{WantedGraph, run_wants_by};
-
-#[cfg(test)]
-mod tests;

@@ -4,4 +4,3 @@ pub mod Making
 pub mod Passes
 pub mod Tasks
 pub mod Runs
-pub mod Examples

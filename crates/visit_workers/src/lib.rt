@@ -19,6 +19,3 @@ mod task;
 mod work;
 
 pub use pass_run::{PassRun, visit_all};
-
-#[cfg(test)]
-mod tests;

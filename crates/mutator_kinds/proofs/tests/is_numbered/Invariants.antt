@@ -1,6 +1,0 @@
-use Rattle.std.proofs.Common.{length, take}
-use Rattle.mutator_kinds.proofs.Tested.{IsNumberedSoFar}
-use Rattle.mutator_kinds.proofs.tests.is_numbered.Given as goal
-
-abbrev pub invariant-loop-node : goal.invariant-loop-node
-invariant-loop-node l = IsNumberedSoFar (take l.node-index l.nodes) (length l.nodes) l.many

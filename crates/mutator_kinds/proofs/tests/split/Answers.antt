@@ -1,5 +1,0 @@
-use Rattle.mutator_kinds.proofs.Tested.{variants_differ}
-use Rattle.mutator_kinds.proofs.tests.split.Goals as goal
-
-pub run_bottom_up-requires-clause-differ : goal.run_bottom_up-requires-clause-differ
-run_bottom_up-requires-clause-differ g c = λ κs outlives. variants_differ c.in_ok-g.g.nodes

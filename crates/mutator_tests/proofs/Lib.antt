@@ -1,0 +1,2 @@
+mod Transitions
+mod Tested

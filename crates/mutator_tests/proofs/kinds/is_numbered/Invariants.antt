@@ -1,0 +1,6 @@
+use Rattle.std.proofs.Common.{length, take}
+use Rattle.mutator_tests.proofs.Tested.{IsNumberedSoFar}
+use Rattle.mutator_tests.proofs.kinds.is_numbered.Given as goal
+
+abbrev pub invariant-loop-node : goal.invariant-loop-node
+invariant-loop-node l = IsNumberedSoFar (take l.node-index l.nodes) (length l.nodes) l.many

@@ -1,0 +1,336 @@
+//! What the three rules answer at the nodes of a small graph, through their traits: an app depends on a static library
+//! `b`, and on another module as a shared, a header and a whole library.
+ghost use Rattle.std.specs.Prelude.{◌≡◌, ◌∷◌, [], IfOk, length};
+ghost use Rattle.module_graph.specs.declared.graph.EdgeKind.TheVariants.{Header, Shared, Whole};
+ghost use Rattle.module_graph.specs.Graphs.{targets};
+ghost use Rattle.mutator_rules.specs.Arrivals.{kinds_into};
+ghost use Rattle.mutator_rules.specs.Conditions.{MayVisit, places_in};
+
+use info_mutators::laws::{
+    exports_are_included, info_does_not_split, info_holds_nodes, own_variations_differ,
+};
+use info_mutators::{Info, Sanitize, SdkLevel};
+use bp_faults::{FaultKind, Item, ModuleId, NodeId, OutOfMemory, Path, Payload, Place, Seq, Text};
+use bp_props::{Given, Module, ModuleKind, Props};
+use module_graph::{Axis, Edge, EdgeKind, Graph, Node, Variation, Variations};
+use module_rules::{Record, one_variant};
+use mutator_rules::{BottomUp, Config, Split, TopDown, Transition};
+use pass_core::VisitError;
+use std::alloc::Global;
+use std::sync::Arc;
+use std::test::Fail;
+
+const PLACE: Place = Place {
+    file: 1,
+    line: 1,
+    col: 1,
+};
+
+fn path(alloc: Global, text: &str) -> Result<Path, OutOfMemory> {
+    match Path::new(Text::from_str(alloc, text)?) {
+        Some(path) => Ok(path),
+        None => Ok(Path::root(alloc)),
+    }
+}
+
+fn nodes(alloc: Global, numbers: &[u32]) -> Result<Seq<NodeId>, OutOfMemory> {
+    let mut nodes = Seq::new(Vec::new(alloc));
+    for number in numbers {
+        nodes.push(NodeId(*number))?;
+    }
+    Ok(nodes)
+}
+
+fn given<T>(value: T) -> Option<Given<T>> {
+    Some(Given { value, at: PLACE })
+}
+
+fn module(alloc: Global, name: &str) -> Result<Module, OutOfMemory> {
+    Ok(Module {
+        name: Text::from_str(alloc, name)?,
+        kind: ModuleKind::Library,
+        dir: Path::root(alloc),
+        at: PLACE,
+        props: Props::empty(alloc),
+    })
+}
+
+fn edge(kind: EdgeKind, to: u32) -> Edge
+    ensures { result ≡ record { kind = kind; to = record { 0 = to }; at = record { file = 1; line = 1; col = 1 } } }
+{
+    Edge {
+        kind,
+        to: NodeId(to),
+        at: PLACE,
+    }
+}
+
+fn node(alloc: Global, module: u32, payload: Record, edges: Vec<Edge>) -> Node<Record>
+    ensures module { result.«module».0 ≡ «module» }
+    ensures edges { result.edges ≡ edges.items }
+{
+    Node {
+        module: ModuleId(module),
+        vars: Variations::empty(alloc),
+        payload,
+        edges: Seq::new(edges),
+    }
+}
+
+/// Three modules, and a node of each.
+#[derive(Drop)]
+struct World {
+    mods: Vec<Module>,
+    graph: Graph<Record>,
+}
+
+/// The app's record is given, and that of the module that it depends on in three ways.
+fn small_world(alloc: Global, app: Props, other: Props) -> Result<World, OutOfMemory>
+    ensures app { IfOk result (λ w. MayVisit (places_in (length w.mods.items)) w.graph.nodes 0) }
+    ensures other { IfOk result (λ w. MayVisit (places_in (length w.mods.items)) w.graph.nodes 2) }
+    ensures four { IfOk result (λ w. length (targets w.graph.nodes 0) ≡ 4) }
+    ensures kinds { IfOk result (λ w. kinds_into w.graph.nodes 2 ≡ Shared ∷ Header ∷ Whole ∷ []) }
+{
+    let mut mods = Vec::new(alloc);
+    mods.push(module(alloc, "app")?)?;
+    mods.push(module(alloc, "b")?)?;
+    mods.push(module(alloc, "c")?)?;
+    let mut edges = Vec::new(alloc);
+    edges.push(edge(EdgeKind::Static, 1))?;
+    edges.push(edge(EdgeKind::Shared, 2))?;
+    edges.push(edge(EdgeKind::Header, 2))?;
+    edges.push(edge(EdgeKind::Whole, 2))?;
+    let mut nodes = Vec::new(alloc);
+    let (app, other) = (Record::new(alloc, app)?, Record::new(alloc, other)?);
+    let library = Record::new(alloc, Props::empty(alloc))?;
+    nodes.push(node(alloc, 0, app, edges))?;
+    nodes.push(node(alloc, 1, library, Vec::new(alloc)))?;
+    nodes.push(node(alloc, 2, other, Vec::new(alloc)))?;
+    let graph = Graph {
+        nodes: Seq::new(nodes),
+    };
+    Ok(World { mods, graph })
+}
+
+/// What a rule made of a library: the directory that it exports, its link line and its shared libraries.
+type Made = (&'static str, &'static [u32], &'static [u32]);
+
+fn library(alloc: Global, made: Made) -> Result<Props, OutOfMemory> {
+    let (exported, line, slibs) = made;
+    let mut record = Props::empty(alloc);
+    record.exports.push(path(alloc, exported)?)?;
+    record.line = nodes(alloc, line)?;
+    record.slibs = nodes(alloc, slibs)?;
+    Ok(record)
+}
+
+fn done(alloc: Global, props: Props) -> Result<Arc<Split<Record>>, OutOfMemory> {
+    let made = one_variant(alloc, Record::new(alloc, props)?, Seq::new(Vec::new(alloc)))?;
+    Ok(Arc::new(alloc, made)?)
+}
+
+/// The app exports a directory of its own, and what the static library `b` exports.
+fn app(alloc: Global) -> Result<Props, OutOfMemory> {
+    let mut own = Props::empty(alloc);
+    let base = &mut own.base;
+    base.local_include_dirs.items.push(path(alloc, "local")?)?;
+    base.export_include_dirs.items.push(path(alloc, "own")?)?;
+    base.include_dirs.items.push(path(alloc, "other")?)?;
+    base.export_static_lib_headers.items.push(Item {
+        text: Text::from_str(alloc, "b")?,
+        at: PLACE,
+    })?;
+    Ok(own)
+}
+
+fn add_paths(text: &mut String, paths: &[Path]) -> Result<(), OutOfMemory> {
+    for path in paths {
+        text.push_str(path.as_str())?;
+        text.push_str(" ")?;
+    }
+    text.push_str("; ")?;
+    Ok(())
+}
+
+fn add_nodes(alloc: Global, text: &mut String, nodes: &[NodeId]) -> Result<(), OutOfMemory> {
+    for node in nodes {
+        let number = node.0;
+        text.push_str(&format!(in alloc; "{number} ")?)?;
+    }
+    text.push_str("; ")?;
+    Ok(())
+}
+
+/// The four lists of the first variant, or the fault's kind and subject.
+fn lists(alloc: Global, answer: &Result<Split<Record>, VisitError>) -> Result<String, OutOfMemory> {
+    let mut text = String::new(alloc);
+    match answer {
+        Ok(made) => {
+            for (_, record) in made.variants.as_slice() {
+                let props = record.props();
+                add_paths(&mut text, props.exports.as_slice())?;
+                add_paths(&mut text, props.includes.as_slice())?;
+                add_nodes(alloc, &mut text, props.line.as_slice())?;
+                add_nodes(alloc, &mut text, props.slibs.as_slice())?;
+            }
+        }
+        Err(VisitError::Bad(fault)) => {
+            text.push_str(fault.subject.as_str())?;
+            if fault.kind == FaultKind::LinkTooLong {
+                text.push_str(" is too long")?;
+            }
+        }
+        Err(VisitError::OutOfMemory) => return Err(OutOfMemory),
+    }
+    Ok(text)
+}
+
+fn config(alloc: Global) -> Config {
+    Config {
+        targets: Seq::new(Vec::new(alloc)),
+    }
+}
+
+#[test]
+fn the_four_lists(rt: HostRuntime) -> Result<(), Fail> {
+    let alloc = rt.alloc();
+    let world = small_world(alloc, app(alloc)?, Props::empty(alloc))?;
+    let mut ins = Vec::new(alloc);
+    ins.push(done(alloc, library(alloc, ("b/inc", &[3], &[5]))?)?)?;
+    ins.push(done(alloc, library(alloc, ("c/inc", &[8], &[9]))?)?)?;
+    ins.push(done(alloc, library(alloc, ("h/inc", &[7], &[4]))?)?)?;
+    ins.push(done(alloc, library(alloc, ("w/inc", &[3, 11], &[5, 6]))?)?)?;
+    let config = config(alloc);
+    let rule = Info::new(&world.mods, &config);
+    assert!(rt; rule.axis().is_none());
+    let answer = rule.visit(alloc, &world.graph, NodeId(0), &ins);
+    assert_eq!(rt;
+        lists(alloc, &answer)?.as_str(),
+        "own b/inc w/inc ; local own other b/inc c/inc h/inc w/inc ; 1 3 11 ; 2 5 6 ; "
+    );
+    info_does_not_split();
+    info_holds_nodes();
+    exports_are_included();
+    Ok(())
+}
+
+/// A static library with a link line of its own: with the library it has one entry more.
+fn answer_with_line(alloc: Global, entries: u32) -> Result<String, OutOfMemory> {
+    let world = small_world(alloc, Props::empty(alloc), Props::empty(alloc))?;
+    let mut long = Props::empty(alloc);
+    for number in 0..entries {
+        long.line.push(NodeId(number))?;
+    }
+    let mut ins = Vec::new(alloc);
+    ins.push(done(alloc, long)?)?;
+    ins.push(done(alloc, Props::empty(alloc))?)?;
+    ins.push(done(alloc, Props::empty(alloc))?)?;
+    ins.push(done(alloc, Props::empty(alloc))?)?;
+    let config = config(alloc);
+    let rule = Info::new(&world.mods, &config);
+    lists(alloc, &rule.visit(alloc, &world.graph, NodeId(0), &ins))
+}
+
+#[test]
+fn how_long_a_line_may_be(rt: HostRuntime) -> Result<(), Fail> {
+    let alloc = rt.alloc();
+    // a number from 0 on is among them: the library itself, node 1
+    assert!(rt; answer_with_line(alloc, 1_024)?.as_str() != "app is too long");
+    assert_eq!(rt; answer_with_line(alloc, 1_025)?.as_str(), "app is too long");
+    Ok(())
+}
+
+fn leveled(alloc: Global, level: u32) -> Result<Arc<Record>, OutOfMemory> {
+    let mut props = Props::empty(alloc);
+    props.level = level;
+    Ok(Arc::new(alloc, Record::new(alloc, props)?)?)
+}
+
+/// The level of the module that the app depends on as a shared, a header and a whole library.
+fn level_with(alloc: Global, other: Props, levels: [u32; 3]) -> Result<u32, OutOfMemory> {
+    let world = small_world(alloc, Props::empty(alloc), other)?;
+    let mut ins = Vec::new(alloc);
+    ins.push(leveled(alloc, levels[0])?)?;
+    ins.push(leveled(alloc, levels[1])?)?;
+    ins.push(leveled(alloc, levels[2])?)?;
+    let kinds = [EdgeKind::Shared, EdgeKind::Header, EdgeKind::Whole];
+    let config = config(alloc);
+    let rule = SdkLevel::new(&world.mods, &config);
+    match rule.visit(alloc, &world.graph, NodeId(2), &kinds, &ins) {
+        Ok(record) => Ok(record.props().level),
+        Err(_) => Err(OutOfMemory),
+    }
+}
+
+#[test]
+fn levels_come_from_dependents(rt: HostRuntime) -> Result<(), Fail> {
+    let alloc = rt.alloc();
+    assert_eq!(rt; level_with(alloc, Props::empty(alloc), [28, 31, 30])?, 30);
+    let mut other = Props::empty(alloc);
+    other.min_sdk_version = given(33);
+    assert_eq!(rt; level_with(alloc, other, [28, 31, 30])?, 33);
+    Ok(())
+}
+
+fn sanitized(alloc: Global, asan: bool) -> Result<Arc<Record>, OutOfMemory> {
+    let mut props = Props::empty(alloc);
+    props.asan = asan;
+    Ok(Arc::new(alloc, Record::new(alloc, props)?)?)
+}
+
+/// How many flags the app is compiled and linked with, where the results of its four dependencies have that field.
+fn flags_with(alloc: Global, asan: [bool; 4]) -> Result<(usize, usize), OutOfMemory> {
+    let world = small_world(alloc, Props::empty(alloc), Props::empty(alloc))?;
+    let mut ins = Vec::new(alloc);
+    ins.push(sanitized(alloc, asan[0])?)?;
+    ins.push(sanitized(alloc, asan[1])?)?;
+    ins.push(sanitized(alloc, asan[2])?)?;
+    ins.push(sanitized(alloc, asan[3])?)?;
+    let config = config(alloc);
+    let rule = Sanitize::new(&world.mods, &config);
+    match rule.mutate(alloc, &world.graph, NodeId(0), &ins) {
+        Ok(record) => Ok((
+            record.props().base.cflags.items.as_slice().len(),
+            record.props().base.ldflags.items.as_slice().len(),
+        )),
+        Err(_) => Err(OutOfMemory),
+    }
+}
+
+#[test]
+fn what_is_sanitized(rt: HostRuntime) -> Result<(), Fail> {
+    let alloc = rt.alloc();
+    assert_eq!(rt; flags_with(alloc, [false, true, true, false])?, (0, 0));
+    assert_eq!(rt; flags_with(alloc, [false, false, false, true])?, (0, 1));
+    let mut on = Props::empty(alloc);
+    on.address = given(true);
+    let mut never = on.copy(alloc)?;
+    never.never = given(true);
+    let world = small_world(alloc, on, never)?;
+    let config = config(alloc);
+    let rule = Sanitize::new(&world.mods, &config);
+    let graph = &world.graph;
+    assert!(rt; rule.axis() == Axis::Sanitize);
+    assert_eq!(rt;
+        rule.incoming(graph, NodeId(0), Variation::Empty),
+        Variation::Asan
+    );
+    assert_eq!(rt;
+        rule.incoming(graph, NodeId(2), Variation::Asan),
+        Variation::Empty
+    );
+    assert_eq!(rt;
+        rule.outgoing(graph, NodeId(0), EdgeKind::Whole, Variation::Asan),
+        Variation::Asan
+    );
+    assert_eq!(rt;
+        rule.outgoing(graph, NodeId(0), EdgeKind::Shared, Variation::Asan),
+        Variation::Empty
+    );
+    match rule.split(alloc, graph, NodeId(0)) {
+        Ok(own) => assert!(rt; own.as_slice() == [Variation::Asan].as_slice()),
+        Err(_) => assert!(rt; false),
+    }
+    own_variations_differ();
+    Ok(())
+}

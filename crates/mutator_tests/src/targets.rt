@@ -1,0 +1,334 @@
+//! The variants of a node without dependencies, by both rules and through their trait. Each is written as its variation
+//! and the flags of its record, where each group has one flag.
+ghost use Rattle.std.specs.Prelude.{◌≡◌, [], IfOk, length};
+ghost use Rattle.module_graph.specs.Graphs.{targets};
+ghost use Rattle.mutator_rules.specs.Conditions.{MayVisit, places_in};
+
+use target_mutators::laws::{image_variants_differ, target_variants_differ};
+use target_mutators::{ArchSplit, ImageSplit};
+use bp_faults::{ModuleId, NodeId, OutOfMemory, Path, Payload, Place, Seq, Target, Text};
+use bp_props::{Given, GroupId, GroupProps, Module, ModuleKind, Multi, Props};
+use module_graph::{Axis, Graph, Node, Variation, Variations, variation_name};
+use module_rules::Record;
+use mutator_rules::{BottomUp, Config, Split};
+use std::alloc::Global;
+use std::test::Fail;
+
+const PLACE: Place = Place {
+    file: 1,
+    line: 1,
+    col: 1,
+};
+
+/// Groups, and the flag of each.
+const FLAGS: [(GroupId, &str); 13] = [
+    (GroupId::ArchArm, "arm"),
+    (GroupId::ArchArm64, "arm64"),
+    (GroupId::ArchX86_64, "x86_64"),
+    (GroupId::Lib32, "lib32"),
+    (GroupId::Lib64, "lib64"),
+    (GroupId::Linux, "linux"),
+    (GroupId::NotWindows, "not_windows"),
+    (GroupId::Android, "android"),
+    (GroupId::Host, "host"),
+    (GroupId::LinuxGlibc, "linux_glibc"),
+    (GroupId::Named(Target::AndroidArm64), "named"),
+    (GroupId::Vendor, "vendor"),
+    (GroupId::Recovery, "recovery"),
+];
+
+/// What a record sets beside its flags.
+#[derive(Clone, Copy)]
+enum Setting {
+    Enabled(bool),
+    EnabledIn(GroupId, bool),
+    Device(bool),
+    Host(bool),
+    Multilib(Multi),
+    Vendor,
+    VendorAvailable,
+    Recovery,
+    RecoveryAvailable,
+}
+
+fn given<T>(value: T) -> Option<Given<T>> {
+    Some(Given { value, at: PLACE })
+}
+
+fn add_flag(alloc: Global, group: &mut GroupProps, flag: &str) -> Result<(), OutOfMemory> {
+    group.cflags.items.push(Text::from_str(alloc, flag)?)
+}
+
+/// A group as the record has it, or an empty one.
+fn group_of(alloc: Global, record: &Props, id: GroupId) -> Result<GroupProps, OutOfMemory> {
+    match record.group(id) {
+        Some(group) => group.copy(alloc),
+        None => Ok(GroupProps::empty(alloc)),
+    }
+}
+
+fn set(alloc: Global, record: &mut Props, setting: Setting) -> Result<(), OutOfMemory> {
+    match setting {
+        Setting::Enabled(value) => record.base.enabled = given(value),
+        Setting::EnabledIn(id, value) => {
+            let mut group = group_of(alloc, record, id)?;
+            group.enabled = given(value);
+            record.groups.insert(id, group)?;
+        }
+        Setting::Device(value) => record.device_supported = given(value),
+        Setting::Host(value) => record.host_supported = given(value),
+        Setting::Multilib(value) => record.compile_multilib = given(value),
+        Setting::Vendor => record.vendor = given(true),
+        Setting::VendorAvailable => record.vendor_available = given(true),
+        Setting::Recovery => record.recovery = given(true),
+        Setting::RecoveryAvailable => record.recovery_available = given(true),
+    }
+    Ok(())
+}
+
+fn record(alloc: Global, settings: &[Setting]) -> Result<Props, OutOfMemory> {
+    let mut record = Props::empty(alloc);
+    add_flag(alloc, &mut record.base, "own")?;
+    for (id, flag) in FLAGS {
+        let mut group = GroupProps::empty(alloc);
+        add_flag(alloc, &mut group, flag)?;
+        record.groups.insert(id, group)?;
+    }
+    for setting in settings {
+        set(alloc, &mut record, *setting)?;
+    }
+    Ok(record)
+}
+
+/// One module, and its node.
+#[derive(Drop)]
+struct World {
+    mods: Vec<Module>,
+    graph: Graph<Record>,
+}
+
+fn one_module(
+    alloc: Global,
+    kind: ModuleKind,
+    target: Variation,
+    record: Props,
+) -> Result<World, OutOfMemory>
+    ensures may { IfOk result (λ w. MayVisit (places_in (length w.mods.items)) w.graph.nodes 0) }
+    ensures alone { IfOk result (λ w. targets w.graph.nodes 0 ≡ []) }
+{
+    let mut mods = Vec::new(alloc);
+    mods.push(Module {
+        name: Text::from_str(alloc, "m")?,
+        kind,
+        dir: Path::root(alloc),
+        at: PLACE,
+        props: Props::empty(alloc),
+    })?;
+    let mut vars = Variations::empty(alloc);
+    vars.set(Axis::Target, target);
+    let mut nodes = Vec::new(alloc);
+    nodes.push(Node {
+        module: ModuleId(0),
+        vars,
+        payload: Record::new(alloc, record)?,
+        edges: Seq::new(Vec::new(alloc)),
+    })?;
+    let graph = Graph {
+        nodes: Seq::new(nodes),
+    };
+    Ok(World { mods, graph })
+}
+
+fn shown(alloc: Global, made: &Split<Record>) -> Result<String, OutOfMemory> {
+    let mut out = String::new(alloc);
+    for (variation, record) in made.variants.as_slice() {
+        out.push_str(variation_name(alloc, *variation)?.as_str())?;
+        out.push_str(":")?;
+        for flag in record.props().base.cflags.items.as_slice() {
+            out.push_str(" ")?;
+            out.push_str(flag.as_str())?;
+        }
+        out.push_str("; ")?;
+    }
+    Ok(out)
+}
+
+/// What a rule answers at the node, by its trait.
+fn answer<M: BottomUp<Record>>(
+    alloc: Global,
+    rule: &M,
+    graph: &Graph<Record>,
+) -> Result<String, OutOfMemory>
+    requires may { MayVisit (M.accepts rule.now) graph.now.nodes 0 }
+    requires alone { targets graph.now.nodes 0 ≡ [] }
+{
+    match rule.visit(alloc, graph, NodeId(0), &[]) {
+        Ok(made) => shown(alloc, &made),
+        Err(_) => Err(OutOfMemory),
+    }
+}
+
+fn targets_of(alloc: Global, targets: &[Target]) -> Result<Config, OutOfMemory> {
+    let mut list = Seq::new(Vec::new(alloc));
+    for target in targets {
+        list.push(*target)?;
+    }
+    Ok(Config { targets: list })
+}
+
+/// A kind of module and what it sets, for some targets, and its variants.
+type ArchCase = (
+    ModuleKind,
+    &'static [Setting],
+    &'static [Target],
+    &'static str,
+);
+
+const HOST: Target = Target::LinuxGlibcX86_64;
+
+const ARM: Target = Target::AndroidArm;
+
+const ARM64: Target = Target::AndroidArm64;
+
+const ARCH: [ArchCase; 13] = [
+    (
+        ModuleKind::Library,
+        &[Setting::Host(true)],
+        &[HOST, ARM, ARM64],
+        "linux_glibc_x86_64: own x86_64 lib64 linux not_windows host linux_glibc; \
+         android_arm: own arm lib32 linux android; android_arm64: own arm64 lib64 linux android named; ",
+    ),
+    (
+        ModuleKind::Binary,
+        &[],
+        &[ARM, ARM64, HOST],
+        "android_arm: own arm lib32 linux android; ",
+    ),
+    (
+        ModuleKind::Test,
+        &[Setting::Multilib(Multi::Only64)],
+        &[ARM, ARM64],
+        "android_arm64: own arm64 lib64 linux android named; ",
+    ),
+    (
+        ModuleKind::Library,
+        &[Setting::Multilib(Multi::Only32)],
+        &[ARM64],
+        "",
+    ),
+    (
+        ModuleKind::Library,
+        &[Setting::Device(false), Setting::Host(true)],
+        &[ARM64, HOST],
+        "linux_glibc_x86_64: own x86_64 lib64 linux not_windows host linux_glibc; ",
+    ),
+    (
+        ModuleKind::Library,
+        &[Setting::Device(false)],
+        &[ARM64, HOST],
+        "",
+    ),
+    (
+        ModuleKind::Library,
+        &[Setting::Enabled(false)],
+        &[ARM, ARM64],
+        "",
+    ),
+    (
+        ModuleKind::Library,
+        &[Setting::EnabledIn(GroupId::Lib64, false)],
+        &[ARM, ARM64],
+        "android_arm: own arm lib32 linux android; ",
+    ),
+    (
+        ModuleKind::Library,
+        &[
+            Setting::Enabled(false),
+            Setting::EnabledIn(GroupId::ArchArm, true),
+        ],
+        &[ARM, ARM64],
+        "android_arm: own arm lib32 linux android; ",
+    ),
+    (
+        ModuleKind::Library,
+        &[
+            Setting::EnabledIn(GroupId::Linux, false),
+            Setting::EnabledIn(GroupId::Named(Target::AndroidArm64), true),
+        ],
+        &[ARM, ARM64],
+        "android_arm64: own arm64 lib64 linux android named; ",
+    ),
+    (ModuleKind::Defaults, &[], &[ARM64], ""),
+    (ModuleKind::Filegroup, &[], &[ARM64, HOST], "common: own; "),
+    (
+        ModuleKind::Filegroup,
+        &[Setting::Enabled(false)],
+        &[ARM64],
+        "",
+    ),
+];
+
+#[test]
+fn targets_of_modules(rt: HostRuntime) -> Result<(), Fail> {
+    let alloc = rt.alloc();
+    for (kind, settings, targets, want) in ARCH {
+        let config = targets_of(alloc, targets)?;
+        let world = one_module(alloc, kind, Variation::Empty, record(alloc, settings)?)?;
+        let rule = ArchSplit::new(&world.mods, &config);
+        assert!(rt; rule.axis() == Some(Axis::Target));
+        assert_eq!(rt; answer(alloc, &rule, &world.graph)?.as_str(), want);
+    }
+    target_variants_differ();
+    Ok(())
+}
+
+/// What a library for a target sets, and its variants.
+type ImageCase = (Variation, &'static [Setting], &'static str);
+
+const IMAGES: [ImageCase; 8] = [
+    (Variation::Target(ARM64), &[], ": own; "),
+    (
+        Variation::Target(ARM64),
+        &[Setting::Vendor],
+        "vendor: own vendor; ",
+    ),
+    (
+        Variation::Target(ARM64),
+        &[Setting::VendorAvailable, Setting::RecoveryAvailable],
+        ": own; vendor: own vendor; recovery: own recovery; ",
+    ),
+    (
+        Variation::Target(ARM),
+        &[Setting::Vendor, Setting::Recovery],
+        "vendor: own vendor; recovery: own recovery; ",
+    ),
+    (
+        Variation::Target(ARM),
+        &[Setting::Recovery, Setting::VendorAvailable],
+        "vendor: own vendor; recovery: own recovery; ",
+    ),
+    (
+        Variation::Target(ARM64),
+        &[
+            Setting::VendorAvailable,
+            Setting::EnabledIn(GroupId::Vendor, false),
+        ],
+        ": own; ",
+    ),
+    (Variation::Target(HOST), &[Setting::Vendor], ": own; "),
+    (Variation::Common, &[Setting::Vendor], ": own; "),
+];
+
+#[test]
+fn images_of_modules(rt: HostRuntime) -> Result<(), Fail> {
+    let alloc = rt.alloc();
+    let config = targets_of(alloc, &[ARM64])?;
+    for (target, settings, want) in IMAGES {
+        let world = one_module(alloc, ModuleKind::Library, target, record(alloc, settings)?)?;
+        let rule = ImageSplit::new(&world.mods, &config);
+        assert!(rt; rule.axis() == Some(Axis::Image));
+        assert_eq!(rt; answer(alloc, &rule, &world.graph)?.as_str(), want);
+    }
+    image_variants_differ();
+    Ok(())
+}

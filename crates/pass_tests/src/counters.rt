@@ -1,0 +1,182 @@
+ghost use Rattle.std.specs.Prelude.{◌≡◌, ◌<◌, IfOk, Ok, ⊤};
+ghost use Rattle.std.specs.Arc.{arc_value};
+ghost use Rattle.pass_core.specs.Plans.{IsPlan};
+ghost use Rattle.pass_core.specs.Results.{Done};
+ghost use Rattle.pass_core.specs.Shown.{shown};
+ghost use Rattle.ready_counters.specs.Answers.{AnswersSubtract};
+ghost use Rattle.ready_counters.specs.Seen.{plan_of, view_of, IsSeatOf};
+ghost use Rattle.ready_counters.specs.Views.{with_claim};
+ghost use Rattle.pass_tests.specs.Counters.{pair, chain, no_nodes};
+
+use ready_counters::{Board, Claim, Seat, laws};
+use bp_faults::{NodeId, OutOfMemory, Seq};
+use pass_core::{Plan, PlanEdge, Published, Visit, VisitError};
+use std::alloc::Global;
+use std::process::Abort;
+use std::sync::Arc;
+use std::test::Fail;
+
+/// A node makes its own number.
+#[derive(Drop)]
+struct Number;
+
+impl Visit for Number {
+    type Out = u32;
+
+    ghost meaning = { λ _ n _. Ok n };
+
+    ghost takes = { λ _ _ _. ⊤ };
+
+    fn visit(&self, _alloc: Global, n: NodeId, _ins: &[Arc<u32>]) -> Result<u32, VisitError> {
+        Ok(n.0)
+    }
+}
+
+/// What is published of a node.
+fn published(alloc: Global, n: u32) -> Result<Arc<Published<u32>>, OutOfMemory>
+    ensures { IfOk result (λ value. shown (arc_value value) ≡ Done n) }
+{
+    Ok(Arc::new(alloc, Published::Done(Arc::new(alloc, n)?))?)
+}
+
+fn edge(from: u32, to: u32) -> PlanEdge
+    ensures { result ≡ record { from = record { 0 = from }; to = record { 0 = to } } }
+{
+    PlanEdge {
+        from: NodeId(from),
+        to: NodeId(to),
+    }
+}
+
+/// Two nodes, and two edges from the first to the second.
+fn two_edges(alloc: Global) -> Result<Plan, OutOfMemory>
+    ensures plan { IfOk result (λ p. p ≡ pair) }
+    ensures is_plan { IfOk result (λ p. IsPlan p) }
+{
+    let edges = Seq::new(vec![in alloc; edge(0, 1), edge(0, 1)]?);
+    Ok(Plan { count: 2, edges })
+}
+
+/// A chain of three nodes.
+fn three_in_a_chain(alloc: Global) -> Result<Plan, OutOfMemory>
+    ensures plan { IfOk result (λ p. p ≡ chain) }
+    ensures is_plan { IfOk result (λ p. IsPlan p) }
+{
+    let edges = Seq::new(vec![in alloc; edge(0, 1), edge(1, 2)]?);
+    Ok(Plan { count: 3, edges })
+}
+
+/// No node.
+fn nothing_to_do(alloc: Global) -> Plan
+    ensures plan { result ≡ no_nodes }
+    ensures is_plan { IsPlan result }
+{
+    Plan {
+        count: 0,
+        edges: Seq::new(Vec::new(alloc)),
+    }
+}
+
+/// Claims a node that is ready.
+fn take<V: Visit>(rt: &impl Abort, board: &Board<V>, seat: &mut Seat<V>, n: u32)
+    requires seat { IsSeatOf board.now seat.old }
+    requires node { n < (plan_of board.now).count }
+    ensures seat { IsSeatOf board.now seat.new }
+    ensures claimed { view_of seat.new ≡ with_claim (view_of seat.old) n }
+{
+    match board.claim(seat, NodeId(n)) {
+        Claim::Claimed => (),
+        other => panic!(rt; "{other:?}"),
+    }
+}
+
+/// Claims a node that isn't free and ready.
+fn miss<V: Visit>(rt: &impl Abort, board: &Board<V>, seat: &mut Seat<V>, n: u32, answer: Claim)
+    requires seat { IsSeatOf board.now seat.old }
+    requires node { n < (plan_of board.now).count }
+    ensures seat { IsSeatOf board.now seat.new }
+    ensures same { view_of seat.new ≡ view_of seat.old }
+{
+    match board.claim(seat, NodeId(n)) {
+        Claim::Claimed => panic!(rt; "node {n} was claimed"),
+        other => assert_eq!(rt; other, answer),
+    }
+}
+
+#[test]
+fn core_and_board(rt: HostRuntime) -> Result<(), Fail> {
+    let alloc = rt.alloc();
+    let plan = two_edges(alloc)?;
+    let (board, mut seat) = Board::new(alloc, &plan, &Number)?;
+    miss(&rt, &board, &mut seat, 1, Claim::NotReady(2));
+    take(&rt, &board, &mut seat, 0);
+    let ticket = board.ticket(&mut seat, NodeId(0));
+    assert_eq!(rt; ticket, 0);
+    board.fill(&mut seat, 0, published(alloc, 0)?);
+    let first = board.subtract(&mut seat, 0);
+    assert!(rt; !first);
+    miss(&rt, &board, &mut seat, 1, Claim::NotReady(1));
+    board.fill(&mut seat, 1, published(alloc, 0)?);
+    let second = board.subtract(&mut seat, 1);
+    assert!(rt; second);
+    miss(&rt, &board, &mut seat, 0, Claim::Gone);
+    Ok(())
+}
+
+#[test]
+fn chain_by_two_seats_in_turn(rt: HostRuntime) -> Result<(), Fail> {
+    let alloc = rt.alloc();
+    let plan = three_in_a_chain(alloc)?;
+    let (board, mut seat) = Board::new(alloc, &plan, &Number)?;
+    let mut other = board.split(&mut seat);
+    take(&rt, &board, &mut seat, 0);
+    miss(&rt, &board, &mut other, 0, Claim::Gone);
+    miss(&rt, &board, &mut other, 1, Claim::NotReady(1));
+    let first = board.ticket(&mut seat, NodeId(0));
+    board.fill(&mut seat, 0, published(alloc, 0)?);
+    let ready = board.subtract(&mut seat, 0);
+    assert!(rt; ready);
+    take(&rt, &board, &mut other, 1);
+    let _zero = board.fetch(&mut other, 0);
+    let second = board.ticket(&mut other, NodeId(1));
+    board.fill(&mut other, 1, published(alloc, 1)?);
+    let ready_again = board.subtract(&mut other, 1);
+    assert!(rt; ready_again);
+    take(&rt, &board, &mut seat, 2);
+    let _one = board.fetch(&mut seat, 1);
+    let third = board.ticket(&mut seat, NodeId(2));
+    board.join(&mut seat, other);
+    assert!(rt; first == 0 && second == 1 && third == 2);
+    let order = vec![in alloc; NodeId(0), NodeId(1), NodeId(2)]?;
+    let receipt = board.close(seat, &plan, order);
+    assert_eq!(rt; receipt.order().len(), 3);
+    Ok(())
+}
+
+/// Splits as many seats off, and then joins them.
+fn split_and_join<V: Visit>(board: &Board<V>, seat: &mut Seat<V>, many: u32)
+    requires seat { IsSeatOf board.now seat.old }
+    requires heavy { many < (view_of seat.old).weight }
+    ensures seat { IsSeatOf board.now seat.new }
+    ensures weight { (view_of seat.new).weight ≡ (view_of seat.old).weight }
+{
+    if many > 0 {
+        let other = board.split(seat);
+        split_and_join(board, seat, many - 1);
+        board.join(seat, other);
+    }
+}
+
+#[test]
+fn no_nodes_and_64_seats(rt: HostRuntime) -> Result<(), Fail> {
+    laws::new_board_shows_beginning::<u32>();
+    laws::steps_are_core_steps::<u32>();
+    laws::done_board_shows_finished::<u32>();
+    let alloc = rt.alloc();
+    let plan = nothing_to_do(alloc);
+    let (board, mut seat) = Board::new(alloc, &plan, &Number)?;
+    split_and_join(&board, &mut seat, 64);
+    let receipt = board.close(seat, &plan, Vec::new(alloc));
+    assert_eq!(rt; receipt.order().len(), 0);
+    Ok(())
+}

@@ -1,0 +1,249 @@
+//! Which cycle is reported.
+use module_graph::parts::number_parts;
+use module_graph::settled::settled;
+use crate::graphs::{edges_to, graph, is_numbered};
+use module_graph::{
+    Axis, Edge, EdgeKind, Graph, GraphError, Node, Variation, Variations, check_cycle, label,
+};
+use bp_faults::{ModuleId, NodeId, OutOfMemory, Place, Seq, Target, Text, fault_line};
+use std::alloc::Global;
+use std::test::Fail;
+
+/// What the cycle rule says of a graph: nothing, or the fault's line.
+fn said(alloc: Global, g: &Graph<bool>, names: &[Text]) -> Result<String, OutOfMemory> {
+    if !is_numbered(g) {
+        return Ok(String::from_str(alloc, "no graph")?);
+    }
+    match check_cycle(alloc, g, names) {
+        Ok(()) => Ok(String::new(alloc)),
+        Err(GraphError::OutOfMemory) => Err(OutOfMemory),
+        Err(GraphError::Bad(fault)) => {
+            let mut files = Vec::new(alloc);
+            files.push(Text::from_str(alloc, "list")?)?;
+            files.push(Text::from_str(alloc, "Android.bp")?)?;
+            fault_line(alloc, &fault, &files)
+        }
+    }
+}
+
+/// Each node's number as its label.
+fn numbers(alloc: Global, count: usize) -> Result<Vec<Text>, OutOfMemory> {
+    let mut names = Vec::new(alloc);
+    for n in 0..count {
+        names.push(Text::new(format!(in alloc; "{n}")?))?;
+    }
+    Ok(names)
+}
+
+/// The targets of each node's edges, the least node that can reach itself or the count, and the fault's line.
+const CASES: [(&[&[u32]], u32, &str); 14] = [
+    (&[], 0, ""),
+    (&[&[1, 2], &[3], &[3, 3], &[]], 4, ""),
+    // a part that closes before another is met
+    (&[&[], &[], &[1]], 3, ""),
+    // an edge to itself
+    (
+        &[&[], &[0, 1]],
+        1,
+        "Android.bp:2:2: error 23: dependency cycle: 1 -> 1\n",
+    ),
+    // the first of two equal edges
+    (
+        &[&[1, 1], &[0]],
+        0,
+        "Android.bp:1:1: error 23: dependency cycle: 0 -> 1 -> 0\n",
+    ),
+    (
+        &[&[1, 1, 2], &[2], &[0]],
+        0,
+        "Android.bp:1:3: error 23: dependency cycle: 0 -> 2 -> 0\n",
+    ),
+    // the least node that reaches a cycle isn't on one
+    (
+        &[&[1], &[2], &[1]],
+        1,
+        "Android.bp:2:1: error 23: dependency cycle: 1 -> 2 -> 1\n",
+    ),
+    // nor is one between two cycles
+    (
+        &[&[3], &[2, 0], &[1], &[4], &[3]],
+        1,
+        "Android.bp:2:1: error 23: dependency cycle: 1 -> 2 -> 1\n",
+    ),
+    // of two cycles that of the least node, which is longer
+    (
+        &[&[2], &[4], &[3], &[0], &[1]],
+        0,
+        "Android.bp:1:1: error 23: dependency cycle: 0 -> 2 -> 3 -> 0\n",
+    ),
+    // of two through the least node the shorter
+    (
+        &[&[1, 3], &[2], &[0], &[0]],
+        0,
+        "Android.bp:1:2: error 23: dependency cycle: 0 -> 3 -> 0\n",
+    ),
+    // of two as short that by the first edge, at the start and later
+    (
+        &[&[2, 1], &[3], &[3], &[0]],
+        0,
+        "Android.bp:1:1: error 23: dependency cycle: 0 -> 2 -> 3 -> 0\n",
+    ),
+    (
+        &[&[1], &[3, 2], &[0], &[0]],
+        0,
+        "Android.bp:1:1: error 23: dependency cycle: 0 -> 1 -> 3 -> 0\n",
+    ),
+    // an edge to itself is shorter than any other way
+    (
+        &[&[1, 0], &[0]],
+        0,
+        "Android.bp:1:2: error 23: dependency cycle: 0 -> 0\n",
+    ),
+    // two parts of two nodes, and the nodes before and behind them
+    (
+        &[&[1, 5], &[2, 5], &[3], &[2, 4], &[], &[6], &[5]],
+        2,
+        "Android.bp:3:1: error 23: dependency cycle: 2 -> 3 -> 2\n",
+    ),
+];
+
+/// The least node that can reach itself, or the count, as the numbers of the parts tell it.
+fn first_on_a_cycle(alloc: Global, g: &Graph<bool>) -> Result<u32, OutOfMemory> {
+    if !is_numbered(g) {
+        return Ok(u32::MAX);
+    }
+    let numbers = number_parts(alloc, g)?;
+    Ok(settled(g, &numbers))
+}
+
+#[test]
+fn which_cycle_is_reported(rt: HostRuntime) -> Result<(), Fail> {
+    let alloc = rt.alloc();
+    for (targets, first, line) in CASES {
+        let g = graph(alloc, targets)?;
+        let names = numbers(alloc, targets.len())?;
+        assert_eq!(rt; first_on_a_cycle(alloc, &g)?, first);
+        assert_eq!(rt; said(alloc, &g, &names)?.as_str(), line);
+    }
+    Ok(())
+}
+
+/// A chain of nodes: each leads to the next or to the one before, and the end to the start where it is closed.
+fn chain(
+    alloc: Global,
+    count: u32,
+    forward: bool,
+    closed: bool,
+) -> Result<Graph<bool>, OutOfMemory> {
+    let last = count.saturating_sub(1);
+    let mut nodes = Vec::new(alloc);
+    for n in 0..count {
+        let (end, start, next) = if forward {
+            (last, 0, n.saturating_add(1))
+        } else {
+            (0, last, n.saturating_sub(1))
+        };
+        let edges = match (n == end, closed) {
+            (false, _) => edges_to(alloc, 1, &[next])?,
+            (true, true) => edges_to(alloc, 1, &[start])?,
+            (true, false) => edges_to(alloc, 1, &[])?,
+        };
+        nodes.push(Node {
+            module: ModuleId(n),
+            vars: Variations::empty(alloc),
+            payload: false,
+            edges,
+        })?;
+    }
+    Ok(Graph {
+        nodes: Seq::new(nodes),
+    })
+}
+
+/// How many labels the reported cycle has.
+fn labels_in_cycle(alloc: Global, g: &Graph<bool>) -> Result<usize, OutOfMemory> {
+    if !is_numbered(g) {
+        return Ok(usize::MAX);
+    }
+    match check_cycle(alloc, g, &[]) {
+        Ok(()) => Ok(0),
+        Err(GraphError::Bad(fault)) => Ok(fault.chain.as_slice().len()),
+        Err(GraphError::OutOfMemory) => Err(OutOfMemory),
+    }
+}
+
+/// Each answer needs time near the number of nodes.
+#[test]
+fn long_chains(rt: HostRuntime) -> Result<(), Fail> {
+    let alloc = rt.alloc();
+    let count = 100_000;
+    for (forward, closed, first, labels) in [
+        (true, false, 100_000, 0),
+        (false, false, 100_000, 0),
+        (true, true, 0, 100_001),
+        (false, true, 0, 100_001),
+    ] {
+        let g = chain(alloc, count, forward, closed)?;
+        assert_eq!(rt; first_on_a_cycle(alloc, &g)?, first);
+        assert_eq!(rt; labels_in_cycle(alloc, &g)?, labels);
+    }
+    Ok(())
+}
+
+/// Variants of static libraries with names of one letter, by the places of their edges: target, line, column.
+fn libraries(alloc: Global, edges: &[&[(u32, u32, u32)]]) -> Result<Graph<bool>, OutOfMemory> {
+    let mut nodes = Vec::new(alloc);
+    let mut module = 0;
+    for places in edges {
+        let mut edges = Vec::new(alloc);
+        for (to, line, col) in places.iter() {
+            edges.push(Edge {
+                kind: EdgeKind::Static,
+                to: NodeId(*to),
+                at: Place {
+                    file: 1,
+                    line: *line,
+                    col: *col,
+                },
+            })?;
+        }
+        let mut vars = Variations::empty(alloc);
+        vars.set(Axis::Target, Variation::Target(Target::AndroidArm64));
+        vars.set(Axis::Link, Variation::Static);
+        nodes.push(Node {
+            module: ModuleId(module),
+            vars,
+            payload: false,
+            edges: Seq::new(edges),
+        })?;
+        module = module.wrapping_add(1);
+    }
+    Ok(Graph {
+        nodes: Seq::new(nodes),
+    })
+}
+
+fn labels(alloc: Global, g: &Graph<bool>, names: &[&str]) -> Result<Vec<Text>, OutOfMemory> {
+    let mut labels = Vec::new(alloc);
+    for (node, name) in g.nodes.as_slice().iter().zip(names) {
+        labels.push(label(alloc, &Text::from_str(alloc, name)?, &node.vars)?)?;
+    }
+    Ok(labels)
+}
+
+/// The example *cycles*: a wants b; b wants c and a; c wants a.
+#[test]
+fn cycles(rt: HostRuntime) -> Result<(), Fail> {
+    let alloc = rt.alloc();
+    let g = libraries(
+        alloc,
+        &[&[(1, 1, 46)], &[(2, 2, 46), (0, 2, 51)], &[(0, 3, 46)]],
+    )?;
+    let names = labels(alloc, &g, &["a", "b", "c"])?;
+    let [a, b] = ["a{android_arm64_static}", "b{android_arm64_static}"];
+    let line = format!(in alloc;
+        "Android.bp:1:46: error 23: dependency cycle: {a} -> {b} -> {a}\n"
+    )?;
+    assert_eq!(rt; said(alloc, &g, &names)?.as_str(), line.as_str());
+    Ok(())
+}

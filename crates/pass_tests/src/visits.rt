@@ -1,0 +1,345 @@
+ghost use Rattle.std.specs.Prelude.{IsTrue, IfOk, ⊤};
+ghost use Rattle.pass_tests.specs.Visits.{counted_but};
+ghost use Rattle.pass_core.specs.Plans.{IsPlan, HasNoCycle};
+
+use pass_core::{
+    Core, OrderError, PassError, Plan, PlanEdge, Published, Step, StepError, Visit, VisitError,
+    edges_into, heights, laws, run_order, run_pass, serial_order, starts_of,
+};
+use bp_faults::{Fault, FaultKind, NodeId, OutOfMemory, Place, Seq, Text};
+use std::alloc::Global;
+use std::sync::Arc;
+use std::test::Fail;
+
+/// Counts the predecessors, and refuses two nodes.
+#[derive(Drop)]
+struct CountBut {
+    one: u32,
+    other: u32,
+}
+
+impl Visit for CountBut {
+    type Out = usize;
+
+    ghost meaning = { λ v n ins. counted_but v.one v.other n ins };
+
+    ghost takes = { λ _ _ _. ⊤ };
+
+    fn visit(&self, alloc: Global, n: NodeId, ins: &[Arc<usize>]) -> Result<usize, VisitError> {
+        if n.0 == self.one || n.0 == self.other {
+            let at = Place {
+                file: n.0,
+                line: 1,
+                col: 1,
+            };
+            return Err(VisitError::Bad(Fault::at(alloc, FaultKind::BadSource, at)));
+        }
+        Ok(ins.len())
+    }
+}
+
+/// Whether the edges stand by target and each leads to a lesser node.
+fn falls(plan: &Plan) -> bool
+    ensures plan { IsTrue result → IsPlan plan.now }
+    ensures free { IsTrue result → HasNoCycle plan.now.edges }
+{
+    let mut target = 0;
+    for edge in plan.edges.as_slice() {
+        if edge.to.0 < target || edge.from.0 <= edge.to.0 || edge.from.0 >= plan.count {
+            return false;
+        }
+        target = edge.to.0;
+    }
+    plan.edges.as_slice().len() < 1 << 32
+}
+
+fn plan(alloc: Global, count: u32, pairs: &[(u32, u32)]) -> Result<Plan, OutOfMemory> {
+    let mut edges = Vec::new(alloc);
+    for (from, to) in pairs {
+        edges.push(PlanEdge {
+            from: NodeId(*from),
+            to: NodeId(*to),
+        })?;
+    }
+    Ok(Plan {
+        count,
+        edges: Seq::new(edges),
+    })
+}
+
+/// A chain of many nodes, each after the next, beside a layer in which each of many nodes stands after many.
+fn large(alloc: Global, chain: u32, wide: u32, deep: u32) -> Result<Plan, OutOfMemory> {
+    let middle = chain.saturating_add(wide);
+    let count = middle.saturating_add(deep);
+    let mut edges = Vec::new(alloc);
+    for n in 1..chain {
+        edges.push(PlanEdge {
+            from: NodeId(n),
+            to: NodeId(n - 1),
+        })?;
+    }
+    for n in chain..middle {
+        for k in middle..count {
+            edges.push(PlanEdge {
+                from: NodeId(k),
+                to: NodeId(n),
+            })?;
+        }
+    }
+    Ok(Plan {
+        count,
+        edges: Seq::new(edges),
+    })
+}
+
+fn nodes(alloc: Global, numbers: &[u32]) -> Result<Vec<NodeId>, OutOfMemory> {
+    let mut nodes = Vec::new(alloc);
+    for n in numbers {
+        nodes.push(NodeId(*n))?;
+    }
+    Ok(nodes)
+}
+
+/// What a run along a list of nodes comes to, in a word and a number.
+fn along(alloc: Global, plan: &Plan, refused: CountBut, order: &[NodeId]) -> (&'static str, u32)
+    requires plan { IsPlan plan.now }
+    requires free { HasNoCycle plan.now.edges }
+{
+    match run_order(alloc, plan, &refused, order) {
+        Ok(_) => ("results", 0),
+        Err(OrderError::NotReady(place)) => ("not ready", place),
+        Err(OrderError::Ends(many)) => ("ends", many),
+        Err(OrderError::At(n, _)) => ("fault", n.0),
+        Err(OrderError::OutOfMemory) => ("memory", 0),
+    }
+}
+
+const NONE: u32 = 9;
+
+const DIAMOND: &[(u32, u32)] = &[(1, 0), (2, 0), (3, 1), (3, 2)];
+
+const TWICE: &[(u32, u32)] = &[(1, 0), (1, 0), (3, 0)];
+
+/// Four nodes: their edges, the two that are refused, the order, and what comes of it.
+const RUNS: [(&[(u32, u32)], u32, u32, &[u32], (&str, u32)); 14] = [
+    (DIAMOND, NONE, NONE, &[3, 1, 2, 0], ("results", 0)),
+    (DIAMOND, NONE, NONE, &[3, 2, 1, 0], ("results", 0)),
+    (DIAMOND, NONE, NONE, &[0], ("not ready", 0)),
+    (DIAMOND, NONE, NONE, &[3, 1, 3, 2, 0], ("not ready", 2)),
+    (DIAMOND, NONE, NONE, &[3, 4], ("not ready", 1)),
+    (DIAMOND, NONE, NONE, &[3, 1, 2, 0, 0], ("not ready", 4)),
+    (DIAMOND, NONE, NONE, &[3, 1], ("ends", 2)),
+    (DIAMOND, NONE, NONE, &[], ("ends", 0)),
+    (DIAMOND, 2, NONE, &[3, 2, 1, 0], ("fault", 2)),
+    (DIAMOND, 2, NONE, &[3, 2], ("ends", 2)),
+    (TWICE, 0, 2, &[3, 2, 1, 0], ("fault", 2)),
+    (TWICE, 0, 0, &[3, 2, 1, 0], ("fault", 0)),
+    (TWICE, 3, 1, &[3, 2, 1, 0], ("fault", 1)),
+    (TWICE, NONE, NONE, &[3, 2, 1, 0], ("results", 0)),
+];
+
+#[test]
+fn runs_along_orders(rt: HostRuntime) -> Result<(), Fail> {
+    let alloc = rt.alloc();
+    for (edges, one, other, order, want) in RUNS {
+        let plan = plan(alloc, 4, edges)?;
+        let order = nodes(alloc, order)?;
+        assert!(rt; falls(&plan));
+        assert_eq!(rt; along(alloc, &plan, CountBut { one, other }, &order), want);
+    }
+    Ok(())
+}
+
+/// How many results a pass makes that refuses no node.
+fn counted(alloc: Global, plan: &Plan) -> Result<usize, VisitError>
+    requires plan { IsPlan plan.now }
+    requires free { HasNoCycle plan.now.edges }
+{
+    let none = CountBut {
+        one: u32::MAX,
+        other: u32::MAX,
+    };
+    Ok(run_pass(alloc, plan, &none)?.len())
+}
+
+#[test]
+fn orders_of_no_nodes(rt: HostRuntime) -> Result<(), Fail> {
+    let alloc = rt.alloc();
+    let empty = plan(alloc, 0, &[])?;
+    let none = CountBut {
+        one: NONE,
+        other: NONE,
+    };
+    assert!(rt; falls(&empty));
+    assert_eq!(rt;
+        along(alloc, &empty, none, &nodes(alloc, &[])?),
+        ("results", 0)
+    );
+    let none = CountBut {
+        one: NONE,
+        other: NONE,
+    };
+    assert_eq!(rt;
+        along(alloc, &empty, none, &nodes(alloc, &[0])?),
+        ("not ready", 0)
+    );
+    Ok(())
+}
+
+#[test]
+fn large_and_empty_plans(rt: HostRuntime) -> Result<(), Fail> {
+    let alloc = rt.alloc();
+    for (chain, wide, deep) in [(100_000, 1_000, 200), (0, 0, 0)] {
+        let plan = large(alloc, chain, wide, deep)?;
+        assert!(rt; falls(&plan));
+        assert_eq!(rt; counted(alloc, &plan)?, plan.count as usize);
+    }
+    Ok(())
+}
+
+#[test]
+fn diamond(rt: HostRuntime) -> Result<(), Fail> {
+    let alloc = rt.alloc();
+    let plan = plan(alloc, 4, DIAMOND)?;
+    assert!(rt; falls(&plan));
+    assert!(rt; plan.count == 4);
+    let starts = starts_of(alloc, &plan)?;
+    assert_eq!(rt; edges_into(&plan, &starts, NodeId(0)).len(), 2);
+    assert_eq!(rt; heights(alloc, &plan)?.as_slice(), [2, 1, 1, 0].as_slice());
+    let order = nodes(alloc, &[3, 1, 2, 0])?;
+    assert_eq!(rt; serial_order(alloc, &plan)?.as_slice(), order.as_slice());
+    Ok(())
+}
+
+#[test]
+fn laws_at_a_type() {
+    laws::in_edges_are_together();
+    laws::places_of_edges_rise();
+    laws::places_tell_targets();
+    laws::predecessors_are_nodes();
+    laws::predecessors_are_less();
+    laws::predecessors_come_before();
+    laws::heights_meet_their_equation();
+    laws::heights_are_below_the_count();
+    laws::recursion_meets_its_equation::<u32>();
+    laws::one_serial_order();
+    laws::serial_order_is_legal();
+    laws::earlier_nodes_stand_earlier();
+    laws::results_meet_their_equation::<u32>();
+    laws::one_solution::<u32>();
+    laws::first_undone_is_bad::<u32>();
+    laws::one_outcome::<u32>();
+    laws::at_most_one_outcome::<u32>();
+    laws::pass_gathers::<u32>();
+    laws::outs_are_many::<u32>();
+    laws::outs_meet_their_equation::<u32>();
+    laws::filled_edges_hold_results::<u32>();
+    laws::no_step_twice::<u32>();
+    laws::claimed_after_in_edges::<u32>();
+    laws::steps_are_entries::<u32>();
+    laws::finished_by_count::<u32>();
+    laws::never_stuck::<u32>();
+    laws::finished_has_results::<u32>();
+    laws::legal_orders_agree::<u32>();
+    laws::one_order_outcome::<u32>();
+}
+
+/// What each error says of itself.
+fn texts(alloc: Global) -> Result<Text, OutOfMemory> {
+    let fault = Fault::at(
+        alloc,
+        FaultKind::BadSource,
+        Place {
+            file: 1,
+            line: 1,
+            col: 1,
+        },
+    );
+    let again = Fault::at(
+        alloc,
+        FaultKind::BadSource,
+        Place {
+            file: 1,
+            line: 1,
+            col: 1,
+        },
+    );
+    let (node, pass) = (PassError::At(NodeId(0), fault), PassError::OutOfMemory);
+    let (early, late) = (OrderError::NotReady(0), OrderError::Ends(0));
+    let (run, order) = (OrderError::At(NodeId(0), again), OrderError::OutOfMemory);
+    let (step, memory) = (StepError::NotAllowed(Step::Fill(0)), StepError::OutOfMemory);
+    let text = format!(in alloc;
+        "{node}; {pass}; {early}; {late}; {run}; {order}; {step}; {memory}"
+    )?;
+    Ok(Text::new(text))
+}
+
+#[test]
+fn texts_of_errors(rt: HostRuntime) -> Result<(), Fail> {
+    assert_eq!(rt;
+        texts(rt.alloc())?.as_str(),
+        "a node has a fault; out of memory; an entry isn't ready; the order ends early; a node has a fault; out of memory; the step isn't allowed; out of memory"
+    );
+    Ok(())
+}
+
+/// Two nodes, with two edges from node 0 to node 1.
+fn two_edges(alloc: Global) -> Result<Plan, OutOfMemory>
+    ensures plan { IfOk result IsPlan }
+    ensures free { IfOk result (λ plan. HasNoCycle plan.edges) }
+{
+    let edge = PlanEdge {
+        from: NodeId(0),
+        to: NodeId(1),
+    };
+    Ok(Plan {
+        count: 2,
+        edges: Seq::new(Vec::from_array(alloc, [edge; 2])?),
+    })
+}
+
+/// The steps of a pass over these, and whether each is allowed when its turn comes.
+const STEPS: [(Step, bool); 13] = [
+    (Step::Claim(NodeId(1)), false),
+    (Step::Claim(NodeId(0)), true),
+    (Step::Fill(0), true),
+    (Step::Subtract(0), true),
+    (Step::Claim(NodeId(1)), false),
+    (Step::Subtract(0), false),
+    (Step::Fill(0), false),
+    (Step::Fetch(0), false),
+    (Step::Fill(1), true),
+    (Step::Subtract(1), true),
+    (Step::Claim(NodeId(1)), true),
+    (Step::Fetch(1), true),
+    (Step::Fetch(0), true),
+];
+
+/// Whether a step is taken, and not refused.
+fn takes(alloc: Global, core: &mut Core<CountBut>, s: Step) -> bool {
+    match core.step(alloc, s) {
+        Ok(()) => true,
+        Err(StepError::NotAllowed(_)) => false,
+        Err(StepError::OutOfMemory) => false,
+    }
+}
+
+#[test]
+fn core_and_board(rt: HostRuntime) -> Result<(), Fail> {
+    let alloc = rt.alloc();
+    let none = CountBut {
+        one: NONE,
+        other: NONE,
+    };
+    let mut core = Core::new(alloc, two_edges(alloc)?, none)?;
+    for (s, allowed) in STEPS {
+        assert!(rt; !core.finished());
+        assert_eq!(rt; takes(alloc, &mut core, s), allowed);
+    }
+    assert!(rt; core.finished());
+    assert_eq!(rt; core.steps(), 8);
+    for (out, want) in core.into_outs(alloc)?.iter().zip([0, 2]) {
+        assert!(rt; matches!(out, Published::Done(count) if **count == want));
+    }
+    Ok(())
+}

@@ -1,0 +1,171 @@
+ghost use Rattle.std.specs.Prelude.{◌≡◌, ◌<◌, length, IfOk, ⊤, []};
+ghost use Rattle.pass_core.specs.Plans.{IsPlan, HasNoCycle};
+ghost use Rattle.pass_tests.specs.Ways.{number_unless};
+ghost use Rattle.pass_ways.specs.Visits.{visits};
+ghost use Rattle.pass_ways.specs.Ways.{Follows, IsPassWay};
+
+use pass_ways::laws::{
+    legal_orders_are_whole, lines_say_one_order, one_refusal, parts_are_short,
+    refused_have_no_order,
+};
+use pass_ways::{OrderLine, OrderLines, Way, WayError, run_by_way};
+use bp_faults::{Fault, FaultKind, NodeId, OutOfMemory, Place, Seq, Text};
+use bp_ports::OpenGate;
+use pass_core::{Plan, PlanEdge, Visit, VisitError};
+use std::alloc::Global;
+use std::sync::Arc;
+use std::test::Fail;
+use std::thread::Threads;
+
+/// A node makes its own number, and one node is refused.
+#[derive(Drop)]
+struct NumberUnless {
+    refused: u32,
+}
+
+impl Visit for NumberUnless {
+    type Out = u32;
+
+    ghost meaning = { λ v n _. number_unless v.refused n };
+
+    ghost takes = { λ _ _ _. ⊤ };
+
+    fn visit(&self, alloc: Global, n: NodeId, _ins: &[Arc<u32>]) -> Result<u32, VisitError> {
+        if n.0 == self.refused {
+            let at = Place::start(n.0);
+            return Err(VisitError::Bad(Fault::at(alloc, FaultKind::BadSource, at)));
+        }
+        Ok(n.0)
+    }
+}
+
+const NONE: u32 = u32::MAX;
+
+/// Node 0, and node 1 behind it.
+fn two_nodes(alloc: Global) -> Result<Plan, OutOfMemory>
+    ensures plan { IfOk result IsPlan }
+    ensures free { IfOk result (λ plan. HasNoCycle plan.edges) }
+{
+    let mut edges = Vec::new(alloc);
+    edges.push(PlanEdge {
+        from: NodeId(0),
+        to: NodeId(1),
+    })?;
+    Ok(Plan {
+        count: 2,
+        edges: Seq::new(edges),
+    })
+}
+
+/// Lines that name these passes and nodes.
+fn lines_of(alloc: Global, entries: &[(u32, u32)]) -> Result<Vec<OrderLine>, OutOfMemory> {
+    let mut lines = Vec::new(alloc);
+    for (pass, node) in entries {
+        lines.push(OrderLine {
+            entry: Some((*pass, NodeId(*node))),
+            text: Text::from_str(alloc, "line")?,
+        })?;
+    }
+    Ok(lines)
+}
+
+/// The number of the fault and the line of a first pass along lines; 0 where it has results.
+fn refused_at<R: Threads + Sync>(
+    rt: &R,
+    alloc: Global,
+    plan: &Plan,
+    lines: &[OrderLine],
+    refused: u32,
+) -> (u32, u32)
+    requires plan { IsPlan plan.now }
+    requires free { HasNoCycle plan.now.edges }
+    requires few { length lines.now < 100 }
+{
+    let way: Way<'_, OpenGate> = Way::Lines(OrderLines { lines, file: 9 });
+    match run_by_way(rt, alloc, &way, &[], 1, plan, &NumberUnless { refused }) {
+        Ok(_) => (0, 0),
+        Err(WayError::At(n, fault)) => (fault.kind.number(), n.0),
+        Err(WayError::Refused(fault)) => (fault.kind.number(), fault.at.line),
+        Err(WayError::OutOfMemory) => (NONE, NONE),
+    }
+}
+
+#[test]
+fn lines_of_a_pass(rt: HostRuntime) -> Result<(), Fail> {
+    let alloc = rt.alloc();
+    let plan = two_nodes(alloc)?;
+    let cases: [(&[(u32, u32)], u32, (u32, u32)); 9] = [
+        (&[(1, 0), (1, 1)], NONE, (0, 0)),
+        (&[(1, 0), (1, 1), (1, 1)], NONE, (0, 0)),
+        (&[(1, 1), (1, 0)], NONE, (35, 1)),
+        (&[(1, 0), (2, 1)], NONE, (35, 2)),
+        (&[(1, 0), (1, 0)], NONE, (35, 2)),
+        (&[(1, 0)], NONE, (36, 2)),
+        (&[], NONE, (36, 1)),
+        (&[(1, 0)], 0, (36, 2)),
+        (&[(1, 0), (1, 1)], 0, (25, 0)),
+    ];
+    for (entries, refused, want) in cases {
+        let lines = lines_of(alloc, entries)?;
+        assert!(rt; lines.len() < 100);
+        assert_eq!(rt; refused_at(&rt, alloc, &plan, &lines, refused), want);
+    }
+    Ok(())
+}
+
+/// The visits of a pass in an order.
+fn visits_of(alloc: Global, pass: u32, order: &[NodeId]) -> Result<Vec<(u32, NodeId)>, OutOfMemory>
+    ensures { IfOk result (λ made. made.items ≡ visits pass order.now) }
+{
+    let mut made = Vec::with_capacity(alloc, order.len())?;
+    for n in order {
+        made.push((pass, *n))?;
+    }
+    Ok(made)
+}
+
+/// Two passes one after the other, in some way.
+fn two_passes<R: Threads + Sync>(
+    rt: &R,
+    alloc: Global,
+    plan: &Plan,
+    way: &Way<'_, OpenGate>,
+) -> Result<(usize, usize), WayError>
+    requires plan { IsPlan plan.now }
+    requires free { HasNoCycle plan.now.edges }
+    requires way { IsPassWay way.now }
+    requires begins { Follows way.now [] }
+{
+    let v = NumberUnless { refused: NONE };
+    let first = run_by_way(rt, alloc, way, &[], 1, plan, &v)?;
+    let before = visits_of(alloc, 1, first.order.as_slice())?;
+    let second = run_by_way(rt, alloc, way, &before, 2, plan, &v)?;
+    Ok((first.outs.len(), second.order.as_slice().len()))
+}
+
+#[test]
+fn two_passes_each_way(rt: HostRuntime) -> Result<(), Fail> {
+    let alloc = rt.alloc();
+    let plan = two_nodes(alloc)?;
+    let gate = OpenGate;
+    let workers = Way::Workers {
+        workers: 2,
+        gate: &gate,
+    };
+    let lines = lines_of(alloc, &[(1, 0), (1, 1), (2, 0), (2, 1)])?;
+    assert!(rt; lines.len() < 100);
+    let along = Way::Lines(OrderLines {
+        lines: &lines,
+        file: 9,
+    });
+    let on_workers = two_passes(&rt, alloc, &plan, &workers);
+    let along_lines = two_passes(&rt, alloc, &plan, &along);
+    assert!(rt; matches!(on_workers, Ok((2, 2))));
+    assert!(rt; matches!(along_lines, Ok((2, 2))));
+    parts_are_short();
+    legal_orders_are_whole();
+    lines_say_one_order();
+    refused_have_no_order();
+    one_refusal();
+    Ok(())
+}

@@ -1,0 +1,213 @@
+ghost use Rattle.std.specs.Prelude.{◌≡◌, ◌≤◌, IsTrue, ⊤};
+ghost use Rattle.pass_core.specs.Plans.{IsPlan, HasNoCycle};
+ghost use Rattle.pass_tests.specs.Workers.{number_but};
+
+use visit_workers::{PassRun, visit_all};
+use bp_faults::{Fault, FaultKind, NodeId, OutOfMemory, Place, Seq};
+use bp_ports::{OpenGate, PairGate};
+use pass_core::{PassError, Plan, PlanEdge, Visit, VisitError};
+use std::alloc::Global;
+use std::sync::Arc;
+use std::test::Fail;
+use std::thread::Threads;
+
+/// A node makes its own number, and two nodes are refused.
+#[derive(Drop)]
+struct NumberBut {
+    one: u32,
+    other: u32,
+}
+
+impl Visit for NumberBut {
+    type Out = u32;
+
+    ghost meaning = { λ v n _. number_but v.one v.other n };
+
+    ghost takes = { λ _ _ _. ⊤ };
+
+    fn visit(&self, alloc: Global, n: NodeId, _ins: &[Arc<u32>]) -> Result<u32, VisitError> {
+        if n.0 == self.one || n.0 == self.other {
+            let at = Place {
+                file: n.0,
+                line: 1,
+                col: 1,
+            };
+            return Err(VisitError::Bad(Fault::at(alloc, FaultKind::BadSource, at)));
+        }
+        Ok(n.0)
+    }
+}
+
+const ALL: NumberBut = NumberBut {
+    one: u32::MAX,
+    other: u32::MAX,
+};
+
+const TURNS: u32 = 1 << 28;
+
+/// Whether the edges stand by target and each leads to a greater node.
+fn rises(plan: &Plan) -> bool
+    ensures plan { IsTrue result → IsPlan plan.now }
+    ensures free { IsTrue result → HasNoCycle plan.now.edges }
+{
+    let mut target = 0;
+    for edge in plan.edges.as_slice() {
+        if edge.to.0 < target || edge.to.0 <= edge.from.0 || edge.to.0 >= plan.count {
+            return false;
+        }
+        target = edge.to.0;
+    }
+    plan.edges.as_slice().len() < 1 << 32
+}
+
+fn plan(alloc: Global, count: u32, pairs: &[(u32, u32)]) -> Result<Plan, OutOfMemory> {
+    let mut edges = Vec::with_capacity(alloc, pairs.len())?;
+    for (from, to) in pairs {
+        edges.push(PlanEdge {
+            from: NodeId(*from),
+            to: NodeId(*to),
+        })?;
+    }
+    Ok(Plan {
+        count,
+        edges: Seq::new(edges),
+    })
+}
+
+/// Node 0, and a chain of the nodes from 1 on.
+fn one_and_chain(alloc: Global, last: u32) -> Result<Plan, OutOfMemory>
+    requires { last ≤ 1000 }
+{
+    let mut edges = Vec::new(alloc);
+    for n in 1..last {
+        edges.push(PlanEdge {
+            from: NodeId(n),
+            to: NodeId(n + 1),
+        })?;
+    }
+    Ok(Plan {
+        count: last + 1,
+        edges: Seq::new(edges),
+    })
+}
+
+/// Runs a pass on two workers until its gate has held the first node while the second entered, 64 times at most.
+fn until_met<R: Threads + Sync>(
+    rt: &R,
+    alloc: Global,
+    plan: &Plan,
+    first: u32,
+    second: u32,
+) -> Result<Option<PassRun<NumberBut>>, PassError>
+    requires plan { IsPlan plan.now }
+    requires free { HasNoCycle plan.now.edges }
+{
+    for _run in 0..64 {
+        let gate = PairGate::new((7, NodeId(first)), (7, NodeId(second)), TURNS);
+        let run = visit_all(rt, alloc, 7, plan, &ALL, 2, &gate)?;
+        if gate.met() {
+            return Ok(Some(run));
+        }
+    }
+    Ok(None)
+}
+
+/// How many nodes an order has before node 0.
+fn before_first(order: &[NodeId]) -> Option<usize> {
+    order.iter().position(|n| *n == NodeId(0))
+}
+
+/// Whether node 0 is held until the last node of a chain has entered, so that the order has the others before it.
+fn is_held_over_chain<R: Threads + Sync>(
+    rt: &R,
+    alloc: Global,
+    last: u32,
+) -> Result<bool, PassError>
+    requires { last ≤ 1000 }
+{
+    let chain = one_and_chain(alloc, last)?;
+    if !rises(&chain) {
+        return Ok(false);
+    }
+    match until_met(rt, alloc, &chain, 0, last)? {
+        Some(run) => {
+            let least = (last as usize).saturating_sub(1);
+            let is_whole = run.receipt.order().len() == run.order.len();
+            Ok(is_whole && before_first(&run.order) >= Some(least))
+        }
+        None => Ok(false),
+    }
+}
+
+#[test]
+fn gates(rt: HostRuntime) -> Result<(), Fail> {
+    let alloc = rt.alloc();
+    let two = plan(alloc, 2, &[])?;
+    assert!(rt; rises(&two));
+    assert!(rt; until_met(&rt, alloc, &two, 0, 1)?.is_some());
+    let alone = PairGate::new((7, NodeId(0)), (7, NodeId(1)), 1_000);
+    let run = visit_all(&rt, alloc, 7, &two, &ALL, 1, &alone)?;
+    assert!(rt; !alone.met());
+    assert_eq!(rt; run.order.len(), 2);
+    assert!(rt; is_held_over_chain(&rt, alloc, 3)?);
+    assert!(rt; is_held_over_chain(&rt, alloc, 1_000)?);
+    Ok(())
+}
+
+/// The node of the fault of a pass that refuses two nodes.
+fn faulty<R: Threads + Sync>(
+    rt: &R,
+    alloc: Global,
+    plan: &Plan,
+    refused: (u32, u32),
+    workers: u32,
+) -> Option<u32>
+    requires plan { IsPlan plan.now }
+    requires free { HasNoCycle plan.now.edges }
+    requires workers { (1 ≤ workers) × (workers ≤ 64) }
+{
+    let v = NumberBut {
+        one: refused.0,
+        other: refused.1,
+    };
+    match visit_all(rt, alloc, 0, plan, &v, workers, &OpenGate) {
+        Ok(_) => None,
+        Err(PassError::At(n, _)) => Some(n.0),
+        Err(PassError::OutOfMemory) => Some(u32::MAX),
+    }
+}
+
+#[test]
+fn two_faults(rt: HostRuntime) -> Result<(), Fail> {
+    let alloc = rt.alloc();
+    let plan = plan(alloc, 4, &[(0, 3), (0, 3), (2, 3)])?;
+    assert!(rt; rises(&plan));
+    let cases = [
+        ((3, 1), Some(1)),
+        ((2, 1), Some(1)),
+        ((0, 2), Some(0)),
+        ((3, 3), Some(3)),
+        ((9, 9), None),
+    ];
+    for (refused, want) in cases {
+        assert_eq!(rt; faulty(&rt, alloc, &plan, refused, 1), want);
+        assert_eq!(rt; faulty(&rt, alloc, &plan, refused, 2), want);
+        assert_eq!(rt; faulty(&rt, alloc, &plan, refused, 64), want);
+    }
+    Ok(())
+}
+
+#[test]
+fn few_nodes_and_many_workers(rt: HostRuntime) -> Result<(), Fail> {
+    let alloc = rt.alloc();
+    for (count, workers) in [(0, 1), (0, 64), (1, 64), (5, 3)] {
+        let plan = plan(alloc, count, &[])?;
+        assert!(rt; rises(&plan));
+        let run = visit_all(&rt, alloc, 0, &plan, &ALL, workers, &OpenGate)?;
+        assert_eq!(rt; run.order.len(), count as usize);
+        for (n, out) in run.outs.iter().enumerate() {
+            assert_eq!(rt; **out as usize, n);
+        }
+    }
+    Ok(())
+}

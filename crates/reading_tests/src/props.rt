@@ -1,0 +1,119 @@
+use bp_props::{Given, GroupId, GroupProps, Listed, ModuleKind, Props};
+use bp_faults::{OutOfMemory, Payload, Place, Text};
+use std::alloc::{AllocError, Global};
+use std::test::Fail;
+
+fn place(line: u32) -> Place {
+    Place {
+        file: 1,
+        line,
+        col: 1,
+    }
+}
+
+fn flags(alloc: Global, word: &str, line: u32) -> Result<Listed<Text>, OutOfMemory> {
+    let mut flags = Listed::empty(alloc);
+    flags.items.push(Text::from_str(alloc, word)?)?;
+    flags.at = Some(place(line));
+    Ok(flags)
+}
+
+fn group(alloc: Global, word: &str, line: u32) -> Result<GroupProps, OutOfMemory> {
+    let mut group = GroupProps::empty(alloc);
+    group.cflags = flags(alloc, word, line)?;
+    group.enabled = Some(Given {
+        value: line == 1,
+        at: place(line),
+    });
+    Ok(group)
+}
+
+/// A record with a name, flags, a level, the group `static` and one more, all of a line.
+fn record(alloc: Global, word: &str, line: u32, id: GroupId) -> Result<Props, OutOfMemory> {
+    let mut props = Props::empty(alloc);
+    props.name = Some(Given {
+        value: Text::from_str(alloc, word)?,
+        at: place(line),
+    });
+    props.base = group(alloc, word, line)?;
+    props.min_sdk_version = Some(Given {
+        value: line,
+        at: place(line),
+    });
+    props
+        .groups
+        .insert(GroupId::Static, group(alloc, word, line)?)?;
+    props.groups.insert(id, group(alloc, word, line)?)?;
+    Ok(props)
+}
+
+/// The flags of a group, and the line that says whether it is enabled.
+fn show_group(out: &mut String, group: &GroupProps, alloc: Global) -> Result<(), AllocError> {
+    for flag in group.cflags.items.as_slice() {
+        out.push_str(flag.as_str())?;
+        out.push_str(" ")?;
+    }
+    let line = group.enabled.map(|enabled| enabled.at.line).unwrap_or(0);
+    out.push_str(format!(in alloc; "{line}")?.as_str())
+}
+
+/// The line of the name, that of the level, the record's own fields, and the groups in their order.
+fn shown(alloc: Global, props: &Props) -> Result<String, AllocError> {
+    let name = props.name.as_ref().map(|name| name.at.line).unwrap_or(0);
+    let level = props.min_sdk_version.map(|level| level.value).unwrap_or(0);
+    let mut out = format!(in alloc; "{name} {level} | ")?;
+    show_group(&mut out, &props.base, alloc)?;
+    for pair in props.groups.as_slice() {
+        let id = pair.0;
+        out.push_str(format!(in alloc; " | {id:?} ")?.as_str())?;
+        show_group(&mut out, &pair.1, alloc)?;
+    }
+    Ok(out)
+}
+
+#[test]
+fn records_are_merged(rt: HostRuntime) -> Result<(), Fail> {
+    let alloc = rt.alloc();
+    let mut followed = record(alloc, "a", 1, GroupId::Vendor)?;
+    let other = record(alloc, "b", 2, GroupId::ArchArm)?;
+    let mut over = followed.copy(alloc)?;
+    let mut appended = followed.copy(alloc)?;
+    followed.follow(alloc, &other)?;
+    over.over(alloc, &other)?;
+    appended.append(alloc, &other.base)?;
+    let mut restricted = over.copy(alloc)?;
+    restricted.restrict(ModuleKind::Filegroup);
+    for (record, want) in [
+        (
+            &followed,
+            "1 1 | a b 1 | ArchArm b 2 | Vendor a 1 | Static a b 1",
+        ),
+        (
+            &over,
+            "2 2 | a b 2 | ArchArm b 2 | Vendor a 1 | Static a b 2",
+        ),
+        (&appended, "1 1 | a b 2 | Vendor a 1 | Static a 1"),
+        (&restricted, "2 0 | 2"),
+    ] {
+        assert_eq!(rt; shown(alloc, record)?.as_str(), want);
+    }
+    assert!(rt; over.group(GroupId::Vendor).is_some());
+    assert!(rt; over.group(GroupId::Host).is_none());
+    Ok(())
+}
+
+/// A thousand defaults, each with a group, take one step for each item.
+#[test]
+fn many_records_follow(rt: HostRuntime) -> Result<(), Fail> {
+    let alloc = rt.alloc();
+    let mut props = Props::empty(alloc);
+    let other = record(alloc, "b", 2, GroupId::ArchArm)?;
+    for _ in 0..1_000 {
+        props.follow(alloc, &other)?;
+    }
+    let items = props
+        .group(GroupId::ArchArm)
+        .map(|group| group.cflags.items.as_slice().len());
+    assert!(rt; items == Some(1_000));
+    Ok(())
+}

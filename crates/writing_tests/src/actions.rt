@@ -1,0 +1,553 @@
+//! The statements of worked examples, and which fault of a source comes first.
+ghost use Rattle.std.specs.Prelude.{◌≡◌, [], length, IfOk};
+ghost use Rattle.module_graph.specs.Graphs.{targets};
+
+use build_actions::act::{act, idle};
+use build_actions::{ActionVisit, Actions, build_file, laws};
+use bp_faults::{Item, ModuleId, NodeId, OutOfMemory, Path, Place, Seq, Target, Text, fault_line};
+use bp_props::{Module, ModuleKind, Props, Source};
+use module_graph::{Axis, Edge, EdgeKind, Graph, Node, Variation, Variations};
+use ninja_file::{Statement, is_well_formed};
+use pass_core::{Visit, VisitError};
+use std::alloc::Global;
+use std::sync::Arc;
+use std::test::Fail;
+
+/// What a node has besides its sources and edges.
+#[derive(Clone, Copy, Debug)]
+enum Has {
+    Variation(Axis, Variation),
+    Cflag(&'static str),
+    Conlyflag(&'static str),
+    Cppflag(&'static str),
+    Asflag(&'static str),
+    Ldflag(&'static str),
+    Include(&'static str),
+    Level(u32),
+    Line(u32),
+    Slib(u32),
+}
+
+const STATIC: Has = Has::Variation(Axis::Link, Variation::Static);
+
+const SHARED: Has = Has::Variation(Axis::Link, Variation::Shared);
+
+const ASAN: Has = Has::Variation(Axis::Sanitize, Variation::Asan);
+
+const FIRST: Has = Has::Variation(Axis::PerSource, Variation::PerSource(1));
+
+const LINUX: Has = Has::Variation(Axis::Target, Variation::Target(Target::LinuxGlibcX86_64));
+
+/// A node, alone of its module: the name, the kind, the sources, the edges and what else it has; then its
+/// statements or its fault, where they are compared. The source at place n is in line n + 1.
+type Row = (
+    &'static str,
+    ModuleKind,
+    &'static [&'static str],
+    &'static [(EdgeKind, u32)],
+    &'static [Has],
+    Option<&'static str>,
+);
+
+const ROWS: [Row; 19] = [
+    (
+        "liblog",
+        ModuleKind::LibraryShared,
+        &["log.c"],
+        &[],
+        &[SHARED],
+        None,
+    ),
+    // a library for two targets
+    (
+        "libdemo",
+        ModuleKind::Library,
+        &["demo/demo.cpp", "demo/android.cpp"],
+        &[],
+        &[STATIC],
+        Some(
+            "build out/m/libdemo/android_arm64_static/obj/demo/demo.cpp.o: cxx demo/demo.cpp
+  target = --target=aarch64-linux-android
+build out/m/libdemo/android_arm64_static/obj/demo/android.cpp.o: cxx demo/android.cpp
+  target = --target=aarch64-linux-android
+build out/m/libdemo/android_arm64_static/bin/libdemo.a: ar out/m/libdemo/android_arm64_static/obj/demo/demo.cpp.o out/m/libdemo/android_arm64_static/obj/demo/android.cpp.o
+",
+        ),
+    ),
+    (
+        "libdemo",
+        ModuleKind::Library,
+        &["demo/demo.cpp"],
+        &[],
+        &[STATIC, LINUX],
+        Some(
+            "build out/m/libdemo/linux_glibc_x86_64_static/obj/demo/demo.cpp.o: cxx demo/demo.cpp
+  target = --target=x86_64-linux-gnu
+build out/m/libdemo/linux_glibc_x86_64_static/bin/libdemo.a: ar out/m/libdemo/linux_glibc_x86_64_static/obj/demo/demo.cpp.o
+",
+        ),
+    ),
+    // a program, and a test that needs it
+    (
+        "demo",
+        ModuleKind::Binary,
+        &["demo/main.cpp"],
+        &[(EdgeKind::Static, 1), (EdgeKind::Shared, 0)],
+        &[
+            Has::Cflag("-Wall"),
+            Has::Cflag("-Werror"),
+            Has::Cflag("-DARM64"),
+            Has::Include("demo/include"),
+            Has::Line(1),
+            Has::Slib(0),
+        ],
+        Some(
+            "build out/m/demo/android_arm64/obj/demo/main.cpp.o: cxx demo/main.cpp
+  target = --target=aarch64-linux-android
+  cflags = -Wall -Werror -DARM64
+  includes = -Idemo/include
+build out/m/demo/android_arm64/bin/demo: link out/m/demo/android_arm64/obj/demo/main.cpp.o out/m/libdemo/android_arm64_static/bin/libdemo.a out/m/liblog/android_arm64_shared/bin/liblog.so
+  target = --target=aarch64-linux-android
+",
+        ),
+    ),
+    (
+        "demo_test",
+        ModuleKind::Test,
+        &[],
+        &[(EdgeKind::DataBin, 3), (EdgeKind::DataBin, 3)],
+        &[FIRST, Has::Line(1), Has::Slib(0)],
+        Some(
+            "build out/m/demo_test/android_arm64_t1/bin/demo_test: link out/m/libdemo/android_arm64_static/bin/libdemo.a out/m/liblog/android_arm64_shared/bin/liblog.so || out/m/demo/android_arm64/bin/demo
+  target = --target=aarch64-linux-android
+",
+        ),
+    ),
+    // a level
+    (
+        "z",
+        ModuleKind::LibraryStatic,
+        &["z.c"],
+        &[],
+        &[STATIC, Has::Cflag("-fPIC"), Has::Level(29)],
+        Some(
+            "build out/m/z/android_arm64_static/obj/z.c.o: cc z.c
+  target = --target=aarch64-linux-android
+  cflags = -fPIC -DMIN_SDK=29
+build out/m/z/android_arm64_static/bin/z.a: ar out/m/z/android_arm64_static/obj/z.c.o
+",
+        ),
+    ),
+    // one library by three edges
+    (
+        "app",
+        ModuleKind::Binary,
+        &["app.c"],
+        &[
+            (EdgeKind::Whole, 5),
+            (EdgeKind::Static, 5),
+            (EdgeKind::Static, 5),
+        ],
+        &[Has::Line(5)],
+        Some(
+            "build out/m/app/android_arm64/obj/app.c.o: cc app.c
+  target = --target=aarch64-linux-android
+build out/m/app/android_arm64/bin/app: link out/m/app/android_arm64/obj/app.c.o out/m/z/android_arm64_static/obj/z.c.o out/m/z/android_arm64_static/bin/z.a
+  target = --target=aarch64-linux-android
+",
+        ),
+    ),
+    // a library that is wanted twice
+    (
+        "z",
+        ModuleKind::LibraryStatic,
+        &[],
+        &[],
+        &[STATIC, ASAN],
+        None,
+    ),
+    (
+        "app2",
+        ModuleKind::Binary,
+        &[],
+        &[(EdgeKind::Static, 7)],
+        &[ASAN, Has::Line(7), Has::Ldflag("-fsanitize=address")],
+        Some(
+            "build out/m/app2/android_arm64_asan/bin/app2: link out/m/z/android_arm64_static_asan/bin/z.a
+  target = --target=aarch64-linux-android
+  ldflags = -fsanitize=address
+",
+        ),
+    ),
+    // a path and a flag that are escaped where they are written
+    (
+        "x",
+        ModuleKind::Binary,
+        &["a b:$.c"],
+        &[],
+        &[Has::Cflag(" -X")],
+        Some(
+            "build out/m/x/android_arm64/obj/a b:$.c.o: cc a b:$.c
+  target = --target=aarch64-linux-android
+  cflags =  -X
+build out/m/x/android_arm64/bin/x: link out/m/x/android_arm64/obj/a b:$.c.o
+  target = --target=aarch64-linux-android
+",
+        ),
+    ),
+    // each suffix, a header twice, the root as a directory
+    (
+        "all",
+        ModuleKind::LibraryStatic,
+        &[
+            "a.c", "b.cc", "c.cpp", "d.cxx", "e.S", "f.s", "g.h", "h.hh", "i.hpp", "j.inc", "g.h",
+        ],
+        &[],
+        &[
+            STATIC,
+            Has::Cflag("-all"),
+            Has::Conlyflag("-c"),
+            Has::Cppflag("-cpp"),
+            Has::Asflag("-as"),
+            Has::Include(""),
+            Has::Include("inc"),
+        ],
+        Some(
+            "build out/m/all/android_arm64_static/obj/a.c.o: cc a.c | g.h h.hh i.hpp j.inc
+  target = --target=aarch64-linux-android
+  cflags = -all -c
+  includes = -I. -Iinc
+build out/m/all/android_arm64_static/obj/b.cc.o: cxx b.cc | g.h h.hh i.hpp j.inc
+  target = --target=aarch64-linux-android
+  cflags = -all -cpp
+  includes = -I. -Iinc
+build out/m/all/android_arm64_static/obj/c.cpp.o: cxx c.cpp | g.h h.hh i.hpp j.inc
+  target = --target=aarch64-linux-android
+  cflags = -all -cpp
+  includes = -I. -Iinc
+build out/m/all/android_arm64_static/obj/d.cxx.o: cxx d.cxx | g.h h.hh i.hpp j.inc
+  target = --target=aarch64-linux-android
+  cflags = -all -cpp
+  includes = -I. -Iinc
+build out/m/all/android_arm64_static/obj/e.S.o: as e.S | g.h h.hh i.hpp j.inc
+  target = --target=aarch64-linux-android
+  cflags = -as
+  includes = -I. -Iinc
+build out/m/all/android_arm64_static/obj/f.s.o: as f.s | g.h h.hh i.hpp j.inc
+  target = --target=aarch64-linux-android
+  cflags = -as
+  includes = -I. -Iinc
+build out/m/all/android_arm64_static/bin/all.a: ar out/m/all/android_arm64_static/obj/a.c.o out/m/all/android_arm64_static/obj/b.cc.o out/m/all/android_arm64_static/obj/c.cpp.o out/m/all/android_arm64_static/obj/d.cxx.o out/m/all/android_arm64_static/obj/e.S.o out/m/all/android_arm64_static/obj/f.s.o
+",
+        ),
+    ),
+    // a file group in a file group, and a library that asks for it
+    (
+        "inner",
+        ModuleKind::Filegroup,
+        &["in.c"],
+        &[],
+        &[],
+        Some(""),
+    ),
+    (
+        "outer",
+        ModuleKind::Filegroup,
+        &[":inner", "out.h"],
+        &[(EdgeKind::Sources, 11)],
+        &[],
+        Some(""),
+    ),
+    (
+        "asks",
+        ModuleKind::LibraryShared,
+        &["own.c", ":outer"],
+        &[(EdgeKind::Sources, 12)],
+        &[SHARED],
+        Some(
+            "build out/m/asks/android_arm64_shared/obj/own.c.o: cc own.c | out.h
+  target = --target=aarch64-linux-android
+build out/m/asks/android_arm64_shared/obj/in.c.o: cc in.c | out.h
+  target = --target=aarch64-linux-android
+build out/m/asks/android_arm64_shared/bin/asks.so: solink out/m/asks/android_arm64_shared/obj/own.c.o out/m/asks/android_arm64_shared/obj/in.c.o
+  target = --target=aarch64-linux-android
+",
+        ),
+    ),
+    // the variant of one source that asks for a file group, with the edges of all its module's sources
+    (
+        "per",
+        ModuleKind::Test,
+        &[":inner"],
+        &[(EdgeKind::Sources, 12), (EdgeKind::Sources, 11)],
+        &[FIRST],
+        Some(
+            "build out/m/per/android_arm64_t1/obj/in.c.o: cc in.c
+  target = --target=aarch64-linux-android
+build out/m/per/android_arm64_t1/bin/per: link out/m/per/android_arm64_t1/obj/in.c.o
+  target = --target=aarch64-linux-android
+",
+        ),
+    ),
+    (
+        "none",
+        ModuleKind::LibraryHeaders,
+        &["n.txt"],
+        &[],
+        &[],
+        Some(""),
+    ),
+    // bad and duplicate sources, in both orders
+    (
+        "bad",
+        ModuleKind::Binary,
+        &["z.txt"],
+        &[],
+        &[],
+        Some(":1:1: error 25: bad source: z.txt\n"),
+    ),
+    (
+        "twice",
+        ModuleKind::Binary,
+        &["x.c", "x.c", "z.txt"],
+        &[],
+        &[],
+        Some(":2:1: error 28: duplicate source: x.c\n"),
+    ),
+    (
+        "worse",
+        ModuleKind::Binary,
+        &["x.c", "z.txt", "x.c"],
+        &[],
+        &[],
+        Some(":2:1: error 25: bad source: z.txt\n"),
+    ),
+];
+
+fn place(line: u32) -> Place {
+    Place {
+        file: 1,
+        line,
+        col: 1,
+    }
+}
+
+/// A path, or with `:` before it a name.
+fn source(alloc: Global, word: &str, line: u32) -> Result<Source, OutOfMemory> {
+    let (named, text) = match word.strip_prefix(":") {
+        Some(name) => (true, name),
+        None => (false, word),
+    };
+    let text = Text::from_str(alloc, text)?;
+    let at = place(line);
+    Ok(Source {
+        named,
+        item: Item { text, at },
+    })
+}
+
+fn add_sources(alloc: Global, props: &mut Props, words: &[&str]) -> Result<(), OutOfMemory> {
+    let mut line = 0u32;
+    for word in words {
+        line = line.wrapping_add(1);
+        props.base.srcs.items.push(source(alloc, word, line)?)?;
+    }
+    Ok(())
+}
+
+fn give(alloc: Global, node: &mut Node<Props>, has: Has) -> Result<(), OutOfMemory> {
+    let base = &mut node.payload.base;
+    match has {
+        Has::Variation(axis, variation) => node.vars.set(axis, variation),
+        Has::Cflag(flag) => base.cflags.items.push(Text::from_str(alloc, flag)?)?,
+        Has::Conlyflag(flag) => base.conlyflags.items.push(Text::from_str(alloc, flag)?)?,
+        Has::Cppflag(flag) => base.cppflags.items.push(Text::from_str(alloc, flag)?)?,
+        Has::Asflag(flag) => base.asflags.items.push(Text::from_str(alloc, flag)?)?,
+        Has::Ldflag(flag) => base.ldflags.items.push(Text::from_str(alloc, flag)?)?,
+        Has::Include(directory) => {
+            if let Some(path) = Path::new(Text::from_str(alloc, directory)?) {
+                node.payload.includes.push(path)?;
+            }
+        }
+        Has::Level(level) => node.payload.level = level,
+        Has::Line(n) => node.payload.line.push(NodeId(n))?,
+        Has::Slib(n) => node.payload.slibs.push(NodeId(n))?,
+    }
+    Ok(())
+}
+
+fn node(alloc: Global, module: u32, row: &Row) -> Result<Node<Props>, OutOfMemory> {
+    let (_, _, sources, edges, has, _) = *row;
+    let mut vars = Variations::empty(alloc);
+    vars.set(Axis::Target, Variation::Target(Target::AndroidArm64));
+    let mut node = Node {
+        module: ModuleId(module),
+        vars,
+        payload: Props::empty(alloc),
+        edges: Seq::new(Vec::new(alloc)),
+    };
+    add_sources(alloc, &mut node.payload, sources)?;
+    for (kind, to) in edges {
+        node.edges.push(Edge {
+            kind: *kind,
+            to: NodeId(*to),
+            at: place(1),
+        })?;
+    }
+    for what in has {
+        give(alloc, &mut node, *what)?;
+    }
+    Ok(node)
+}
+
+fn module(alloc: Global, row: &Row) -> Result<Module, OutOfMemory> {
+    let (name, kind, ..) = *row;
+    Ok(Module {
+        name: Text::from_str(alloc, name)?,
+        kind,
+        dir: Path::root(alloc),
+        at: place(1),
+        props: Props::empty(alloc),
+    })
+}
+
+fn add_words(out: &mut String, mark: &str, words: &[Text]) -> Result<(), OutOfMemory> {
+    if words.is_empty() {
+        return Ok(());
+    }
+    out.push_str(mark)?;
+    for word in words {
+        out.push_str(" ")?;
+        out.push_str(word.as_str())?;
+    }
+    Ok(())
+}
+
+/// A statement as it is written, without escapes.
+fn add_statement(out: &mut String, statement: &Statement) -> Result<(), OutOfMemory> {
+    add_words(out, "build", statement.outs.as_slice())?;
+    out.push_str(": ")?;
+    out.push_str(statement.rule.as_str())?;
+    add_words(out, "", statement.ins.as_slice())?;
+    add_words(out, " |", statement.implicit.as_slice())?;
+    add_words(out, " ||", statement.order_only.as_slice())?;
+    for (key, value) in statement.vars.as_slice() {
+        out.push_str("\n  ")?;
+        out.push_str(key.as_str())?;
+        out.push_str(" = ")?;
+        out.push_str(value.as_str())?;
+    }
+    out.push_str("\n")?;
+    Ok(())
+}
+
+/// What was made at the targets of a node's edges.
+fn below(
+    alloc: Global,
+    node: &Node<Props>,
+    made: &[Arc<Actions>],
+) -> Result<Vec<Arc<Actions>>, OutOfMemory> {
+    let mut ins = Vec::new(alloc);
+    for edge in node.edges.as_slice() {
+        if let Some(actions) = made.get(edge.to.0 as usize) {
+            ins.push(actions.clone()?)?;
+        }
+    }
+    Ok(ins)
+}
+
+/// What is made at a node, with its text: statements, or the line of the fault.
+fn said(
+    alloc: Global,
+    modules: &[Module],
+    graph: &Graph<Props>,
+    at: (&Module, &Node<Props>),
+    made: &[Arc<Actions>],
+) -> Result<(Actions, String), OutOfMemory> {
+    let ins = below(alloc, at.1, made)?;
+    match act(alloc, modules, graph, at.0, at.1, &ins) {
+        Ok(actions) => {
+            let mut text = String::new(alloc);
+            for statement in actions.statements.as_slice() {
+                add_statement(&mut text, statement)?;
+            }
+            Ok((actions, text))
+        }
+        Err(VisitError::Bad(fault)) => {
+            Ok((
+                idle(alloc, Vec::new(alloc)),
+                fault_line(alloc, &fault, &[])?,
+            ))
+        }
+        Err(VisitError::OutOfMemory) => Err(OutOfMemory),
+    }
+}
+
+fn modules_and_graph(alloc: Global) -> Result<(Vec<Module>, Graph<Props>), OutOfMemory> {
+    let mut modules = Vec::new(alloc);
+    let mut nodes = Vec::new(alloc);
+    let mut number = 0u32;
+    for row in &ROWS {
+        modules.push(module(alloc, row)?)?;
+        nodes.push(node(alloc, number, row)?)?;
+        number = number.wrapping_add(1);
+    }
+    let nodes = Seq::new(nodes);
+    Ok((modules, Graph { nodes }))
+}
+
+#[test]
+fn statements_of_worked_examples(rt: HostRuntime) -> Result<(), Fail> {
+    let alloc = rt.alloc();
+    let (modules, graph) = modules_and_graph(alloc)?;
+    let mut made: Vec<Arc<Actions>> = Vec::new(alloc);
+    let nodes = graph.nodes.as_slice();
+    for (row, at) in ROWS.iter().zip(modules.iter().zip(nodes)) {
+        let (actions, text) = said(alloc, &modules, &graph, at, &made)?;
+        if let Some(want) = row.5 {
+            assert_eq!(rt; text.as_str(), want);
+        }
+        made.push(Arc::new(alloc, actions)?)?;
+    }
+    let file = build_file(alloc, made)?;
+    assert!(rt; is_well_formed(alloc, &file)?);
+    let mut last = String::new(alloc);
+    for statement in file.statements.as_slice().last() {
+        add_statement(&mut last, statement)?;
+    }
+    assert!(rt;
+        last.as_str().starts_with(
+            "build out/all: phony out/m/liblog/android_arm64_shared/bin/liblog.so out/m/libdemo/"
+        )
+    );
+    assert_eq!(rt; file.rules.as_slice().len(), 6);
+    Ok(())
+}
+
+fn one_node(alloc: Global) -> Result<Graph<Props>, OutOfMemory>
+    ensures count { IfOk result (λ g. length g.nodes ≡ 1) }
+    ensures targets { IfOk result (λ g. targets g.nodes 0 ≡ []) }
+{
+    let mut nodes = Vec::new(alloc);
+    nodes.push(Node {
+        module: ModuleId(0),
+        vars: Variations::empty(alloc),
+        payload: Props::empty(alloc),
+        edges: Seq::new(Vec::new(alloc)),
+    })?;
+    let nodes = Seq::new(nodes);
+    Ok(Graph { nodes })
+}
+
+#[test]
+fn a_visit_of_one_node(rt: HostRuntime) -> Result<(), Fail> {
+    let alloc = rt.alloc();
+    let graph = one_node(alloc)?;
+    let visit = ActionVisit::new(&[], &graph);
+    let made = visit.visit(alloc, NodeId(0), &[])?;
+    assert!(rt; made.output.is_none());
+    laws::no_output_twice();
+    laws::names_tell_variations();
+    laws::passes_make();
+    Ok(())
+}
