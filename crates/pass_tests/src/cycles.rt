@@ -1,6 +1,4 @@
 //! Which cycle is reported.
-use module_graph::parts::number_parts;
-use module_graph::settled::settled;
 use crate::graphs::{edges_to, graph, is_numbered};
 use module_graph::{
     Axis, Edge, EdgeKind, Graph, GraphError, Node, Variation, Variations, check_cycle, label,
@@ -35,94 +33,73 @@ fn numbers(alloc: Global, count: usize) -> Result<Vec<Text>, OutOfMemory> {
     Ok(names)
 }
 
-/// The targets of each node's edges, the least node that can reach itself or the count, and the fault's line.
-const CASES: [(&[&[u32]], u32, &str); 14] = [
-    (&[], 0, ""),
-    (&[&[1, 2], &[3], &[3, 3], &[]], 4, ""),
+/// The targets of each node's edges, and the fault's line, whose cycle begins at the least node that can reach itself.
+const CASES: [(&[&[u32]], &str); 14] = [
+    (&[], ""),
+    (&[&[1, 2], &[3], &[3, 3], &[]], ""),
     // a part that closes before another is met
-    (&[&[], &[], &[1]], 3, ""),
+    (&[&[], &[], &[1]], ""),
     // an edge to itself
     (
         &[&[], &[0, 1]],
-        1,
         "Android.bp:2:2: error 23: dependency cycle: 1 -> 1\n",
     ),
     // the first of two equal edges
     (
         &[&[1, 1], &[0]],
-        0,
         "Android.bp:1:1: error 23: dependency cycle: 0 -> 1 -> 0\n",
     ),
     (
         &[&[1, 1, 2], &[2], &[0]],
-        0,
         "Android.bp:1:3: error 23: dependency cycle: 0 -> 2 -> 0\n",
     ),
     // the least node that reaches a cycle isn't on one
     (
         &[&[1], &[2], &[1]],
-        1,
         "Android.bp:2:1: error 23: dependency cycle: 1 -> 2 -> 1\n",
     ),
     // nor is one between two cycles
     (
         &[&[3], &[2, 0], &[1], &[4], &[3]],
-        1,
         "Android.bp:2:1: error 23: dependency cycle: 1 -> 2 -> 1\n",
     ),
     // of two cycles that of the least node, which is longer
     (
         &[&[2], &[4], &[3], &[0], &[1]],
-        0,
         "Android.bp:1:1: error 23: dependency cycle: 0 -> 2 -> 3 -> 0\n",
     ),
     // of two through the least node the shorter
     (
         &[&[1, 3], &[2], &[0], &[0]],
-        0,
         "Android.bp:1:2: error 23: dependency cycle: 0 -> 3 -> 0\n",
     ),
     // of two as short that by the first edge, at the start and later
     (
         &[&[2, 1], &[3], &[3], &[0]],
-        0,
         "Android.bp:1:1: error 23: dependency cycle: 0 -> 2 -> 3 -> 0\n",
     ),
     (
         &[&[1], &[3, 2], &[0], &[0]],
-        0,
         "Android.bp:1:1: error 23: dependency cycle: 0 -> 1 -> 3 -> 0\n",
     ),
     // an edge to itself is shorter than any other way
     (
         &[&[1, 0], &[0]],
-        0,
         "Android.bp:1:2: error 23: dependency cycle: 0 -> 0\n",
     ),
     // two parts of two nodes, and the nodes before and behind them
     (
         &[&[1, 5], &[2, 5], &[3], &[2, 4], &[], &[6], &[5]],
-        2,
         "Android.bp:3:1: error 23: dependency cycle: 2 -> 3 -> 2\n",
     ),
 ];
 
-/// The least node that can reach itself, or the count, as the numbers of the parts tell it.
-fn first_on_a_cycle(alloc: Global, g: &Graph<bool>) -> Result<u32, OutOfMemory> {
-    if !is_numbered(g) {
-        return Ok(u32::MAX);
-    }
-    let numbers = number_parts(alloc, g)?;
-    Ok(settled(g, &numbers))
-}
-
 #[test]
 fn which_cycle_is_reported(rt: HostRuntime) -> Result<(), Fail> {
     let alloc = rt.alloc();
-    for (targets, first, line) in CASES {
+    for (targets, line) in CASES {
         let g = graph(alloc, targets)?;
         let names = numbers(alloc, targets.len())?;
-        assert_eq!(rt; first_on_a_cycle(alloc, &g)?, first);
         assert_eq!(rt; said(alloc, &g, &names)?.as_str(), line);
     }
     Ok(())
@@ -177,14 +154,13 @@ fn labels_in_cycle(alloc: Global, g: &Graph<bool>) -> Result<usize, OutOfMemory>
 fn long_chains(rt: HostRuntime) -> Result<(), Fail> {
     let alloc = rt.alloc();
     let count = 100_000;
-    for (forward, closed, first, labels) in [
-        (true, false, 100_000, 0),
-        (false, false, 100_000, 0),
-        (true, true, 0, 100_001),
-        (false, true, 0, 100_001),
+    for (forward, closed, labels) in [
+        (true, false, 0),
+        (false, false, 0),
+        (true, true, 100_001),
+        (false, true, 100_001),
     ] {
         let g = chain(alloc, count, forward, closed)?;
-        assert_eq!(rt; first_on_a_cycle(alloc, &g)?, first);
         assert_eq!(rt; labels_in_cycle(alloc, &g)?, labels);
     }
     Ok(())

@@ -1,15 +1,14 @@
 ghost use Rattle.std.specs.Prelude.{◌<◌, IsTrue};
 ghost use Rattle.std.specs.List.{AllByRecursion};
-ghost use Rattle.pass_core.specs.Plans.{IsPlan, HasNoCycle};
 ghost use Rattle.module_graph.specs.declared.graph.Edge.{Edge};
 ghost use Rattle.module_graph.specs.Graphs.{IsNumbered};
 
+use crate::visits::falls;
 use module_graph::{
     Axis, Direction, Edge, EdgeKind, Graph, Node, Variation, Variations, heights, label, laws,
     plan, variant_name, variation_name,
 };
 use bp_faults::{ModuleId, NodeId, OutOfMemory, Place, Seq, Target, Text};
-use pass_core::Plan;
 use std::alloc::Global;
 use std::test::Fail;
 
@@ -65,6 +64,7 @@ fn lead_inside(edges: &[Edge], count: usize) -> bool
 pub fn is_numbered(g: &Graph<bool>) -> bool
     ensures { IsTrue result → IsNumbered g.now.nodes }
 {
+    laws::one_more_node::<bool>();
     let nodes = g.nodes.as_slice();
     let mut many = 0;
     for node in nodes {
@@ -75,19 +75,6 @@ pub fn is_numbered(g: &Graph<bool>) -> bool
         many += edges.len();
     }
     nodes.len() < 1 << 32
-}
-
-/// Whether each edge leads to a lesser node.
-fn falls(plan: &Plan) -> bool
-    requires { IsPlan plan.now }
-    ensures { IsTrue result → HasNoCycle plan.now.edges }
-{
-    for edge in plan.edges.as_slice() {
-        if edge.from.0 <= edge.to.0 {
-            return false;
-        }
-    }
-    true
 }
 
 /// The ends of the edges of a graph's plan.

@@ -39,7 +39,7 @@ impl Visit for CountBut {
 }
 
 /// Whether the edges stand by target and each leads to a lesser node.
-fn falls(plan: &Plan) -> bool
+pub fn falls(plan: &Plan) -> bool
     ensures plan { IsTrue result → IsPlan plan.now }
     ensures free { IsTrue result → HasNoCycle plan.now.edges }
 {

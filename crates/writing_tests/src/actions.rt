@@ -2,7 +2,6 @@
 ghost use Rattle.std.specs.Prelude.{◌≡◌, [], length, IfOk};
 ghost use Rattle.module_graph.specs.Graphs.{targets};
 
-use build_actions::act::{act, idle};
 use build_actions::{ActionVisit, Actions, build_file, laws};
 use bp_faults::{Item, ModuleId, NodeId, OutOfMemory, Path, Place, Seq, Target, Text, fault_line};
 use bp_props::{Module, ModuleKind, Props, Source};
@@ -456,16 +455,42 @@ fn below(
     Ok(ins)
 }
 
+/// A visit of a node, given as much as it has edges. Memory is said to be out where it isn't as much.
+fn visited(
+    alloc: Global,
+    modules: &[Module],
+    graph: &Graph<Props>,
+    n: u32,
+    ins: &[Arc<Actions>],
+) -> Result<Actions, VisitError> {
+    let Some(node) = graph.nodes.as_slice().get(n as usize) else {
+        return Err(VisitError::OutOfMemory);
+    };
+    if node.edges.as_slice().len() != ins.len() {
+        return Err(VisitError::OutOfMemory);
+    }
+    ActionVisit::new(modules, graph).visit(alloc, NodeId(n), ins)
+}
+
+/// Nothing is made.
+fn nothing(alloc: Global) -> Actions {
+    Actions {
+        statements: Seq::new(Vec::new(alloc)),
+        objects: Seq::new(Vec::new(alloc)),
+        output: None,
+        files: Seq::new(Vec::new(alloc)),
+    }
+}
+
 /// What is made at a node, with its text: statements, or the line of the fault.
 fn said(
     alloc: Global,
     modules: &[Module],
     graph: &Graph<Props>,
-    at: (&Module, &Node<Props>),
-    made: &[Arc<Actions>],
+    n: u32,
+    ins: &[Arc<Actions>],
 ) -> Result<(Actions, String), OutOfMemory> {
-    let ins = below(alloc, at.1, made)?;
-    match act(alloc, modules, graph, at.0, at.1, &ins) {
+    match visited(alloc, modules, graph, n, ins) {
         Ok(actions) => {
             let mut text = String::new(alloc);
             for statement in actions.statements.as_slice() {
@@ -473,12 +498,7 @@ fn said(
             }
             Ok((actions, text))
         }
-        Err(VisitError::Bad(fault)) => {
-            Ok((
-                idle(alloc, Vec::new(alloc)),
-                fault_line(alloc, &fault, &[])?,
-            ))
-        }
+        Err(VisitError::Bad(fault)) => Ok((nothing(alloc), fault_line(alloc, &fault, &[])?)),
         Err(VisitError::OutOfMemory) => Err(OutOfMemory),
     }
 }
@@ -501,9 +521,11 @@ fn statements_of_worked_examples(rt: HostRuntime) -> Result<(), Fail> {
     let alloc = rt.alloc();
     let (modules, graph) = modules_and_graph(alloc)?;
     let mut made: Vec<Arc<Actions>> = Vec::new(alloc);
-    let nodes = graph.nodes.as_slice();
-    for (row, at) in ROWS.iter().zip(modules.iter().zip(nodes)) {
-        let (actions, text) = said(alloc, &modules, &graph, at, &made)?;
+    let mut number = 0u32;
+    for (row, node) in ROWS.iter().zip(graph.nodes.as_slice()) {
+        let ins = below(alloc, node, &made)?;
+        let (actions, text) = said(alloc, &modules, &graph, number, &ins)?;
+        number = number.wrapping_add(1);
         if let Some(want) = row.5 {
             assert_eq!(rt; text.as_str(), want);
         }
