@@ -35,3 +35,6 @@ pub use pair_gate::PairGate;
 pub use sink::Sink;
 pub use std_sink::StdSink;
 pub use store::{ReadError, Store};
+
+#[cfg(test)]
+mod tests;

@@ -1,5 +1,5 @@
-use bp_names::{NameSet, NameTable};
 use bp_faults::{Item, Place, Text};
+use bp_names::{NameSet, NameTable};
 use std::test::Fail;
 
 #[test]

@@ -1,9 +1,9 @@
 mod real_files;
 
+use bp_faults::{NodeId, OutOfMemory, Text};
 use bp_ports::{
     Failed, FreeSink, FreeStore, Gate, MemSink, MemStore, OpenGate, ReadError, Sink, StdSink, Store,
 };
-use bp_faults::{NodeId, OutOfMemory, Text};
 use std::alloc::Global;
 use std::test::Fail;
 

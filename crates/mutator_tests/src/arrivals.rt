@@ -1,10 +1,10 @@
 ghost use Rattle.std.specs.Prelude.{IfOk};
 ghost use Rattle.module_graph.specs.Graphs.{IsNumbered};
 
-use mutator_rules::laws::{arrivals_come_from_nodes, predecessors_are_arrivals};
-use mutator_rules::{Request, Wanted, arrivals_of};
 use bp_faults::{ModuleId, NodeId, OutOfMemory, Payload, Place, Seq, Text};
 use module_graph::{Edge, EdgeKind, Graph, Node, Variation, Variations};
+use mutator_rules::laws::{arrivals_come_from_nodes, predecessors_are_arrivals};
+use mutator_rules::{Request, Wanted, arrivals_of};
 use std::alloc::Global;
 use std::test::Fail;
 

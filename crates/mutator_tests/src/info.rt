@@ -6,12 +6,12 @@ ghost use Rattle.module_graph.specs.Graphs.{targets};
 ghost use Rattle.mutator_rules.specs.Arrivals.{kinds_into};
 ghost use Rattle.mutator_rules.specs.Conditions.{MayVisit, places_in};
 
+use bp_faults::{FaultKind, Item, ModuleId, NodeId, OutOfMemory, Path, Payload, Place, Seq, Text};
+use bp_props::{Given, Module, ModuleKind, Props};
 use info_mutators::laws::{
     exports_are_included, info_does_not_split, info_holds_nodes, own_variations_differ,
 };
 use info_mutators::{Info, Sanitize, SdkLevel};
-use bp_faults::{FaultKind, Item, ModuleId, NodeId, OutOfMemory, Path, Payload, Place, Seq, Text};
-use bp_props::{Given, Module, ModuleKind, Props};
 use module_graph::{Axis, Edge, EdgeKind, Graph, Node, Variation, Variations};
 use module_rules::{Record, one_variant};
 use mutator_rules::{BottomUp, Config, Split, TopDown, Transition};

@@ -6,12 +6,12 @@ ghost use Rattle.module_graph.specs.Graphs.{IsNumbered, IsValid};
 ghost use Rattle.mutator_tests.specs.Kinds.{AreNew, is_whole, lib_request};
 ghost use Rattle.mutator_tests.specs.Kinds.{number_at, numbered_variant};
 
-use mutator_kinds::laws::{one_bottom_up_outcome, one_top_down_outcome};
-use mutator_kinds::{PassGraph, run_bottom_up, run_top_down};
 use bp_faults::{Fault, FaultKind, ModuleId, NodeId, OutOfMemory, Place, Refusal, Seq, Text};
 use bp_ports::OpenGate;
 use module_graph::laws::one_more_node;
 use module_graph::{Axis, Edge, EdgeKind, Graph, Node, Variation, Variations, check_cycle};
+use mutator_kinds::laws::{one_bottom_up_outcome, one_top_down_outcome};
+use mutator_kinds::{PassGraph, run_bottom_up, run_top_down};
 use mutator_rules::{BottomUp, KindError, Request, Split, TopDown, Wanted};
 use pass_core::{PassError, VisitError};
 use std::alloc::Global;

@@ -3,10 +3,10 @@ ghost use Rattle.std.specs.Prelude.{◌≡◌, IfOk, [], length};
 ghost use Rattle.module_graph.specs.Graphs.{targets};
 ghost use Rattle.mutator_rules.specs.Conditions.{MayVisit, places_in};
 
-use linkage_mutator::laws::{link_variants_differ, source_variants_differ};
-use linkage_mutator::{DepsAsk, LinkSplit, PerSource, PluginsAsk, module_names};
 use bp_faults::{Item, ModuleId, NodeId, OutOfMemory, Path, Place, Seq, Target, Text};
 use bp_props::{Given, GroupId, GroupProps, Module, ModuleKind, Props, Source};
+use linkage_mutator::laws::{link_variants_differ, source_variants_differ};
+use linkage_mutator::{DepsAsk, LinkSplit, PerSource, PluginsAsk, module_names};
 use module_graph::{Axis, Graph, Node, Variation, Variations};
 use module_rules::Record;
 use mutator_rules::{BottomUp, Config, Split};

@@ -2,6 +2,7 @@
 ghost use Rattle.std.specs.Prelude.{◌≡◌, ◌≤◌, ◌<◌, ◌^◌, IfOk, length};
 ghost use Rattle.mutator_rules.specs.Configs.{TargetsDiffer};
 
+use bp_faults::{Item, NodeId, OutOfMemory, Path, Place, Seq, Target, Text};
 use bp_pipeline::laws::{
     faults_are_replayed, journal_texts_are_replayed, journals_are_replayed, one_graph, one_order,
     one_text,
@@ -9,7 +10,6 @@ use bp_pipeline::laws::{
 use bp_pipeline::{
     GenError, Generated, generate, graph_after, mutators_to, replay, replay_lines, show_graph,
 };
-use bp_faults::{Item, NodeId, OutOfMemory, Path, Place, Seq, Target, Text};
 use bp_ports::OpenGate;
 use bp_props::{Given, Module, ModuleKind, Props};
 use mutator_rules::Config;

@@ -3,13 +3,13 @@ ghost use Rattle.std.specs.Prelude.{IsTrue, length};
 ghost use Rattle.mutator_rules.specs.Conditions.{MayRun, places_in};
 ghost use Rattle.reverse_deps.specs.Applied.{AskInside};
 
-use reverse_deps::{apply, laws, resolve};
 use bp_faults::{
     ModuleId, NodeId, OutOfMemory, Path, Place, Refusal, Seq, Target, Text, fault_line,
 };
 use bp_props::{Module, ModuleKind, Props};
 use module_graph::{Axis, EdgeKind, Graph, Node, Variation, Variations};
 use mutator_rules::{Request, Wanted};
+use reverse_deps::{apply, laws, resolve};
 use std::alloc::Global;
 use std::test::Fail;
 

@@ -4,8 +4,6 @@ ghost use Rattle.std.specs.Prelude.{◌≡◌, [], IfOk, length};
 ghost use Rattle.module_graph.specs.Graphs.{targets};
 ghost use Rattle.mutator_rules.specs.Conditions.{MayVisit, places_in};
 
-use target_mutators::laws::{image_variants_differ, target_variants_differ};
-use target_mutators::{ArchSplit, ImageSplit};
 use bp_faults::{ModuleId, NodeId, OutOfMemory, Path, Payload, Place, Seq, Target, Text};
 use bp_props::{Given, GroupId, GroupProps, Module, ModuleKind, Multi, Props};
 use module_graph::{Axis, Graph, Node, Variation, Variations, variation_name};
@@ -13,6 +11,8 @@ use module_rules::Record;
 use mutator_rules::{BottomUp, Config, Split};
 use std::alloc::Global;
 use std::test::Fail;
+use target_mutators::laws::{image_variants_differ, target_variants_differ};
+use target_mutators::{ArchSplit, ImageSplit};
 
 const PLACE: Place = Place {
     file: 1,

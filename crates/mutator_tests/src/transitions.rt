@@ -6,7 +6,6 @@ ghost use Rattle.mutator_rules.specs.Conditions.{MayRun};
 ghost use Rattle.mutator_tests.specs.Transitions.{small_meaning, HasNodes, IsNodeOf};
 ghost use Rattle.variant_graphs.specs.Splitting.{HasFreeAxis};
 
-use transition_rules::{TransitionGraph, laws, run_transition};
 use bp_faults::{ModuleId, NodeId, OutOfMemory, Place, Seq};
 use bp_ports::OpenGate;
 use module_graph::{
@@ -18,6 +17,7 @@ use std::alloc::Global;
 use std::sync::Arc;
 use std::test::Fail;
 use std::thread::Threads;
+use transition_rules::{TransitionGraph, laws, run_transition};
 
 /// Each node has the empty variation; one has `vendor` beside it and one `recovery`, and one takes nothing else.
 #[derive(Drop)]

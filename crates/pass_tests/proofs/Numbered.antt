@@ -42,4 +42,3 @@ all_numbered nodes i many le so_far few =
       few_edges = omega (arith, edges, count, lt);
       ends = subst (λ (l : List (Node Bool)). AllByRecursion (λ (x : Node Bool). AllByRecursion (λ (e : Edge). e.to.0 < length nodes) x.edges) l) whole so_far.ends;
     }
-

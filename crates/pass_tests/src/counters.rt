@@ -8,9 +8,9 @@ ghost use Rattle.ready_counters.specs.Seen.{plan_of, view_of, IsSeatOf};
 ghost use Rattle.ready_counters.specs.Views.{with_claim};
 ghost use Rattle.pass_tests.specs.Counters.{pair, chain, no_nodes};
 
-use ready_counters::{Board, Claim, Seat, laws};
 use bp_faults::{NodeId, OutOfMemory, Seq};
 use pass_core::{Plan, PlanEdge, Published, Visit, VisitError};
+use ready_counters::{Board, Claim, Seat, laws};
 use std::alloc::Global;
 use std::process::Abort;
 use std::sync::Arc;

@@ -1,9 +1,9 @@
 //! Which cycle is reported.
 use crate::graphs::{edges_to, graph, is_numbered};
+use bp_faults::{ModuleId, NodeId, OutOfMemory, Place, Seq, Target, Text, fault_line};
 use module_graph::{
     Axis, Edge, EdgeKind, Graph, GraphError, Node, Variation, Variations, check_cycle, label,
 };
-use bp_faults::{ModuleId, NodeId, OutOfMemory, Place, Seq, Target, Text, fault_line};
 use std::alloc::Global;
 use std::test::Fail;
 

@@ -4,11 +4,11 @@ ghost use Rattle.module_graph.specs.declared.graph.Edge.{Edge};
 ghost use Rattle.module_graph.specs.Graphs.{IsNumbered};
 
 use crate::visits::falls;
+use bp_faults::{ModuleId, NodeId, OutOfMemory, Place, Seq, Target, Text};
 use module_graph::{
     Axis, Direction, Edge, EdgeKind, Graph, Node, Variation, Variations, heights, label, laws,
     plan, variant_name, variation_name,
 };
-use bp_faults::{ModuleId, NodeId, OutOfMemory, Place, Seq, Target, Text};
 use std::alloc::Global;
 use std::test::Fail;
 

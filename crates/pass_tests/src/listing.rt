@@ -1,6 +1,6 @@
 //! The graph text.
-use module_graph::{Axis, Edge, EdgeKind, Graph, Node, Variation, Variations, graph_text};
 use bp_faults::{ModuleId, NodeId, OutOfMemory, Place, Seq, Target, Text};
+use module_graph::{Axis, Edge, EdgeKind, Graph, Node, Variation, Variations, graph_text};
 use std::alloc::Global;
 use std::test::Fail;
 

@@ -1,6 +1,6 @@
+use bp_faults::{NodeId, OutOfMemory};
 use order_text::laws::{journals_are_read_back, one_lines, some_lines};
 use order_text::{journal_text, order_lines};
-use bp_faults::{NodeId, OutOfMemory};
 use std::alloc::Global;
 use std::test::Fail;
 

@@ -2,11 +2,11 @@ ghost use Rattle.std.specs.Prelude.{IsTrue, IfOk, ⊤};
 ghost use Rattle.pass_tests.specs.Visits.{counted_but};
 ghost use Rattle.pass_core.specs.Plans.{IsPlan, HasNoCycle};
 
+use bp_faults::{Fault, FaultKind, NodeId, OutOfMemory, Place, Seq, Text};
 use pass_core::{
     Core, OrderError, PassError, Plan, PlanEdge, Published, Step, StepError, Visit, VisitError,
     edges_into, heights, laws, run_order, run_pass, serial_order, starts_of,
 };
-use bp_faults::{Fault, FaultKind, NodeId, OutOfMemory, Place, Seq, Text};
 use std::alloc::Global;
 use std::sync::Arc;
 use std::test::Fail;

@@ -4,14 +4,14 @@ ghost use Rattle.pass_tests.specs.Ways.{number_unless};
 ghost use Rattle.pass_ways.specs.Visits.{visits};
 ghost use Rattle.pass_ways.specs.Ways.{Follows, IsPassWay};
 
+use bp_faults::{Fault, FaultKind, NodeId, OutOfMemory, Place, Seq, Text};
+use bp_ports::OpenGate;
+use pass_core::{Plan, PlanEdge, Visit, VisitError};
 use pass_ways::laws::{
     legal_orders_are_whole, lines_say_one_order, one_refusal, parts_are_short,
     refused_have_no_order,
 };
 use pass_ways::{OrderLine, OrderLines, Way, WayError, run_by_way};
-use bp_faults::{Fault, FaultKind, NodeId, OutOfMemory, Place, Seq, Text};
-use bp_ports::OpenGate;
-use pass_core::{Plan, PlanEdge, Visit, VisitError};
 use std::alloc::Global;
 use std::sync::Arc;
 use std::test::Fail;

@@ -2,7 +2,6 @@ ghost use Rattle.std.specs.Prelude.{◌≡◌, ◌≤◌, IsTrue, ⊤};
 ghost use Rattle.pass_core.specs.Plans.{IsPlan, HasNoCycle};
 ghost use Rattle.pass_tests.specs.Workers.{number_but};
 
-use visit_workers::{PassRun, visit_all};
 use bp_faults::{Fault, FaultKind, NodeId, OutOfMemory, Place, Seq};
 use bp_ports::{OpenGate, PairGate};
 use pass_core::{PassError, Plan, PlanEdge, Visit, VisitError};
@@ -10,6 +9,7 @@ use std::alloc::Global;
 use std::sync::Arc;
 use std::test::Fail;
 use std::thread::Threads;
+use visit_workers::{PassRun, visit_all};
 
 /// A node makes its own number, and two nodes are refused.
 #[derive(Drop)]

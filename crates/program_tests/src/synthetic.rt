@@ -1,7 +1,7 @@
-use synthetic_tree::{Summary, summary_text, synth_tree};
 use bp_faults::OutOfMemory;
 use std::alloc::Global;
 use std::test::Fail;
+use synthetic_tree::{Summary, summary_text, synth_tree};
 
 // The paths of a tree, a line each; nothing where there is no such tree.
 fn paths(alloc: Global, seed: u32, modules: u32) -> Result<String, OutOfMemory> {

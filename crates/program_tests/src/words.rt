@@ -1,7 +1,7 @@
+use bp_faults::{OutOfMemory, Text};
 use command_words::{
     COMMANDS, HELP, Notice, OptionName, VERSION, configure, notice_of, options, usage_line,
 };
-use bp_faults::{OutOfMemory, Text};
 use std::alloc::{AllocError, Global};
 use std::test::Fail;
 

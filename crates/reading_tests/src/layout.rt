@@ -2,8 +2,8 @@ ghost use Rattle.std.specs.Prelude.{◌≤◌, ◌^◌, length};
 ghost use Rattle.bp_lexer.specs.declared.token.TokenKind.TheVariants.{Ident};
 ghost use Rattle.bp_lexer.specs.Forms.{IsForm};
 
-use bp_format::{EditError, FormatError, format, is_identifier, set_list};
 use bp_faults::{OutOfMemory, Text, fault_line};
+use bp_format::{EditError, FormatError, format, is_identifier, set_list};
 use std::alloc::Global;
 use std::test::Fail;
 

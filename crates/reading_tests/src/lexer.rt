@@ -1,7 +1,7 @@
 ghost use Rattle.std.specs.Prelude.{◌≤◌, ◌^◌, length};
 
-use bp_lexer::{LexError, place_of_end, tokens, value_of};
 use bp_faults::{OutOfMemory, Text, fault_line};
+use bp_lexer::{LexError, place_of_end, tokens, value_of};
 use std::alloc::Global;
 use std::test::Fail;
 

@@ -3,8 +3,8 @@ ghost use Rattle.std.specs.List.{All};
 ghost use Rattle.bp_load.specs.Directories.{AreInFileOrder};
 ghost use Rattle.bp_load.specs.Trees.{sources};
 
-use bp_load::{LoadError, file_list, load, raw_modules};
 use bp_faults::{OutOfMemory, Path, fault_line};
+use bp_load::{LoadError, file_list, load, raw_modules};
 use std::alloc::Global;
 use std::test::Fail;
 use std::thread::Threads;

@@ -1,8 +1,8 @@
 ghost use Rattle.std.specs.Prelude.{◌≤◌, ◌^◌, length};
 
-use bp_parser::{Def, Expr, ParseError, parse};
 use bp_faults::{Fault, OutOfMemory, Place, Text, fault_line};
 use bp_lexer::tokens;
+use bp_parser::{Def, Expr, ParseError, parse};
 use std::alloc::Global;
 use std::test::Fail;
 

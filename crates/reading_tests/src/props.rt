@@ -1,5 +1,5 @@
-use bp_props::{Given, GroupId, GroupProps, Listed, ModuleKind, Props};
 use bp_faults::{OutOfMemory, Payload, Place, Text};
+use bp_props::{Given, GroupId, GroupProps, Listed, ModuleKind, Props};
 use std::alloc::{AllocError, Global};
 use std::test::Fail;
 

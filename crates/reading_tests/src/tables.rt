@@ -1,7 +1,7 @@
-use property_tables::{LoadError, typed};
 use bp_faults::{Fault, FaultKind, Item, OutOfMemory, Path, Place, Text};
 use bp_props::{GroupId, Module};
 use bp_values::{Entry, RawModule, Value};
+use property_tables::{LoadError, typed};
 use std::alloc::Global;
 use std::test::Fail;
 

@@ -1,9 +1,9 @@
 ghost use Rattle.std.specs.Prelude.{◌≤◌, ◌^◌, length};
 
-use bp_values::{EvalError, RawModule, Scope, Value, evaluate, sum};
 use bp_faults::{OutOfMemory, Place, Text, fault_line};
 use bp_lexer::tokens;
 use bp_parser::parse;
+use bp_values::{EvalError, RawModule, Scope, Value, evaluate, sum};
 use std::alloc::Global;
 use std::test::Fail;
 

@@ -2,9 +2,9 @@
 ghost use Rattle.std.specs.Prelude.{◌≡◌, [], length, IfOk};
 ghost use Rattle.module_graph.specs.Graphs.{targets};
 
-use build_actions::{ActionVisit, Actions, build_file, laws};
 use bp_faults::{Item, ModuleId, NodeId, OutOfMemory, Path, Place, Seq, Target, Text, fault_line};
 use bp_props::{Module, ModuleKind, Props, Source};
+use build_actions::{ActionVisit, Actions, build_file, laws};
 use module_graph::{Axis, Edge, EdgeKind, Graph, Node, Variation, Variations};
 use ninja_file::{Statement, is_well_formed};
 use pass_core::{Visit, VisitError};

@@ -1,8 +1,8 @@
 ghost use Rattle.std.specs.Prelude.{◌≤◌};
 
+use bp_faults::{OutOfMemory, Seq, Text};
 use ninja_text::laws::{written_alike, written_and_read};
 use ninja_text::{NinjaError, NinjaFile, Statement, is_well_formed, read, write, write_in};
-use bp_faults::{OutOfMemory, Seq, Text};
 use std::alloc::Global;
 use std::test::Fail;
 use std::thread::Threads;

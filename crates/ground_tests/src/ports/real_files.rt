@@ -1,10 +1,8 @@
 use super::{reads, text, writes};
-use bp_ports::fs_store::contents;
-use bp_ports::{FsStore, ReadError, Store};
 use bp_faults::OutOfMemory;
+use bp_ports::{FsStore, ReadError, Store};
 use std::alloc::Global;
 use std::fs::File;
-use std::io::{ErrorKind, Read};
 use std::os::unix::fs::{FileTypeExt, symlink};
 use std::test::Fail;
 use std::time::UNIX_EPOCH;
@@ -127,27 +125,5 @@ fn files_beside_a_real_one_are_kept(rt: HostRuntime) -> Result<(), Fail> {
     assert_eq!(rt; fs::read_dir(&rt, "bp_ports_beside")?.count(), 3);
     assert!(rt; !fs::exists(&rt, left)?);
     fs::remove_dir_all(&rt, "bp_ports_beside")?;
-    Ok(())
-}
-
-/// A reader whose reads fail.
-#[derive(Drop)]
-struct FailingReader(ErrorKind);
-
-impl Read for FailingReader {
-    fn read(&mut self, _buf: &mut [u8]) -> io::Result<usize> {
-        Err(io::Error::from(self.0))
-    }
-}
-
-#[test]
-fn a_read_that_fails(rt: HostRuntime) -> Result<(), Fail> {
-    for (kind, error) in [
-        (ErrorKind::OutOfMemory, ReadError::OutOfMemory),
-        (ErrorKind::TimedOut, ReadError::Failed),
-    ] {
-        let answer = contents(rt.alloc(), FailingReader(kind), 9);
-        assert_eq!(rt; answer.err(), Some(error));
-    }
     Ok(())
 }
