@@ -1,2 +1,2 @@
-mod Transitions
+mod BareNodes
 mod Tested

@@ -1,2 +1,2 @@
-mod Counters
+mod Boards
 mod Numbered

@@ -8,7 +8,7 @@ use Rattle.module_graph.specs.Walks.{NoneReturns}
 use Rattle.mutator_rules.specs.Conditions.{MayRun}
 use Rattle.variant_graphs.specs.Splitting.{HasFreeAxis}
 use Rattle.mutator_tests.specs.Transitions.{HasNodes}
-use Rattle.mutator_tests.proofs.Transitions.{are_bare, are_numbered, are_valid, may_be_run}
+use Rattle.mutator_tests.proofs.BareNodes.{are_bare, are_numbered, are_valid, may_be_run}
 use Rattle.mutator_tests.proofs.transitions.graph_of.Goals as goal
 
 pub check_cycle-requires : goal.check_cycle-requires

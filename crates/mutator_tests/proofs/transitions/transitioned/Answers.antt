@@ -3,7 +3,7 @@ use Rattle.std.specs.List.{AllPairs}
 use Rattle.std.specs.Prelude.{◌≢◌}
 use Rattle.module_graph.specs.declared.variation.Variation.{Variation}
 use Rattle.mutator_tests.specs.Transitions.{own_of}
-use Rattle.mutator_tests.proofs.Transitions.{own_differ, same_ok}
+use Rattle.mutator_tests.proofs.BareNodes.{own_differ, same_ok}
 use Rattle.mutator_tests.proofs.transitions.transitioned.Goals as goal
 
 pub run_transition-requires-clause-differ : goal.run_transition-requires-clause-differ

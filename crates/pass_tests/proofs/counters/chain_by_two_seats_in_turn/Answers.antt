@@ -1,6 +1,6 @@
 use Rattle.std.proofs.Common.{◌∙◌, sym}
 use Rattle.ready_counters.specs.Seen.{plan_of}
-use Rattle.pass_tests.proofs.Counters.{chain_first, chain_second}
+use Rattle.pass_tests.proofs.Boards.{chain_first, chain_second}
 use Rattle.pass_tests.proofs.counters.chain_by_two_seats_in_turn.Goals as goal
 
 pub fill-requires-clause-value : goal.fill-requires-clause-value

@@ -1,6 +1,6 @@
 use Rattle.std.proofs.Common.{◌∙◌, sym}
 use Rattle.ready_counters.specs.Seen.{plan_of}
-use Rattle.pass_tests.proofs.Counters.{pair_first, pair_second}
+use Rattle.pass_tests.proofs.Boards.{pair_first, pair_second}
 use Rattle.pass_tests.proofs.counters.core_and_board.Goals as goal
 
 pub fill-requires-clause-value : goal.fill-requires-clause-value
