@@ -243,19 +243,19 @@ pub copy_shaped : (nodes : List (Node NodeId)) (n : ℕ) (made : Split NodeId) �
 unfolding made_or
 copy_shaped nodes n made is = subst (λ (s : Split NodeId). HasShape None s) (ap (made_or made) is) refl
 END
-# The rule and the graphs are those of transition_rules' own tests, with their proofs, for more nodes.
-python3 - "$top/crates/transition_rules" << 'END'
+# The rule and the graphs are those of the tests of transition_rules, with their proofs, for more nodes.
+python3 - "$top/crates/mutator_tests" << 'END'
 import os, re, shutil, sys
 own = sys.argv[1]
 
 def moved(text):
     text = re.sub(r"(< |< *)100\b", "< 300000", text)
-    text = text.replace("transition_rules.proofs.tests", "kind_scale.proofs.made")
-    return re.sub(r"transition_rules\.(specs|proofs)\.(Examples|Pairs)", r"kind_scale.\1.\2", text)
+    text = text.replace("mutator_tests.proofs.transitions", "kind_scale.proofs.made")
+    return re.sub(r"mutator_tests\.(specs|proofs)\.(Transitions|BareNodes)", r"kind_scale.\1.\2", text)
 
-tests = open(f"{own}/src/tests.rt").read()
+tests = open(f"{own}/src/transitions.rt").read()
 head = tests[: tests.index("/// Each node has the empty variation; one")].replace("//! Which", "// Which")
-head = re.sub(r"use crate::\{TransitionGraph, laws, run_transition\};", "use transition_rules::{TransitionGraph, run_transition};", head)
+head = re.sub(r"use transition_rules::\{TransitionGraph, laws, run_transition\};", "use transition_rules::{TransitionGraph, run_transition};", head)
 head = re.sub(r"use std::test::Fail;\n", "", head)
 body = tests[tests.index("/// Each node has the empty variation; one") : tests.index("const EMPTY: Variation")]
 last = re.search(r"/// Runs the small rule on two workers\.\n.*?\n}\n", tests, re.S)[0]
@@ -263,14 +263,13 @@ text = head + body + last
 text = text.replace("struct SmallRule {\n    vendor", "pub struct SmallRule {\n    pub vendor").replace("    recovery: u32,\n    stops: u32,", "    pub recovery: u32,\n    pub stops: u32,")
 text = text.replace("fn graph_of", "pub fn graph_of").replace("fn transitioned", "pub fn transitioned")
 open("src/made.rt", "w").write(moved(text))
-open("specs/Examples.antt", "w").write(moved(open(f"{own}/specs/Examples.antt").read()))
-for name in ("Examples", "Pairs"):
-    open(f"proofs/{name}.antt", "w").write(moved(open(f"{own}/proofs/{name}.antt").read()))
-for name in os.listdir(f"{own}/proofs/tests"):
+for path in ("specs/Transitions.antt", "proofs/BareNodes.antt"):
+    open(path, "w").write(moved(open(f"{own}/{path}").read()))
+for name in os.listdir(f"{own}/proofs/transitions"):
     os.makedirs(f"proofs/made/{name}")
-    for file in os.listdir(f"{own}/proofs/tests/{name}"):
-        open(f"proofs/made/{name}/{file}", "w").write(moved(open(f"{own}/proofs/tests/{name}/{file}").read()))
+    for file in os.listdir(f"{own}/proofs/transitions/{name}"):
+        open(f"proofs/made/{name}/{file}", "w").write(moved(open(f"{own}/proofs/transitions/{name}/{file}").read()))
 END
-printf 'pub mod Copies\npub mod Examples\n' > specs/Lib.antt
-printf 'pub mod Pairs\npub mod Examples\n' > proofs/Lib.antt
+printf 'pub mod Copies\npub mod Transitions\n' > specs/Lib.antt
+printf 'pub mod BareNodes\n' > proofs/Lib.antt
 rt run

@@ -156,20 +156,20 @@ use module_graph::Graph;
 use mutator_rules::Request;
 
 END
-# The checks are those of reverse_deps' own tests, with their proofs.
-python3 - "$top/crates/reverse_deps" << 'END'
+# The checks are those of the tests of reverse_deps, with their proofs.
+python3 - "$top/crates/mutator_tests" << 'END'
 import os, re, shutil, sys
 own = sys.argv[1]
-text = open(f"{own}/src/tests.rt").read()
+text = open(f"{own}/src/reverse.rt").read()
 with open("src/checks.rt", "a") as out:
     for name in ("may_run", "ask_inside"):
         found = re.search(r"((?:///[^\n]*\n)?)fn " + name + r"\(.*?\n}\n", text, re.S)
         out.write(found[0].replace("fn " + name, "pub fn " + name) + "\n")
 for name in ("may_run", "ask_inside"):
-    shutil.copytree(f"{own}/proofs/tests/{name}", f"proofs/checks/{name}")
+    shutil.copytree(f"{own}/proofs/reverse/{name}", f"proofs/checks/{name}")
     for file in os.listdir(f"proofs/checks/{name}"):
         path = f"proofs/checks/{name}/{file}"
-        text = open(path).read().replace("Rattle.reverse_deps.proofs.tests", "Rattle.request_scale.proofs.checks")
+        text = open(path).read().replace("Rattle.mutator_tests.proofs.reverse", "Rattle.request_scale.proofs.checks")
         open(path, "w").write(text)
 END
 touch specs/Lib.antt proofs/Lib.antt

@@ -1,11 +1,11 @@
 -- The graphs of the tests are valid where no walk in them returns.
-use Rattle.std.proofs.Common.{◌≡◌, ◌≢◌, ◌+◌, ◌*◌, ◌<◌, ◌≤◌, ◌==◌, ℕ, suc, Bool, true, false, cond, List, [], ◌∷◌, ◌++◌, length}
-use Rattle.std.proofs.Common.{map, add-zero, ap, arith, length-append, subst, Ok, Result}
+use Rattle.std.proofs.Common.{◌≡◌, ◌≢◌, ◌+◌, ◌*◌, ◌<◌, ◌≤◌, ◌==◌, ℕ, zero, suc, Bool, true, false, cond, List, [], ◌∷◌, ◌++◌, length}
+use Rattle.std.proofs.Common.{map, get_or, add-zero, ap, arith, length-append, subst, Ok, Result}
 use Rattle.std.specs.List.{AllByRecursion, AllPairs}
 use Rattle.std.specs.Prelude.{slice_get, ⊤}
 use Rattle.std.proofs.lemmas.List.{length-map}
+use Rattle.bp_faults.specs.declared.ids.ModuleId.{ModuleId}
 use Rattle.bp_faults.specs.declared.ids.NodeId.{NodeId}
-use Rattle.bp_faults.proofs.Lists.{all_map}
 use Rattle.module_graph.specs.declared.graph.Edge.{Edge}
 use Rattle.module_graph.specs.declared.graph.Node.{Node}
 use Rattle.module_graph.specs.declared.variation.Variation.{Variation}
@@ -17,7 +17,6 @@ use Rattle.module_graph.specs.Walks.{NoneReturns}
 use Rattle.mutator_rules.specs.Conditions.{MayRun}
 use Rattle.variant_graphs.specs.Splitting.{HasFreeAxis}
 use Rattle.mutator_tests.specs.Transitions.{own_of, HasNodes, IsNodeOf}
-use Rattle.transition_rules.proofs.Pairs.{Apart, pairs_apart}
 
 pub has_pushed : (count k : ℕ) (xs : List (Node NodeId)) (x : Node NodeId) → HasNodes count k xs
     → IsNodeOf count (k + length xs) x → HasNodes count k (xs ++ x ∷ [])
@@ -26,22 +25,19 @@ has_pushed count k (y ∷ ys) x h here =
     let e : k + suc (length ys) ≡ (k + 1) + length ys = omega arith in
     (h.0, has_pushed count (k + 1) ys x h.1 (subst (λ n. IsNodeOf count n x) e here))
 
-abbrev Differ : Node NodeId → Node NodeId → Type 0
-Differ x y = x.«module» ≡ y.«module» → x.vars ≡ y.vars → ⊥
+numbered_at : (count k : ℕ) (xs : List (Node NodeId)) (i : ℕ) (d : Node NodeId) → HasNodes count k xs → i < length xs
+    → (get_or xs i d).«module».0 ≡ k + i
+numbered_at count k [] i d h lt = absurd (omega arith)
+numbered_at count k (x ∷ xs) zero d h lt = let here = h.0.numbered in omega arith
+numbered_at count k (x ∷ xs) (suc i) d h lt = let rest = numbered_at count (k + 1) xs i d h.1 (omega arith) in omega arith
 
-above : (count j k : ℕ) (xs : List (Node NodeId)) → j ≤ k → HasNodes count k xs
-    → AllByRecursion (λ (x : Node NodeId). j ≤ x.«module».0) xs
-above count j k [] le h = tt
-above count j k (x ∷ xs) le h = (let e = h.0.numbered in omega arith, above count j (k + 1) xs (omega arith) h.1)
-
-apart : (count k : ℕ) (xs : List (Node NodeId)) → HasNodes count k xs → Apart Differ xs
-apart count k [] h = tt
-apart count k (x ∷ xs) h = (
-  all_map (λ (y : Node NodeId). k + 1 ≤ y.«module».0) (Differ x)
-      (λ y le same vars. let here = h.0.numbered in let e = ap (λ m. m.0) same in absurd (omega arith)) xs
-      (above count (k + 1) (k + 1) xs (omega arith) h.1),
-  apart count (k + 1) xs h.1,
-)
+differ : (count : ℕ) (xs : List (Node NodeId)) → HasNodes count 0 xs
+    → AllPairs (λ (x y : Node NodeId). x.«module» ≡ y.«module» → x.vars ≡ y.vars → ⊥) xs
+differ count xs h i j d lt inside same vars =
+    let a = numbered_at count 0 xs i d h (omega arith) in
+    let b = numbered_at count 0 xs j d h inside in
+    let e = ap (λ (m : ModuleId). m.0) same in
+    omega (arith, a, b, e, lt)
 
 ends : (count k : ℕ) (xs : List (Node NodeId)) → HasNodes count k xs
     → AllByRecursion (λ (x : Node NodeId). AllByRecursion (λ (e : Edge). e.to.0 < count) x.edges) xs
@@ -78,7 +74,7 @@ module _ (nodes : List (Node NodeId)) (few : length nodes < 100) (each : HasNode
   pub are_valid : NoneReturns (edges_of nodes) → IsValid nodes
   are_valid none = record {
     ends = ends (length nodes) 0 nodes each;
-    distinct = pairs_apart Differ nodes (apart (length nodes) 0 nodes each);
+    distinct = differ (length nodes) nodes each;
     acyclic = none;
   }
 
@@ -90,7 +86,7 @@ module _ (nodes : List (Node NodeId)) (few : length nodes < 100) (each : HasNode
 
 -- what a node has by itself differs
 pub own_differ : (vendor recovery n : ℕ) → AllPairs (λ (v w : Variation). v ≢ w) (own_of vendor recovery n)
-own_differ vendor recovery n = pairs_apart (λ v w. v ≢ w) (own_of vendor recovery n) (by (n == vendor) (n == recovery))
+own_differ vendor recovery n = by (n == vendor) (n == recovery)
   where
     other : Empty ≢ Vendor
     other e = cc
@@ -98,11 +94,20 @@ own_differ vendor recovery n = pairs_apart (λ v w. v ≢ w) (own_of vendor reco
     another : Empty ≢ Recovery
     another e = cc
 
-    by : (a b : Bool) → Apart (λ (v w : Variation). v ≢ w)
+    first_two : (v w : Variation) → v ≢ w → AllPairs (λ (x y : Variation). x ≢ y) (v ∷ w ∷ [])
+    first_two v w ne zero zero d lt inside = absurd (omega arith)
+    first_two v w ne zero (suc zero) d lt inside = ne
+    first_two v w ne zero (suc (suc j)) d lt inside = absurd (omega arith)
+    first_two v w ne (suc i) j d lt inside = absurd (omega arith)
+
+    one : (v : Variation) → AllPairs (λ (x y : Variation). x ≢ y) (v ∷ [])
+    one v i j d lt inside = absurd (omega arith)
+
+    by : (a b : Bool) → AllPairs (λ (v w : Variation). v ≢ w)
         (cond a (Empty ∷ Vendor ∷ []) (cond b (Empty ∷ Recovery ∷ []) (Empty ∷ [])))
-    by true b = ((other, tt), (tt, tt))
-    by false true = ((another, tt), (tt, tt))
-    by false false = (tt, tt)
+    by true b = first_two Empty Vendor other
+    by false true = first_two Empty Recovery another
+    by false false = one Empty
 
 pub same_ok : {A E : Type 0} (x y : A) → ◌≡◌ {A = Result A E} (Ok x) (Ok y) → x ≡ y
 same_ok x y e = cc

@@ -1,6 +1,7 @@
 ghost use Rattle.std.specs.Prelude.{◌≤◌, ◌^◌, length};
 
 use bp_faults::{OutOfMemory, Text, fault_line};
+use bp_lexer::laws::lists_have_tokens;
 use bp_lexer::{LexError, place_of_end, tokens, value_of};
 use std::alloc::Global;
 use std::test::Fail;
@@ -30,6 +31,7 @@ fn shown(alloc: Global, text: &str) -> Result<String, OutOfMemory>
 fn first_value(alloc: Global, text: &str) -> Result<Option<Text>, LexError>
     requires { length text.now ≤ 2 ^ 20 }
 {
+    lists_have_tokens();
     let list = tokens(alloc, text, 1)?;
     match list.first() {
         Some(token) => Ok(Some(value_of(alloc, text, token)?)),
