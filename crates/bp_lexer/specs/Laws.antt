@@ -1,8 +1,10 @@
 -- What holds of all texts.
 use Rattle.std.specs.Prelude.{◌≡◌, ◌⊎◌, ℕ, false, List, ◌++◌, Result, ◌+◌, ◌<◌, ◌≤◌, length, take, slice_index, All, IsUtf8, IsCharBoundary, chars}
+use Rattle.std.specs.Str.Parse.{IsNumeral, without_leading_sign}
 use Rattle.bp_faults.specs.declared.fault.Fault.{Fault}
 use Rattle.bp_lexer.specs.declared.token.Token.{Token}
 use Rattle.bp_lexer.specs.declared.token.TokenKind.{TokenKind}
+use Rattle.bp_lexer.specs.declared.token.TokenKind.TheVariants.{Int}
 use Rattle.bp_lexer.specs.Apart.{goes_on, StopsAt}
 use Rattle.bp_lexer.specs.Classes.{is_white}
 use Rattle.bp_lexer.specs.Forms.{IsForm, IsLongest}
@@ -68,3 +70,7 @@ PlacesRise = (file : ℕ) (text : List ℕ) (t u : Token) → IsToken file text 
 abbrev pub ListsHaveTokens : Type 0
 ListsHaveTokens = (file : ℕ) (text : List ℕ) (ts : List Token) → IsTokenList file text ts
     → All (λ t. IsToken t.place.file text t) ts
+
+-- An integer is a numeral behind its sign, if it has one.
+abbrev pub IntegersAreNumerals : Type 0
+IntegersAreNumerals = (word : List ℕ) → IsForm Int word → IsNumeral 10 (without_leading_sign word)

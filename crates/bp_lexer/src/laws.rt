@@ -1,7 +1,7 @@
 //! What makes the meaning of a text believable: each law is the contract of a function that does nothing.
 
 ghost use Rattle.bp_lexer.specs.Laws.{OneTokenList, SomeListOrFault, NotListAndFault, OneFault, OneMeaning, ColumnsCountCharacters};
-ghost use Rattle.bp_lexer.specs.Laws.{FormsHaveBytes, FormsStandApart, TokensStandWithin, PlacesRise, ListsHaveTokens};
+ghost use Rattle.bp_lexer.specs.Laws.{FormsHaveBytes, FormsStandApart, TokensStandWithin, PlacesRise, ListsHaveTokens, IntegersAreNumerals};
 
 /// A text has at most one token list.
 pub fn one_token_list()
@@ -53,4 +53,9 @@ pub fn places_rise()
 /// Each token of a list is a token of the text.
 pub fn lists_have_tokens()
     ensures { ListsHaveTokens }
+{}
+
+/// An integer is a numeral behind its sign, if it has one, so that `parse` reads it.
+pub fn integers_are_numerals()
+    ensures { IntegersAreNumerals }
 {}

@@ -9,7 +9,7 @@ use Rattle.bp_lexer.specs.declared.token.Punct.TheVariants.{OpenBrace, Equal, Pl
 use Rattle.bp_lexer.specs.declared.token.Token.{Token}
 use Rattle.bp_lexer.specs.declared.token.TokenKind.TheVariants.{Ident}
 use Rattle.bp_lexer.specs.Meaning.{IsToken}
-use Rattle.bp_lexer.proofs.ListedTokens.{token_at, token_here}
+use Rattle.bp_lexer.specs.Laws.{ListsHaveTokens}
 use Rattle.bp_parser.specs.declared.flaw.Flaw.{Flaw}
 use Rattle.bp_parser.specs.declared.flaw.Flaw.TheVariants.{Unexpected}
 use Rattle.bp_parser.specs.declared.stop.Stop.{Stop}
@@ -87,11 +87,8 @@ word_value f d (v ∷ ws) (suc k) w rest is = word_value f d ws k w rest is
 
 -- the tokens of a text, and those of them that are no comments
 
-pub all_tokens : (text : List ℕ) (ts : List Token) → AreTokensOf text ts → AreTokens text ts
-all_tokens text ts list k d within = token_here list.0 text (get_or ts k d) (token_at list.0 text 0 (length text) ts list.1 k d within)
-
-pub kept_tokens : (text : List ℕ) (ts : List Token) → AreTokensOf text ts → AreTokens text (without_comments ts)
-kept_tokens text ts list = All-filter (λ t. not (is_comment t.kind)) (λ t. IsToken t.place.file text t) ts (all_tokens text ts list)
+pub kept_tokens : ListsHaveTokens → (text : List ℕ) (ts : List Token) → AreTokensOf text ts → AreTokens text (without_comments ts)
+kept_tokens have text ts list = All-filter (λ t. not (is_comment t.kind)) (λ t. IsToken t.place.file text t) ts (have list.0 text ts list.1)
 
 -- the meaning of a file
 

@@ -7,6 +7,7 @@ ghost use Rattle.bp_parser.specs.Words.{atom_of, truth_or_name};
 
 use crate::tree::Expr;
 use bp_faults::{OutOfMemory, Place, Text};
+use bp_lexer::laws::integers_are_numerals;
 use bp_lexer::{Token, TokenKind, value_of};
 use std::alloc::Global;
 
@@ -26,6 +27,7 @@ fn int_of(text: &str, token: Token) -> i64
     requires int { token.kind ≡ Int }
     ensures { result ≡ signed_digits_value 10 (word_of text.now token) }
 {
+    integers_are_numerals();
     token.text(text).parse::<i64>().unwrap()
 }
 

@@ -14,6 +14,7 @@ use crate::stop::Stop;
 use crate::tree::{Def, FileTree};
 use crate::words::{without_comments, word_at};
 use bp_faults::{Fault, FaultKind, OutOfMemory, Place, Text};
+use bp_lexer::laws::lists_have_tokens;
 use bp_lexer::{Token, place_of_end};
 use std::alloc::Global;
 
@@ -95,6 +96,7 @@ pub fn parse(alloc: Global, text: &str, tokens: &[Token]) -> Result<FileTree, Pa
     requires short { length text.now ≤ 2 ^ 20 }
     ensures { Tells tree_view (ParseMeans text.now tokens.now) result }
 {
+    lists_have_tokens();
     let words = without_comments(alloc, tokens)?;
     match defs(alloc, text, words.as_slice()) {
         Ok(defs) => Ok(FileTree {

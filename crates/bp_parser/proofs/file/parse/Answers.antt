@@ -11,12 +11,12 @@ use Rattle.bp_parser.proofs.file.parse.Goals as goal
 pub defs-requires : goal.defs-requires
 defs-requires c =
     let kept = c.as_slice.ensures.value ∙ c.in_ok-words.ensures in
-    subst (AreTokens c.args.text.now) (sym kept) (kept_tokens c.args.text.now c.args.tokens.now c.requires.tokens)
+    subst (AreTokens c.args.text.now) (sym kept) (kept_tokens c.lists_have_tokens.ensures c.args.text.now c.args.tokens.now c.requires.tokens)
 
 pub fault_of-requires-clause-tokens : goal.fault_of-requires-clause-tokens
 fault_of-requires-clause-tokens c =
     let kept = c.as_slice-in-Err-Bad.ensures.value ∙ c.in_ok-words.ensures in
-    subst (AreTokens c.args.text.now) (sym kept) (kept_tokens c.args.text.now c.args.tokens.now c.requires.tokens)
+    subst (AreTokens c.args.text.now) (sym kept) (kept_tokens c.lists_have_tokens.ensures c.args.text.now c.args.tokens.now c.requires.tokens)
 
 pub returns-in-Ok : goal.returns-in-Ok
 returns-in-Ok c =
