@@ -19,13 +19,11 @@ use Rattle.bp_faults.specs.declared.fault.Fault.{Fault}
 use Rattle.bp_faults.specs.declared.refusal.Refusal.{Refusal}
 use Rattle.bp_faults.specs.declared.refusal.Refusal.TheVariants.{Bad, OutOfMemory}
 use Rattle.bp_faults.specs.Answers.{then_do, Refuses}
-use Rattle.bp_names.specs.Meaning.{number_for}
 use Rattle.bp_values.specs.declared.value.Value.{Value}
 use Rattle.bp_values.specs.declared.value.Entry.{Entry, out-Entry}
 use Rattle.bp_values.specs.Values.{Meaning, meaning, Field, field_of, fields_then, no_field, body}
 use Rattle.bp_values.specs.Sums.{sum, sum_fields, field_then, met, value_at, has_name, others}
-use Rattle.bp_values.specs.NameTree.{Search}
-use Rattle.bp_values.specs.Places.{names_in, place_in, AreApart, IsPlaced, is_place, value_for, unplaced, sum_places, sum_place}
+use Rattle.bp_values.specs.Places.{Search, names_in, place_in, AreApart, IsPlaced, is_place, value_for, unplaced, sum_places, sum_place}
 use Rattle.bp_values.proofs.Views.{field_out}
 use Rattle.bp_values.proofs.Steps.{map_take_more}
 use Rattle.bp_values.proofs.Unite.{sum_bodies}
@@ -192,13 +190,23 @@ apart_push (first ∷ names) name apart none =
     )
 
 pub placed_more : (old new : Search) (names now : List (List ℕ)) (name : List ℕ) (n : ℕ) → IsPlaced old names → old name ≡ None → n ≡ length names
-    → ((q : List ℕ) → new q ≡ option_or (old q) (number_for name n q)) → now ≡ names ++ name ∷ [] → IsPlaced new now
+    → ((q : List ℕ) → new q ≡ cond (bytes_eq name q) (Some n) (old q)) → now ≡ names ++ name ∷ [] → IsPlaced new now
 placed_more old new names now name n placed none count learned is = subst (λ ns. IsPlaced new ns) (sym is) (record {
-  places = λ q. learned q
-      ∙ (λ j. option_or (placed.places q j) (cond (nat_list_eq_equiv.symm name q j) (Some (count j)) None))
-      ∙ sym (place_push names name q);
+  places = λ q. learned q ∙ by q (bytes_eq name q) refl ∙ sym (place_push names name q);
   apart = apart_push names name placed.apart (sym (placed.places name) ∙ none);
 })
+  where
+    or_none : (o : Option ℕ) → o ≡ option_or o None
+    or_none None = refl
+    or_none (Some i) = refl
+
+    by : (q : List ℕ) (b : Bool) → bytes_eq name q ≡ b → cond b (Some n) (old q) ≡ option_or (place_in names q) (cond (bytes_eq q name) (Some (length names)) None)
+    by q true same =
+        let lacks : place_in names q ≡ None = ap (place_in names) (sym ((bytes_eq-Decides name q).0 same)) ∙ sym (placed.places name) ∙ none in
+        ap Some count ∙ sym ((λ j. option_or (lacks j) (cond (nat_list_eq_equiv.symm q name j) (Some (length names)) None)) ∙ ap (λ b. cond b (Some (length names)) None) same)
+    by q false other =
+        placed.places q ∙ or_none (place_in names q)
+        ∙ ap (λ b. option_or (place_in names q) (cond b (Some (length names)) None)) (sym (nat_list_eq_equiv.symm q name ∙ other))
 
 -- where the value of an entry is replaced by its sum
 pub replaced : (at : Place) (es : List Entry) (p : ℕ) (other w : Meaning) (e new : Entry) → p < length es → get_or es p e ≡ e → sum at (meaning (out-Entry e).value) other ≡ Ok w
@@ -230,7 +238,7 @@ none_of (Some n) h = cc
 
 -- one entry more, which no search found before
 pub placed_entry : (old new : Search) (es : List Entry) (i : ℕ) (e : Entry) → i < length es → e ≡ get_or es i e → IsPlaced old (names_in (map field_of (take i es))) → is_some (old (field_of e).name) ≡ false
-    → ((q : List ℕ) → new q ≡ option_or (old q) (number_for (field_of e).name i q)) → IsPlaced new (names_in (map field_of (take (i + 1) es)))
+    → ((q : List ℕ) → new q ≡ cond (bytes_eq (field_of e).name q) (Some i) (old q)) → IsPlaced new (names_in (map field_of (take (i + 1) es)))
 placed_entry old new es i e lt is placed missed learned =
     let done : List Field = map field_of (take i es) in
     let count : length (names_in done) ≡ i = length-map done (λ (f : Field). f.name) ∙ length-map (take i es) field_of ∙ length-take-le i es (omega arith) in

@@ -17,15 +17,15 @@ use Rattle.bp_values.specs.Meaning.{Known, raw_of}
 
 -- What a file inherits, and its own behind.
 abbrev pub visible : Names → Pairs
-visible names = pairs_of names.inherited.now ++ layer_pairs names.own.now
+visible names = pairs_of names.inherited.now ++ layer_pairs names.own.now.layer
 
 -- What a file knows that inherits those pairs.
 abbrev pub known_of : Pairs → State → Known
-known_of inherited s = record { scope = inherited ++ layer_pairs s.own; is_used = knows s.used; modules = map raw_of s.modules.items }
+known_of inherited s = record { scope = inherited ++ layer_pairs s.own.layer; is_used = knows s.used; modules = map raw_of s.modules.items }
 
 -- The places that are kept are those of the names of the file's variables.
 abbrev pub KeepsPlaces : State → Type 0
-KeepsPlaces s = (name : List ℕ) → PlacesOf (kept_for s.kept name) (value_in (layer_pairs s.own) name)
+KeepsPlaces s = (name : List ℕ) → PlacesOf (kept_for s.kept name) (value_in (layer_pairs s.own.layer) name)
 
 -- The place of the first entry of that name.
 abbrev pub place_of : List ℕ → List Field → Option ℕ

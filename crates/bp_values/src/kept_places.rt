@@ -2,7 +2,7 @@ ghost use Rattle.std.specs.Prelude.{◌≡◌, ℕ, List, None, IfOk, OnOk, if�
 ghost use Rattle.std.specs.Str.{bytes_eq};
 ghost use Rattle.bp_values.specs.KeptPlaces.{kept_for};
 
-use crate::name_tree::NameTree;
+use crate::place_table::PlaceTable;
 use bp_faults::OutOfMemory;
 use std::alloc::Global;
 use std::collections::BTreeMap;
@@ -10,7 +10,7 @@ use std::collections::BTreeMap;
 /// The places of the names of maps, by the variables that were extended by them.
 #[derive(Drop)]
 pub struct KeptPlaces<'a> {
-    trees: BTreeMap<&'a str, Option<NameTree>>,
+    tables: BTreeMap<&'a str, Option<PlaceTable>>,
 }
 
 impl<'a> KeptPlaces<'a> {
@@ -18,7 +18,7 @@ impl<'a> KeptPlaces<'a> {
         ensures { (name : List ℕ) → kept_for result name ≡ None }
     {
         KeptPlaces {
-            trees: BTreeMap::new(alloc),
+            tables: BTreeMap::new(alloc),
         }
     }
 
@@ -26,12 +26,12 @@ impl<'a> KeptPlaces<'a> {
     pub fn keep(
         &mut self,
         variable: &'a str,
-        names: Option<NameTree>,
-    ) -> Result<Option<NameTree>, OutOfMemory>
+        names: Option<PlaceTable>,
+    ) -> Result<Option<PlaceTable>, OutOfMemory>
         ensures had { IfOk result (λ had. had ≡ kept_for self.old variable.now) }
         ensures kept { OnOk result ((name : List ℕ) → kept_for self.new name ≡ (if bytes_eq variable.now name then names else kept_for self.old name)) }
     {
-        match self.trees.insert(variable, names)? {
+        match self.tables.insert(variable, names)? {
             Some(had) => Ok(had),
             None => Ok(None),
         }

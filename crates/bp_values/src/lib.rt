@@ -15,6 +15,8 @@ mod layer;
 mod map_sum;
 mod marks;
 mod name_tree;
+mod own_names;
+mod place_table;
 mod scope;
 mod sums;
 mod value;

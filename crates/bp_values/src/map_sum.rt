@@ -2,12 +2,12 @@ ghost use Rattle.std.specs.Prelude.{◌≡◌, ◌≤◌, ◌<◌, ℕ, List, ma
 ghost use Rattle.std.specs.Option.{option_or};
 ghost use Rattle.bp_values.specs.Values.{meaning, field_of, body};
 ghost use Rattle.bp_values.specs.Sums.{sum as sum_of};
-ghost use Rattle.bp_values.specs.NameTree.{found};
+ghost use Rattle.bp_values.specs.PlaceTable.{found_place};
 ghost use Rattle.bp_values.specs.Places.{IsPlaced, Places, PlacesOf, names_in, value_for, unplaced, is_place, value_at_place, sum_place, sum_places};
 ghost use Rattle.bp_values.specs.Inside.{sum_so_far, HasPlaces};
 ghost use Rattle.bp_faults.specs.Answers.{Answers, Leaves};
 
-use crate::name_tree::NameTree;
+use crate::place_table::PlaceTable;
 use crate::sums::{add, cannot_add, unite};
 use crate::value::{make_entry, map_value};
 use crate::{Entry, EvalError, Value};
@@ -21,7 +21,7 @@ use std::mem;
 pub struct MapSum {
     entries: Vec<Entry>,
     // The place of each name, once another map was added, unless two names are equal.
-    names: Option<NameTree>,
+    names: Option<PlaceTable>,
 }
 
 impl MapSum {
@@ -65,10 +65,10 @@ impl MapSum {
 pub fn add_to(
     alloc: Global,
     first: Value,
-    names: Option<NameTree>,
+    names: Option<PlaceTable>,
     other: Value,
     at: Place,
-) -> Result<(Value, Option<NameTree>), EvalError>
+) -> Result<(Value, Option<PlaceTable>), EvalError>
     requires { PlacesOf names (Some (meaning first)) }
     ensures value { Answers (λ r. meaning r.0) result (sum_of at (meaning first) (meaning other)) }
     ensures places { IfOk result (λ r. PlacesOf r.1 (Some (meaning r.0))) }
@@ -85,15 +85,15 @@ pub fn add_to(
 /// The places of the names, unless two of them are equal.
 fn known(
     alloc: Global,
-    names: Option<NameTree>,
+    names: Option<PlaceTable>,
     entries: &[Entry],
-) -> Result<Option<NameTree>, OutOfMemory>
+) -> Result<Option<PlaceTable>, OutOfMemory>
     requires { Places names (names_in (map field_of entries.now)) }
     ensures { IfOk result (λ all. Places all (names_in (map field_of entries.now))) }
 {
     match names {
         Some(names) => Ok(Some(names)),
-        None => with_names(alloc, NameTree::Empty, entries, 0),
+        None => with_names(alloc, PlaceTable::new(alloc), entries, 0),
     }
 }
 
@@ -101,21 +101,21 @@ fn known(
 /// equal.
 fn with_names(
     alloc: Global,
-    names: NameTree,
+    names: PlaceTable,
     entries: &[Entry],
     from: usize,
-) -> Result<Option<NameTree>, OutOfMemory>
+) -> Result<Option<PlaceTable>, OutOfMemory>
     requires within { from ≤ length entries.now }
-    requires placed { IsPlaced (found names) (names_in (map field_of (take from entries.now))) }
+    requires placed { IsPlaced (found_place names) (names_in (map field_of (take from entries.now))) }
     ensures { IfOk result (λ all. Places all (names_in (map field_of entries.now))) }
 {
     let mut all = names;
     for place in from..entries.len() {
         let entry = &entries[place];
-        if all.number_of(entry.name.as_str()).is_some() {
+        if all.place_of(&entry.name).is_some() {
             return Ok(None);
         }
-        all = all.with(alloc, entry.name.copy(alloc)?, place)?;
+        all.put(alloc, &entry.name, place)?;
     }
     Ok(Some(all))
 }
@@ -127,10 +127,10 @@ fn add_placed(
     alloc: Global,
     at: Place,
     first: Vec<Entry>,
-    names: NameTree,
+    names: PlaceTable,
     second: Vec<Entry>,
 ) -> Result<MapSum, EvalError>
-    requires { IsPlaced (found names) (names_in (map field_of first.items)) }
+    requires { IsPlaced (found_place names) (names_in (map field_of first.items)) }
     ensures total { Answers sum_so_far result (sum_of at (body (map field_of first.items)) (body (map field_of second.items))) }
     ensures places { IfOk result HasPlaces }
 {
@@ -145,16 +145,16 @@ fn add_placed(
 /// The values whose names have places, by their places, and the other entries.
 fn split(
     alloc: Global,
-    names: &NameTree,
+    names: &PlaceTable,
     second: Vec<Entry>,
 ) -> Result<(BTreeMap<usize, Value>, Vec<Entry>), OutOfMemory>
-    ensures shared { IfOk result (λ r. (i : ℕ) → value_at_place r.0 i ≡ value_for (found names.now) i (map field_of second.items)) }
-    ensures others { IfOk result (λ r. map field_of r.1.items ≡ unplaced (found names.now) (map field_of second.items)) }
+    ensures shared { IfOk result (λ r. (i : ℕ) → value_at_place r.0 i ≡ value_for (found_place names.now) i (map field_of second.items)) }
+    ensures others { IfOk result (λ r. map field_of r.1.items ≡ unplaced (found_place names.now) (map field_of second.items)) }
 {
     let mut shared = BTreeMap::new(alloc);
     let mut others = Vec::new(alloc);
     for entry in second {
-        match names.number_of(entry.name.as_str()) {
+        match names.place_of(&entry.name) {
             Some(place) => put_first(&mut shared, place, entry.value)?,
             None => others.push(entry)?,
         }
