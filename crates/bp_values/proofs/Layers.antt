@@ -12,7 +12,7 @@ use Rattle.bp_values.specs.declared.value.Value.{Value}
 use Rattle.bp_values.specs.NamePlaces.{place_in}
 use Rattle.bp_values.specs.NameTree.{spot_for}
 use Rattle.bp_values.specs.Values.{Meaning}
-use Rattle.bp_values.specs.Layers.{Pairs, layer_pairs, pairs_in, pair_of, value_in, spot_at, one_behind, spot_in, spot_behind}
+use Rattle.bp_values.specs.Layers.{Pairs, layer_pairs, pairs_in, value_in, spot_at, one_behind, spot_in_layers, spot_behind}
 use Rattle.bp_values.proofs.NamePlaces.{value_with_place, no_value_without, place_pushed, spot_of_place}
 use Rattle.bp_values.proofs.Pairs.{value_before, value_behind}
 
@@ -27,9 +27,9 @@ pub record Stands {Z : Type 0} (layers : List (Arc Layer Z)) (name : List ℕ) (
   pub value : value_in (layer_pairs (arc_value (get_or layers s.layer d))) name ≡ value_in (pairs_in layers) name
 
 -- where a name is found, its layer has its value
-pub found_in : {Z : Type 0} (layers : List (Arc Layer Z)) (name : List ℕ) (s : Spot) (d : Arc Layer Z) → spot_in layers name ≡ Some s → Stands layers name s d
+pub found_in : {Z : Type 0} (layers : List (Arc Layer Z)) (name : List ℕ) (s : Spot) (d : Arc Layer Z) → spot_in_layers layers name ≡ Some s → Stands layers name s d
 found_in [] name s d is = cc
-found_in {Z} (l ∷ ls) name s d is = by (place_in (items l) name) refl (spot_in ls name) (λ t. found_in ls name t d) is
+found_in {Z} (l ∷ ls) name s d is = by (place_in (items l) name) refl (spot_in_layers ls name) (λ t. found_in ls name t d) is
   where
     by : (p : Option ℕ) → place_in (items l) name ≡ p → (o : Option Spot) → ((t : Spot) → o ≡ Some t → Stands ls name t d)
         → option_or (option_map (spot_at 0) p) (option_map one_behind o) ≡ Some s → Stands (l ∷ ls) name s d
@@ -56,9 +56,9 @@ found_in {Z} (l ∷ ls) name s d is = by (place_in (items l) name) refl (spot_in
         })
 
 -- a name that no layer has
-pub found_nowhere : {Z : Type 0} (layers : List (Arc Layer Z)) (name : List ℕ) → spot_in layers name ≡ None → value_in (pairs_in layers) name ≡ None
+pub found_nowhere : {Z : Type 0} (layers : List (Arc Layer Z)) (name : List ℕ) → spot_in_layers layers name ≡ None → value_in (pairs_in layers) name ≡ None
 found_nowhere [] name is = refl
-found_nowhere (l ∷ ls) name is = by (place_in (items l) name) refl (spot_in ls name) (found_nowhere ls name) is
+found_nowhere (l ∷ ls) name is = by (place_in (items l) name) refl (spot_in_layers ls name) (found_nowhere ls name) is
   where
     by : (p : Option ℕ) → place_in (items l) name ≡ p → (o : Option Spot) → (o ≡ None → value_in (pairs_in ls) name ≡ None)
         → option_or (option_map (spot_at 0) p) (option_map one_behind o) ≡ None → value_in (pairs_in (l ∷ ls)) name ≡ None
@@ -68,22 +68,22 @@ found_nowhere (l ∷ ls) name is = by (place_in (items l) name) refl (spot_in ls
 
 -- what a spot says, where the names of one file more stand behind the layers
 pub record StandsBehind {Z : Type 0} (layers : List (Arc Layer Z)) (own : List (List ℕ × Value)) (name : List ℕ) (s : Spot) : Type 0 where
-  pub above : s.layer < length layers → spot_in layers name ≡ Some s
-  pub none : length layers ≤ s.layer → spot_in layers name ≡ None
+  pub above : s.layer < length layers → spot_in_layers layers name ≡ Some s
+  pub none : length layers ≤ s.layer → spot_in_layers layers name ≡ None
   pub place : length layers ≤ s.layer → place_in own name ≡ Some s.place
 
-pub layer_within : {Z : Type 0} (layers : List (Arc Layer Z)) (name : List ℕ) (s : Spot) → spot_in layers name ≡ Some s → s.layer < length layers
+pub layer_within : {Z : Type 0} (layers : List (Arc Layer Z)) (name : List ℕ) (s : Spot) → spot_in_layers layers name ≡ Some s → s.layer < length layers
 layer_within [] name s is = cc
 layer_within (l ∷ ls) name s is = (found_in (l ∷ ls) name s l is).within
 
 pub found_behind : {Z : Type 0} (layers : List (Arc Layer Z)) (own : List (List ℕ × Value)) (name : List ℕ) (s : Spot) → spot_behind layers own name ≡ Some s → StandsBehind layers own name s
-found_behind {Z} layers own name s is = by (spot_in layers name) refl (place_in own name) refl is
+found_behind {Z} layers own name s is = by (spot_in_layers layers name) refl (place_in own name) refl is
   where
-    by : (o : Option Spot) → spot_in layers name ≡ o → (p : Option ℕ) → place_in own name ≡ p
+    by : (o : Option Spot) → spot_in_layers layers name ≡ o → (p : Option ℕ) → place_in own name ≡ p
         → option_or o (option_map (spot_at (length layers)) p) ≡ Some s → StandsBehind layers own name s
     by (Some t) has p here is =
         let same : t ≡ s = cc in
-        let there : spot_in layers name ≡ Some s = has ∙ ap (λ x. Some x) same in
+        let there : spot_in_layers layers name ≡ Some s = has ∙ ap (λ x. Some x) same in
         let within : s.layer < length layers = layer_within layers name s there in
         record { above = λ lt. there; none = λ le. absurd (omega arith); place = λ le. absurd (omega arith) }
     by None lacks None here is = cc
@@ -99,31 +99,31 @@ found_behind {Z} layers own name s is = by (spot_in layers name) refl (place_in 
 -- the place of a name that isn't inherited
 pub own_place : {Z : Type 0} (layers : List (Arc Layer Z)) (own : List (List ℕ × Value)) (name : List ℕ) → value_in (pairs_in layers) name ≡ None
     → option_map (λ s. s.place) (spot_behind layers own name) ≡ place_in own name
-own_place {Z} layers own name none = by (spot_in layers name) refl (place_in own name)
+own_place {Z} layers own name none = by (spot_in_layers layers name) refl (place_in own name)
   where
-    inherited : (ls : List (Arc Layer Z)) (name : List ℕ) (s : Spot) → spot_in ls name ≡ Some s → value_in (pairs_in ls) name ≡ None → ⊥
+    inherited : (ls : List (Arc Layer Z)) (name : List ℕ) (s : Spot) → spot_in_layers ls name ≡ Some s → value_in (pairs_in ls) name ≡ None → ⊥
     inherited [] name s has none = cc
     inherited (l ∷ ls) name s has none =
         let there = found_in (l ∷ ls) name s l has in
         value_with_place (items (get_or (l ∷ ls) s.layer l)) name s.place there.place (there.value ∙ none)
 
-    by : (o : Option Spot) → spot_in layers name ≡ o → (p : Option ℕ) → option_map (λ s. s.place) (option_or o (option_map (spot_at (length layers)) p)) ≡ p
+    by : (o : Option Spot) → spot_in_layers layers name ≡ o → (p : Option ℕ) → option_map (λ s. s.place) (option_or o (option_map (spot_at (length layers)) p)) ≡ p
     by (Some s) has p = absurd (inherited layers name s has none)
     by None lacks None = refl
     by None lacks (Some p) = refl
 
 -- the value of a name, by its spot
-pub value_above : {Z : Type 0} (layers : List (Arc Layer Z)) (own : Pairs) (name : List ℕ) (s : Spot) (d : Arc Layer Z) (v : Meaning) → spot_in layers name ≡ Some s
+pub value_above : {Z : Type 0} (layers : List (Arc Layer Z)) (own : Pairs) (name : List ℕ) (s : Spot) (d : Arc Layer Z) (v : Meaning) → spot_in_layers layers name ≡ Some s
     → Some v ≡ value_in (layer_pairs (arc_value (get_or layers s.layer d))) name → Some v ≡ value_in (pairs_in layers ++ own) name
 value_above layers own name s d v is has = sym (value_before name (pairs_in layers) own v (has ∙ (found_in layers name s d is).value))
 
-pub value_own : {Z : Type 0} (layers : List (Arc Layer Z)) (own : Pairs) (name : List ℕ) (o : Option Meaning) → spot_in layers name ≡ None → o ≡ value_in own name → o ≡ value_in (pairs_in layers ++ own) name
+pub value_own : {Z : Type 0} (layers : List (Arc Layer Z)) (own : Pairs) (name : List ℕ) (o : Option Meaning) → spot_in_layers layers name ≡ None → o ≡ value_in own name → o ≡ value_in (pairs_in layers ++ own) name
 value_own layers own name o none has = has ∙ sym (value_behind name (pairs_in layers) own (found_nowhere layers name none))
 
 -- a name that stands nowhere
 pub found_nowhere_behind : {Z : Type 0} (layers : List (Arc Layer Z)) (own : List (List ℕ × Value)) (name : List ℕ) → spot_behind layers own name ≡ None
-    → (spot_in layers name ≡ None) × (place_in own name ≡ None)
-found_nowhere_behind layers own name is = by (spot_in layers name) (place_in own name) is
+    → (spot_in_layers layers name ≡ None) × (place_in own name ≡ None)
+found_nowhere_behind layers own name is = by (spot_in_layers layers name) (place_in own name) is
   where
     by : (o : Option Spot) (p : Option ℕ) → option_or o (option_map (spot_at (length layers)) p) ≡ None → (o ≡ None) × (p ≡ None)
     by (Some t) p is = cc
@@ -143,16 +143,16 @@ layer_pushed layers layer =
     flat_map-append (λ l. layer_pairs (arc_value l)) layers (layer ∷ []) ∙ ap (λ ps. pairs_in layers ++ ps) (append-nil (layer_pairs (arc_value layer)))
 
 -- the names of a layer that goes behind others
-pub spot_pushed : {Z : Type 0} (layers : List (Arc Layer Z)) (layer : Arc Layer Z) (name : List ℕ) → spot_in (layers ++ layer ∷ []) name ≡ spot_behind layers (items layer) name
+pub spot_pushed : {Z : Type 0} (layers : List (Arc Layer Z)) (layer : Arc Layer Z) (name : List ℕ) → spot_in_layers (layers ++ layer ∷ []) name ≡ spot_behind layers (items layer) name
 spot_pushed [] layer name = by (place_in (items layer) name)
   where
     by : (p : Option ℕ) → option_or (option_map (spot_at 0) p) None ≡ option_map (spot_at 0) p
     by None = refl
     by (Some p) = refl
-spot_pushed (l ∷ ls) layer name = by (place_in (items l) name) (spot_in ls name) (place_in (items layer) name) (spot_pushed ls layer name)
+spot_pushed (l ∷ ls) layer name = by (place_in (items l) name) (spot_in_layers ls name) (place_in (items layer) name) (spot_pushed ls layer name)
   where
-    by : (p : Option ℕ) (o : Option Spot) (q : Option ℕ) → spot_in (ls ++ layer ∷ []) name ≡ option_or o (option_map (spot_at (length ls)) q)
-        → option_or (option_map (spot_at 0) p) (option_map one_behind (spot_in (ls ++ layer ∷ []) name))
+    by : (p : Option ℕ) (o : Option Spot) (q : Option ℕ) → spot_in_layers (ls ++ layer ∷ []) name ≡ option_or o (option_map (spot_at (length ls)) q)
+        → option_or (option_map (spot_at 0) p) (option_map one_behind (spot_in_layers (ls ++ layer ∷ []) name))
         ≡ option_or (option_or (option_map (spot_at 0) p) (option_map one_behind o)) (option_map (spot_at (suc (length ls))) q)
     by (Some p) o q rest = refl
     by None None None rest = ap (option_map one_behind) rest
@@ -160,8 +160,8 @@ spot_pushed (l ∷ ls) layer name = by (place_in (items l) name) (spot_in ls nam
     by None (Some t) q rest = ap (option_map one_behind) rest
 
 -- a file that sets no names
-pub spot_behind_nothing : {Z : Type 0} (layers : List (Arc Layer Z)) (name : List ℕ) → spot_behind layers [] name ≡ spot_in layers name
-spot_behind_nothing layers name = by (spot_in layers name)
+pub spot_behind_nothing : {Z : Type 0} (layers : List (Arc Layer Z)) (name : List ℕ) → spot_behind layers [] name ≡ spot_in_layers layers name
+spot_behind_nothing layers name = by (spot_in_layers layers name)
   where
     by : (o : Option Spot) → option_or o None ≡ o
     by None = refl
@@ -169,10 +169,10 @@ spot_behind_nothing layers name = by (spot_in layers name)
 
 -- names that keep their places keep their spots
 pub spot_kept : {Z : Type 0} (layers : List (Arc Layer Z)) (old new : List (List ℕ × Value)) (q : List ℕ) → place_in new q ≡ place_in old q → spot_behind layers old q ≡ spot_behind layers new q
-spot_kept layers old new q same = ap (λ o. option_or (spot_in layers q) (option_map (spot_at (length layers)) o)) (sym same)
+spot_kept layers old new q same = ap (λ o. option_or (spot_in_layers layers q) (option_map (spot_at (length layers)) o)) (sym same)
 
 -- the spots are the same behind layers that are alike
-pub spot_alike_behind : {Z : Type 0} (before layers : List (Arc Layer Z)) (own : List (List ℕ × Value)) (q : List ℕ) → spot_in layers q ≡ spot_in before q → length layers ≡ length before
+pub spot_alike_behind : {Z : Type 0} (before layers : List (Arc Layer Z)) (own : List (List ℕ × Value)) (q : List ℕ) → spot_in_layers layers q ≡ spot_in_layers before q → length layers ≡ length before
     → spot_behind before own q ≡ spot_behind layers own q
 spot_alike_behind before layers own q same count = λ i. option_or (sym same i) (option_map (spot_at (sym count i)) (place_in own q))
 
@@ -180,8 +180,8 @@ spot_alike_behind before layers own q same count = λ i. option_or (sym same i) 
 pub spot_set : {Z : Type 0} (layers : List (Arc Layer Z)) (own : List (List ℕ × Value)) (name q : List ℕ) (v : Value)
     → spot_behind layers (own ++ (name, v) ∷ []) q ≡ option_or (spot_behind layers own q) (spot_for name (spot_at (length layers) (length own)) q)
 spot_set layers own name q v =
-    ap (λ o. option_or (spot_in layers q) (option_map (spot_at (length layers)) o)) (place_pushed own (name, v) q)
-    ∙ spot_of_place (spot_in layers q) (spot_at (length layers)) (place_in own q) (bytes_eq name q) (length own)
+    ap (λ o. option_or (spot_in_layers layers q) (option_map (spot_at (length layers)) o)) (place_pushed own (name, v) q)
+    ∙ spot_of_place (spot_in_layers layers q) (spot_at (length layers)) (place_in own q) (bytes_eq name q) (length own)
 
 -- one more layer is shared
 pub shared_more : {Z : Type 0} (whole : Pairs) (done now layers : List (Arc Layer Z)) (i : ℕ) (layer copy : Arc Layer Z) → i < length layers → layer ≡ get_or layers i layer
@@ -195,15 +195,15 @@ shared_more whole done now layers i layer copy within item same pushed before =
 
 -- a layer and one with the same names
 spot_alike : {Z : Type 0} (done rest : List (Arc Layer Z)) (layer copy : Arc Layer Z) (name : List ℕ) → arc_value copy ≡ arc_value layer
-    → spot_in (done ++ layer ∷ rest) name ≡ spot_in ((done ++ copy ∷ []) ++ rest) name
-spot_alike [] rest layer copy name same = ap (λ l. option_or (option_map (spot_at 0) (place_in l.values.items name)) (option_map one_behind (spot_in rest name))) (sym same)
+    → spot_in_layers (done ++ layer ∷ rest) name ≡ spot_in_layers ((done ++ copy ∷ []) ++ rest) name
+spot_alike [] rest layer copy name same = ap (λ l. option_or (option_map (spot_at 0) (place_in l.values.items name)) (option_map one_behind (spot_in_layers rest name))) (sym same)
 spot_alike (l ∷ done) rest layer copy name same = ap (λ o. option_or (option_map (spot_at 0) (place_in (items l) name)) (option_map one_behind o)) (spot_alike done rest layer copy name same)
 
 pub spotted_more : {Z : Type 0} (whole : Option Spot) (done now layers : List (Arc Layer Z)) (i : ℕ) (layer copy : Arc Layer Z) (name : List ℕ) → i < length layers → layer ≡ get_or layers i layer
-    → arc_value copy ≡ arc_value layer → now ≡ done ++ copy ∷ [] → spot_in (done ++ drop i layers) name ≡ whole → spot_in (now ++ drop (i + 1) layers) name ≡ whole
+    → arc_value copy ≡ arc_value layer → now ≡ done ++ copy ∷ [] → spot_in_layers (done ++ drop i layers) name ≡ whole → spot_in_layers (now ++ drop (i + 1) layers) name ≡ whole
 spotted_more whole done now layers i layer copy name within item same pushed before =
     let left : drop i layers ≡ get_or layers i layer ∷ drop (i + 1) layers = rw add-one (drop-cons layers i layer within) in
-    ap (λ l. spot_in (l ++ drop (i + 1) layers) name) pushed
+    ap (λ l. spot_in_layers (l ++ drop (i + 1) layers) name) pushed
     ∙ sym (spot_alike done (drop (i + 1) layers) layer copy name same)
-    ∙ ap (λ l. spot_in (done ++ l ∷ drop (i + 1) layers) name) item
-    ∙ ap (λ l. spot_in (done ++ l) name) (sym left) ∙ before
+    ∙ ap (λ l. spot_in_layers (done ++ l ∷ drop (i + 1) layers) name) item
+    ∙ ap (λ l. spot_in_layers (done ++ l) name) (sym left) ∙ before

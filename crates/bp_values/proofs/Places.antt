@@ -13,7 +13,7 @@ use Rattle.std.proofs.lemmas.Slice.Eq.{bytes_eq-Decides}
 use Rattle.std.proofs.lemmas.Bool.{eqb-true, eqb-false, eq-eqb, ne_eqb}
 use Rattle.std.proofs.lemmas.Cmp.{ranked}
 use Rattle.std.specs.Cmp.{nat_cmp_is}
-use Rattle.std.proofs.lemmas.List.{map-append, length-map, length-take-le, take-append-le, take_all}
+use Rattle.std.proofs.lemmas.List.{map-append, length-map, length-take-le, take_all}
 use Rattle.bp_faults.specs.declared.place.Place.{Place}
 use Rattle.bp_faults.specs.declared.fault.Fault.{Fault}
 use Rattle.bp_faults.specs.declared.refusal.Refusal.{Refusal}
@@ -73,7 +73,7 @@ sum_keeps at (f ∷ fs) gs g is = by (met f.value (sum at f.value) (g 0)) (sum_p
         let same : (record { name = f.name; at = f.at; value = v }) ∷ hs ≡ gs = cc in
         ap names_in (sym same) ∙ ap (λ l. f.name ∷ l) (rest hs refl)
 
-eqb_suc : (p i : ℕ) → eqb (suc p) (suc i) ≡ eqb p i
+pub eqb_suc : (p i : ℕ) → eqb (suc p) (suc i) ≡ eqb p i
 eqb_suc p i = by (eqb p i) refl
   where
     by : (b : Bool) → eqb p i ≡ b → eqb (suc p) (suc i) ≡ b
@@ -249,15 +249,9 @@ placed_entry old new es i e lt is placed missed learned =
 pub placed_all : (search : Search) (es : List Entry) (i : ℕ) → length es ≤ i → IsPlaced search (names_in (map field_of (take i es))) → IsPlaced search (names_in (map field_of es))
 placed_all search es i le placed = subst (λ l. IsPlaced search (names_in (map field_of l))) (take_all i es le) placed
 
--- the entries that were there before others went behind
-pub placed_before : (search : Search) (first before others all : List Entry) (n : ℕ) (at : Place) (g : ℕ → Option Meaning) → IsPlaced search (names_in (map field_of first)) → sum_places at (map field_of first) g ≡ Ok (map field_of before)
-    → n ≡ length before → all ≡ before ++ others → IsPlaced search (names_in (map field_of (take n all)))
-placed_before search first before others all n at g placed summed count is =
-    let same : names_in (map field_of (take n all)) ≡ names_in (map field_of first) =
-    ap (λ l. names_in (map field_of (take n l))) is
-    ∙ ap (λ l. names_in (map field_of l)) (take-append-le n before others (omega arith) ∙ take_all n before (omega arith))
-    ∙ sum_keeps at (map field_of first) (map field_of before) g summed in
-    subst (λ ns. IsPlaced search ns) (sym same) placed
+-- the entries with their sums have the same places
+pub placed_summed : (at : Place) (search : Search) (first summed : List Field) (g : ℕ → Option Meaning) → IsPlaced search (names_in first) → sum_places at first g ≡ Ok summed → IsPlaced search (names_in summed)
+placed_summed at search first summed g placed is = subst (λ ns. IsPlaced search ns) (sym (sum_keeps at first summed g is)) placed
 
 -- the sum of two maps, once the shared values are added and the others put behind
 pub placed_sum : (at : Place) (search : Search) (first second summed left all : List Field) (g : ℕ → Option Meaning) → IsPlaced search (names_in first) → ((i : ℕ) → g i ≡ value_for search i second)
@@ -284,7 +278,7 @@ placed_refusal at search first second g OutOfMemory placed values refused = tt
 abbrev pub value_left : List (ℕ × Value) → ℕ → Option Meaning
 value_left left i = option_map meaning (lookup (λ k. is_eq (nat_cmp i k)) left)
 
-above : (p i : ℕ) (left : List (ℕ × Value)) → AllByRecursion (λ k. nat_cmp p k ≡ Less) (keys_of left) → i ≤ p → value_left left i ≡ None
+pub above : (p i : ℕ) (left : List (ℕ × Value)) → AllByRecursion (λ k. nat_cmp p k ≡ Less) (keys_of left) → i ≤ p → value_left left i ≡ None
 above p i [] all le = refl
 above p i (e ∷ left) all le =
     let lt : p < e.0 = ranked p e.0 Less (sym all.0) in

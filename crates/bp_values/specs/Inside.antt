@@ -11,7 +11,7 @@ use Rattle.bp_values.specs.declared.map_sum.MapSum.{MapSum}
 use Rattle.bp_values.specs.Values.{Meaning, Field, field_of, body}
 use Rattle.bp_values.specs.Scopes.{Pairs, pairs_of, layer_pairs, value_in}
 use Rattle.bp_values.specs.Sums.{has_name}
-use Rattle.bp_values.specs.Places.{Places, PlacesOf, names_in}
+use Rattle.bp_values.specs.MapPlaces.{PlacesOf}
 use Rattle.bp_values.specs.KeptPlaces.{kept_for}
 use Rattle.bp_values.specs.Meaning.{Known, raw_of}
 
@@ -48,9 +48,9 @@ not_among names fs = filter (λ f. not (knows names f.name)) fs
 abbrev pub sum_so_far : MapSum → Meaning
 sum_so_far total = body (map field_of total.entries.items)
 
--- The places that it knows are those of its names.
+-- The places that it knows are those of that map.
 abbrev pub HasPlaces : MapSum → Type 0
-HasPlaces total = Places total.names (names_in (map field_of total.entries.items))
+HasPlaces total = PlacesOf total.places (Some (sum_so_far total))
 
 -- Whether a name is noted once those in an expression are, part by part.
 abbrev mutual

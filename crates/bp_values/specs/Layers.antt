@@ -41,11 +41,11 @@ abbrev pub one_behind : Spot → Spot
 one_behind spot = spot_at (suc spot.layer) spot.place
 
 -- Where a name stands: the first layer that has it, and its place there. No public contract speaks of it.
-abbrev pub spot_in : {Z : Type 0} → List (Arc Layer Z) → List ℕ → Option Spot
-spot_in [] name = None
-spot_in (layer ∷ layers) name =
-    option_or (option_map (spot_at 0) (place_in (arc_value layer).values.items name)) (option_map one_behind (spot_in layers name))
+abbrev pub spot_in_layers : {Z : Type 0} → List (Arc Layer Z) → List ℕ → Option Spot
+spot_in_layers [] name = None
+spot_in_layers (layer ∷ layers) name =
+    option_or (option_map (spot_at 0) (place_in (arc_value layer).values.items name)) (option_map one_behind (spot_in_layers layers name))
 
 -- The same, where the names of one file more stand behind the layers. No public contract speaks of it.
 abbrev pub spot_behind : {Z : Type 0} → List (Arc Layer Z) → List (List ℕ × Value) → List ℕ → Option Spot
-spot_behind layers own name = option_or (spot_in layers name) (option_map (spot_at (length layers)) (place_in own name))
+spot_behind layers own name = option_or (spot_in_layers layers name) (option_map (spot_at (length layers)) (place_in own name))

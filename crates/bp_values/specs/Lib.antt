@@ -5,6 +5,7 @@ pub mod NameTree
 pub mod NamePlaces
 pub mod PlaceTable
 pub mod Places
+pub mod MapPlaces
 pub mod KeptPlaces
 pub mod Layers
 pub mod Scopes

@@ -8,7 +8,7 @@ use Rattle.bp_faults.specs.declared.fault.Fault.{Fault}
 use Rattle.bp_faults.specs.Answers.{then_do}
 use Rattle.bp_values.specs.declared.value.Value.{Value}
 use Rattle.bp_values.specs.declared.place_table.PlaceTable.{PlaceTable}
-use Rattle.bp_values.specs.Values.{Meaning, Body, meaning, Field, fields_of}
+use Rattle.bp_values.specs.Values.{Meaning, meaning, Field}
 use Rattle.bp_values.specs.Sums.{sum, field_then, met}
 use Rattle.bp_values.specs.PlaceTable.{found_place}
 
@@ -39,12 +39,6 @@ pub record IsPlaced (search : Search) (names : List (List ℕ)) : Type 0 where
 abbrev pub Places : Option PlaceTable → List (List ℕ) → Type 0
 Places None names = ⊤
 Places (Some table) names = IsPlaced (found_place table) names
-
--- The same of a variable's value: the table, if there is one, finds the place of each name of a map.
-abbrev pub PlacesOf : Option PlaceTable → Option Meaning → Type 0
-PlacesOf None value = ⊤
-PlacesOf (Some table) (Some (Body fields)) = IsPlaced (found_place table) (names_in (fields_of fields))
-PlacesOf (Some table) _ = ⊥
 
 -- The place is that one.
 abbrev pub is_place : Option ℕ → ℕ → Bool

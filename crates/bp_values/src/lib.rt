@@ -12,6 +12,7 @@ mod file;
 mod kept_places;
 pub mod laws;
 mod layer;
+mod map_places;
 mod map_sum;
 mod marks;
 mod name_tree;

@@ -2,7 +2,7 @@ ghost use Rattle.std.specs.Prelude.{◌≡◌, ◌++◌, ℕ, List, [], length, 
 ghost use Rattle.std.proofs.Props.{props};
 ghost use Rattle.bp_values.specs.Values.{meaning};
 ghost use Rattle.bp_values.specs.NamePlaces.{place_in};
-ghost use Rattle.bp_values.specs.Layers.{value_in, pairs_in, layer_pairs, spot_in, spot_behind};
+ghost use Rattle.bp_values.specs.Layers.{value_in, pairs_in, layer_pairs, spot_in_layers, spot_behind};
 ghost use Rattle.bp_values.specs.NameTree.{found};
 
 use crate::Value;
@@ -21,7 +21,7 @@ pub struct Scope {
     layers: Arc<Vec<Arc<Layer>>>,
     // Each name with its layer and its place there, so that no look-up goes through the layers.
     spots: NameTree,
-    ghost spotted: { (name : List ℕ) → found spots name ≡ spot_in layers.value.items name } by { Prim.hlevel props },
+    ghost spotted: { (name : List ℕ) → found spots name ≡ spot_in_layers layers.value.items name } by { Prim.hlevel props },
 }
 
 /// The names that a file sees while it is evaluated: those that it inherits, and its own so far.
@@ -64,7 +64,7 @@ impl Scope {
 
     /// The spots of its names.
     pub(crate) fn spots(&self) -> Result<NameTree, OutOfMemory>
-        ensures { IfOk result (λ spots. (name : List ℕ) → found spots name ≡ spot_in self.now.layers.value.items name) }
+        ensures { IfOk result (λ spots. (name : List ℕ) → found spots name ≡ spot_in_layers self.now.layers.value.items name) }
     {
         Ok(self.spots.share()?)
     }
@@ -92,7 +92,7 @@ impl Scope {
     /// The layers, with room for one more.
     fn shared(&self, alloc: Global) -> Result<Vec<Arc<Layer>>, OutOfMemory>
         ensures pairs { IfOk result (λ layers. pairs_in layers.items ≡ pairs_of self.now) }
-        ensures spots { IfOk result (λ layers. (name : List ℕ) → spot_in layers.items name ≡ spot_in self.now.layers.value.items name) }
+        ensures spots { IfOk result (λ layers. (name : List ℕ) → spot_in_layers layers.items name ≡ spot_in_layers self.now.layers.value.items name) }
         ensures count { IfOk result (λ layers. length layers.items ≡ length self.now.layers.value.items) }
     {
         let mut shared = Vec::with_capacity(alloc, self.layers.len() + 1)?;

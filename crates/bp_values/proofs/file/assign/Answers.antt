@@ -1,4 +1,4 @@
-use Rattle.std.proofs.Common.{rules, ◌≡◌, false, is_some, ap, sym, ◌∙◌}
+use Rattle.std.proofs.Common.{rules, ◌≡◌, false, is_some, sym, ◌∙◌}
 use Rattle.bp_parser.specs.Trees.{tree_of}
 use Rattle.bp_values.specs.Values.{meaning}
 use Rattle.bp_values.specs.Scopes.{pairs_of, layer_pairs}

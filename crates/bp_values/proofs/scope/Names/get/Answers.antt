@@ -1,8 +1,8 @@
-use Rattle.std.proofs.Common.{rules, arith, ◌≡◌, ◌<◌, ◌≤◌, Some, None, length, get_or, ap, sym, ◌∙◌}
+use Rattle.std.proofs.Common.{rules, ◌≡◌, ◌<◌, ◌≤◌, Some, None, length, get_or, ap, sym, ◌∙◌}
 use Rattle.std.specs.Arc.{arc_value}
 use Rattle.bp_values.specs.Values.{meaning}
 use Rattle.bp_values.specs.NamePlaces.{place_in}
-use Rattle.bp_values.specs.Layers.{spot_in, spot_behind, layer_pairs, value_in}
+use Rattle.bp_values.specs.Layers.{spot_behind, layer_pairs, value_in}
 use Rattle.bp_values.proofs.NamePlaces.{place_within, no_value_without}
 use Rattle.bp_values.proofs.Layers.{found_in, found_behind, found_nowhere_behind, items, value_above, value_own}
 use Rattle.bp_values.proofs.scope.Names.get.Goals as goal
