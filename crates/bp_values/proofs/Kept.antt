@@ -1,30 +1,15 @@
 -- The places that are kept for variables, once one is set or extended.
-use Rattle.std.proofs.Common.{◌≡◌, ℕ, Bool, true, false, cond, List, [], ◌∷◌, Option, None, Some, unwrap_or, refl, ap, sym, ◌∙◌, subst, ◌++◌}
+use Rattle.std.proofs.Common.{◌≡◌, ℕ, Bool, true, false, cond, List, [], ◌∷◌, Option, None, Some, refl, ap, sym, ◌∙◌, subst, ◌++◌}
 use Rattle.std.specs.Str.{bytes_eq}
 use Rattle.std.specs.Cmp.Lexicographic.{nat_list_eq_equiv}
 use Rattle.std.proofs.lemmas.Slice.Eq.{bytes_eq-Decides}
-use Rattle.bp_values.specs.declared.name_tree.NameTree.{NameTree}
-use Rattle.bp_values.specs.Values.{Meaning, Truth, Field, body}
+use Rattle.bp_values.specs.declared.map_places.MapPlaces.{MapPlaces}
+use Rattle.bp_values.specs.Values.{Meaning}
 use Rattle.bp_values.specs.Scopes.{Pairs, value_in}
-use Rattle.bp_values.specs.NameTree.{found}
-use Rattle.bp_values.specs.Places.{IsPlaced, Places, PlacesOf, names_in}
+use Rattle.bp_values.specs.MapPlaces.{Finds, PlacesOf}
 use Rattle.bp_values.specs.KeptPlaces.{if_any}
 use Rattle.bp_values.specs.Meaning.{with_other}
-use Rattle.bp_values.proofs.Pairs.{value_behind}
-use Rattle.bp_values.proofs.Unite.{fields_back}
-
--- places kept for a map are those of its names
-pub places_in : (names : Option NameTree) (fs : List Field) (m : Meaning) → m ≡ body fs → PlacesOf names (Some m) → Places names (names_in fs)
-places_in None fs m is of = tt
-places_in (Some tree) fs m is of =
-    let there : PlacesOf (Some tree) (Some (body fs)) = subst (λ (x : Meaning). PlacesOf (Some tree) (Some x)) is of in
-    subst (λ (l : List Field). IsPlaced (found tree) (names_in l)) (fields_back fs) there
-
-pub places_of : (names : Option NameTree) (fs : List Field) (m : Meaning) → m ≡ body fs → Places names (names_in fs) → PlacesOf names (Some m)
-places_of None fs m is places = tt
-places_of (Some tree) fs m is places =
-    let there : PlacesOf (Some tree) (Some (body fs)) = subst (λ (l : List Field). IsPlaced (found tree) (names_in l)) (sym (fields_back fs)) places in
-    subst (λ (x : Meaning). PlacesOf (Some tree) (Some x)) (sym is) there
+use Rattle.bp_values.proofs.MapPlaces.{search_here}
 
 -- a pair before the place of a name changes nothing there
 passed : (name q : List ℕ) (v : Meaning) (p : List ℕ × Meaning) (rest : Option Meaning) → bytes_eq name p.0 ≡ false
@@ -70,12 +55,12 @@ value_other name q v before (p ∷ ps) has = by (bytes_eq name p.0) refl has (va
     by false apart there more =
         ap (λ r. cond (bytes_eq q p.0) (Some p.1) r) (more there) ∙ passed name q v p (value_in ps q) apart
 
-none_kept : (names : Option NameTree) (v : Option Meaning) → PlacesOf names None → PlacesOf names v
-none_kept None v places = tt
-none_kept (Some tree) v places = absurd places
+none_kept : (names : Option MapPlaces) (v : Option Meaning) → PlacesOf names None → PlacesOf names v
+none_kept None v places = λ way. tt
+none_kept (Some known) v places = absurd (subst (λ s. Finds s None) (search_here known) (places []))
 
 -- a new name has no places
-pub kept_assigned : (kept : List ℕ → Option NameTree) (old new : Pairs) (name : List ℕ) (v : Meaning) → value_in old name ≡ None → new ≡ old ++ (name, v) ∷ []
+pub kept_assigned : (kept : List ℕ → Option MapPlaces) (old new : Pairs) (name : List ℕ) (v : Meaning) → value_in old name ≡ None → new ≡ old ++ (name, v) ∷ []
     → ((q : List ℕ) → PlacesOf (kept q) (value_in old q)) → (q : List ℕ) → PlacesOf (kept q) (value_in new q)
 kept_assigned kept old new name v none put keeps q =
     subst (λ (o : Option Meaning). PlacesOf (kept q) o) (sym (ap (λ ps. value_in ps q) put ∙ value_set name q v old none)) (by (bytes_eq name q) refl)
@@ -87,27 +72,25 @@ kept_assigned kept old new name v none put keeps q =
         none_kept (kept q) (Some v) (subst (λ (o : Option Meaning). PlacesOf (kept q) o) (ap (value_in old) (sym is) ∙ none) (keeps q))
 
 -- a name that is extended gets the places of the sum
-pub kept_extended : (kept mid now : List ℕ → Option NameTree) (old new : Pairs) (name : List ℕ) (v before : Meaning) (names : Option NameTree)
+pub kept_extended : (kept mid now : List ℕ → Option MapPlaces) (old new : Pairs) (name : List ℕ) (v before : Meaning) (names : Option MapPlaces)
     → value_in old name ≡ Some before → ((q : List ℕ) → mid q ≡ cond (bytes_eq name q) None (kept q)) → ((q : List ℕ) → now q ≡ cond (bytes_eq name q) names (mid q)) → new ≡ with_other old name v
     → PlacesOf names (Some v) → ((q : List ℕ) → PlacesOf (kept q) (value_in old q)) → (q : List ℕ) → PlacesOf (now q) (value_in new q)
 kept_extended kept mid now old new name v before names has taken given put places keeps q =
     subst (λ (o : Option Meaning). PlacesOf (now q) o) (sym (ap (λ ps. value_in ps q) put ∙ value_other name q v before old has))
-    (subst (λ (t : Option NameTree). PlacesOf t (cond (bytes_eq name q) (Some v) (value_in old q))) (sym (given q ∙ ap (λ t. cond (bytes_eq name q) names t) (taken q))) (by (bytes_eq name q)))
+    (subst (λ (t : Option MapPlaces). PlacesOf t (cond (bytes_eq name q) (Some v) (value_in old q))) (sym (given q ∙ ap (λ t. cond (bytes_eq name q) names t) (taken q))) (by (bytes_eq name q)))
   where
     by : (b : Bool) → PlacesOf (cond b names (cond b None (kept q))) (cond b (Some v) (value_in old q))
     by true = places
     by false = keeps q
 
 -- the places that are kept for the value that is taken
-pub kept_taken : (kept : List ℕ → Option NameTree) (inherited own : Pairs) (name : List ℕ) (old first : Meaning) (had : Option NameTree) → value_in inherited name ≡ None → value_in (inherited ++ own) name ≡ Some old
-    → first ≡ unwrap_or (value_in own name) (Truth false) → had ≡ kept name → ((q : List ℕ) → PlacesOf (kept q) (value_in own q)) → PlacesOf had (Some first)
-kept_taken kept inherited own name old first had none has taken is keeps =
-    let there : value_in own name ≡ Some old = sym (value_behind name inherited own none) ∙ has in
-    let same : first ≡ old = taken ∙ ap (λ r. unwrap_or r (Truth false)) there in
-    subst (λ (t : Option NameTree). PlacesOf t (Some first)) (sym is)
-    (subst (λ (o : Option Meaning). PlacesOf (kept name) o) (there ∙ ap (λ m. Some m) (sym same)) (keeps name))
+pub kept_taken : (kept : List ℕ → Option MapPlaces) (own : Pairs) (name : List ℕ) (first : Meaning) (had : Option MapPlaces) → Some first ≡ value_in own name
+    → had ≡ kept name → ((q : List ℕ) → PlacesOf (kept q) (value_in own q)) → PlacesOf had (Some first)
+kept_taken kept own name first had has is keeps =
+    subst (λ (t : Option MapPlaces). PlacesOf t (Some first)) (sym is)
+    (subst (λ (o : Option Meaning). PlacesOf (kept name) o) (sym has) (keeps name))
 
 -- what is put for a variable, and what the others have
-pub any_put : (b : Bool) (names : Option NameTree) (old : Option (Option NameTree)) → if_any (cond b (Some names) old) ≡ cond b names (if_any old)
+pub any_put : (b : Bool) (names : Option MapPlaces) (old : Option (Option MapPlaces)) → if_any (cond b (Some names) old) ≡ cond b names (if_any old)
 any_put true names old = refl
 any_put false names old = refl

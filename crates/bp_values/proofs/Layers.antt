@@ -1,62 +1,134 @@
--- The layers of a scope: in which of them a name is found, and what one more changes.
-use Rattle.std.proofs.Common.{◌≡◌, ℕ, suc, ◌+◌, ◌<◌, Bool, true, false, cond, List, [], ◌∷◌, ◌++◌, drop, get_or, length, Option, None, Some, option_map, is_some, refl, ap, sym, ◌∙◌, add-one, append_assoc, append-nil, arith, if◌then◌else◌}
+-- The layers of a scope: where in them a name is found, and what one more changes.
+use Rattle.std.proofs.Common.{◌≡◌, ℕ, suc, ◌+◌, ◌<◌, ◌≤◌, List, [], ◌∷◌, ◌++◌, drop, get_or, length, Option, None, Some, option_map, refl, ap, sym, ◌∙◌, add-one, append_assoc, append-nil, arith}
 use Rattle.std.specs.Option.{option_or}
 use Rattle.std.specs.Str.{bytes_eq}
-use Rattle.std.specs.Map.{lookup}
 use Rattle.std.specs.declared.sync.Arc.{Arc}
 use Rattle.std.specs.Arc.{arc_value}
 use Rattle.std.proofs.Math.Seq.{drop-cons}
 use Rattle.std.proofs.lemmas.List.Concat.{flat_map-append}
-use Rattle.std.proofs.lemmas.Cmp.{nat_list_eq_equiv}
-use Rattle.bp_names.specs.Meaning.{number_for}
 use Rattle.bp_values.specs.declared.layer.Layer.{Layer}
+use Rattle.bp_values.specs.declared.name_tree.Spot.{Spot}
+use Rattle.bp_values.specs.declared.value.Value.{Value}
+use Rattle.bp_values.specs.NamePlaces.{place_in}
+use Rattle.bp_values.specs.NameTree.{spot_for}
 use Rattle.bp_values.specs.Values.{Meaning}
-use Rattle.bp_values.specs.Layers.{Pairs, layer_pairs, pairs_in, value_in, layer_of}
+use Rattle.bp_values.specs.Layers.{Pairs, layer_pairs, pairs_in, value_in, spot_at, one_behind, spot_in_layers, spot_behind}
+use Rattle.bp_values.proofs.NamePlaces.{value_with_place, no_value_without, place_pushed, spot_of_place}
 use Rattle.bp_values.proofs.Pairs.{value_before, value_behind}
 
--- a layer has the name
-abbrev pub has : {Z : Type 0} → Arc Layer Z → List ℕ → Bool
-has layer name = is_some (value_in (layer_pairs (arc_value layer)) name)
+-- what a layer holds
+abbrev pub items : {Z : Type 0} → Arc Layer Z → List (List ℕ × Value)
+items layer = (arc_value layer).values.items
+
+-- what a spot of the layers says of a name
+pub record Stands {Z : Type 0} (layers : List (Arc Layer Z)) (name : List ℕ) (s : Spot) (d : Arc Layer Z) : Type 0 where
+  pub within : s.layer < length layers
+  pub place : place_in (items (get_or layers s.layer d)) name ≡ Some s.place
+  pub value : value_in (layer_pairs (arc_value (get_or layers s.layer d))) name ≡ value_in (pairs_in layers) name
 
 -- where a name is found, its layer has its value
-pub found_in : {Z : Type 0} (layers : List (Arc Layer Z)) (name : List ℕ) (n : ℕ) (d : Arc Layer Z) → layer_of layers name ≡ Some n
-    → (n < length layers) × (value_in (layer_pairs (arc_value (get_or layers n d))) name ≡ value_in (pairs_in layers) name)
-found_in [] name n d is = cc
-found_in {Z} (l ∷ ls) name n d is = by (value_in (layer_pairs (arc_value l)) name) refl (layer_of ls name) (found_in ls name) is
+pub found_in : {Z : Type 0} (layers : List (Arc Layer Z)) (name : List ℕ) (s : Spot) (d : Arc Layer Z) → spot_in_layers layers name ≡ Some s → Stands layers name s d
+found_in [] name s d is = cc
+found_in {Z} (l ∷ ls) name s d is = by (place_in (items l) name) refl (spot_in_layers ls name) (λ t. found_in ls name t d) is
   where
-    by : (v : Option Meaning) → value_in (layer_pairs (arc_value l)) name ≡ v → (o : Option ℕ)
-        → ((m : ℕ) (d : Arc Layer Z) → o ≡ Some m → (m < length ls) × (value_in (layer_pairs (arc_value (get_or ls m d))) name ≡ value_in (pairs_in ls) name))
-        → cond (is_some v) (Some 0) (option_map suc o) ≡ Some n
-        → (n < length (l ∷ ls)) × (value_in (layer_pairs (arc_value (get_or (l ∷ ls) n d))) name ≡ value_in (pairs_in (l ∷ ls)) name)
-    by (Some v) here o rest is =
-        let first : n ≡ 0 = cc in
-        (omega arith, rw first (here ∙ sym (value_before name (layer_pairs (arc_value l)) (pairs_in ls) v (sym here))))
+    by : (p : Option ℕ) → place_in (items l) name ≡ p → (o : Option Spot) → ((t : Spot) → o ≡ Some t → Stands ls name t d)
+        → option_or (option_map (spot_at 0) p) (option_map one_behind o) ≡ Some s → Stands (l ∷ ls) name s d
+    by (Some p) here o rest is =
+        let first : s ≡ spot_at 0 p = cc in
+        rw first (record {
+          within = omega arith;
+          place = here;
+          value = there (value_in (layer_pairs (arc_value l)) name) refl;
+        })
+      where
+        there : (v : Option Meaning) → value_in (layer_pairs (arc_value l)) name ≡ v → value_in (layer_pairs (arc_value l)) name ≡ value_in (pairs_in (l ∷ ls)) name
+        there (Some v) has = has ∙ sym (value_before name (layer_pairs (arc_value l)) (pairs_in ls) v (sym has))
+        there None none = absurd (value_with_place (items l) name p here none)
     by None here None rest is = cc
-    by None here (Some m) rest is =
-        let next : n ≡ suc m = cc in
-        let there = rest m d refl in
-        let within : m < length ls = there.0 in
-        (omega arith, rw next (there.1 ∙ sym (value_behind name (layer_pairs (arc_value l)) (pairs_in ls) here)))
-
-pub number_within : {Z : Type 0} (layers : List (Arc Layer Z)) (name : List ℕ) (n : ℕ) → layer_of layers name ≡ Some n → n < length layers
-number_within [] name n is = cc
-number_within (l ∷ ls) name n is = by (has l name) (layer_of ls name) (number_within ls name) is
-  where
-    by : (b : Bool) (o : Option ℕ) → ((m : ℕ) → o ≡ Some m → m < length ls) → cond b (Some 0) (option_map suc o) ≡ Some n → n < length (l ∷ ls)
-    by true o rest is = let first : n ≡ 0 = cc in omega arith
-    by false None rest is = cc
-    by false (Some m) rest is = let next : n ≡ suc m = cc in let within : m < length ls = rest m refl in omega arith
+    by None here (Some t) rest is =
+        let next : s ≡ one_behind t = cc in
+        let there = rest t refl in
+        let within : t.layer < length ls = there.within in
+        rw next (record {
+          within = omega arith;
+          place = there.place;
+          value = there.value ∙ sym (value_behind name (layer_pairs (arc_value l)) (pairs_in ls) (no_value_without (items l) name here));
+        })
 
 -- a name that no layer has
-pub found_nowhere : {Z : Type 0} (layers : List (Arc Layer Z)) (name : List ℕ) → layer_of layers name ≡ None → None ≡ value_in (pairs_in layers) name
+pub found_nowhere : {Z : Type 0} (layers : List (Arc Layer Z)) (name : List ℕ) → spot_in_layers layers name ≡ None → value_in (pairs_in layers) name ≡ None
 found_nowhere [] name is = refl
-found_nowhere (l ∷ ls) name is = by (value_in (layer_pairs (arc_value l)) name) refl (layer_of ls name) (found_nowhere ls name) is
+found_nowhere (l ∷ ls) name is = by (place_in (items l) name) refl (spot_in_layers ls name) (found_nowhere ls name) is
   where
-    by : (v : Option Meaning) → value_in (layer_pairs (arc_value l)) name ≡ v → (o : Option ℕ) → (o ≡ None → None ≡ value_in (pairs_in ls) name)
-        → cond (is_some v) (Some 0) (option_map suc o) ≡ None → None ≡ value_in (pairs_in (l ∷ ls)) name
-    by (Some v) here o rest is = cc
-    by None here (Some m) rest is = cc
-    by None here None rest is = rest refl ∙ sym (value_behind name (layer_pairs (arc_value l)) (pairs_in ls) here)
+    by : (p : Option ℕ) → place_in (items l) name ≡ p → (o : Option Spot) → (o ≡ None → value_in (pairs_in ls) name ≡ None)
+        → option_or (option_map (spot_at 0) p) (option_map one_behind o) ≡ None → value_in (pairs_in (l ∷ ls)) name ≡ None
+    by (Some p) here o rest is = cc
+    by None here (Some t) rest is = cc
+    by None here None rest is = value_behind name (layer_pairs (arc_value l)) (pairs_in ls) (no_value_without (items l) name here) ∙ rest refl
+
+-- what a spot says, where the names of one file more stand behind the layers
+pub record StandsBehind {Z : Type 0} (layers : List (Arc Layer Z)) (own : List (List ℕ × Value)) (name : List ℕ) (s : Spot) : Type 0 where
+  pub above : s.layer < length layers → spot_in_layers layers name ≡ Some s
+  pub none : length layers ≤ s.layer → spot_in_layers layers name ≡ None
+  pub place : length layers ≤ s.layer → place_in own name ≡ Some s.place
+
+pub layer_within : {Z : Type 0} (layers : List (Arc Layer Z)) (name : List ℕ) (s : Spot) → spot_in_layers layers name ≡ Some s → s.layer < length layers
+layer_within [] name s is = cc
+layer_within (l ∷ ls) name s is = (found_in (l ∷ ls) name s l is).within
+
+pub found_behind : {Z : Type 0} (layers : List (Arc Layer Z)) (own : List (List ℕ × Value)) (name : List ℕ) (s : Spot) → spot_behind layers own name ≡ Some s → StandsBehind layers own name s
+found_behind {Z} layers own name s is = by (spot_in_layers layers name) refl (place_in own name) refl is
+  where
+    by : (o : Option Spot) → spot_in_layers layers name ≡ o → (p : Option ℕ) → place_in own name ≡ p
+        → option_or o (option_map (spot_at (length layers)) p) ≡ Some s → StandsBehind layers own name s
+    by (Some t) has p here is =
+        let same : t ≡ s = cc in
+        let there : spot_in_layers layers name ≡ Some s = has ∙ ap (λ x. Some x) same in
+        let within : s.layer < length layers = layer_within layers name s there in
+        record { above = λ lt. there; none = λ le. absurd (omega arith); place = λ le. absurd (omega arith) }
+    by None lacks None here is = cc
+    by None lacks (Some p) here is =
+        let same : spot_at (length layers) p ≡ s = cc in
+        let at : length layers ≡ s.layer = ap (λ (x : Spot). x.layer) same in
+        record {
+          above = λ lt. absurd (omega arith);
+          none = λ le. lacks;
+          place = λ le. here ∙ ap (λ (x : Spot). Some x.place) same;
+        }
+
+-- the place of a name that isn't inherited
+pub own_place : {Z : Type 0} (layers : List (Arc Layer Z)) (own : List (List ℕ × Value)) (name : List ℕ) → value_in (pairs_in layers) name ≡ None
+    → option_map (λ s. s.place) (spot_behind layers own name) ≡ place_in own name
+own_place {Z} layers own name none = by (spot_in_layers layers name) refl (place_in own name)
+  where
+    inherited : (ls : List (Arc Layer Z)) (name : List ℕ) (s : Spot) → spot_in_layers ls name ≡ Some s → value_in (pairs_in ls) name ≡ None → ⊥
+    inherited [] name s has none = cc
+    inherited (l ∷ ls) name s has none =
+        let there = found_in (l ∷ ls) name s l has in
+        value_with_place (items (get_or (l ∷ ls) s.layer l)) name s.place there.place (there.value ∙ none)
+
+    by : (o : Option Spot) → spot_in_layers layers name ≡ o → (p : Option ℕ) → option_map (λ s. s.place) (option_or o (option_map (spot_at (length layers)) p)) ≡ p
+    by (Some s) has p = absurd (inherited layers name s has none)
+    by None lacks None = refl
+    by None lacks (Some p) = refl
+
+-- the value of a name, by its spot
+pub value_above : {Z : Type 0} (layers : List (Arc Layer Z)) (own : Pairs) (name : List ℕ) (s : Spot) (d : Arc Layer Z) (v : Meaning) → spot_in_layers layers name ≡ Some s
+    → Some v ≡ value_in (layer_pairs (arc_value (get_or layers s.layer d))) name → Some v ≡ value_in (pairs_in layers ++ own) name
+value_above layers own name s d v is has = sym (value_before name (pairs_in layers) own v (has ∙ (found_in layers name s d is).value))
+
+pub value_own : {Z : Type 0} (layers : List (Arc Layer Z)) (own : Pairs) (name : List ℕ) (o : Option Meaning) → spot_in_layers layers name ≡ None → o ≡ value_in own name → o ≡ value_in (pairs_in layers ++ own) name
+value_own layers own name o none has = has ∙ sym (value_behind name (pairs_in layers) own (found_nowhere layers name none))
+
+-- a name that stands nowhere
+pub found_nowhere_behind : {Z : Type 0} (layers : List (Arc Layer Z)) (own : List (List ℕ × Value)) (name : List ℕ) → spot_behind layers own name ≡ None
+    → (spot_in_layers layers name ≡ None) × (place_in own name ≡ None)
+found_nowhere_behind layers own name is = by (spot_in_layers layers name) (place_in own name) is
+  where
+    by : (o : Option Spot) (p : Option ℕ) → option_or o (option_map (spot_at (length layers)) p) ≡ None → (o ≡ None) × (p ≡ None)
+    by (Some t) p is = cc
+    by None (Some p) is = cc
+    by None None is = (refl, refl)
 
 -- the pairs of what is left, at a layer
 pub pairs_left : {Z : Type 0} (layers : List (Arc Layer Z)) (i : ℕ) (layer : Arc Layer Z) → i < length layers → layer ≡ get_or layers i layer
@@ -70,21 +142,46 @@ pub layer_pushed : {Z : Type 0} (layers : List (Arc Layer Z)) (layer : Arc Layer
 layer_pushed layers layer =
     flat_map-append (λ l. layer_pairs (arc_value l)) layers (layer ∷ []) ∙ ap (λ ps. pairs_in layers ++ ps) (append-nil (layer_pairs (arc_value layer)))
 
-pub number_pushed : {Z : Type 0} (layers : List (Arc Layer Z)) (layer : Arc Layer Z) (name : List ℕ)
-    → layer_of (layers ++ layer ∷ []) name ≡ option_or (layer_of layers name) (if has layer name then Some (length layers) else None)
-number_pushed [] layer name = by (has layer name)
+-- the names of a layer that goes behind others
+pub spot_pushed : {Z : Type 0} (layers : List (Arc Layer Z)) (layer : Arc Layer Z) (name : List ℕ) → spot_in_layers (layers ++ layer ∷ []) name ≡ spot_behind layers (items layer) name
+spot_pushed [] layer name = by (place_in (items layer) name)
   where
-    by : (b : Bool) → (if b then Some 0 else option_map suc None) ≡ (if b then Some 0 else None)
-    by true = refl
-    by false = refl
-number_pushed (l ∷ ls) layer name = by (has l name) (layer_of ls name) (has layer name) (number_pushed ls layer name)
+    by : (p : Option ℕ) → option_or (option_map (spot_at 0) p) None ≡ option_map (spot_at 0) p
+    by None = refl
+    by (Some p) = refl
+spot_pushed (l ∷ ls) layer name = by (place_in (items l) name) (spot_in_layers ls name) (place_in (items layer) name) (spot_pushed ls layer name)
   where
-    by : (b : Bool) (o : Option ℕ) (c : Bool) → layer_of (ls ++ layer ∷ []) name ≡ option_or o (if c then Some (length ls) else None)
-        → (if b then Some 0 else option_map suc (layer_of (ls ++ layer ∷ []) name)) ≡ option_or (if b then Some 0 else option_map suc o) (if c then Some (suc (length ls)) else None)
-    by true o c rest = refl
-    by false None true rest = ap (option_map suc) rest
-    by false None false rest = ap (option_map suc) rest
-    by false (Some n) c rest = ap (option_map suc) rest
+    by : (p : Option ℕ) (o : Option Spot) (q : Option ℕ) → spot_in_layers (ls ++ layer ∷ []) name ≡ option_or o (option_map (spot_at (length ls)) q)
+        → option_or (option_map (spot_at 0) p) (option_map one_behind (spot_in_layers (ls ++ layer ∷ []) name))
+        ≡ option_or (option_or (option_map (spot_at 0) p) (option_map one_behind o)) (option_map (spot_at (suc (length ls))) q)
+    by (Some p) o q rest = refl
+    by None None None rest = ap (option_map one_behind) rest
+    by None None (Some q) rest = ap (option_map one_behind) rest
+    by None (Some t) q rest = ap (option_map one_behind) rest
+
+-- a file that sets no names
+pub spot_behind_nothing : {Z : Type 0} (layers : List (Arc Layer Z)) (name : List ℕ) → spot_behind layers [] name ≡ spot_in_layers layers name
+spot_behind_nothing layers name = by (spot_in_layers layers name)
+  where
+    by : (o : Option Spot) → option_or o None ≡ o
+    by None = refl
+    by (Some s) = refl
+
+-- names that keep their places keep their spots
+pub spot_kept : {Z : Type 0} (layers : List (Arc Layer Z)) (old new : List (List ℕ × Value)) (q : List ℕ) → place_in new q ≡ place_in old q → spot_behind layers old q ≡ spot_behind layers new q
+spot_kept layers old new q same = ap (λ o. option_or (spot_in_layers layers q) (option_map (spot_at (length layers)) o)) (sym same)
+
+-- the spots are the same behind layers that are alike
+pub spot_alike_behind : {Z : Type 0} (before layers : List (Arc Layer Z)) (own : List (List ℕ × Value)) (q : List ℕ) → spot_in_layers layers q ≡ spot_in_layers before q → length layers ≡ length before
+    → spot_behind before own q ≡ spot_behind layers own q
+spot_alike_behind before layers own q same count = λ i. option_or (sym same i) (option_map (spot_at (sym count i)) (place_in own q))
+
+-- one name more of the file
+pub spot_set : {Z : Type 0} (layers : List (Arc Layer Z)) (own : List (List ℕ × Value)) (name q : List ℕ) (v : Value)
+    → spot_behind layers (own ++ (name, v) ∷ []) q ≡ option_or (spot_behind layers own q) (spot_for name (spot_at (length layers) (length own)) q)
+spot_set layers own name q v =
+    ap (λ o. option_or (spot_in_layers layers q) (option_map (spot_at (length layers)) o)) (place_pushed own (name, v) q)
+    ∙ spot_of_place (spot_in_layers layers q) (spot_at (length layers)) (place_in own q) (bytes_eq name q) (length own)
 
 -- one more layer is shared
 pub shared_more : {Z : Type 0} (whole : Pairs) (done now layers : List (Arc Layer Z)) (i : ℕ) (layer copy : Arc Layer Z) → i < length layers → layer ≡ get_or layers i layer
@@ -96,46 +193,17 @@ shared_more whole done now layers i layer copy within item same pushed before =
     before ∙ ap (λ ps. pairs_in done ++ ps) (pairs_left layers i layer within item)
     ∙ sym (ap (λ ps. ps ++ rest) more ∙ append_assoc (pairs_in done) (layer_pairs (arc_value layer)) rest)
 
--- a layer and one with the same names have the same number
-number_alike : {Z : Type 0} (done rest : List (Arc Layer Z)) (layer copy : Arc Layer Z) (name : List ℕ) → arc_value copy ≡ arc_value layer
-    → layer_of (done ++ layer ∷ rest) name ≡ layer_of ((done ++ copy ∷ []) ++ rest) name
-number_alike [] rest layer copy name same = ap (λ l. if is_some (value_in (layer_pairs l) name) then Some 0 else option_map suc (layer_of rest name)) (sym same)
-number_alike (l ∷ done) rest layer copy name same = ap (λ o. if has l name then Some 0 else option_map suc o) (number_alike done rest layer copy name same)
+-- a layer and one with the same names
+spot_alike : {Z : Type 0} (done rest : List (Arc Layer Z)) (layer copy : Arc Layer Z) (name : List ℕ) → arc_value copy ≡ arc_value layer
+    → spot_in_layers (done ++ layer ∷ rest) name ≡ spot_in_layers ((done ++ copy ∷ []) ++ rest) name
+spot_alike [] rest layer copy name same = ap (λ l. option_or (option_map (spot_at 0) (place_in l.values.items name)) (option_map one_behind (spot_in_layers rest name))) (sym same)
+spot_alike (l ∷ done) rest layer copy name same = ap (λ o. option_or (option_map (spot_at 0) (place_in (items l) name)) (option_map one_behind o)) (spot_alike done rest layer copy name same)
 
-pub numbered_more : {Z : Type 0} (whole : Option ℕ) (done now layers : List (Arc Layer Z)) (i : ℕ) (layer copy : Arc Layer Z) (name : List ℕ) → i < length layers → layer ≡ get_or layers i layer
-    → arc_value copy ≡ arc_value layer → now ≡ done ++ copy ∷ [] → layer_of (done ++ drop i layers) name ≡ whole → layer_of (now ++ drop (i + 1) layers) name ≡ whole
-numbered_more whole done now layers i layer copy name within item same pushed before =
+pub spotted_more : {Z : Type 0} (whole : Option Spot) (done now layers : List (Arc Layer Z)) (i : ℕ) (layer copy : Arc Layer Z) (name : List ℕ) → i < length layers → layer ≡ get_or layers i layer
+    → arc_value copy ≡ arc_value layer → now ≡ done ++ copy ∷ [] → spot_in_layers (done ++ drop i layers) name ≡ whole → spot_in_layers (now ++ drop (i + 1) layers) name ≡ whole
+spotted_more whole done now layers i layer copy name within item same pushed before =
     let left : drop i layers ≡ get_or layers i layer ∷ drop (i + 1) layers = rw add-one (drop-cons layers i layer within) in
-    ap (λ l. layer_of (l ++ drop (i + 1) layers) name) pushed
-    ∙ sym (number_alike done (drop (i + 1) layers) layer copy name same)
-    ∙ ap (λ l. layer_of (done ++ l ∷ drop (i + 1) layers) name) item
-    ∙ ap (λ l. layer_of (done ++ l) name) (sym left) ∙ before
-
--- one name more gets the number
-pub name_numbered : {V : Type 0} (old new with : Option ℕ) (es now : List (List ℕ × V)) (e : List ℕ × V) (number : ℕ) (q : List ℕ)
-    → old ≡ option_or with (if is_some (lookup (bytes_eq q) es) then Some number else None) → new ≡ option_or old (number_for e.0 number q) → now ≡ es ++ e ∷ []
-    → new ≡ option_or with (if is_some (lookup (bytes_eq q) now) then Some number else None)
-name_numbered {V} old new with es now e number q before more is =
-    more ∙ ap (λ b. option_or old (if b then Some number else None)) (sym (nat_list_eq_equiv.symm q e.0))
-    ∙ ap (λ o. option_or o (if bytes_eq q e.0 then Some number else None)) before
-    ∙ by with (is_some (lookup (bytes_eq q) es)) (bytes_eq q e.0)
-    ∙ ap (λ b. option_or with (if b then Some number else None)) (sym (behind es) ∙ ap (λ l. is_some (lookup (bytes_eq q) l)) (sym is))
-  where
-    by : (o : Option ℕ) (b c : Bool) → option_or (option_or o (if b then Some number else None)) (if c then Some number else None) ≡ option_or o (if cond b true c then Some number else None)
-    by (Some n) true c = refl
-    by (Some n) false c = refl
-    by None true c = refl
-    by None false c = refl
-
-    behind : (es : List (List ℕ × V)) → is_some (lookup (bytes_eq q) (es ++ e ∷ [])) ≡ cond (is_some (lookup (bytes_eq q) es)) true (bytes_eq q e.0)
-    behind [] = last (bytes_eq q e.0)
-      where
-        last : (b : Bool) → is_some (cond b (Some e.1) None) ≡ b
-        last true = refl
-        last false = refl
-    behind (x ∷ es) = here (bytes_eq q x.0) (behind es)
-      where
-        here : (b : Bool) → is_some (lookup (bytes_eq q) (es ++ e ∷ [])) ≡ cond (is_some (lookup (bytes_eq q) es)) true (bytes_eq q e.0)
-            → is_some (cond b (Some x.1) (lookup (bytes_eq q) (es ++ e ∷ []))) ≡ cond (is_some (cond b (Some x.1) (lookup (bytes_eq q) es))) true (bytes_eq q e.0)
-        here true rest = refl
-        here false rest = rest
+    ap (λ l. spot_in_layers (l ++ drop (i + 1) layers) name) pushed
+    ∙ sym (spot_alike done (drop (i + 1) layers) layer copy name same)
+    ∙ ap (λ l. spot_in_layers (done ++ l ∷ drop (i + 1) layers) name) item
+    ∙ ap (λ l. spot_in_layers (done ++ l) name) (sym left) ∙ before

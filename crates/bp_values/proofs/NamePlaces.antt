@@ -1,5 +1,5 @@
 -- A name's place in a list, and what stands there.
-use Rattle.std.proofs.Common.{◌≡◌, ℕ, suc, ◌<◌, Bool, true, false, cond, List, [], ◌∷◌, ◌++◌, map, get_or, length, Option, None, Some, option_map, is_some, refl, ap, arith, if◌then◌else◌}
+use Rattle.std.proofs.Common.{◌≡◌, ℕ, suc, ◌<◌, Bool, true, false, cond, List, [], ◌∷◌, ◌++◌, map, get_or, length, Option, None, Some, option_map, refl, ap, sym, ◌∙◌, arith, if◌then◌else◌}
 use Rattle.std.specs.Prelude.{zero, slice_set}
 use Rattle.std.specs.Option.{option_or}
 use Rattle.std.specs.Str.{bytes_eq}
@@ -7,10 +7,11 @@ use Rattle.std.specs.Map.{lookup}
 use Rattle.std.proofs.lemmas.Cmp.{nat_list_eq_equiv}
 use Rattle.bp_names.specs.Meaning.{number_for}
 use Rattle.bp_values.specs.declared.value.Value.{Value}
-use Rattle.bp_values.specs.Values.{meaning}
+use Rattle.bp_values.specs.Values.{Meaning, meaning}
 use Rattle.bp_values.specs.NamePlaces.{place_in}
-use Rattle.bp_values.specs.Scopes.{pair_of}
+use Rattle.bp_values.specs.Scopes.{pair_of, value_in}
 use Rattle.bp_values.specs.Meaning.{with_other}
+use Rattle.bp_values.proofs.Pairs.{lookup_pairs}
 
 -- a name with a place is found there
 pub found_at : {V : Type 0} (es : List (List ℕ × V)) (q : List ℕ) (n : ℕ) (d : List ℕ × V) → place_in es q ≡ Some n → (n < length es) × (lookup (bytes_eq q) es ≡ Some (get_or es n d).1)
@@ -78,13 +79,31 @@ set_at (e ∷ es) q n d w is = by (bytes_eq q e.0) (place_in es q) (λ m. set_at
     by false None rest is = cc
     by false (Some m) rest is = let next : n ≡ suc m = cc in rw next (ap (λ l. pair_of e ∷ l) (rest m refl))
 
--- one number for all that have a place
-pub one_number : {V : Type 0} (es : List (List ℕ × V)) (n : ℕ) (q : List ℕ) → option_map (λ old. n) (place_in es q) ≡ (if is_some (lookup (bytes_eq q) es) then Some n else None)
-one_number [] n q = refl
-one_number (e ∷ es) n q = by (bytes_eq q e.0) (place_in es q) (one_number es n q)
+-- a name with a place has a value, and one without has none
+pub value_with_place : (es : List (List ℕ × Value)) (q : List ℕ) (n : ℕ) → place_in es q ≡ Some n → value_in (map pair_of es) q ≡ None → ⊥
+value_with_place [] q n is none = cc
+value_with_place (e ∷ es) q n is none = by (bytes_eq q e.0) (place_in es q) (λ m. value_with_place es q m) is none
   where
-    by : (b : Bool) (o : Option ℕ) → option_map (λ old. n) o ≡ (if is_some (lookup (bytes_eq q) es) then Some n else None)
-        → option_map (λ old. n) (cond b (Some 0) (option_map suc o)) ≡ (if is_some (cond b (Some e.1) (lookup (bytes_eq q) es)) then Some n else None)
-    by true o rest = refl
-    by false None rest = rest
-    by false (Some m) rest = rest
+    by : (b : Bool) (o : Option ℕ) → ((m : ℕ) → o ≡ Some m → value_in (map pair_of es) q ≡ None → ⊥)
+        → cond b (Some 0) (option_map suc o) ≡ Some n → cond b (Some (meaning e.1)) (value_in (map pair_of es) q) ≡ None → ⊥
+    by true o rest is none = cc
+    by false None rest is none = cc
+    by false (Some m) rest is none = rest m refl none
+
+pub value_of_place : (es : List (List ℕ × Value)) (q : List ℕ) (n : ℕ) → place_in es q ≡ Some n → (v : Meaning) × (Some v ≡ value_in (map pair_of es) q)
+value_of_place es q n is = by (value_in (map pair_of es) q) refl
+  where
+    by : (o : Option Meaning) → value_in (map pair_of es) q ≡ o → (v : Meaning) × (Some v ≡ value_in (map pair_of es) q)
+    by None none = absurd (value_with_place es q n is none)
+    by (Some v) has = (v, sym has)
+
+pub no_value_without : (es : List (List ℕ × Value)) (q : List ℕ) → place_in es q ≡ None → value_in (map pair_of es) q ≡ None
+no_value_without es q none = sym (lookup_pairs (bytes_eq q) es) ∙ ap (option_map meaning) (found_nowhere es q none)
+
+-- the spots of places, and one more
+pub spot_of_place : {X : Type 0} (o : Option X) (f : ℕ → X) (p : Option ℕ) (b : Bool) (n : ℕ)
+    → option_or o (option_map f (option_or p (if b then Some n else None))) ≡ option_or (option_or o (option_map f p)) (if b then Some (f n) else None)
+spot_of_place (Some x) f p b n = refl
+spot_of_place None f (Some p) b n = refl
+spot_of_place None f None true n = refl
+spot_of_place None f None false n = refl

@@ -1,5 +1,5 @@
 -- A look-up in the list of pairs, and in the map's entries.
-use Rattle.std.proofs.Common.{◌≡◌, ℕ, Bool, true, false, cond, List, [], ◌∷◌, ◌++◌, map, Option, None, Some, option_map, is_some, refl, ap, sym, ◌∙◌, Bor, option_copied, Result, Ok, Err, OnOk}
+use Rattle.std.proofs.Common.{◌≡◌, ℕ, Bool, true, false, cond, List, [], ◌∷◌, ◌++◌, map, Option, None, Some, option_map, refl, ap, sym, ◌∙◌, Bor, option_copied, Result, Ok, Err, OnOk}
 use Rattle.std.specs.Str.{bytes_eq}
 use Rattle.std.specs.Map.{lookup}
 use Rattle.std.specs.Option.{option_or}
@@ -29,15 +29,6 @@ other_again k v w (e ∷ es) = by (bytes_eq k e.0) refl (other_again k v w es)
         → with_other (cond b ((e.0, v) ∷ es) (e ∷ with_other es k v)) k w ≡ cond b ((e.0, w) ∷ es) (e ∷ with_other es k w)
     by true at h = rw at refl
     by false at h = rw at (ap (λ l. e ∷ l) h)
-
--- a name that has no value gets none
-pub other_nowhere : (k : List ℕ) (v : Meaning) (es : Pairs) → value_in es k ≡ None → es ≡ with_other es k v
-other_nowhere k v [] none = refl
-other_nowhere k v (e ∷ es) none = by (bytes_eq k e.0) none (other_nowhere k v es)
-  where
-    by : (b : Bool) → cond b (Some e.1) (value_in es k) ≡ None → (value_in es k ≡ None → es ≡ with_other es k v) → e ∷ es ≡ cond b ((e.0, v) ∷ es) (e ∷ with_other es k v)
-    by true none rest = cc
-    by false none rest = ap (λ l. e ∷ l) (rest none)
 
 -- the first pair of a name in two lists
 pub lookup_append : (test : List ℕ → Bool) (xs ys : Pairs) → lookup test (xs ++ ys) ≡ option_or (lookup test xs) (lookup test ys)
@@ -78,11 +69,3 @@ value_behind k xs ys none = lookup_append (bytes_eq k) xs ys ∙ ap (λ r. optio
 pub always : {T E P : Type 0} (r : Result T E) → P → OnOk r P
 always (Ok x) p = p
 always (Err e) p = tt
-
--- a name with a value in a map's entries has one in their pairs
-pub has_pair : (test : List ℕ → Bool) (es : List (List ℕ × Value)) → is_some (lookup test es) ≡ is_some (lookup test (map pair_of es))
-has_pair test es = by (lookup test es) ∙ ap is_some (lookup_pairs test es)
-  where
-    by : (r : Option Value) → is_some r ≡ is_some (option_map meaning r)
-    by None = refl
-    by (Some v) = refl

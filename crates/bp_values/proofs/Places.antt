@@ -13,19 +13,17 @@ use Rattle.std.proofs.lemmas.Slice.Eq.{bytes_eq-Decides}
 use Rattle.std.proofs.lemmas.Bool.{eqb-true, eqb-false, eq-eqb, ne_eqb}
 use Rattle.std.proofs.lemmas.Cmp.{ranked}
 use Rattle.std.specs.Cmp.{nat_cmp_is}
-use Rattle.std.proofs.lemmas.List.{map-append, length-map, length-take-le, take-append-le, take_all}
+use Rattle.std.proofs.lemmas.List.{map-append, length-map, length-take-le, take_all}
 use Rattle.bp_faults.specs.declared.place.Place.{Place}
 use Rattle.bp_faults.specs.declared.fault.Fault.{Fault}
 use Rattle.bp_faults.specs.declared.refusal.Refusal.{Refusal}
 use Rattle.bp_faults.specs.declared.refusal.Refusal.TheVariants.{Bad, OutOfMemory}
 use Rattle.bp_faults.specs.Answers.{then_do, Refuses}
-use Rattle.bp_names.specs.Meaning.{number_for}
 use Rattle.bp_values.specs.declared.value.Value.{Value}
 use Rattle.bp_values.specs.declared.value.Entry.{Entry, out-Entry}
 use Rattle.bp_values.specs.Values.{Meaning, meaning, Field, field_of, fields_then, no_field, body}
 use Rattle.bp_values.specs.Sums.{sum, sum_fields, field_then, met, value_at, has_name, others}
-use Rattle.bp_values.specs.NameTree.{Search}
-use Rattle.bp_values.specs.Places.{names_in, place_in, AreApart, IsPlaced, is_place, value_for, unplaced, sum_places, sum_place}
+use Rattle.bp_values.specs.Places.{Search, names_in, place_in, AreApart, IsPlaced, is_place, value_for, unplaced, sum_places, sum_place}
 use Rattle.bp_values.proofs.Views.{field_out}
 use Rattle.bp_values.proofs.Steps.{map_take_more}
 use Rattle.bp_values.proofs.Unite.{sum_bodies}
@@ -75,7 +73,7 @@ sum_keeps at (f ∷ fs) gs g is = by (met f.value (sum at f.value) (g 0)) (sum_p
         let same : (record { name = f.name; at = f.at; value = v }) ∷ hs ≡ gs = cc in
         ap names_in (sym same) ∙ ap (λ l. f.name ∷ l) (rest hs refl)
 
-eqb_suc : (p i : ℕ) → eqb (suc p) (suc i) ≡ eqb p i
+pub eqb_suc : (p i : ℕ) → eqb (suc p) (suc i) ≡ eqb p i
 eqb_suc p i = by (eqb p i) refl
   where
     by : (b : Bool) → eqb p i ≡ b → eqb (suc p) (suc i) ≡ b
@@ -192,13 +190,23 @@ apart_push (first ∷ names) name apart none =
     )
 
 pub placed_more : (old new : Search) (names now : List (List ℕ)) (name : List ℕ) (n : ℕ) → IsPlaced old names → old name ≡ None → n ≡ length names
-    → ((q : List ℕ) → new q ≡ option_or (old q) (number_for name n q)) → now ≡ names ++ name ∷ [] → IsPlaced new now
+    → ((q : List ℕ) → new q ≡ cond (bytes_eq name q) (Some n) (old q)) → now ≡ names ++ name ∷ [] → IsPlaced new now
 placed_more old new names now name n placed none count learned is = subst (λ ns. IsPlaced new ns) (sym is) (record {
-  places = λ q. learned q
-      ∙ (λ j. option_or (placed.places q j) (cond (nat_list_eq_equiv.symm name q j) (Some (count j)) None))
-      ∙ sym (place_push names name q);
+  places = λ q. learned q ∙ by q (bytes_eq name q) refl ∙ sym (place_push names name q);
   apart = apart_push names name placed.apart (sym (placed.places name) ∙ none);
 })
+  where
+    or_none : (o : Option ℕ) → o ≡ option_or o None
+    or_none None = refl
+    or_none (Some i) = refl
+
+    by : (q : List ℕ) (b : Bool) → bytes_eq name q ≡ b → cond b (Some n) (old q) ≡ option_or (place_in names q) (cond (bytes_eq q name) (Some (length names)) None)
+    by q true same =
+        let lacks : place_in names q ≡ None = ap (place_in names) (sym ((bytes_eq-Decides name q).0 same)) ∙ sym (placed.places name) ∙ none in
+        ap Some count ∙ sym ((λ j. option_or (lacks j) (cond (nat_list_eq_equiv.symm q name j) (Some (length names)) None)) ∙ ap (λ b. cond b (Some (length names)) None) same)
+    by q false other =
+        placed.places q ∙ or_none (place_in names q)
+        ∙ ap (λ b. option_or (place_in names q) (cond b (Some (length names)) None)) (sym (nat_list_eq_equiv.symm q name ∙ other))
 
 -- where the value of an entry is replaced by its sum
 pub replaced : (at : Place) (es : List Entry) (p : ℕ) (other w : Meaning) (e new : Entry) → p < length es → get_or es p e ≡ e → sum at (meaning (out-Entry e).value) other ≡ Ok w
@@ -230,7 +238,7 @@ none_of (Some n) h = cc
 
 -- one entry more, which no search found before
 pub placed_entry : (old new : Search) (es : List Entry) (i : ℕ) (e : Entry) → i < length es → e ≡ get_or es i e → IsPlaced old (names_in (map field_of (take i es))) → is_some (old (field_of e).name) ≡ false
-    → ((q : List ℕ) → new q ≡ option_or (old q) (number_for (field_of e).name i q)) → IsPlaced new (names_in (map field_of (take (i + 1) es)))
+    → ((q : List ℕ) → new q ≡ cond (bytes_eq (field_of e).name q) (Some i) (old q)) → IsPlaced new (names_in (map field_of (take (i + 1) es)))
 placed_entry old new es i e lt is placed missed learned =
     let done : List Field = map field_of (take i es) in
     let count : length (names_in done) ≡ i = length-map done (λ (f : Field). f.name) ∙ length-map (take i es) field_of ∙ length-take-le i es (omega arith) in
@@ -241,15 +249,9 @@ placed_entry old new es i e lt is placed missed learned =
 pub placed_all : (search : Search) (es : List Entry) (i : ℕ) → length es ≤ i → IsPlaced search (names_in (map field_of (take i es))) → IsPlaced search (names_in (map field_of es))
 placed_all search es i le placed = subst (λ l. IsPlaced search (names_in (map field_of l))) (take_all i es le) placed
 
--- the entries that were there before others went behind
-pub placed_before : (search : Search) (first before others all : List Entry) (n : ℕ) (at : Place) (g : ℕ → Option Meaning) → IsPlaced search (names_in (map field_of first)) → sum_places at (map field_of first) g ≡ Ok (map field_of before)
-    → n ≡ length before → all ≡ before ++ others → IsPlaced search (names_in (map field_of (take n all)))
-placed_before search first before others all n at g placed summed count is =
-    let same : names_in (map field_of (take n all)) ≡ names_in (map field_of first) =
-    ap (λ l. names_in (map field_of (take n l))) is
-    ∙ ap (λ l. names_in (map field_of l)) (take-append-le n before others (omega arith) ∙ take_all n before (omega arith))
-    ∙ sum_keeps at (map field_of first) (map field_of before) g summed in
-    subst (λ ns. IsPlaced search ns) (sym same) placed
+-- the entries with their sums have the same places
+pub placed_summed : (at : Place) (search : Search) (first summed : List Field) (g : ℕ → Option Meaning) → IsPlaced search (names_in first) → sum_places at first g ≡ Ok summed → IsPlaced search (names_in summed)
+placed_summed at search first summed g placed is = subst (λ ns. IsPlaced search ns) (sym (sum_keeps at first summed g is)) placed
 
 -- the sum of two maps, once the shared values are added and the others put behind
 pub placed_sum : (at : Place) (search : Search) (first second summed left all : List Field) (g : ℕ → Option Meaning) → IsPlaced search (names_in first) → ((i : ℕ) → g i ≡ value_for search i second)
@@ -276,7 +278,7 @@ placed_refusal at search first second g OutOfMemory placed values refused = tt
 abbrev pub value_left : List (ℕ × Value) → ℕ → Option Meaning
 value_left left i = option_map meaning (lookup (λ k. is_eq (nat_cmp i k)) left)
 
-above : (p i : ℕ) (left : List (ℕ × Value)) → AllByRecursion (λ k. nat_cmp p k ≡ Less) (keys_of left) → i ≤ p → value_left left i ≡ None
+pub above : (p i : ℕ) (left : List (ℕ × Value)) → AllByRecursion (λ k. nat_cmp p k ≡ Less) (keys_of left) → i ≤ p → value_left left i ≡ None
 above p i [] all le = refl
 above p i (e ∷ left) all le =
     let lt : p < e.0 = ranked p e.0 Less (sym all.0) in

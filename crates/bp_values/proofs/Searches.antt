@@ -1,5 +1,5 @@
 -- What searches find once a tree is turned, or has one name more.
-use Rattle.std.proofs.Common.{◌≡◌, ℕ, List, Option, None, Some, option_map, refl, ap, sym, ◌∙◌, if◌then◌else◌}
+use Rattle.std.proofs.Common.{◌≡◌, ℕ, List, Option, None, Some, refl, ap, sym, ◌∙◌, if◌then◌else◌}
 use Rattle.std.specs.Option.{option_or}
 use Rattle.std.specs.Ordering.{nat_cmp, is_eq, match_ordering}
 use Rattle.std.specs.declared.cmp.Ordering.{Ordering}
@@ -7,20 +7,20 @@ use Rattle.std.specs.declared.cmp.Ordering.TheVariants.{Less, Equal, Greater}
 use Rattle.std.specs.Cmp.Lexicographic.{slice_cmp}
 use Rattle.std.proofs.lemmas.Cmp.{nat_list_cmp_total, nat_list_eq_equiv}
 use Rattle.std.proofs.lemmas.Map.Text.{is_eq-slice_cmp}
-use Rattle.bp_names.specs.Meaning.{number_for}
-use Rattle.bp_values.specs.NameTree.{Search, found_between}
+use Rattle.bp_values.specs.NameTree.{Search, found_between, spot_for}
+use Rattle.bp_values.specs.declared.name_tree.Spot.{Spot}
 
--- the same number, by the order of the names
-number_test : (name : List ℕ) (n : ℕ) (q : List ℕ) → number_for name n q ≡ (if is_eq (slice_cmp nat_cmp q name) then Some n else None)
-number_test name n q = ap (λ b. if b then Some n else None) (sym (nat_list_eq_equiv.symm q name) ∙ sym (is_eq-slice_cmp q name))
+-- the same spot, by the order of the names
+spot_test : (name : List ℕ) (n : Spot) (q : List ℕ) → spot_for name n q ≡ (if is_eq (slice_cmp nat_cmp q name) then Some n else None)
+spot_test name n q = ap (λ b. if b then Some n else None) (sym (nat_list_eq_equiv.symm q name) ∙ sym (is_eq-slice_cmp q name))
 
-or_none : (o : Option ℕ) → option_or o None ≡ o
+or_none : (o : Option Spot) → option_or o None ≡ o
 or_none None = refl
 or_none (Some n) = refl
 
 -- a name alone
-pub alone : (name : List ℕ) (n : ℕ) (q : List ℕ) → found_between (λ r. None) name n (λ r. None) q ≡ number_for name n q
-alone name n q = by (slice_cmp nat_cmp q name) ∙ sym (number_test name n q)
+pub alone : (name : List ℕ) (n : Spot) (q : List ℕ) → found_between (λ r. None) name n (λ r. None) q ≡ spot_for name n q
+alone name n q = by (slice_cmp nat_cmp q name) ∙ sym (spot_test name n q)
   where
     by : (o : Ordering) → match_ordering o None (Some n) None ≡ (if is_eq o then Some n else None)
     by Less = refl
@@ -28,21 +28,11 @@ alone name n q = by (slice_cmp nat_cmp q name) ∙ sym (number_test name n q)
     by Greater = refl
 
 -- what is found in the parts is found
-pub in_parts : (f g f2 g2 : Search) (name : List ℕ) (n : ℕ) (q : List ℕ) → f q ≡ f2 q → g q ≡ g2 q → found_between f name n g q ≡ found_between f2 name n g2 q
+pub in_parts : (f g f2 g2 : Search) (name : List ℕ) (n : Spot) (q : List ℕ) → f q ≡ f2 q → g q ≡ g2 q → found_between f name n g q ≡ found_between f2 name n g2 q
 in_parts f g f2 g2 name n q e h = λ i. match_ordering (slice_cmp nat_cmp q name) (e i) (Some n) (h i)
 
--- each part gets one number
-pub one_number : (f g f2 g2 : Search) (name : List ℕ) (m n : ℕ) (q : List ℕ) → f2 q ≡ option_map (λ old. n) (f q) → g2 q ≡ option_map (λ old. n) (g q)
-    → found_between f2 name n g2 q ≡ option_map (λ old. n) (found_between f name m g q)
-one_number f g f2 g2 name m n q e h = in_parts f2 g2 (λ r. option_map (λ old. n) (f r)) (λ r. option_map (λ old. n) (g r)) name n q e h ∙ by (slice_cmp nat_cmp q name)
-  where
-    by : (o : Ordering) → match_ordering o (option_map (λ old. n) (f q)) (Some n) (option_map (λ old. n) (g q)) ≡ option_map (λ old. n) (match_ordering o (f q) (Some m) (g q))
-    by Less = refl
-    by Equal = refl
-    by Greater = refl
-
 -- two names that ascend, the first over the second or the second over the first
-turned : (a b c : Search) (k l : List ℕ) (m n : ℕ) (q : List ℕ) → slice_cmp nat_cmp k l ≡ Less → found_between a k m (found_between b l n c) q ≡ found_between (found_between a k m b) l n c q
+turned : (a b c : Search) (k l : List ℕ) (m n : Spot) (q : List ℕ) → slice_cmp nat_cmp k l ≡ Less → found_between a k m (found_between b l n c) q ≡ found_between (found_between a k m b) l n c q
 turned a b c k l m n q less = by (slice_cmp nat_cmp q k) (slice_cmp nat_cmp q l) refl refl
   where
     by : (o p : Ordering) → slice_cmp nat_cmp q k ≡ o → slice_cmp nat_cmp q l ≡ p
@@ -58,7 +48,7 @@ turned a b c k l m n q less = by (slice_cmp nat_cmp q k) (slice_cmp nat_cmp q l)
     by Greater Greater e f = refl
 
 -- a tree is turned so that the first name stands over the second
-pub first_on_top : (whole top lower new a b c a2 b2 : Search) (k l : List ℕ) (m n : ℕ) → slice_cmp nat_cmp k l ≡ Less
+pub first_on_top : (whole top lower new a b c a2 b2 : Search) (k l : List ℕ) (m n : Spot) → slice_cmp nat_cmp k l ≡ Less
     → ((q : List ℕ) → whole q ≡ found_between top l n c q) → ((q : List ℕ) → top q ≡ found_between a k m b q)
     → ((q : List ℕ) → lower q ≡ found_between b2 l n c q) → ((q : List ℕ) → b2 q ≡ b q) → ((q : List ℕ) → a2 q ≡ a q)
     → ((q : List ℕ) → new q ≡ found_between a2 k m lower q) → (q : List ℕ) → new q ≡ whole q
@@ -67,7 +57,7 @@ first_on_top whole top lower new a b c a2 b2 k l m n less is_whole is_top is_low
     ∙ turned a b c k l m n q less ∙ sym (in_parts top c (found_between a k m b) c l n q (is_top q) refl) ∙ sym (is_whole q)
 
 -- a tree is turned so that the second name stands over the first
-pub second_on_top : (whole top lower new a b c b2 c2 : Search) (k l : List ℕ) (m n : ℕ) → slice_cmp nat_cmp k l ≡ Less
+pub second_on_top : (whole top lower new a b c b2 c2 : Search) (k l : List ℕ) (m n : Spot) → slice_cmp nat_cmp k l ≡ Less
     → ((q : List ℕ) → whole q ≡ found_between a k m top q) → ((q : List ℕ) → top q ≡ found_between b l n c q)
     → ((q : List ℕ) → lower q ≡ found_between a k m b2 q) → ((q : List ℕ) → b2 q ≡ b q) → ((q : List ℕ) → c2 q ≡ c q)
     → ((q : List ℕ) → new q ≡ found_between lower l n c2 q) → (q : List ℕ) → new q ≡ whole q
@@ -76,52 +66,52 @@ second_on_top whole top lower new a b c b2 c2 k l m n less is_whole is_top is_lo
     ∙ sym (turned a b c k l m n q less) ∙ sym (in_parts a top a (found_between b l n c) k m q refl (is_top q)) ∙ sym (is_whole q)
 
 -- names that a third tells apart differ
-other : (name k q : List ℕ) (n : ℕ) (o p : Ordering) → slice_cmp nat_cmp name k ≡ o → slice_cmp nat_cmp q k ≡ p → (p ≡ o → ⊥) → number_for name n q ≡ None
-other name k q n o p here there apart = number_test name n q ∙ by (slice_cmp nat_cmp q name) refl
+other : (name k q : List ℕ) (n : Spot) (o p : Ordering) → slice_cmp nat_cmp name k ≡ o → slice_cmp nat_cmp q k ≡ p → (p ≡ o → ⊥) → spot_for name n q ≡ None
+other name k q n o p here there apart = spot_test name n q ∙ by (slice_cmp nat_cmp q name) refl
   where
     by : (r : Ordering) → slice_cmp nat_cmp q name ≡ r → (if is_eq r then Some n else None) ≡ None
     by Less e = refl
     by Equal e = absurd (apart (sym there ∙ nat_list_cmp_total.congr q name k e ∙ here))
     by Greater e = refl
 
-unchanged : (o r : Option ℕ) → r ≡ None → o ≡ option_or o r
+unchanged : (o r : Option Spot) → r ≡ None → o ≡ option_or o r
 unchanged o r none = sym (or_none o) ∙ ap (option_or o) (sym none)
 
 -- one name more, before a node's
-pub more_before : (whole new before before2 behind behind2 : Search) (name k : List ℕ) (m n : ℕ) → slice_cmp nat_cmp name k ≡ Less
-    → ((q : List ℕ) → whole q ≡ found_between before k m behind q) → ((q : List ℕ) → before2 q ≡ option_or (before q) (number_for name n q)) → ((q : List ℕ) → behind2 q ≡ behind q)
-    → ((q : List ℕ) → new q ≡ found_between before2 k m behind2 q) → (q : List ℕ) → new q ≡ option_or (whole q) (number_for name n q)
+pub more_before : (whole new before before2 behind behind2 : Search) (name k : List ℕ) (m n : Spot) → slice_cmp nat_cmp name k ≡ Less
+    → ((q : List ℕ) → whole q ≡ found_between before k m behind q) → ((q : List ℕ) → before2 q ≡ option_or (before q) (spot_for name n q)) → ((q : List ℕ) → behind2 q ≡ behind q)
+    → ((q : List ℕ) → new q ≡ found_between before2 k m behind2 q) → (q : List ℕ) → new q ≡ option_or (whole q) (spot_for name n q)
 more_before whole new before before2 behind behind2 name k m n less is_whole more same is_new q =
-    is_new q ∙ in_parts before2 behind2 (λ r. option_or (before r) (number_for name n r)) behind k m q (more q) (same q)
-    ∙ by (slice_cmp nat_cmp q k) refl ∙ ap (λ o. option_or o (number_for name n q)) (sym (is_whole q))
+    is_new q ∙ in_parts before2 behind2 (λ r. option_or (before r) (spot_for name n r)) behind k m q (more q) (same q)
+    ∙ by (slice_cmp nat_cmp q k) refl ∙ ap (λ o. option_or o (spot_for name n q)) (sym (is_whole q))
   where
     by : (o : Ordering) → slice_cmp nat_cmp q k ≡ o
-        → match_ordering o (option_or (before q) (number_for name n q)) (Some m) (behind q) ≡ option_or (match_ordering o (before q) (Some m) (behind q)) (number_for name n q)
+        → match_ordering o (option_or (before q) (spot_for name n q)) (Some m) (behind q) ≡ option_or (match_ordering o (before q) (Some m) (behind q)) (spot_for name n q)
     by Less e = refl
     by Equal e = refl
-    by Greater e = unchanged (behind q) (number_for name n q) (other name k q n Less Greater less e (λ (never : Greater ≡ Less). cc))
+    by Greater e = unchanged (behind q) (spot_for name n q) (other name k q n Less Greater less e (λ (never : Greater ≡ Less). cc))
 
 -- one name more, behind a node's
-pub more_behind : (whole new before before2 behind behind2 : Search) (name k : List ℕ) (m n : ℕ) → slice_cmp nat_cmp name k ≡ Greater
-    → ((q : List ℕ) → whole q ≡ found_between before k m behind q) → ((q : List ℕ) → behind2 q ≡ option_or (behind q) (number_for name n q)) → ((q : List ℕ) → before2 q ≡ before q)
-    → ((q : List ℕ) → new q ≡ found_between before2 k m behind2 q) → (q : List ℕ) → new q ≡ option_or (whole q) (number_for name n q)
+pub more_behind : (whole new before before2 behind behind2 : Search) (name k : List ℕ) (m n : Spot) → slice_cmp nat_cmp name k ≡ Greater
+    → ((q : List ℕ) → whole q ≡ found_between before k m behind q) → ((q : List ℕ) → behind2 q ≡ option_or (behind q) (spot_for name n q)) → ((q : List ℕ) → before2 q ≡ before q)
+    → ((q : List ℕ) → new q ≡ found_between before2 k m behind2 q) → (q : List ℕ) → new q ≡ option_or (whole q) (spot_for name n q)
 more_behind whole new before before2 behind behind2 name k m n greater is_whole more same is_new q =
-    is_new q ∙ in_parts before2 behind2 before (λ r. option_or (behind r) (number_for name n r)) k m q (same q) (more q)
-    ∙ by (slice_cmp nat_cmp q k) refl ∙ ap (λ o. option_or o (number_for name n q)) (sym (is_whole q))
+    is_new q ∙ in_parts before2 behind2 before (λ r. option_or (behind r) (spot_for name n r)) k m q (same q) (more q)
+    ∙ by (slice_cmp nat_cmp q k) refl ∙ ap (λ o. option_or o (spot_for name n q)) (sym (is_whole q))
   where
     by : (o : Ordering) → slice_cmp nat_cmp q k ≡ o
-        → match_ordering o (before q) (Some m) (option_or (behind q) (number_for name n q)) ≡ option_or (match_ordering o (before q) (Some m) (behind q)) (number_for name n q)
-    by Less e = unchanged (before q) (number_for name n q) (other name k q n Greater Less greater e (λ (never : Less ≡ Greater). cc))
+        → match_ordering o (before q) (Some m) (option_or (behind q) (spot_for name n q)) ≡ option_or (match_ordering o (before q) (Some m) (behind q)) (spot_for name n q)
+    by Less e = unchanged (before q) (spot_for name n q) (other name k q n Greater Less greater e (λ (never : Less ≡ Greater). cc))
     by Equal e = refl
     by Greater e = refl
 
--- a name that is a node's keeps its number
-pub no_more : (whole new before behind : Search) (name k : List ℕ) (m n : ℕ) → slice_cmp nat_cmp name k ≡ Equal
-    → ((q : List ℕ) → whole q ≡ found_between before k m behind q) → ((q : List ℕ) → new q ≡ whole q) → (q : List ℕ) → new q ≡ option_or (whole q) (number_for name n q)
+-- a name that is a node's keeps its spot
+pub no_more : (whole new before behind : Search) (name k : List ℕ) (m n : Spot) → slice_cmp nat_cmp name k ≡ Equal
+    → ((q : List ℕ) → whole q ≡ found_between before k m behind q) → ((q : List ℕ) → new q ≡ whole q) → (q : List ℕ) → new q ≡ option_or (whole q) (spot_for name n q)
 no_more whole new before behind name k m n equal is_whole same q =
-    same q ∙ is_whole q ∙ by (slice_cmp nat_cmp q k) refl ∙ ap (λ o. option_or o (number_for name n q)) (sym (is_whole q))
+    same q ∙ is_whole q ∙ by (slice_cmp nat_cmp q k) refl ∙ ap (λ o. option_or o (spot_for name n q)) (sym (is_whole q))
   where
-    by : (o : Ordering) → slice_cmp nat_cmp q k ≡ o → match_ordering o (before q) (Some m) (behind q) ≡ option_or (match_ordering o (before q) (Some m) (behind q)) (number_for name n q)
-    by Less e = unchanged (before q) (number_for name n q) (other name k q n Equal Less equal e (λ (never : Less ≡ Equal). cc))
+    by : (o : Ordering) → slice_cmp nat_cmp q k ≡ o → match_ordering o (before q) (Some m) (behind q) ≡ option_or (match_ordering o (before q) (Some m) (behind q)) (spot_for name n q)
+    by Less e = unchanged (before q) (spot_for name n q) (other name k q n Equal Less equal e (λ (never : Less ≡ Equal). cc))
     by Equal e = refl
-    by Greater e = unchanged (behind q) (number_for name n q) (other name k q n Equal Greater equal e (λ (never : Greater ≡ Equal). cc))
+    by Greater e = unchanged (behind q) (spot_for name n q) (other name k q n Equal Greater equal e (λ (never : Greater ≡ Equal). cc))

@@ -11,21 +11,21 @@ use Rattle.bp_values.specs.declared.map_sum.MapSum.{MapSum}
 use Rattle.bp_values.specs.Values.{Meaning, Field, field_of, body}
 use Rattle.bp_values.specs.Scopes.{Pairs, pairs_of, layer_pairs, value_in}
 use Rattle.bp_values.specs.Sums.{has_name}
-use Rattle.bp_values.specs.Places.{Places, PlacesOf, names_in}
+use Rattle.bp_values.specs.MapPlaces.{PlacesOf}
 use Rattle.bp_values.specs.KeptPlaces.{kept_for}
 use Rattle.bp_values.specs.Meaning.{Known, raw_of}
 
 -- What a file inherits, and its own behind.
 abbrev pub visible : Names → Pairs
-visible names = pairs_of names.inherited.now ++ layer_pairs names.own.now
+visible names = pairs_of names.inherited.now ++ layer_pairs names.own.now.layer
 
 -- What a file knows that inherits those pairs.
 abbrev pub known_of : Pairs → State → Known
-known_of inherited s = record { scope = inherited ++ layer_pairs s.own; is_used = knows s.used; modules = map raw_of s.modules.items }
+known_of inherited s = record { scope = inherited ++ layer_pairs s.own.layer; is_used = knows s.used; modules = map raw_of s.modules.items }
 
 -- The places that are kept are those of the names of the file's variables.
 abbrev pub KeepsPlaces : State → Type 0
-KeepsPlaces s = (name : List ℕ) → PlacesOf (kept_for s.kept name) (value_in (layer_pairs s.own) name)
+KeepsPlaces s = (name : List ℕ) → PlacesOf (kept_for s.kept name) (value_in (layer_pairs s.own.layer) name)
 
 -- The place of the first entry of that name.
 abbrev pub place_of : List ℕ → List Field → Option ℕ
@@ -48,9 +48,9 @@ not_among names fs = filter (λ f. not (knows names f.name)) fs
 abbrev pub sum_so_far : MapSum → Meaning
 sum_so_far total = body (map field_of total.entries.items)
 
--- The places that it knows are those of its names.
+-- The places that it knows are those of that map.
 abbrev pub HasPlaces : MapSum → Type 0
-HasPlaces total = Places total.names (names_in (map field_of total.entries.items))
+HasPlaces total = PlacesOf total.places (Some (sum_so_far total))
 
 -- Whether a name is noted once those in an expression are, part by part.
 abbrev mutual

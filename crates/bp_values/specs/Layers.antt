@@ -1,5 +1,6 @@
 -- Layers as lists of pairs: what each file sets, one file behind the other.
-use Rattle.std.specs.Prelude.{ℕ, suc, List, [], ◌∷◌, map, Option, None, Some, option_map, is_some, if◌then◌else◌}
+use Rattle.std.specs.Prelude.{ℕ, suc, List, [], ◌∷◌, map, length, Option, None, option_map}
+use Rattle.std.specs.Option.{option_or}
 use Rattle.std.specs.Arc.{arc_value}
 use Rattle.std.specs.Str.{bytes_eq}
 use Rattle.std.specs.Map.{lookup}
@@ -7,6 +8,8 @@ use Rattle.std.specs.List.{flat_map}
 use Rattle.std.specs.declared.sync.Arc.{Arc}
 use Rattle.bp_values.specs.declared.value.Value.{Value}
 use Rattle.bp_values.specs.declared.layer.Layer.{Layer}
+use Rattle.bp_values.specs.declared.name_tree.Spot.{Spot}
+use Rattle.bp_values.specs.NamePlaces.{place_in}
 use Rattle.bp_values.specs.Values.{Meaning, meaning}
 
 -- Names and their values, in the order in which the names were first set.
@@ -29,8 +32,20 @@ pairs_in layers = flat_map (λ layer. layer_pairs (arc_value layer)) layers
 abbrev pub value_in : Pairs → List ℕ → Option Meaning
 value_in scope name = lookup (bytes_eq name) scope
 
--- The number of the first layer that has the name. No public contract speaks of it.
-abbrev pub layer_of : {Z : Type 0} → List (Arc Layer Z) → List ℕ → Option ℕ
-layer_of [] name = None
-layer_of (layer ∷ layers) name =
-    if is_some (value_in (layer_pairs (arc_value layer)) name) then Some 0 else option_map suc (layer_of layers name)
+-- A spot of one layer.
+abbrev pub spot_at : ℕ → ℕ → Spot
+spot_at layer place = record { layer = layer; place = place }
+
+-- The same spot, where one layer more stands before.
+abbrev pub one_behind : Spot → Spot
+one_behind spot = spot_at (suc spot.layer) spot.place
+
+-- Where a name stands: the first layer that has it, and its place there. No public contract speaks of it.
+abbrev pub spot_in_layers : {Z : Type 0} → List (Arc Layer Z) → List ℕ → Option Spot
+spot_in_layers [] name = None
+spot_in_layers (layer ∷ layers) name =
+    option_or (option_map (spot_at 0) (place_in (arc_value layer).values.items name)) (option_map one_behind (spot_in_layers layers name))
+
+-- The same, where the names of one file more stand behind the layers. No public contract speaks of it.
+abbrev pub spot_behind : {Z : Type 0} → List (Arc Layer Z) → List (List ℕ × Value) → List ℕ → Option Spot
+spot_behind layers own name = option_or (spot_in_layers layers name) (option_map (spot_at (length layers)) (place_in own name))

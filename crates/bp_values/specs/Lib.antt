@@ -3,10 +3,13 @@ pub mod Depths
 pub mod Sums
 pub mod NameTree
 pub mod NamePlaces
+pub mod PlaceTable
 pub mod Places
+pub mod MapPlaces
 pub mod KeptPlaces
 pub mod Layers
 pub mod Scopes
+pub mod OwnNames
 pub mod Expressions
 pub mod References
 pub mod Meaning

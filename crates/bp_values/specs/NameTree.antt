@@ -1,22 +1,28 @@
 -- What a search of a tree finds. No public contract speaks of it.
-use Rattle.std.specs.Prelude.{ℕ, suc, ◌+◌, List, Option, Some, None}
+use Rattle.std.specs.Prelude.{ℕ, suc, ◌+◌, List, Option, Some, None, if◌then◌else◌}
 use Rattle.std.specs.Ordering.{nat_cmp, match_ordering}
 use Rattle.std.specs.Cmp.Lexicographic.{slice_cmp}
+use Rattle.std.specs.Str.{bytes_eq}
 use Rattle.std.specs.Arc.{arc_value}
 use Rattle.bp_values.specs.declared.name_tree.NameTree.{NameTree}
 use Rattle.bp_values.specs.declared.name_tree.Node.{Node}
+use Rattle.bp_values.specs.declared.name_tree.Spot.{Spot}
 use Rattle.bp_values.specs.declared.name_tree.NameTree.TheOpen.{NameTree-F, Node-F}
 use Rattle.bp_values.specs.declared.name_tree.NameTree.TheOpen as layer
 use Rattle.bp_values.specs.declared.name_tree.NameTree.TheFolds.{fold-NameTree, fold-Node}
 
--- What a search for a name finds: its number, or nothing.
+-- What a search for a name finds: its spot, or nothing.
 abbrev pub Search : Type 0
-Search = List ℕ → Option ℕ
+Search = List ℕ → Option Spot
+
+-- A spot is given to one name alone.
+abbrev pub spot_for : List ℕ → Spot → Search
+spot_for name spot query = if bytes_eq name query then Some spot else None
 
 -- A search that compares with one name, and goes on before it or behind it.
-abbrev pub found_between : Search → List ℕ → ℕ → Search → Search
-found_between before name number behind query =
-    match_ordering (slice_cmp nat_cmp query name) (before query) (Some number) (behind query)
+abbrev pub found_between : Search → List ℕ → Spot → Search → Search
+found_between before name spot behind query =
+    match_ordering (slice_cmp nat_cmp query name) (before query) (Some spot) (behind query)
 
 -- One layer of a tree, with what is found in each part.
 abbrev pub tree_step : NameTree-F Search Search → Search
@@ -25,13 +31,13 @@ tree_step (layer.Fork node) = arc_value node
 
 -- One layer of a node, with what is found in each part.
 abbrev pub node_step : Node-F Search Search → Search
-node_step n = found_between n.before n.name n.number n.behind
+node_step n = found_between n.before n.name n.spot n.behind
 
--- The number that a tree finds for a name.
+-- The spot that a tree finds for a name.
 abbrev pub found : NameTree → Search
 found = fold-NameTree Search Search tree_step node_step
 
--- The number that a node, or what is below it, finds for a name.
+-- The spot that a node, or what is below it, finds for a name.
 abbrev pub found_below : Node → Search
 found_below = fold-Node Search Search tree_step node_step
 

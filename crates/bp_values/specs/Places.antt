@@ -7,10 +7,10 @@ use Rattle.bp_faults.specs.declared.place.Place.{Place}
 use Rattle.bp_faults.specs.declared.fault.Fault.{Fault}
 use Rattle.bp_faults.specs.Answers.{then_do}
 use Rattle.bp_values.specs.declared.value.Value.{Value}
-use Rattle.bp_values.specs.declared.name_tree.NameTree.{NameTree}
-use Rattle.bp_values.specs.Values.{Meaning, Body, meaning, Field, fields_of}
+use Rattle.bp_values.specs.declared.place_table.PlaceTable.{PlaceTable}
+use Rattle.bp_values.specs.Values.{Meaning, meaning, Field}
 use Rattle.bp_values.specs.Sums.{sum, field_then, met}
-use Rattle.bp_values.specs.NameTree.{Search, found}
+use Rattle.bp_values.specs.PlaceTable.{found_place}
 
 -- The names of the entries, in their order.
 abbrev pub names_in : List Field → List (List ℕ)
@@ -26,21 +26,19 @@ abbrev pub AreApart : List (List ℕ) → Type 0
 AreApart [] = ⊤
 AreApart (first ∷ names) = (place_in names first ≡ None) × AreApart names
 
+-- What a search for a name finds: its place, or nothing.
+abbrev pub Search : Type 0
+Search = List ℕ → Option ℕ
+
 -- The search finds the place of each name, and no two of the names are equal.
 pub record IsPlaced (search : Search) (names : List (List ℕ)) : Type 0 where
   pub places : (name : List ℕ) → search name ≡ place_in names name
   pub apart : AreApart names
 
--- The tree, if there is one, finds the place of each name.
-abbrev pub Places : Option NameTree → List (List ℕ) → Type 0
+-- The table, if there is one, finds the place of each name.
+abbrev pub Places : Option PlaceTable → List (List ℕ) → Type 0
 Places None names = ⊤
-Places (Some tree) names = IsPlaced (found tree) names
-
--- The same of a variable's value: the tree, if there is one, finds the place of each name of a map.
-abbrev pub PlacesOf : Option NameTree → Option Meaning → Type 0
-PlacesOf None value = ⊤
-PlacesOf (Some tree) (Some (Body fields)) = IsPlaced (found tree) (names_in (fields_of fields))
-PlacesOf (Some tree) _ = ⊥
+Places (Some table) names = IsPlaced (found_place table) names
 
 -- The place is that one.
 abbrev pub is_place : Option ℕ → ℕ → Bool

@@ -3,16 +3,17 @@ ghost use Rattle.bp_parser.specs.Trees.{tree_of, map_of, definition_of, Assigns,
 ghost use Rattle.bp_values.specs.Values.{meaning};
 ghost use Rattle.bp_faults.specs.Answers.{Answers, Refuses, Leaves};
 ghost use Rattle.bp_values.specs.Scopes.{pairs_of, value_in};
+ghost use Rattle.bp_values.specs.OwnNames.{HasSpots};
 ghost use Rattle.bp_values.specs.Inside.{known_of, KeepsPlaces};
 ghost use Rattle.bp_values.specs.Meaning.{raw_of, after_assignment, after_extension, after_module, after_definition, after_definitions, evaluated};
 
 use crate::expression::{entries_of, value_of};
 use crate::kept_places::KeptPlaces;
-use crate::layer::Layer;
 use crate::map_sum::add_to;
 use crate::marks::{mark, mark_entries};
+use crate::own_names::OwnNames;
 use crate::scope::Names;
-use crate::{Entry, EvalError, Scope};
+use crate::{Entry, EvalError, Scope, Value};
 use bp_faults::{Fault, FaultKind, Place, Text};
 use bp_names::NameSet;
 use bp_parser::{Def, Expr, FileTree, MapExpr};
@@ -30,7 +31,7 @@ pub struct RawModule {
 /// which it referred, and its modules.
 #[derive(Drop)]
 pub struct State<'a> {
-    own: Layer,
+    own: OwnNames,
     // Those of the names of maps that were extended, so that the next `+=` looks its keys up.
     kept: KeptPlaces<'a>,
     used: NameSet<'a>,
@@ -46,8 +47,10 @@ fn assign<'a>(
     at: Place,
     value: &'a Expr,
 ) -> Result<(), EvalError>
-    requires { KeepsPlaces state.old }
+    requires spots { HasSpots inherited.now state.old.own }
+    requires places { KeepsPlaces state.old }
     ensures known { Leaves (known_of (pairs_of inherited.now)) state.new result (after_assignment (known_of (pairs_of inherited.now) state.old) name.now at (tree_of value.now) (value_in (known_of (pairs_of inherited.now) state.old).scope name.now)) }
+    ensures spots { OnOk result (HasSpots inherited.now state.new.own) }
     ensures places { OnOk result (KeepsPlaces state.new) }
 {
     let names = Names {
@@ -59,7 +62,7 @@ fn assign<'a>(
     }
     let new = value_of(alloc, &names, value)?;
     mark(&mut state.used, value)?;
-    state.own.set(alloc, name.copy(alloc)?, new)?;
+    state.own.set(alloc, inherited, name, new)?;
     Ok(())
 }
 
@@ -73,16 +76,18 @@ fn extend<'a>(
     value: &'a Expr,
 ) -> Result<(), EvalError>
     requires own { value_in (pairs_of inherited.now) name.now ≡ None }
+    requires spots { HasSpots inherited.now state.old.own }
     requires places { KeepsPlaces state.old }
     ensures known { Leaves (known_of (pairs_of inherited.now)) state.new result (after_extension (known_of (pairs_of inherited.now) state.old) name.now at (tree_of value.now) (value_in (known_of (pairs_of inherited.now) state.old).scope name.now)) }
+    ensures spots { OnOk result (HasSpots inherited.now state.new.own) }
     ensures places { OnOk result (KeepsPlaces state.new) }
 {
     let names = Names {
         inherited,
         own: &state.own,
     };
-    match names.get(name) {
-        Some(_) => {
+    match names.own_place(name) {
+        Some(place) => {
             if state.used.knows(name.as_str()) {
                 return Err(EvalError::Bad(Fault::on(
                     alloc,
@@ -93,12 +98,12 @@ fn extend<'a>(
             }
             let other = value_of(alloc, &names, value)?;
             mark(&mut state.used, value)?;
-            let old = state.own.take(name);
+            let old = state.own.layer.replace(place, Value::Bool(false));
             let variable = name.as_str();
             let places = state.kept.keep(variable, None)?;
             let (new, places) = add_to(alloc, old, places, other, at)?;
             state.kept.keep(variable, places)?;
-            state.own.replace(name, new);
+            state.own.layer.replace(place, new);
             Ok(())
         }
         None => Err(EvalError::Bad(Fault::on(
@@ -119,8 +124,10 @@ fn declare<'a>(
     at: Place,
     body: &'a MapExpr,
 ) -> Result<(), EvalError>
-    requires { KeepsPlaces state.old }
+    requires spots { HasSpots inherited.now state.old.own }
+    requires places { KeepsPlaces state.old }
     ensures known { Leaves (known_of (pairs_of inherited.now)) state.new result (after_module (known_of (pairs_of inherited.now) state.old) kind.now at (map_of body.now)) }
+    ensures spots { OnOk result (HasSpots inherited.now state.new.own) }
     ensures places { OnOk result (KeepsPlaces state.new) }
 {
     let names = Names {
@@ -144,8 +151,10 @@ fn define<'a>(
     state: &mut State<'a>,
     def: &'a Def,
 ) -> Result<(), EvalError>
-    requires { KeepsPlaces state.old }
+    requires spots { HasSpots inherited.now state.old.own }
+    requires places { KeepsPlaces state.old }
     ensures known { Leaves (known_of (pairs_of inherited.now)) state.new result (after_definition (pairs_of inherited.now) (known_of (pairs_of inherited.now) state.old) (definition_of def.now)) }
+    ensures spots { OnOk result (HasSpots inherited.now state.new.own) }
     ensures places { OnOk result (KeepsPlaces state.new) }
 {
     match def {
@@ -172,8 +181,10 @@ fn define_all<'a>(
     state: &mut State<'a>,
     defs: &'a [Def],
 ) -> Result<(), EvalError>
-    requires { KeepsPlaces state.old }
+    requires spots { HasSpots inherited.now state.old.own }
+    requires places { KeepsPlaces state.old }
     ensures known { Leaves (known_of (pairs_of inherited.now)) state.new result (after_definitions (pairs_of inherited.now) (known_of (pairs_of inherited.now) state.old) (map definition_of defs.now)) }
+    ensures spots { OnOk result (HasSpots inherited.now state.new.own) }
     ensures places { OnOk result (KeepsPlaces state.new) }
 {
     'defs: for def in defs {
@@ -195,7 +206,7 @@ pub fn evaluate(
     ensures { Answers (λ r. (map raw_of r.0.items, pairs_of r.1)) result (evaluated (pairs_of inherited.now) (map definition_of tree.now.defs.items)) }
 {
     let mut state = State {
-        own: Layer::new(alloc),
+        own: OwnNames::below(alloc, inherited)?,
         kept: KeptPlaces::new(alloc),
         used: NameSet::new(alloc),
         modules: Vec::new(alloc),

@@ -2,15 +2,15 @@ ghost use Rattle.std.specs.Prelude.{◌≡◌, ℕ, List, None, IfOk, OnOk, if�
 ghost use Rattle.std.specs.Str.{bytes_eq};
 ghost use Rattle.bp_values.specs.KeptPlaces.{kept_for};
 
-use crate::name_tree::NameTree;
+use crate::map_places::MapPlaces;
 use bp_faults::OutOfMemory;
 use std::alloc::Global;
 use std::collections::BTreeMap;
 
-/// The places of the names of maps, by the variables that were extended by them.
+/// The places of the names of maps and of the maps in them, by the variables that were extended.
 #[derive(Drop)]
 pub struct KeptPlaces<'a> {
-    trees: BTreeMap<&'a str, Option<NameTree>>,
+    known: BTreeMap<&'a str, Option<MapPlaces>>,
 }
 
 impl<'a> KeptPlaces<'a> {
@@ -18,7 +18,7 @@ impl<'a> KeptPlaces<'a> {
         ensures { (name : List ℕ) → kept_for result name ≡ None }
     {
         KeptPlaces {
-            trees: BTreeMap::new(alloc),
+            known: BTreeMap::new(alloc),
         }
     }
 
@@ -26,12 +26,12 @@ impl<'a> KeptPlaces<'a> {
     pub fn keep(
         &mut self,
         variable: &'a str,
-        names: Option<NameTree>,
-    ) -> Result<Option<NameTree>, OutOfMemory>
+        places: Option<MapPlaces>,
+    ) -> Result<Option<MapPlaces>, OutOfMemory>
         ensures had { IfOk result (λ had. had ≡ kept_for self.old variable.now) }
-        ensures kept { OnOk result ((name : List ℕ) → kept_for self.new name ≡ (if bytes_eq variable.now name then names else kept_for self.old name)) }
+        ensures kept { OnOk result ((name : List ℕ) → kept_for self.new name ≡ (if bytes_eq variable.now name then places else kept_for self.old name)) }
     {
-        match self.trees.insert(variable, names)? {
+        match self.known.insert(variable, places)? {
             Some(had) => Ok(had),
             None => Ok(None),
         }

@@ -1,7 +1,6 @@
-ghost use Rattle.std.specs.Prelude.{◌≡◌, List, ℕ, None, Some, option_map, IfOk, OnOk};
+ghost use Rattle.std.specs.Prelude.{◌≡◌, List, ℕ, None, Some, IfOk, OnOk};
 ghost use Rattle.std.specs.Option.{option_or};
-ghost use Rattle.bp_names.specs.Meaning.{number_for};
-ghost use Rattle.bp_values.specs.NameTree.{found, found_below, found_between, nodes, nodes_below};
+ghost use Rattle.bp_values.specs.NameTree.{found, found_below, found_between, nodes, nodes_below, spot_for};
 
 use bp_faults::{OutOfMemory, Text};
 use std::alloc::Global;
@@ -9,7 +8,14 @@ use std::cmp::Ordering;
 use std::mem;
 use std::sync::Arc;
 
-/// Names with numbers, in a balanced tree. What it shares with other trees is never written over.
+/// Where the value of a name stands: the number of its layer, and its place there.
+#[derive(Clone, Copy, Drop)]
+pub struct Spot {
+    pub layer: usize,
+    pub place: usize,
+}
+
+/// Names with their spots, in a balanced tree. What it shares with other trees is never written over.
 #[cycle(name_tree)]
 #[derive(Drop)]
 pub enum NameTree {
@@ -17,7 +23,7 @@ pub enum NameTree {
     Fork(Arc<Node>),
 }
 
-/// A name with its number, between the names before it and those behind it.
+/// A name with its spot, between the names before it and those behind it.
 ///
 /// The height is how many nodes stand one below the other on the longest way, this one among them.
 /// Those of the two sides differ by at most one.
@@ -26,43 +32,34 @@ pub enum NameTree {
 pub struct Node {
     before: NameTree,
     name: Text,
-    number: usize,
+    spot: Spot,
     behind: NameTree,
     height: u32,
 }
 
 impl NameTree {
-    /// The number of a name.
-    #[cycle(number_of)]
-    pub fn number_of(&self, name: &str) -> Option<usize>
+    /// Where the value of a name stands.
+    #[cycle(spot_of)]
+    pub fn spot_of(&self, name: &str) -> Option<Spot>
         ensures { result ≡ found self.now name.now }
     {
         match self {
             NameTree::Empty => None,
             NameTree::Fork(node) => match name.cmp(node.name.as_str()) {
-                Ordering::Less => node.before.number_of(name),
-                Ordering::Equal => Some(node.number),
-                Ordering::Greater => node.behind.number_of(name),
+                Ordering::Less => node.before.spot_of(name),
+                Ordering::Equal => Some(node.spot),
+                Ordering::Greater => node.behind.spot_of(name),
             },
         }
     }
 
-    /// These names and one more, unless it has a number here.
-    pub fn with(self, alloc: Global, name: Text, number: usize) -> Result<NameTree, OutOfMemory>
-        ensures { IfOk result (λ tree. (q : List ℕ) → found tree q ≡ option_or (found self q) (number_for name number q)) }
-    {
-        let mut tree = self;
-        tree.insert(alloc, name, number)?;
-        Ok(tree)
-    }
-
-    /// One name more, unless it has a number here. A node that another tree shares is copied first.
+    /// One name more, unless it is here. A node that another tree shares is copied first.
     #[cycle(insert)]
-    fn insert(&mut self, alloc: Global, name: Text, number: usize) -> Result<(), OutOfMemory>
-        ensures { OnOk result ((q : List ℕ) → found self.new q ≡ option_or (found self.old q) (number_for name number q)) }
+    pub fn insert(&mut self, alloc: Global, name: Text, spot: Spot) -> Result<(), OutOfMemory>
+        ensures { OnOk result ((q : List ℕ) → found self.new q ≡ option_or (found self.old q) (spot_for name spot q)) }
     {
         let NameTree::Fork(shared) = self else {
-            *self = leaf(alloc, name, number)?;
+            *self = leaf(alloc, name, spot)?;
             return Ok(());
         };
         unshare(alloc, shared)?;
@@ -73,14 +70,14 @@ impl NameTree {
         let height = node.height;
         match name.as_str().cmp(node.name.as_str()) {
             Ordering::Less => {
-                node.before.insert(alloc, name, number)?;
+                node.before.insert(alloc, name, spot)?;
                 if node.before.height() == height {
                     self.balance(alloc)?;
                 }
             }
             Ordering::Equal => {}
             Ordering::Greater => {
-                node.behind.insert(alloc, name, number)?;
+                node.behind.insert(alloc, name, spot)?;
                 if node.behind.height() == height {
                     self.balance(alloc)?;
                 }
@@ -119,20 +116,6 @@ impl NameTree {
         }
         node.height = before.max(behind).saturating_add(1);
         true
-    }
-
-    /// The same names, each with this number.
-    #[cycle(renumbered)]
-    pub fn renumbered(&self, alloc: Global, number: usize) -> Result<NameTree, OutOfMemory>
-        ensures { IfOk result (λ tree. (q : List ℕ) → found tree q ≡ option_map (λ old. number) (found self.now q)) }
-    {
-        let NameTree::Fork(node) = self else {
-            return Ok(NameTree::Empty);
-        };
-        let before = node.before.renumbered(alloc, number)?;
-        let behind = node.behind.renumbered(alloc, number)?;
-        let name = node.name.copy(alloc)?;
-        Ok(fork(alloc, joined(before, name, number, behind))?)
     }
 
     /// The same tree.
@@ -174,7 +157,7 @@ fn copied(alloc: Global, node: &Node) -> Result<Node, OutOfMemory>
     Ok(Node {
         before: node.before.share()?,
         name: node.name.copy(alloc)?,
-        number: node.number,
+        spot: node.spot,
         behind: node.behind.share()?,
         height: node.height,
     })
@@ -191,13 +174,10 @@ fn taken(alloc: Global, node: Arc<Node>) -> Result<Node, OutOfMemory>
 }
 
 /// One name alone.
-fn leaf(alloc: Global, name: Text, number: usize) -> Result<NameTree, OutOfMemory>
-    ensures { IfOk result (λ tree. (q : List ℕ) → found tree q ≡ number_for name number q) }
+fn leaf(alloc: Global, name: Text, spot: Spot) -> Result<NameTree, OutOfMemory>
+    ensures { IfOk result (λ tree. (q : List ℕ) → found tree q ≡ spot_for name spot q) }
 {
-    Ok(fork(
-        alloc,
-        joined(NameTree::Empty, name, number, NameTree::Empty),
-    )?)
+    Ok(fork(alloc, joined(NameTree::Empty, name, spot, NameTree::Empty))?)
 }
 
 fn fork(alloc: Global, node: Node) -> Result<NameTree, OutOfMemory>
@@ -207,14 +187,14 @@ fn fork(alloc: Global, node: Node) -> Result<NameTree, OutOfMemory>
 }
 
 /// A name between others.
-fn joined(before: NameTree, name: Text, number: usize, behind: NameTree) -> Node
-    ensures { (q : List ℕ) → found_below result q ≡ found_between (found before) name number (found behind) q }
+fn joined(before: NameTree, name: Text, spot: Spot, behind: NameTree) -> Node
+    ensures { (q : List ℕ) → found_below result q ≡ found_between (found before) name spot (found behind) q }
 {
     let height = before.height().max(behind.height()).saturating_add(1);
     Node {
         before,
         name,
-        number,
+        spot,
         behind,
         height,
     }
@@ -227,19 +207,19 @@ fn balanced(alloc: Global, node: Node) -> Result<Node, OutOfMemory>
     let Node {
         before,
         name,
-        number,
+        spot,
         behind,
         ..
     } = node;
     let (first, second) = (before.height(), behind.height());
     if first > second.saturating_add(1) {
         let before = higher_before(alloc, before)?;
-        Ok(before_on_top(alloc, joined(before, name, number, behind))?)
+        Ok(before_on_top(alloc, joined(before, name, spot, behind))?)
     } else if second > first.saturating_add(1) {
         let behind = higher_behind(alloc, behind)?;
-        Ok(behind_on_top(alloc, joined(before, name, number, behind))?)
+        Ok(behind_on_top(alloc, joined(before, name, spot, behind))?)
     } else {
-        Ok(joined(before, name, number, behind))
+        Ok(joined(before, name, spot, behind))
     }
 }
 
@@ -279,19 +259,19 @@ fn before_on_top(alloc: Global, node: Node) -> Result<Node, OutOfMemory>
     let Node {
         before,
         name,
-        number,
+        spot,
         behind,
         ..
     } = node;
     let NameTree::Fork(first) = before else {
-        return Ok(joined(NameTree::Empty, name, number, behind));
+        return Ok(joined(NameTree::Empty, name, spot, behind));
     };
     let top = taken(alloc, first)?;
     if top.name.as_str().cmp(name.as_str()) != Ordering::Less {
-        return Ok(joined(fork(alloc, top)?, name, number, behind));
+        return Ok(joined(fork(alloc, top)?, name, spot, behind));
     }
-    let lower = joined(top.behind, name, number, behind);
-    Ok(joined(top.before, top.name, top.number, fork(alloc, lower)?))
+    let lower = joined(top.behind, name, spot, behind);
+    Ok(joined(top.before, top.name, top.spot, fork(alloc, lower)?))
 }
 
 /// Puts the next name along `behind` in the place of a node.
@@ -301,17 +281,17 @@ fn behind_on_top(alloc: Global, node: Node) -> Result<Node, OutOfMemory>
     let Node {
         before,
         name,
-        number,
+        spot,
         behind,
         ..
     } = node;
     let NameTree::Fork(second) = behind else {
-        return Ok(joined(before, name, number, NameTree::Empty));
+        return Ok(joined(before, name, spot, NameTree::Empty));
     };
     let top = taken(alloc, second)?;
     if name.as_str().cmp(top.name.as_str()) != Ordering::Less {
-        return Ok(joined(before, name, number, fork(alloc, top)?));
+        return Ok(joined(before, name, spot, fork(alloc, top)?));
     }
-    let lower = joined(before, name, number, top.before);
-    Ok(joined(fork(alloc, lower)?, top.name, top.number, top.behind))
+    let lower = joined(before, name, spot, top.before);
+    Ok(joined(fork(alloc, lower)?, top.name, top.spot, top.behind))
 }

@@ -92,6 +92,10 @@ fn the_first_fault_is_reported(rt: HostRuntime) -> Result<(), Fail> {
             "x = {a: 1}\nx += {b: 2}\nx += {b: true, a: \"s\"}",
             ":3:1: error 14: cannot add: integer + string\n",
         ),
+        (
+            "x = {m: {a: 1, b: 2}} + {m: {c: 3}} + {m: {b: \"s\", a: [\"t\"]}}",
+            ":1:37: error 14: cannot add: integer + list\n",
+        ),
         ("x += [y]", ":1:1: error 10: unknown variable: x\n"),
         (
             "cc { a: y }\ny = 1",
@@ -162,6 +166,10 @@ fn sums_are_the_values_written_out(rt: HostRuntime) -> Result<(), Fail> {
         (
             "x = {a: {b: \"p\"}} + {a: {b: \"q\",\n d: 2}} +\n {c: 1}",
             "x = {a: {b: \"pq\",\n d: 2},\n  c: 1}",
+        ),
+        (
+            "x = {m: {a: 1, b: 2}} + {m: {c: 3}} + {m: {b: 4, c: 5, d: 6}}",
+            "x = {m: {a: 1, b: 6,         c: 8,                     d: 6}}",
         ),
     ] {
         assert!(rt; text.len() <= 1 << 20 && plain.len() <= 1 << 20);

@@ -1,4 +1,4 @@
-use Rattle.std.proofs.Common.{rules, ◌≡◌, ◌++◌, ◌∷◌, [], false, is_some, ap, sym, ◌∙◌}
+use Rattle.std.proofs.Common.{rules, ◌≡◌, false, is_some, sym, ◌∙◌}
 use Rattle.bp_parser.specs.Trees.{tree_of}
 use Rattle.bp_values.specs.Values.{meaning}
 use Rattle.bp_values.specs.Scopes.{pairs_of, layer_pairs}
@@ -14,21 +14,21 @@ use Rattle.bp_values.proofs.file.assign.Goals as goal
 pub returns-clause-known : goal.returns-clause-known
 returns-clause-known c =
     let inherited = pairs_of c.args.inherited.now in
-    let own = layer_pairs c.args.state.now.own in
+    let own = layer_pairs c.args.state.now.own.layer in
     let known = known_of inherited c.args.state.now in
     let absent : is_some c.get.result ≡ false = search rules in
     let v = meaning c.in_ok-new.new in
-    is_assigned inherited own (layer_pairs c.set.new.self) known.is_used (knows c.mark.new.used) known.modules c.args.name.now c.args.at (tree_of c.args.value.now) v
+    is_assigned inherited own (layer_pairs c.set.new.self.layer) known.is_used (knows c.mark.new.used) known.modules c.args.name.now c.args.at (tree_of c.args.value.now) v
     (is_absent (λ v. meaning v.now) c.get.result _ absent c.get.ensures) c.in_ok-new.ensures (λ q. c.in_ok-mark.ensures q ∙ noted_is (tree_of c.args.value.now) (known.is_used q) q)
-    (c.in_ok-set.ensures ∙ ap (λ n. own ++ (n, v) ∷ []) c.in_ok-copy-2.ensures)
+    c.in_ok-set.ensures.pairs
 
 pub returns-clause-places : goal.returns-clause-places
 returns-clause-places c =
     let inherited = pairs_of c.args.inherited.now in
-    let own = layer_pairs c.args.state.now.own in
+    let own = layer_pairs c.args.state.now.own.layer in
     let absent : is_some c.get.result ≡ false = search rules in
     let v = meaning c.in_ok-new.new in
     let none = is_absent (λ v. meaning v.now) c.get.result _ absent c.get.ensures in
-    kept_assigned (kept_for c.args.state.now.kept) own (layer_pairs c.set.new.self) c.args.name.now v
+    kept_assigned (kept_for c.args.state.now.kept) own (layer_pairs c.set.new.self.layer) c.args.name.now v
     (sym (value_behind c.args.name.now inherited own (absent_first c.args.name.now inherited own none)) ∙ none)
-    (c.in_ok-set.ensures ∙ ap (λ n. own ++ (n, v) ∷ []) c.in_ok-copy-2.ensures) c.requires
+    c.in_ok-set.ensures.pairs c.requires.places

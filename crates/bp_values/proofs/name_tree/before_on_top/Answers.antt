@@ -14,8 +14,8 @@ returns c =
     let node = c.args.node in
     let less : slice_cmp nat_cmp top.name node.name ≡ Less = search rules in
     let here : (q : List ℕ) → found node.before q ≡ found_below c.in-Fork.first.value q = λ q. search (rules, the_lemmas, the_views) in
-    let below : (q : List ℕ) → found_below top q ≡ found_between (found top.before) top.name top.number (found top.behind) q = λ q. search (rules, the_lemmas, the_views) in
+    let below : (q : List ℕ) → found_below top q ≡ found_between (found top.before) top.name top.spot (found top.behind) q = λ q. search (rules, the_lemmas, the_views) in
     first_on_top (found_below node) (found node.before) (found c.in_ok-fork-2.field-0) (found_below c.joined-2.result) (found top.before) (found top.behind) (found node.behind) (found top.before) (found top.behind)
-    top.name node.name top.number node.number less
+    top.name node.name top.spot node.spot less
     (λ q. search (rules, the_lemmas, the_views)) (λ q. here q ∙ sym (c.in_ok-top.ensures q) ∙ below q)
     (λ q. c.in_ok-fork-2.ensures q ∙ c.joined-lower.ensures q) (λ q. refl) (λ q. refl) (λ q. c.joined-2.ensures q)

@@ -14,8 +14,8 @@ returns c =
     let node = c.args.node in
     let less : slice_cmp nat_cmp node.name top.name ≡ Less = search rules in
     let here : (q : List ℕ) → found node.behind q ≡ found_below c.in-Fork.second.value q = λ q. search (rules, the_lemmas, the_views) in
-    let below : (q : List ℕ) → found_below top q ≡ found_between (found top.before) top.name top.number (found top.behind) q = λ q. search (rules, the_lemmas, the_views) in
+    let below : (q : List ℕ) → found_below top q ≡ found_between (found top.before) top.name top.spot (found top.behind) q = λ q. search (rules, the_lemmas, the_views) in
     second_on_top (found_below node) (found node.behind) (found c.in_ok-fork-2.field-0) (found_below c.joined-2.result) (found node.before) (found top.before) (found top.behind) (found top.before) (found top.behind)
-    node.name top.name node.number top.number less
+    node.name top.name node.spot top.spot less
     (λ q. search (rules, the_lemmas, the_views)) (λ q. here q ∙ sym (c.in_ok-top.ensures q) ∙ below q)
     (λ q. c.in_ok-fork-2.ensures q ∙ c.joined-lower.ensures q) (λ q. refl) (λ q. refl) (λ q. c.joined-2.ensures q)

@@ -7,5 +7,5 @@ use Rattle.bp_values.proofs.name_tree.leaf.Goals as goal
 
 pub returns : goal.returns
 returns c q =
-    let is : found c.in_ok-fork.field-0 q ≡ found_between (λ r. None) c.args.name c.args.number (λ r. None) q = search (rules, the_lemmas, the_views) in
-    is ∙ alone c.args.name c.args.number q
+    let is : found c.in_ok-fork.field-0 q ≡ found_between (λ r. None) c.args.name c.args.spot (λ r. None) q = search (rules, the_lemmas, the_views) in
+    is ∙ alone c.args.name c.args.spot q

@@ -30,23 +30,23 @@ pub returns-in-Equal : goal.returns-in-Equal
 returns-in-Equal t c =
     let node = c.in-Some.node.now in
     let here : (q : List ℕ) → found c.args.self.now q ≡ found_below node q = λ q. search (rules, the_lemmas, the_views) in
-    let parts : (q : List ℕ) → found_below node q ≡ found_between (found node.before) node.name node.number (found node.behind) q = λ q. search (rules, the_lemmas, the_views) in
+    let parts : (q : List ℕ) → found_below node q ≡ found_between (found node.before) node.name node.spot (found node.behind) q = λ q. search (rules, the_lemmas, the_views) in
     let equal : slice_cmp nat_cmp c.args.name node.name ≡ Equal = search rules in
     let new = found (Fork (arc_with_value c.unshare.new.node node)) in
     let same : (q : List ℕ) → new q ≡ found_below node q = λ q. search (rules, the_lemmas, the_views) in
-    no_more (found c.args.self.now) new (found node.before) (found node.behind) c.args.name node.name node.number c.args.number equal
+    no_more (found c.args.self.now) new (found node.before) (found node.behind) c.args.name node.name node.spot c.args.spot equal
     (λ q. here q ∙ parts q) (λ q. same q ∙ sym (here q))
 
 pub returns-else-height : goal.returns-else-height
 returns-else-height t c =
     let node = c.in-Some.node.now in
     let here : (q : List ℕ) → found c.args.self.now q ≡ found_below node q = λ q. search (rules, the_lemmas, the_views) in
-    let parts : (q : List ℕ) → found_below node q ≡ found_between (found node.before) node.name node.number (found node.behind) q = λ q. search (rules, the_lemmas, the_views) in
+    let parts : (q : List ℕ) → found_below node q ≡ found_between (found node.before) node.name node.spot (found node.behind) q = λ q. search (rules, the_lemmas, the_views) in
     let order : slice_cmp nat_cmp c.args.name node.name ≡ Less = search rules in
-    let own = roll-Node (record { before = c.insert.new.self; name = node.name; number = node.number; behind = node.behind; height = node.height }) in
+    let own = roll-Node (record { before = c.insert.new.self; name = node.name; spot = node.spot; behind = node.behind; height = node.height }) in
     let new = found (Fork (arc_with_value c.unshare.new.node own)) in
-    let is_own : (q : List ℕ) → found_below own q ≡ found_between (found c.insert.new.self) node.name node.number (found node.behind) q = λ q. search (rules, the_lemmas, the_views) in
-    let more = more_before (found c.args.self.now) new (found node.before) (found c.insert.new.self) (found node.behind) (found node.behind) c.args.name node.name node.number c.args.number order
+    let is_own : (q : List ℕ) → found_below own q ≡ found_between (found c.insert.new.self) node.name node.spot (found node.behind) q = λ q. search (rules, the_lemmas, the_views) in
+    let more = more_before (found c.args.self.now) new (found node.before) (found c.insert.new.self) (found node.behind) (found node.behind) c.args.name node.name node.spot c.args.spot order
     (λ q. here q ∙ parts q) (λ q. c.in_ok-insert-in-Less.ensures q) (λ q. refl) (λ q. found_fork (arc_with_value c.unshare.new.node own) q ∙ is_own q) in
     more
 
@@ -54,12 +54,12 @@ pub returns-in_ok-balance-in-Less : goal.returns-in_ok-balance-in-Less
 returns-in_ok-balance-in-Less t c =
     let node = c.in-Some.node.now in
     let here : (q : List ℕ) → found c.args.self.now q ≡ found_below node q = λ q. search (rules, the_lemmas, the_views) in
-    let parts : (q : List ℕ) → found_below node q ≡ found_between (found node.before) node.name node.number (found node.behind) q = λ q. search (rules, the_lemmas, the_views) in
+    let parts : (q : List ℕ) → found_below node q ≡ found_between (found node.before) node.name node.spot (found node.behind) q = λ q. search (rules, the_lemmas, the_views) in
     let order : slice_cmp nat_cmp c.args.name node.name ≡ Less = search rules in
-    let own = roll-Node (record { before = c.insert.new.self; name = node.name; number = node.number; behind = node.behind; height = node.height }) in
+    let own = roll-Node (record { before = c.insert.new.self; name = node.name; spot = node.spot; behind = node.behind; height = node.height }) in
     let new = found (Fork (arc_with_value c.unshare.new.node own)) in
-    let is_own : (q : List ℕ) → found_below own q ≡ found_between (found c.insert.new.self) node.name node.number (found node.behind) q = λ q. search (rules, the_lemmas, the_views) in
-    let more = more_before (found c.args.self.now) new (found node.before) (found c.insert.new.self) (found node.behind) (found node.behind) c.args.name node.name node.number c.args.number order
+    let is_own : (q : List ℕ) → found_below own q ≡ found_between (found c.insert.new.self) node.name node.spot (found node.behind) q = λ q. search (rules, the_lemmas, the_views) in
+    let more = more_before (found c.args.self.now) new (found node.before) (found c.insert.new.self) (found node.behind) (found node.behind) c.args.name node.name node.spot c.args.spot order
     (λ q. here q ∙ parts q) (λ q. c.in_ok-insert-in-Less.ensures q) (λ q. refl) (λ q. found_fork (arc_with_value c.unshare.new.node own) q ∙ is_own q) in
     λ q. c.in_ok-balance-in-Less.ensures q ∙ more q
 
@@ -67,12 +67,12 @@ pub returns-else-height-2 : goal.returns-else-height-2
 returns-else-height-2 t c =
     let node = c.in-Some.node.now in
     let here : (q : List ℕ) → found c.args.self.now q ≡ found_below node q = λ q. search (rules, the_lemmas, the_views) in
-    let parts : (q : List ℕ) → found_below node q ≡ found_between (found node.before) node.name node.number (found node.behind) q = λ q. search (rules, the_lemmas, the_views) in
+    let parts : (q : List ℕ) → found_below node q ≡ found_between (found node.before) node.name node.spot (found node.behind) q = λ q. search (rules, the_lemmas, the_views) in
     let order : slice_cmp nat_cmp c.args.name node.name ≡ Greater = search rules in
-    let own = roll-Node (record { before = node.before; name = node.name; number = node.number; behind = c.insert-in-Greater.new.self; height = node.height }) in
+    let own = roll-Node (record { before = node.before; name = node.name; spot = node.spot; behind = c.insert-in-Greater.new.self; height = node.height }) in
     let new = found (Fork (arc_with_value c.unshare.new.node own)) in
-    let is_own : (q : List ℕ) → found_below own q ≡ found_between (found node.before) node.name node.number (found c.insert-in-Greater.new.self) q = λ q. search (rules, the_lemmas, the_views) in
-    let more = more_behind (found c.args.self.now) new (found node.before) (found node.before) (found node.behind) (found c.insert-in-Greater.new.self) c.args.name node.name node.number c.args.number order
+    let is_own : (q : List ℕ) → found_below own q ≡ found_between (found node.before) node.name node.spot (found c.insert-in-Greater.new.self) q = λ q. search (rules, the_lemmas, the_views) in
+    let more = more_behind (found c.args.self.now) new (found node.before) (found node.before) (found node.behind) (found c.insert-in-Greater.new.self) c.args.name node.name node.spot c.args.spot order
     (λ q. here q ∙ parts q) (λ q. c.in_ok-insert-in-Greater.ensures q) (λ q. refl) (λ q. found_fork (arc_with_value c.unshare.new.node own) q ∙ is_own q) in
     more
 
@@ -80,11 +80,11 @@ pub returns-in_ok-balance-in-Greater : goal.returns-in_ok-balance-in-Greater
 returns-in_ok-balance-in-Greater t c =
     let node = c.in-Some.node.now in
     let here : (q : List ℕ) → found c.args.self.now q ≡ found_below node q = λ q. search (rules, the_lemmas, the_views) in
-    let parts : (q : List ℕ) → found_below node q ≡ found_between (found node.before) node.name node.number (found node.behind) q = λ q. search (rules, the_lemmas, the_views) in
+    let parts : (q : List ℕ) → found_below node q ≡ found_between (found node.before) node.name node.spot (found node.behind) q = λ q. search (rules, the_lemmas, the_views) in
     let order : slice_cmp nat_cmp c.args.name node.name ≡ Greater = search rules in
-    let own = roll-Node (record { before = node.before; name = node.name; number = node.number; behind = c.insert-in-Greater.new.self; height = node.height }) in
+    let own = roll-Node (record { before = node.before; name = node.name; spot = node.spot; behind = c.insert-in-Greater.new.self; height = node.height }) in
     let new = found (Fork (arc_with_value c.unshare.new.node own)) in
-    let is_own : (q : List ℕ) → found_below own q ≡ found_between (found node.before) node.name node.number (found c.insert-in-Greater.new.self) q = λ q. search (rules, the_lemmas, the_views) in
-    let more = more_behind (found c.args.self.now) new (found node.before) (found node.before) (found node.behind) (found c.insert-in-Greater.new.self) c.args.name node.name node.number c.args.number order
+    let is_own : (q : List ℕ) → found_below own q ≡ found_between (found node.before) node.name node.spot (found c.insert-in-Greater.new.self) q = λ q. search (rules, the_lemmas, the_views) in
+    let more = more_behind (found c.args.self.now) new (found node.before) (found node.before) (found node.behind) (found c.insert-in-Greater.new.self) c.args.name node.name node.spot c.args.spot order
     (λ q. here q ∙ parts q) (λ q. c.in_ok-insert-in-Greater.ensures q) (λ q. refl) (λ q. found_fork (arc_with_value c.unshare.new.node own) q ∙ is_own q) in
     λ q. c.in_ok-balance-in-Greater.ensures q ∙ more q

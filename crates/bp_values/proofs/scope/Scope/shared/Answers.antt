@@ -1,8 +1,8 @@
 use Rattle.std.proofs.Common.{rules, ◌≡◌}
 use Rattle.std.specs.Arc.{arc_value}
 use Rattle.bp_values.specs.Scopes.{pairs_of}
-use Rattle.bp_values.specs.Layers.{layer_of}
-use Rattle.bp_values.proofs.Layers.{shared_more, numbered_more}
+use Rattle.bp_values.specs.Layers.{spot_in_layers}
+use Rattle.bp_values.proofs.Layers.{shared_more, spotted_more}
 use Rattle.bp_values.proofs.scope.Scope.shared.Goals as goal
 
 pub layers-preserved : goal.layers-preserved
@@ -13,6 +13,9 @@ layers-preserved c =
     let i = c.layers.layer-index in
     let same : arc_value c.in_ok-clone.field-0 ≡ arc_value c.layer-item.result = search rules in (
       shared_more (pairs_of c.args.self.now) done now items i c.layer-item.result c.in_ok-clone.field-0 c.layers-test.true c.layer-item.is same c.in_ok-push.ensures.items c.layers.invariant.0,
-      λ name. numbered_more (layer_of c.args.self.now.layers.value.items name) done now items i c.layer-item.result c.in_ok-clone.field-0 name c.layers-test.true c.layer-item.is same c.in_ok-push.ensures.items
-          (c.layers.invariant.1 name),
+      (
+        λ name. spotted_more (spot_in_layers c.args.self.now.layers.value.items name) done now items i c.layer-item.result c.in_ok-clone.field-0 name c.layers-test.true c.layer-item.is same c.in_ok-push.ensures.items
+            (c.layers.invariant.1.0 name),
+        search rules,
+      ),
     )
