@@ -1,13 +1,14 @@
 #!/bin/sh
 # Measures the program on the worst inputs within its limits: `measure_worst.sh [PROGRAM [CASE ..]]`, by default the program that
 # ./bpgen builds and all cases. For each it prints a row of docs/PERFORMANCE.md: the case, bytes in and out, the exit status, and
-# the least processor time and the greatest memory of RUNS runs (3). It needs GNU time and awk, and is no part of the gate.
+# the least processor time, the least time by the clock and the greatest memory of RUNS runs (3). It needs GNU time and awk, and is
+# no part of the gate.
 set -eu
 
 top=$(cd "$(dirname "$0")/.." && pwd)
 program=${1:-$top/crates/bpgen/out/bpgen}
 [ $# -eq 0 ] || shift
-cases=${*:-references maps shared_keys extensions nested_keys assignments inheritors long_paths link_lines chain cycle wide modules empty_lines
+cases=${*:-references maps shared_keys extensions nested_keys assignments inheritors heirs long_paths link_lines chain cycle wide modules empty_lines
     components tokens doubling groups sources edges dots one_line order names}
 runs=${RUNS:-3}
 if [ ! -x "$program" ]; then
@@ -107,6 +108,20 @@ tree_of() {
             echo "the same below a directory that sets a variable"
             echo b=1 | alone
             variables ;;
+        heirs)
+            echo "62 files one below the other with 86,000 variables each, whose names are in no order"
+            awk 'BEGIN {
+                path = ""
+                for (file = 0; file < 62; file++) {
+                    print path "Android.bp" > "list"
+                    if (file > 0) system("mkdir -p " path)
+                    for (n = 0; n < 86000; n++) {
+                        printf "a%08x=1\n", ((file * 86000 + n) * 40503) % 16777213 > path "Android.bp"
+                    }
+                    close(path "Android.bp")
+                    path = path "d/"
+                }
+            }' ;;
         long_paths)
             echo "100,000 modules in a chain of 1,000 directories, whose paths have 1,000 bytes on average"
             chain_of 1000
@@ -204,8 +219,8 @@ tree_of() {
     esac
 }
 
-echo "| Case | In | Out | Status | Processor time | Memory |"
-echo "|---|---|---|---|---|---|"
+echo "| Case | In | Out | Status | Processor time | By the clock | Memory |"
+echo "|---|---|---|---|---|---|---|"
 for case in $cases; do
     mkdir "$work/tree"
     cd "$work/tree"
@@ -217,18 +232,18 @@ for case in $cases; do
     [ ! -f order.txt ] || words="replay --order order.txt"
     while [ "$n" -lt "$runs" ]; do
         status=0
-        /usr/bin/time -q -a -o "$work/times" -f "%U %S %M" \
+        /usr/bin/time -q -a -o "$work/times" -f "%U %S %e %M" \
             "$program" $words -l list -o "$work/out" -t android_arm64 2> /dev/null || status=$?
         n=$((n + 1))
     done
     in=$(find . -type f -exec cat {} + | wc -c)
     out=$(cat "$work/out" 2> /dev/null | wc -c)
-    awk '{ print $1 + $2, $3 }' "$work/times" | sort -n |
+    awk '{ print $1 + $2, $3, $4 }' "$work/times" | sort -n |
         awk -v what="$what" -v in_="$in" -v out="$out" -v status="$status" '
-            { if (NR == 1) used = $1; if ($2 > memory) memory = $2 }
+            { if (NR == 1) used = $1; if (NR == 1 || $2 < clock) clock = $2; if ($3 > memory) memory = $3 }
             END {
-                printf "| %s | %.1f MB | %.1f MB | %d | %.2f s | %d MB |\n", what, in_ / 1e6, out / 1e6, status, used,
-                    memory / 1000
+                printf "| %s | %.1f MB | %.1f MB | %d | %.2f s | %.2f s | %d MB |\n", what, in_ / 1e6, out / 1e6, status,
+                    used, clock, memory / 1000
             }'
     cd "$work"
     rm -rf tree
