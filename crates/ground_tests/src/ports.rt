@@ -133,6 +133,11 @@ fn the_listed_calls_of_a_store_fail(rt: HostRuntime) -> Result<(), Fail> {
     Ok(())
 }
 
+/// A store of two files that has room for a path of one byte with seven.
+fn small_store(alloc: Global) -> Result<MemStore, OutOfMemory> {
+    MemStore::new(alloc, two_files(alloc)?, 40, Vec::new(alloc))
+}
+
 /// A write that just fits, and one that doesn't.
 const WRITES: &[(Call, &str)] = &[
     (Call::Write("d", "0123456"), "Ok(())"),
@@ -142,8 +147,7 @@ const WRITES: &[(Call, &str)] = &[
 
 #[test]
 fn a_write_uses_up_room(rt: HostRuntime) -> Result<(), Fail> {
-    let files = two_files(rt.alloc())?;
-    let mut store = MemStore::new(rt.alloc(), files, 40, Vec::new(rt.alloc()))?;
+    let mut store = small_store(rt.alloc())?;
     assert!(rt; differing(rt.alloc(), &mut store, WRITES)?.is_none());
     Ok(())
 }
@@ -170,15 +174,30 @@ fn reads_as<S: Store>(
     Ok(reads(alloc, store, path, limit)?.as_slice() == bytes)
 }
 
+/// A store of the same files and room, in which no call fails.
+fn free_store(alloc: Global) -> Result<FreeStore, OutOfMemory> {
+    FreeStore::new(alloc, two_files(alloc)?, 40)
+}
+
+/// Whether a write that just fits is done and told and leaves its bytes, and whether another file is read behind it.
+fn tells_first(alloc: Global, free: &mut FreeStore) -> Result<(bool, bool), Fail> {
+    let first = writes_and_tells(alloc, free, "d", b"0123456")?;
+    let is_held = free.held("d") == Some(b"0123456".as_slice());
+    Ok((
+        first == (true, true) && is_held,
+        reads_as(alloc, free, "b/c", 4, b"four")?,
+    ))
+}
+
 #[test]
 fn a_free_store_tells_until_its_room_is_used_up(rt: HostRuntime) -> Result<(), Fail> {
-    let mut free = FreeStore::new(rt.alloc(), two_files(rt.alloc())?, 40)?;
-    let first = writes_and_tells(rt.alloc(), &mut free, "d", b"0123456")?;
-    let is_held = free.held("d") == Some(b"0123456".as_slice());
-    let is_read = reads_as(rt.alloc(), &mut free, "b/c", 4, b"four")?;
+    let mut free = free_store(rt.alloc())?;
+    let first = tells_first(rt.alloc(), &mut free)?;
     let second = writes_and_tells(rt.alloc(), &mut free, "d", b"")?;
-    assert_eq!(rt; (first, second), ((true, true), (true, false)));
-    assert_eq!(rt; (is_held, is_read, free.calls()), (true, true, 3));
+    assert_eq!(rt;
+        (first, second, free.calls()),
+        ((true, true), (true, false), 3)
+    );
     Ok(())
 }
 

@@ -327,10 +327,7 @@ const PHASES: &[(&[&str], &str)] = &[
 fn the_first_phase_that_has_a_fault_tells_it(rt: HostRuntime) -> Result<(), Fail> {
     let three = "Android.bp\na/Android.bp\nb/Android.bp";
     for (contents, want) in PHASES {
-        assert!(rt;
-            loads_as(&rt, rt.alloc(), three, contents, want)?,
-            "{want}"
-        );
+        assert!(rt; loads_as(&rt, rt.alloc(), three, contents, want)?, "{want}");
     }
     Ok(())
 }

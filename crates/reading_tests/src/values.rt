@@ -134,12 +134,7 @@ fn a_sum_can_be_too_large(rt: HostRuntime) -> Result<(), Fail> {
 }
 
 // Whether that many maps, each in the one before, with more text behind them, have this fault.
-fn maps_fault_as(
-    alloc: Global,
-    count: usize,
-    more: &str,
-    want: &str,
-) -> Result<bool, OutOfMemory> {
+fn maps_fault_as(alloc: Global, count: usize, more: &str, want: &str) -> Result<bool, OutOfMemory> {
     let nothing = Scope::empty(alloc)?;
     let mut text = maps(alloc, count)?;
     text.push_str(more)?;

@@ -127,19 +127,28 @@ fn writes_too_long<S: Store>(alloc: Global, store: &mut S) -> Result<bool, OutOf
     is_written(alloc, store, too_long.as_str(), b"x")
 }
 
+/// The first path that is written though it can't be, whether one that is too long is, whether a new file is left where
+/// the test runs, and how many files the folder has.
+fn left_by_failing(
+    rt: &HostRuntime,
+    store: &mut FsStore<HostRuntime>,
+    folder: &str,
+) -> Result<(Option<&'static str>, bool, bool, usize), Fail> {
+    let path = wrongly_written(rt.alloc(), store, UNWRITTEN)?;
+    let is_too_long_written = writes_too_long(rt.alloc(), store)?;
+    let is_left = fs::exists(rt, ".bpgen-new")?;
+    Ok((path, is_too_long_written, is_left, count_in(rt, folder)?))
+}
+
 #[test]
 fn a_write_that_fails_leaves_no_file(rt: HostRuntime) -> Result<(), Fail> {
     make_folder(&rt, "bp_ports_test")?;
+    let long = long_text(rt.alloc())?;
     let mut store = FsStore::new(rt);
     let paths = ("bp_ports_test/out", "bp_ports_test/old");
-    assert!(rt; replaces(&rt, &mut store, paths, &long_text(rt.alloc())?)?);
-    assert_eq!(rt; wrongly_written(rt.alloc(), &mut store, UNWRITTEN)?, None);
-    let is_written = writes_too_long(rt.alloc(), &mut store)?;
-    let is_left = fs::exists(&rt, ".bpgen-new")?;
-    assert_eq!(rt;
-        (is_written, is_left, count_in(&rt, "bp_ports_test")?),
-        (false, false, 2)
-    );
+    assert!(rt; replaces(&rt, &mut store, paths, &long)?);
+    let left = left_by_failing(&rt, &mut store, "bp_ports_test")?;
+    assert_eq!(rt; left, (None, false, false, 2));
     fs::remove_dir_all(&rt, "bp_ports_test")?;
     Ok(())
 }
@@ -250,16 +259,31 @@ fn writes_over(
     Ok((is_done, fs::exists(rt, left)?))
 }
 
+/// The first new file beside which the file is wrongly written or isn't written, whether the file then has these
+/// bytes, and the first new file that isn't kept.
+fn left_beside(
+    rt: &HostRuntime,
+    store: &mut FsStore<HostRuntime>,
+    out: &str,
+    bytes: &[u8],
+) -> Result<(Option<&'static str>, bool, Option<&'static str>), Fail> {
+    let path = wrongly_written_beside(rt, store, out, BESIDE)?;
+    let is_last = holds(rt.alloc(), store, out, bytes)?;
+    Ok((path, is_last, lost(rt.alloc(), store, BESIDE)?))
+}
+
 #[test]
 fn files_beside_a_real_one_are_kept(rt: HostRuntime) -> Result<(), Fail> {
     make_folder(&rt, "bp_ports_beside")?;
     let mut store = FsStore::new(rt);
     let (out, left) = ("bp_ports_beside/out", "bp_ports_beside/out.bpgen-new-2");
-    assert_eq!(rt; wrongly_written_beside(&rt, &mut store, out, BESIDE)?, None);
-    assert!(rt; holds(rt.alloc(), &mut store, out, left.as_bytes())?);
-    assert_eq!(rt; lost(rt.alloc(), &mut store, BESIDE)?, None);
-    assert_eq!(rt; writes_over(&rt, &mut store, out, left)?, (true, false));
-    assert_eq!(rt; count_in(&rt, "bp_ports_beside")?, 3);
+    let kept = left_beside(&rt, &mut store, out, left.as_bytes())?;
+    assert_eq!(rt; kept, (None, true, None));
+    let over = writes_over(&rt, &mut store, out, left)?;
+    assert_eq!(rt;
+        (over, count_in(&rt, "bp_ports_beside")?),
+        ((true, false), 3)
+    );
     fs::remove_dir_all(&rt, "bp_ports_beside")?;
     Ok(())
 }
