@@ -1,40 +1,147 @@
-use bp_faults::{Item, Place, Text};
+use bp_faults::{Item, OutOfMemory, Place, Text};
 use bp_names::{NameSet, NameTable};
+use std::alloc::Global;
 use std::test::Fail;
 
+/// Names with their numbers, in the order in which they are learnt, each with the first number of its name.
+const LEARNT: &[(&str, u32, u32)] = &[
+    ("b", 0, 0),
+    ("a", 1, 1),
+    ("b", 2, 0),
+    ("", 3, 3),
+    ("ab", 4, 4),
+    ("a", 5, 1),
+];
+
+/// Names with their first numbers, if they were learnt.
+const KNOWN: &[(&str, Option<u32>)] = &[
+    ("a", Some(1)),
+    ("ab", Some(4)),
+    ("", Some(3)),
+    ("c", None),
+];
+
+/// The first name that the set takes for new, or for known, when it isn't.
+fn wrongly_learnt(
+    set: &mut NameSet<'static>,
+    rows: &[(&'static str, u32, u32)],
+) -> Result<Option<&'static str>, OutOfMemory> {
+    for (name, number, first) in rows {
+        if set.learn(*name)? != (number == first) {
+            return Ok(Some(*name));
+        }
+    }
+    Ok(None)
+}
+
+/// The first name that the set knows though it wasn't learnt, or doesn't know.
+fn wrongly_known(
+    set: &NameSet<'static>,
+    rows: &[(&'static str, Option<u32>)],
+) -> Option<&'static str> {
+    for (name, first) in rows {
+        if set.knows(*name) != first.is_some() {
+            return Some(*name);
+        }
+    }
+    None
+}
+
 #[test]
-fn names_and_their_first_numbers(rt: HostRuntime) -> Result<(), Fail> {
-    let alloc = rt.alloc();
-    let mut set = NameSet::new(alloc);
-    let mut table = NameTable::new(alloc);
-    for (name, number, first) in [
-        ("b", 0, 0),
-        ("a", 1, 1),
-        ("b", 2, 0),
-        ("", 3, 3),
-        ("ab", 4, 4),
-        ("a", 5, 1),
-    ] {
-        assert_eq!(rt; set.learn(name)?, number == first);
-        assert_eq!(rt; table.learn(name, number)?.unwrap_or(number), first);
+fn a_set_knows_the_names_that_it_learnt(rt: HostRuntime) -> Result<(), Fail> {
+    let mut set = NameSet::new(rt.alloc());
+    let learnt = wrongly_learnt(&mut set, LEARNT)?;
+    let known = wrongly_known(&set, KNOWN);
+    assert_eq!(rt; (learnt, known, set.len()), (None, None, 4));
+    Ok(())
+}
+
+/// The first name that the table gives another first number when it learns it.
+fn wrongly_numbered(
+    table: &mut NameTable<'static>,
+    rows: &[(&'static str, u32, u32)],
+) -> Result<Option<&'static str>, OutOfMemory> {
+    for (name, number, first) in rows {
+        if table.learn(*name, *number)?.unwrap_or(*number) != *first {
+            return Ok(Some(*name));
+        }
     }
-    for (name, first) in [("a", Some(1)), ("ab", Some(4)), ("", Some(3)), ("c", None)] {
-        assert_eq!(rt; set.knows(name), first.is_some());
-        assert_eq!(rt; table.number_of(name), first);
+    Ok(None)
+}
+
+/// The first name that the table has with another number, or wrongly has or lacks.
+fn wrongly_found(
+    table: &NameTable<'static>,
+    rows: &[(&'static str, Option<u32>)],
+) -> Option<&'static str> {
+    for (name, first) in rows {
+        if table.number_of(*name) != *first {
+            return Some(*name);
+        }
     }
-    assert_eq!(rt; (set.len(), table.len()), (4, 4));
+    None
+}
+
+#[test]
+fn a_table_has_the_first_numbers_of_names(rt: HostRuntime) -> Result<(), Fail> {
+    let mut table = NameTable::new(rt.alloc());
+    let learnt = wrongly_numbered(&mut table, LEARNT)?;
+    let found = wrongly_found(&table, KNOWN);
+    assert_eq!(rt; (learnt, found, table.len()), (None, None, 4));
+    Ok(())
+}
+
+/// The texts `b`, `a` and `b`.
+fn three_texts(alloc: Global) -> Result<Vec<Text>, OutOfMemory> {
     let b = Text::from_str(alloc, "b")?;
-    let texts = [b.copy(alloc)?, Text::from_str(alloc, "a")?, b.copy(alloc)?];
-    let numbers = NameTable::of(alloc, &texts)?;
+    let mut texts = Vec::new(alloc);
+    texts.push(b.copy(alloc)?)?;
+    texts.push(Text::from_str(alloc, "a")?)?;
+    texts.push(b)?;
+    Ok(texts)
+}
+
+/// The numbers of `b` and `a` in a table of three texts.
+fn numbers_in(alloc: Global, texts: &[Text]) -> Result<(Option<u32>, Option<u32>), OutOfMemory> {
+    if texts.len() != 3 {
+        return Ok((None, None));
+    }
+    let numbers = NameTable::of(alloc, texts)?;
+    Ok((numbers.number_of("b"), numbers.number_of("a")))
+}
+
+#[test]
+fn a_table_of_texts_has_their_first_places(rt: HostRuntime) -> Result<(), Fail> {
+    let texts = three_texts(rt.alloc())?;
     assert_eq!(rt;
-        (numbers.number_of("b"), numbers.number_of("a")),
+        numbers_in(rt.alloc(), texts.as_slice())?,
         (Some(0), Some(1))
     );
-    let items = [Item {
-        text: b,
+    Ok(())
+}
+
+/// One item.
+fn one_item(alloc: Global, word: &str) -> Result<Vec<Item>, OutOfMemory> {
+    let mut items = Vec::new(alloc);
+    items.push(Item {
+        text: Text::from_str(alloc, word)?,
         at: Place::start(1),
-    }];
-    let numbers = NameTable::of(alloc, &items)?;
-    assert_eq!(rt; (numbers.number_of("b"), numbers.len()), (Some(0), 1));
+    })?;
+    Ok(items)
+}
+
+/// The number of `b` in a table of one item, and how many names that has.
+fn number_in(alloc: Global, items: &[Item]) -> Result<(Option<u32>, usize), OutOfMemory> {
+    if items.len() != 1 {
+        return Ok((None, 0));
+    }
+    let numbers = NameTable::of(alloc, items)?;
+    Ok((numbers.number_of("b"), numbers.len()))
+}
+
+#[test]
+fn a_table_of_items_has_their_names(rt: HostRuntime) -> Result<(), Fail> {
+    let items = one_item(rt.alloc(), "b")?;
+    assert_eq!(rt; number_in(rt.alloc(), items.as_slice())?, (Some(0), 1));
     Ok(())
 }

@@ -42,78 +42,207 @@ fn enters<G: Gate + Sync>(gate: &G) {
     gate.enter(1, NodeId(0));
 }
 
+/// A call of a store: a read of at most so many bytes, a write, or a look at what it holds.
+#[derive(Clone, Copy)]
+enum Call {
+    Read(&'static str, u64),
+    Write(&'static str, &'static str),
+    Held(&'static str),
+}
+
+/// The bytes that are read, as a text, or the error.
+fn shown_read(
+    alloc: Global,
+    store: &mut MemStore,
+    path: &str,
+    limit: u64,
+) -> Result<String, OutOfMemory> {
+    match reads(alloc, store, path, limit) {
+        Ok(bytes) => Ok(String::from_utf8_lossy(alloc, bytes.as_slice())?),
+        Err(error) => Ok(format!(in alloc; "{error}")?),
+    }
+}
+
+/// Whether the bytes of the text are written.
+fn shown_write(
+    alloc: Global,
+    store: &mut MemStore,
+    path: &str,
+    word: &str,
+) -> Result<String, OutOfMemory> {
+    let done = writes(store, &text(alloc, path)?, word.as_bytes());
+    Ok(format!(in alloc; "{done:?}")?)
+}
+
+/// The bytes that the store holds, as a text.
+fn shown_held(alloc: Global, store: &MemStore, path: &str) -> Result<String, OutOfMemory> {
+    match store.held(path) {
+        Some(bytes) => Ok(String::from_utf8_lossy(alloc, bytes)?),
+        None => Ok(String::from_str(alloc, "none")?),
+    }
+}
+
+/// What a call gives, as a text.
+fn shown(alloc: Global, store: &mut MemStore, call: Call) -> Result<String, OutOfMemory> {
+    match call {
+        Call::Read(path, limit) => shown_read(alloc, store, path, limit),
+        Call::Write(path, word) => shown_write(alloc, store, path, word),
+        Call::Held(path) => shown_held(alloc, store, path),
+    }
+}
+
+/// A store of two files, of whose calls the second and the third fail.
+fn failing_store(alloc: Global) -> Result<MemStore, OutOfMemory> {
+    let failing = vec![in alloc; 2, 3]?;
+    MemStore::new(alloc, two_files(alloc)?, 100, failing)
+}
+
+/// Calls in their order, and what each gives.
+const CALLS: &[(Call, &str)] = &[
+    (Call::Read("a", 3), "one"),
+    (Call::Read("b/c", 4), "cannot read"),
+    (Call::Write("a", "new"), "Err(Failed)"),
+    (Call::Held("a"), "one"),
+    (Call::Write("a", "new"), "Ok(())"),
+    (Call::Held("a"), "new"),
+    (Call::Read("b/c", 4), "four"),
+    (Call::Read("b/c", 3), "file is too large"),
+    (Call::Read("b", 3), "no such file"),
+];
+
+/// What the first call gives that doesn't give what it should.
+fn differing(
+    alloc: Global,
+    store: &mut MemStore,
+    calls: &[(Call, &str)],
+) -> Result<Option<String>, OutOfMemory> {
+    for (call, want) in calls {
+        let found = shown(alloc, store, *call)?;
+        if found.as_str() != *want {
+            return Ok(Some(found));
+        }
+    }
+    Ok(None)
+}
+
 #[test]
 fn the_listed_calls_of_a_store_fail(rt: HostRuntime) -> Result<(), Fail> {
-    let alloc = rt.alloc();
-    let a = text(alloc, "a")?;
-    let failing = vec![in alloc; 2, 3]?;
-    let mut store = MemStore::new(alloc, two_files(alloc)?, 100, failing)?;
-    assert_eq!(rt;
-        reads(alloc, &mut store, "a", 3)?.as_slice(),
-        b"one".as_slice()
-    );
-    assert_eq!(rt;
-        reads(alloc, &mut store, "b/c", 4).err(),
-        Some(ReadError::Failed)
-    );
-    assert_eq!(rt; writes(&mut store, &a, b"new"), Err(Failed));
-    assert_eq!(rt; store.held("a"), Some(b"one".as_slice()));
-    assert_eq!(rt; writes(&mut store, &a, b"new"), Ok(()));
-    assert_eq!(rt; store.held("a"), Some(b"new".as_slice()));
-    assert_eq!(rt;
-        reads(alloc, &mut store, "b/c", 4)?.as_slice(),
-        b"four".as_slice()
-    );
-    assert_eq!(rt;
-        reads(alloc, &mut store, "b/c", 3).err(),
-        Some(ReadError::TooLarge)
-    );
-    assert_eq!(rt;
-        reads(alloc, &mut store, "b", 3).err(),
-        Some(ReadError::Absent)
-    );
+    let mut store = failing_store(rt.alloc())?;
+    assert!(rt; differing(rt.alloc(), &mut store, CALLS)?.is_none());
     assert_eq!(rt; store.calls(), 7);
     Ok(())
 }
 
+/// A store of two files that has room for a path of one byte with seven.
+fn small_store(alloc: Global) -> Result<MemStore, OutOfMemory> {
+    MemStore::new(alloc, two_files(alloc)?, 40, Vec::new(alloc))
+}
+
+/// A write that just fits, and one that doesn't.
+const WRITES: &[(Call, &str)] = &[
+    (Call::Write("d", "0123456"), "Ok(())"),
+    (Call::Write("d", ""), "Err(Failed)"),
+    (Call::Held("d"), "0123456"),
+];
+
 #[test]
 fn a_write_uses_up_room(rt: HostRuntime) -> Result<(), Fail> {
-    let alloc = rt.alloc();
-    let d = text(alloc, "d")?;
-    let mut store = MemStore::new(alloc, two_files(alloc)?, 40, Vec::new(alloc))?;
-    assert_eq!(rt; writes(&mut store, &d, b"0123456"), Ok(()));
-    assert_eq!(rt; writes(&mut store, &d, b""), Err(Failed));
-    assert_eq!(rt; store.held("d"), Some(b"0123456".as_slice()));
-    let mut free = FreeStore::new(alloc, two_files(alloc)?, 40)?;
-    assert_eq!(rt; writes(&mut free, &d, b"0123456"), Ok(()));
-    assert!(rt; free.tells());
-    assert_eq!(rt; free.held("d"), Some(b"0123456".as_slice()));
-    assert_eq!(rt;
-        reads(alloc, &mut free, "b/c", 4)?.as_slice(),
-        b"four".as_slice()
-    );
-    assert_eq!(rt; writes(&mut free, &d, b""), Ok(()));
-    assert!(rt; !free.tells());
-    assert_eq!(rt; free.calls(), 3);
+    let mut store = small_store(rt.alloc())?;
+    assert!(rt; differing(rt.alloc(), &mut store, WRITES)?.is_none());
     Ok(())
+}
+
+/// Whether the bytes are written, and the store tells what it holds behind the write.
+fn writes_and_tells(
+    alloc: Global,
+    store: &mut FreeStore,
+    path: &str,
+    bytes: &[u8],
+) -> Result<(bool, bool), OutOfMemory> {
+    let is_written = writes(store, &text(alloc, path)?, bytes).is_ok();
+    Ok((is_written, store.tells()))
+}
+
+/// Whether a path of at most so many bytes holds the bytes, as it is read.
+fn reads_as<S: Store>(
+    alloc: Global,
+    store: &mut S,
+    path: &str,
+    limit: u64,
+    bytes: &[u8],
+) -> Result<bool, ReadError> {
+    Ok(reads(alloc, store, path, limit)?.as_slice() == bytes)
+}
+
+/// A store of the same files and room, in which no call fails.
+fn free_store(alloc: Global) -> Result<FreeStore, OutOfMemory> {
+    FreeStore::new(alloc, two_files(alloc)?, 40)
+}
+
+/// Whether a write that just fits is done and told and leaves its bytes, and whether another file is read behind it.
+fn tells_first(alloc: Global, free: &mut FreeStore) -> Result<(bool, bool), Fail> {
+    let first = writes_and_tells(alloc, free, "d", b"0123456")?;
+    let is_held = free.held("d") == Some(b"0123456".as_slice());
+    Ok((
+        first == (true, true) && is_held,
+        reads_as(alloc, free, "b/c", 4, b"four")?,
+    ))
+}
+
+#[test]
+fn a_free_store_tells_until_its_room_is_used_up(rt: HostRuntime) -> Result<(), Fail> {
+    let mut free = free_store(rt.alloc())?;
+    let first = tells_first(rt.alloc(), &mut free)?;
+    let second = writes_and_tells(rt.alloc(), &mut free, "d", b"")?;
+    assert_eq!(rt;
+        (first, second, free.calls()),
+        ((true, true), (true, false), 3)
+    );
+    Ok(())
+}
+
+/// Texts that are put, whether each is put whole, and the bytes behind it.
+const PUTS: &[(&str, bool, &str)] = &[
+    ("abcd", true, "abcd"),
+    ("efghi", false, "abcdef"),
+    ("0123456789", false, "abcdef0123"),
+    ("", true, "abcdef0123"),
+];
+
+/// The first text that isn't put as it should be.
+fn wrongly_put(sink: &mut MemSink, rows: &[(&'static str, bool, &str)]) -> Option<&'static str> {
+    for (word, is_put, behind) in rows {
+        let found = puts(sink, word.as_bytes());
+        if found.is_ok() != *is_put || sink.bytes() != behind.as_bytes() {
+            return Some(*word);
+        }
+    }
+    None
 }
 
 #[test]
 fn a_put_that_fails_appends_half(rt: HostRuntime) -> Result<(), Fail> {
-    let alloc = rt.alloc();
-    let mut sink = MemSink::new(alloc, 10, vec![in alloc; 2]?)?;
-    assert_eq!(rt; puts(&mut sink, b"abcd"), Ok(()));
-    assert_eq!(rt; puts(&mut sink, b"efghi"), Err(Failed));
-    assert_eq!(rt; sink.bytes(), b"abcdef".as_slice());
-    assert_eq!(rt; puts(&mut sink, b"0123456789"), Err(Failed));
-    assert_eq!(rt; sink.bytes(), b"abcdef0123".as_slice());
-    assert_eq!(rt; puts(&mut sink, b""), Ok(()));
-    let mut free = FreeSink::new(alloc, 3)?;
-    assert_eq!(rt; puts(&mut free, b"abc"), Ok(()));
-    assert_eq!(rt; free.bytes(), b"abc".as_slice());
-    assert!(rt; free.tells());
-    assert_eq!(rt; puts(&mut free, b"d"), Ok(()));
-    assert!(rt; !free.tells());
+    let mut sink = MemSink::new(rt.alloc(), 10, vec![in rt.alloc(); 2]?)?;
+    assert_eq!(rt; wrongly_put(&mut sink, PUTS), None);
+    Ok(())
+}
+
+/// Whether the bytes are put, and the sink tells its bytes behind them.
+fn puts_and_tells(sink: &mut FreeSink, bytes: &[u8]) -> (bool, bool) {
+    let is_put = puts(sink, bytes).is_ok();
+    (is_put, sink.tells())
+}
+
+#[test]
+fn a_free_sink_tells_until_its_room_is_used_up(rt: HostRuntime) -> Result<(), Fail> {
+    let mut free = FreeSink::new(rt.alloc(), 3)?;
+    let first = puts_and_tells(&mut free, b"abc");
+    let is_held = free.bytes() == b"abc".as_slice();
+    let second = puts_and_tells(&mut free, b"d");
+    assert_eq!(rt;
+        (first, is_held, second),
+        ((true, true), true, (true, false))
+    );
     Ok(())
 }
 

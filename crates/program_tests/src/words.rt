@@ -1,6 +1,7 @@
 use bp_faults::{OutOfMemory, Text};
 use command_words::{
-    COMMANDS, HELP, Notice, OptionName, VERSION, configure, notice_of, options, usage_line,
+    COMMANDS, Configuration, HELP, Notice, OptionName, VERSION, configure, notice_of, options,
+    usage_line,
 };
 use std::alloc::{AllocError, Global};
 use std::test::Fail;
@@ -16,15 +17,27 @@ fn words_of(alloc: Global, line: &str) -> Result<Vec<Text>, OutOfMemory> {
     Ok(words)
 }
 
-// What the words of a line give, as a text.
-fn shown(alloc: Global, line: &str) -> Result<String, OutOfMemory> {
-    let words = words_of(alloc, line)?;
-    let found = configure(alloc, words.as_slice())?;
+// A configuration as a text.
+fn told(alloc: Global, found: &Option<Configuration>) -> Result<String, OutOfMemory> {
     Ok(format!(in alloc; "{found:?}")?)
 }
 
+// What words give, as a text.
+fn shown_of(alloc: Global, words: &[Text]) -> Result<String, OutOfMemory> {
+    match configure(alloc, words) {
+        Ok(found) => told(alloc, &found),
+        Err(OutOfMemory) => Err(OutOfMemory),
+    }
+}
+
+// What the words of a line give, as a text.
+fn shown(alloc: Global, line: &str) -> Result<String, OutOfMemory> {
+    let words = words_of(alloc, line)?;
+    shown_of(alloc, words.as_slice())
+}
+
 // Two lines that give one configuration, and parts of how it is shown.
-const GIVEN: [(&str, &str, &str, &str); 9] = [
+const GIVEN: &[(&str, &str, &str, &str)] = &[
     (
         "build -l list -o o -j4 --targets=android_arm",
         "build -t android_arm --jobs 4 --out=o -llist",
@@ -81,7 +94,7 @@ const GIVEN: [(&str, &str, &str, &str); 9] = [
     ),
 ];
 
-const REFUSED: [&str; 34] = [
+const REFUSED: &[&str] = &[
     "",
     "build",
     "Build -l list -o o",
@@ -118,29 +131,57 @@ const REFUSED: [&str; 34] = [
     "edit -i f -o f -m app -p 1st",
 ];
 
+// Whether both lines give one configuration, with these parts in how it is shown.
+fn both_give(
+    alloc: Global,
+    one: &str,
+    other: &str,
+    first: &str,
+    second: &str,
+) -> Result<bool, OutOfMemory> {
+    let found = shown(alloc, one)?;
+    let same = shown(alloc, other)?;
+    let has_parts = found.as_str().contains(first) && found.as_str().contains(second);
+    Ok(found.as_str() == same.as_str() && has_parts)
+}
+
+// The first line that doesn't give what its row says.
+fn wrongly_given(
+    alloc: Global,
+    rows: &[(&'static str, &str, &str, &str)],
+) -> Result<Option<&'static str>, OutOfMemory> {
+    for (one, other, first, second) in rows {
+        if !both_give(alloc, one, other, first, second)? {
+            return Ok(Some(*one));
+        }
+    }
+    Ok(None)
+}
+
 #[test]
 fn words_and_what_they_give(rt: HostRuntime) -> Result<(), Fail> {
-    for (one, other, first, second) in GIVEN {
-        let found = shown(rt.alloc(), one)?;
-        let same = shown(rt.alloc(), other)?;
-        assert!(rt;
-            found.as_str() == same.as_str(),
-            "{one}: {found}\n{other}: {same}"
-        );
-        assert!(rt;
-            found.as_str().contains(first) && found.as_str().contains(second),
-            "{one}: {found}"
-        );
-    }
+    assert_eq!(rt; wrongly_given(rt.alloc(), GIVEN)?, None);
     Ok(())
+}
+
+// Whether the words of a line give nothing.
+fn refuses(alloc: Global, line: &str) -> Result<bool, OutOfMemory> {
+    Ok(shown(alloc, line)?.as_str() == "None")
+}
+
+// The first line whose words give something.
+fn accepted(alloc: Global, lines: &[&'static str]) -> Result<Option<&'static str>, OutOfMemory> {
+    for line in lines {
+        if !refuses(alloc, line)? {
+            return Ok(Some(*line));
+        }
+    }
+    Ok(None)
 }
 
 #[test]
 fn words_refused(rt: HostRuntime) -> Result<(), Fail> {
-    for line in REFUSED {
-        let found = shown(rt.alloc(), line)?;
-        assert!(rt; found.as_str() == "None", "{line}: {found}");
-    }
+    assert_eq!(rt; accepted(rt.alloc(), REFUSED)?, None);
     Ok(())
 }
 
@@ -168,21 +209,29 @@ fn command_lines(alloc: Global) -> Result<Vec<String>, AllocError> {
     Ok(lines)
 }
 
-// The help text has these lines in this order, and no other that begins with a blank.
-#[test]
-fn help_has_the_table_of_options(rt: HostRuntime) -> Result<(), Fail> {
-    let wanted = command_lines(rt.alloc())?;
-    let mut rest = wanted.as_slice();
-    for line in HELP.split('\n') {
+// The first line of a text that begins with a blank, but not as the next one of those that are wanted; and how many of
+// these are left at the end.
+fn unwanted<'a>(text: &'a str, wanted: &[String]) -> (Option<&'a str>, usize) {
+    let mut rest = wanted;
+    for line in text.split('\n') {
         if let [next, more @ ..] = rest {
             if line.starts_with(next.as_str()) {
                 rest = more;
                 continue;
             }
         }
-        assert!(rt; !line.starts_with(' '), "{line}");
+        if line.starts_with(' ') {
+            return (Some(line), rest.len());
+        }
     }
-    assert_eq!(rt; rest.len(), 0);
+    (None, rest.len())
+}
+
+// The help text has these lines in this order, and no other that begins with a blank.
+#[test]
+fn help_has_the_table_of_options(rt: HostRuntime) -> Result<(), Fail> {
+    let wanted = command_lines(rt.alloc())?;
+    assert_eq!(rt; unwanted(HELP, wanted.as_slice()), (None, 0));
     Ok(())
 }
 
@@ -197,39 +246,71 @@ fn usage_of_commands(alloc: Global) -> Result<String, AllocError> {
     Ok(line)
 }
 
-#[test]
-fn help_names_commands_that_are_read(rt: HostRuntime) -> Result<(), Fail> {
-    for line in HELP.split('\n') {
+// The first example in a text that gives nothing.
+fn refused_example<'a>(alloc: Global, help: &'a str) -> Result<Option<&'a str>, OutOfMemory> {
+    for line in help.split('\n') {
         if let Some(example) = line.strip_prefix("  bpgen ") {
-            let found = shown(rt.alloc(), example)?;
-            assert!(rt; found.as_str() != "None", "{example}");
+            if refuses(alloc, example)? {
+                return Ok(Some(example));
+            }
         }
     }
-    assert_eq!(rt; usage_line(), usage_of_commands(rt.alloc())?.as_str());
-    assert!(rt; HELP.contains(usage_line()));
+    Ok(None)
+}
+
+#[test]
+fn help_names_commands_that_are_read(rt: HostRuntime) -> Result<(), Fail> {
+    assert_eq!(rt; refused_example(rt.alloc(), HELP)?, None);
     Ok(())
 }
 
 #[test]
+fn help_has_the_usage_line(rt: HostRuntime) -> Result<(), Fail> {
+    let usage = usage_of_commands(rt.alloc())?;
+    assert_eq!(rt;
+        (usage_line(), HELP.contains(usage_line())),
+        (usage.as_str(), true)
+    );
+    Ok(())
+}
+
+// Whether the notice of a line has this text, where none is empty.
+fn gives_notice(alloc: Global, line: &str, text: &str) -> Result<bool, OutOfMemory> {
+    let words = words_of(alloc, line)?;
+    match notice_of(words.as_slice()) {
+        Some(notice) => Ok(notice.text() == text && text != ""),
+        None => Ok(text == ""),
+    }
+}
+
+// Lines, each with the text of its notice, or an empty one where the line gives none.
+const NOTICES: &[(&str, &str)] = &[
+    ("--help", HELP),
+    ("-h", HELP),
+    ("help", HELP),
+    ("--version", VERSION),
+    ("-V", VERSION),
+    ("", ""),
+    ("build --help", ""),
+    ("--help build", ""),
+    ("-v", ""),
+];
+
+// The first line whose notice is another.
+fn wrongly_noticed(
+    alloc: Global,
+    rows: &[(&'static str, &str)],
+) -> Result<Option<&'static str>, OutOfMemory> {
+    for (line, text) in rows {
+        if !gives_notice(alloc, line, text)? {
+            return Ok(Some(*line));
+        }
+    }
+    Ok(None)
+}
+
+#[test]
 fn notices(rt: HostRuntime) -> Result<(), Fail> {
-    for (line, text) in [
-        ("--help", HELP),
-        ("-h", HELP),
-        ("help", HELP),
-        ("--version", VERSION),
-        ("-V", VERSION),
-    ] {
-        let words = words_of(rt.alloc(), line)?;
-        assert_eq!(rt;
-            notice_of(words.as_slice())
-                .map(|notice| notice.text())
-                .unwrap_or(""),
-            text
-        );
-    }
-    for line in ["", "build --help", "--help build", "-v"] {
-        let words = words_of(rt.alloc(), line)?;
-        assert!(rt; notice_of(words.as_slice()).is_none(), "{line}");
-    }
+    assert_eq!(rt; wrongly_noticed(rt.alloc(), NOTICES)?, None);
     Ok(())
 }

@@ -3,8 +3,10 @@ ghost use Rattle.std.specs.List.{All};
 ghost use Rattle.bp_load.specs.Directories.{AreInFileOrder};
 ghost use Rattle.bp_load.specs.Trees.{sources};
 
-use bp_faults::{OutOfMemory, Path, fault_line};
+use bp_faults::{Fault, OutOfMemory, Path, fault_line};
 use bp_load::{LoadError, file_list, load, raw_modules};
+use bp_props::Module;
+use bp_values::RawModule;
 use std::alloc::Global;
 use std::test::Fail;
 use std::thread::Threads;
@@ -36,69 +38,105 @@ fn files_of(alloc: Global, list: &str, contents: &[&str]) -> Result<Vec<(Path, V
     Ok(files)
 }
 
-// What a list file is: its paths, each with LF, or the line of its fault.
-fn listed(alloc: Global, bytes: &[u8]) -> Result<String, OutOfMemory>
-    requires { length bytes.now ≤ 2 ^ 22 }
-{
+// Paths, each with LF.
+fn lines(alloc: Global, paths: &[Path]) -> Result<String, OutOfMemory> {
+    let mut text = String::new(alloc);
+    for path in paths {
+        text.push_str(path.as_str())?;
+        text.push_str("\n")?;
+    }
+    Ok(text)
+}
+
+// What a list file is: its paths, each with LF, or the line of its fault. One over 4 MiB isn't read.
+fn listed(alloc: Global, bytes: &[u8]) -> Result<String, OutOfMemory> {
+    if bytes.len() > 1 << 22 {
+        return Ok(String::from_str(alloc, "over 4 MiB")?);
+    }
     match file_list(alloc, bytes) {
-        Ok(paths) => {
-            let mut text = String::new(alloc);
-            for path in &paths {
-                text.push_str(path.as_str())?;
-                text.push_str("\n")?;
-            }
-            Ok(text)
-        }
+        Ok(paths) => lines(alloc, paths.as_slice()),
         Err(LoadError::Bad(fault)) => fault_line(alloc, &fault, &[]),
         Err(LoadError::OutOfMemory) => Err(OutOfMemory),
     }
 }
 
+// The names of modules with their directories.
+fn names(alloc: Global, modules: &[Module]) -> Result<String, OutOfMemory> {
+    let mut text = String::new(alloc);
+    for module in modules {
+        text.push_str(module.dir.as_str())?;
+        text.push_str(":")?;
+        text.push_str(module.name.as_str())?;
+        text.push_str("\n")?;
+    }
+    Ok(text)
+}
+
+// The line of a fault, with the number of the file before it.
+fn numbered(alloc: Global, fault: &Fault) -> Result<String, OutOfMemory> {
+    let line = fault_line(alloc, fault, &[])?;
+    let file = fault.at.file;
+    Ok(format!(in alloc; "{file}{line}")?)
+}
+
+// The modules of the files of a list, as so many workers load them.
+fn loaded_files<R: Threads + Sync>(
+    rt: &R,
+    alloc: Global,
+    list: &str,
+    contents: &[&str],
+    workers: u32,
+) -> Result<Vec<Module>, LoadError>
+    requires { length list.now ≤ 2 ^ 22 }
+{
+    let files = files_of(alloc, list, contents)?;
+    load(rt, alloc, files.as_slice(), workers)
+}
+
 // What files load as by so many workers: the names of the modules with their directories, or the line of the
-// first fault, with the number of the file before it.
+// first fault, with the number of the file before it. A list over 4 MiB isn't read.
 fn loaded_by<R: Threads + Sync>(
     rt: &R,
     alloc: Global,
     list: &str,
     contents: &[&str],
     workers: u32,
-) -> Result<String, OutOfMemory>
-    requires { length list.now ≤ 2 ^ 22 }
-{
-    let answer = match files_of(alloc, list, contents) {
-        Ok(files) => load(rt, alloc, files.as_slice(), workers),
-        Err(refusal) => Err(refusal),
-    };
-    match answer {
-        Ok(modules) => {
-            let mut text = String::new(alloc);
-            for module in &modules {
-                text.push_str(module.dir.as_str())?;
-                text.push_str(":")?;
-                text.push_str(module.name.as_str())?;
-                text.push_str("\n")?;
-            }
-            Ok(text)
-        }
-        Err(LoadError::Bad(fault)) => {
-            let line = fault_line(alloc, &fault, &[])?;
-            let file = fault.at.file;
-            Ok(format!(in alloc; "{file}{line}")?)
-        }
+) -> Result<String, OutOfMemory> {
+    if list.len() > 1 << 22 {
+        return Ok(String::from_str(alloc, "over 4 MiB")?);
+    }
+    match loaded_files(rt, alloc, list, contents, workers) {
+        Ok(modules) => names(alloc, modules.as_slice()),
+        Err(LoadError::Bad(fault)) => numbered(alloc, &fault),
         Err(LoadError::OutOfMemory) => Err(OutOfMemory),
     }
 }
 
-// What files load as.
-fn loaded<R: Threads + Sync>(
+// Whether files load so, by four workers.
+fn loads_as<R: Threads + Sync>(
     rt: &R,
     alloc: Global,
     list: &str,
     contents: &[&str],
-) -> Result<String, OutOfMemory>
-    requires { length list.now ≤ 2 ^ 22 }
-{
-    loaded_by(rt, alloc, list, contents, 4)
+    want: &str,
+) -> Result<bool, OutOfMemory> {
+    Ok(loaded_by(rt, alloc, list, contents, 4)?.as_str() == want)
+}
+
+// The first number of workers by whom the files don't load so.
+fn differing<R: Threads + Sync>(
+    rt: &R,
+    alloc: Global,
+    (list, contents): (&str, &[&str]),
+    numbers: &[u32],
+    want: &str,
+) -> Result<Option<u32>, OutOfMemory> {
+    for workers in numbers {
+        if loaded_by(rt, alloc, list, contents, *workers)?.as_str() != want {
+            return Ok(Some(*workers));
+        }
+    }
+    Ok(None)
 }
 
 // A text so many times, between two others.
@@ -128,13 +166,10 @@ fn modules(alloc: Global, letter: &str, count: u32) -> Result<String, OutOfMemor
     Ok(text)
 }
 
-// The raw modules of files, each with its directory.
-fn raw_shown(alloc: Global, list: &str, contents: &[&str]) -> Result<String, LoadError>
-    requires { length list.now ≤ 2 ^ 22 }
-{
-    let files = files_of(alloc, list, contents)?;
+// The kinds of raw modules, each with its directory.
+fn kinds(alloc: Global, modules: &[(Path, RawModule)]) -> Result<String, OutOfMemory> {
     let mut shown = String::new(alloc);
-    for (dir, raw) in &raw_modules(alloc, files.as_slice())? {
+    for (dir, raw) in modules {
         shown.push_str(dir.as_str())?;
         shown.push_str(":")?;
         shown.push_str(raw.kind.as_str())?;
@@ -143,140 +178,164 @@ fn raw_shown(alloc: Global, list: &str, contents: &[&str]) -> Result<String, Loa
     Ok(shown)
 }
 
+// The raw modules of files, each with its directory. A list over 4 MiB isn't read.
+fn raw_shown(alloc: Global, list: &str, contents: &[&str]) -> Result<String, LoadError> {
+    if list.len() > 1 << 22 {
+        return Ok(String::from_str(alloc, "over 4 MiB")?);
+    }
+    let files = files_of(alloc, list, contents)?;
+    let modules = raw_modules(alloc, files.as_slice())?;
+    Ok(kinds(alloc, modules.as_slice())?)
+}
+
+const LISTS: &[(&str, &str)] = &[
+    ("./a/Android.bp\n\na/Android.bp\n", "a/Android.bp\n"),
+    (
+        "./b/a/Android.bp\r\n \t\n././b/Android.bp\nb.c/Android.bp\nAndroid.bp\nb/A/Android.bp",
+        "Android.bp\nb/Android.bp\nb/A/Android.bp\nb/a/Android.bp\nb.c/Android.bp\n",
+    ),
+    ("", ""),
+    ("a*/Android.bp", "a*/Android.bp\n"),
+    (
+        "../x/Android.bp",
+        ":1:1: error 33: bad path in list: ../x/Android.bp\n",
+    ),
+    (
+        "Android.bp\n./x//Android.bp\r\n",
+        ":2:1: error 33: bad path in list: ./x//Android.bp\n",
+    ),
+    (
+        "a/Android.bp\r",
+        ":1:1: error 33: bad path in list: a/Android.bp?\n",
+    ),
+    (
+        "a|b/Android.bp",
+        ":1:1: error 33: bad path in list: a|b/Android.bp\n",
+    ),
+    (
+        "aAndroid.bp",
+        ":1:1: error 33: bad path in list: aAndroid.bp\n",
+    ),
+    (
+        "/Android.bp",
+        ":1:1: error 33: bad path in list: /Android.bp\n",
+    ),
+];
+
+// Whether a list file is read so.
+fn lists_as(alloc: Global, bytes: &[u8], want: &str) -> Result<bool, OutOfMemory> {
+    Ok(listed(alloc, bytes)?.as_str() == want)
+}
+
 #[test]
 fn a_list_is_read_as_a_finder_writes_it(rt: HostRuntime) -> Result<(), Fail> {
-    let alloc = rt.alloc();
-    for (list, want) in [
-        ("./a/Android.bp\n\na/Android.bp\n", "a/Android.bp\n"),
-        (
-            "./b/a/Android.bp\r\n \t\n././b/Android.bp\nb.c/Android.bp\nAndroid.bp\nb/A/Android.bp",
-            "Android.bp\nb/Android.bp\nb/A/Android.bp\nb/a/Android.bp\nb.c/Android.bp\n",
-        ),
-        ("", ""),
-        ("a*/Android.bp", "a*/Android.bp\n"),
-        (
-            "../x/Android.bp",
-            ":1:1: error 33: bad path in list: ../x/Android.bp\n",
-        ),
-        (
-            "Android.bp\n./x//Android.bp\r\n",
-            ":2:1: error 33: bad path in list: ./x//Android.bp\n",
-        ),
-        (
-            "a/Android.bp\r",
-            ":1:1: error 33: bad path in list: a/Android.bp?\n",
-        ),
-        (
-            "a|b/Android.bp",
-            ":1:1: error 33: bad path in list: a|b/Android.bp\n",
-        ),
-        (
-            "aAndroid.bp",
-            ":1:1: error 33: bad path in list: aAndroid.bp\n",
-        ),
-        (
-            "/Android.bp",
-            ":1:1: error 33: bad path in list: /Android.bp\n",
-        ),
-    ] {
-        assert_eq!(rt; listed(alloc, list.as_bytes())?.as_str(), want, "of {list}");
+    for (list, want) in LISTS {
+        assert!(rt; lists_as(rt.alloc(), list.as_bytes(), want)?, "of {list}");
     }
-    assert_eq!(rt;
-        listed(alloc, b"a/Android.bp\n\xc3\xa4\xff")?.as_str(),
-        ":2:2: error 1: not UTF-8\n"
-    );
     Ok(())
 }
+
+#[test]
+fn a_list_is_utf_8(rt: HostRuntime) -> Result<(), Fail> {
+    let list = b"a/Android.bp\n\xc3\xa4\xff";
+    assert!(rt; lists_as(rt.alloc(), list, ":2:2: error 1: not UTF-8\n")?);
+    Ok(())
+}
+
+const TWO: &str = "Android.bp\na/Android.bp";
+
+const SISTERS: &str = "a/Android.bp\nb/Android.bp";
+
+const DEEP: &str = "Android.bp\na/Android.bp\na/b/c/Android.bp\nd/Android.bp";
+
+// Lists, the contents of their files, and what these load as.
+const SCOPES: &[(&str, &[&str], &str)] = &[
+    (
+        TWO,
+        &["flags = [\"-Wall\"]", "flags += [\"-O2\"]", "", ""],
+        "2:1:1: error 12: variable is inherited: flags\n",
+    ),
+    (
+        SISTERS,
+        &["x = \"1\"", "y = x", "", ""],
+        "2:1:5: error 10: unknown variable: x\n",
+    ),
+    (
+        TWO,
+        &["", "x = [\"a\"]\ny = x\nx += [\"b\"]", "", ""],
+        "2:3:1: error 13: variable was already used: x\n",
+    ),
+    (
+        TWO,
+        &["x = \"a\"\nx = \"b\"", "", "", ""],
+        "1:2:1: error 11: variable is already set: x\n",
+    ),
+    (
+        DEEP,
+        &[
+            "n = \"r\"",
+            "m = n + \"a\"",
+            "filegroup { name: m + \"c\" }",
+            "filegroup { name: n }",
+        ],
+        "a/b/c:rac\nd:r\n",
+    ),
+    (
+        DEEP,
+        &["", "m = \"a\"", "", "filegroup { name: m }"],
+        "4:1:19: error 10: unknown variable: m\n",
+    ),
+];
 
 #[test]
 fn a_file_inherits_the_scope_of_its_nearest_ancestor(rt: HostRuntime) -> Result<(), Fail> {
-    let alloc = rt.alloc();
-    let two = "Android.bp\na/Android.bp";
-    let sisters = "a/Android.bp\nb/Android.bp";
-    let deep = "Android.bp\na/Android.bp\na/b/c/Android.bp\nd/Android.bp";
-    for (list, contents, want) in [
-        (
-            two,
-            ["flags = [\"-Wall\"]", "flags += [\"-O2\"]", "", ""],
-            "2:1:1: error 12: variable is inherited: flags\n",
-        ),
-        (
-            sisters,
-            ["x = \"1\"", "y = x", "", ""],
-            "2:1:5: error 10: unknown variable: x\n",
-        ),
-        (
-            two,
-            ["", "x = [\"a\"]\ny = x\nx += [\"b\"]", "", ""],
-            "2:3:1: error 13: variable was already used: x\n",
-        ),
-        (
-            two,
-            ["x = \"a\"\nx = \"b\"", "", "", ""],
-            "1:2:1: error 11: variable is already set: x\n",
-        ),
-        (
-            deep,
-            [
-                "n = \"r\"",
-                "m = n + \"a\"",
-                "filegroup { name: m + \"c\" }",
-                "filegroup { name: n }",
-            ],
-            "a/b/c:rac\nd:r\n",
-        ),
-        (
-            deep,
-            ["", "m = \"a\"", "", "filegroup { name: m }"],
-            "4:1:19: error 10: unknown variable: m\n",
-        ),
-    ] {
-        assert_eq!(rt; loaded(&rt, alloc, list, &contents)?.as_str(), want);
+    for (list, contents, want) in SCOPES {
+        assert!(rt; loads_as(&rt, rt.alloc(), list, contents, want)?, "{want}");
     }
     Ok(())
 }
 
+const PHASES: &[(&[&str], &str)] = &[
+    (
+        &["no_type { }", "x = y", "x = {"],
+        "3:1:6: error 7: unexpected token: end of file\n",
+    ),
+    (
+        &["no_type { }", "x = y", "license { }"],
+        "2:1:5: error 10: unknown variable: y\n",
+    ),
+    (
+        &[
+            "filegroup { name: \"n\" }",
+            "filegroup { name: \"n\" }",
+            "no_type { }",
+        ],
+        "3:1:1: error 15: unknown module type: no_type\n",
+    ),
+    (
+        &[
+            "filegroup { name: \"n\" }",
+            "package { }",
+            "filegroup { name: \"n\" }",
+        ],
+        "3:1:13: error 20: duplicate module name: n\n",
+    ),
+    (&["\"", "`", "$"], "1:1:1: error 3: unterminated string\n"),
+];
+
 #[test]
 fn the_first_phase_that_has_a_fault_tells_it(rt: HostRuntime) -> Result<(), Fail> {
-    let alloc = rt.alloc();
     let three = "Android.bp\na/Android.bp\nb/Android.bp";
-    for (contents, want) in [
-        (
-            ["no_type { }", "x = y", "x = {"],
-            "3:1:6: error 7: unexpected token: end of file\n",
-        ),
-        (
-            ["no_type { }", "x = y", "license { }"],
-            "2:1:5: error 10: unknown variable: y\n",
-        ),
-        (
-            [
-                "filegroup { name: \"n\" }",
-                "filegroup { name: \"n\" }",
-                "no_type { }",
-            ],
-            "3:1:1: error 15: unknown module type: no_type\n",
-        ),
-        (
-            [
-                "filegroup { name: \"n\" }",
-                "package { }",
-                "filegroup { name: \"n\" }",
-            ],
-            "3:1:13: error 20: duplicate module name: n\n",
-        ),
-        (["\"", "`", "$"], "1:1:1: error 3: unterminated string\n"),
-    ] {
-        assert_eq!(rt; loaded(&rt, alloc, three, &contents)?.as_str(), want);
+    for (contents, want) in PHASES {
+        assert!(rt; loads_as(&rt, rt.alloc(), three, contents, want)?, "{want}");
     }
     Ok(())
 }
 
 #[test]
 fn raw_modules_have_the_directories_of_their_files(rt: HostRuntime) -> Result<(), Fail> {
-    let alloc = rt.alloc();
     let shown = raw_shown(
-        alloc,
+        rt.alloc(),
         "a/b/Android.bp\nAndroid.bp",
         &["one { }", "two { }\nsix { }"],
     )?;
@@ -284,67 +343,66 @@ fn raw_modules_have_the_directories_of_their_files(rt: HostRuntime) -> Result<()
     Ok(())
 }
 
+// Files in three folders.
+const THREE: &str = "a/Android.bp\nb/Android.bp\nc/Android.bp";
+
 // Parsing comes before evaluation, and of two faults of parsing that of the first file is told.
 #[test]
 fn first_parse_fault(rt: HostRuntime) -> Result<(), Fail> {
-    let alloc = rt.alloc();
-    let list = "a/Android.bp\nb/Android.bp\nc/Android.bp";
-    for workers in [1, 2, 64] {
-        let line = loaded_by(&rt, alloc, list, &["x = [1]", "/* x", "y = $"], workers)?;
-        assert_eq!(rt;
-            line.as_str(),
-            "2:1:1: error 4: unterminated comment\n",
-            "by {workers}"
-        );
-    }
+    let contents = ["x = [1]", "/* x", "y = $"];
+    let files = (THREE, contents.as_slice());
+    let want = "2:1:1: error 4: unterminated comment\n";
+    assert_eq!(rt; differing(&rt, rt.alloc(), files, &[1, 2, 64], want)?, None);
     Ok(())
 }
 
 // The fault at the end of the large file is found after those of the small ones.
 #[test]
 fn a_large_files_fault_is_told_before_a_small_ones(rt: HostRuntime) -> Result<(), Fail> {
-    let alloc = rt.alloc();
-    let large = repeated(alloc, "x = [", "\"a\",", 25_000, "")?;
-    let half = repeated(alloc, "x = [", "\"a\",", 10_000, "]")?;
-    let list = "a/Android.bp\nb/Android.bp\nc/Android.bp";
-    for workers in [1, 2, 64] {
-        let behind = loaded_by(&rt, alloc, list, &[large.as_str(), "y = $", "`"], workers)?;
-        assert_eq!(rt;
-            behind.as_str(),
-            "1:1:100006: error 7: unexpected token: end of file\n",
-            "by {workers}"
-        );
-        let between = loaded_by(
-            &rt,
-            alloc,
-            list,
-            &[half.as_str(), large.as_str(), "y = $"],
-            workers,
-        )?;
-        assert_eq!(rt;
-            between.as_str(),
-            "2:1:100006: error 7: unexpected token: end of file\n",
-            "by {workers}"
-        );
-    }
+    let large = repeated(rt.alloc(), "x = [", "\"a\",", 25_000, "")?;
+    let contents = [large.as_str(), "y = $", "`"];
+    let files = (THREE, contents.as_slice());
+    let want = "1:1:100006: error 7: unexpected token: end of file\n";
+    assert_eq!(rt; differing(&rt, rt.alloc(), files, &[1, 2, 64], want)?, None);
     Ok(())
+}
+
+#[test]
+fn a_large_files_fault_between_two_others_is_told(rt: HostRuntime) -> Result<(), Fail> {
+    let large = repeated(rt.alloc(), "x = [", "\"a\",", 25_000, "")?;
+    let half = repeated(rt.alloc(), "x = [", "\"a\",", 10_000, "]")?;
+    let contents = [half.as_str(), large.as_str(), "y = $"];
+    let files = (THREE, contents.as_slice());
+    let want = "2:1:100006: error 7: unexpected token: end of file\n";
+    assert_eq!(rt; differing(&rt, rt.alloc(), files, &[1, 2, 64], want)?, None);
+    Ok(())
+}
+
+// The number of lines that one worker loads the files as, and the first of some numbers of workers who load them
+// otherwise.
+fn compared<R: Threads + Sync>(
+    rt: &R,
+    alloc: Global,
+    files: (&str, &[&str]),
+    numbers: &[u32],
+) -> Result<(usize, Option<u32>), OutOfMemory> {
+    let one = loaded_by(rt, alloc, files.0, files.1, 1)?;
+    let other = differing(rt, alloc, files, numbers, one.as_str())?;
+    Ok((one.as_str().lines().count(), other))
 }
 
 // More modules than one worker types, in more bytes than one worker parses.
 #[test]
 fn several_workers_load_what_one_loads(rt: HostRuntime) -> Result<(), Fail> {
-    let alloc = rt.alloc();
-    let a = modules(alloc, "a", 4)?;
-    let b = modules(alloc, "b", 3_000)?;
-    let c = modules(alloc, "c", 1_500)?;
+    let a = modules(rt.alloc(), "a", 4)?;
+    let b = modules(rt.alloc(), "b", 3_000)?;
+    let c = modules(rt.alloc(), "c", 1_500)?;
     let contents = [a.as_str(), b.as_str(), c.as_str()];
-    let list = "a/Android.bp\nb/Android.bp\nc/Android.bp";
-    let one = loaded_by(&rt, alloc, list, &contents, 1)?;
-    assert_eq!(rt; one.as_str().lines().count(), 4_504);
-    for workers in [2, 3, 64] {
-        let several = loaded_by(&rt, alloc, list, &contents, workers)?;
-        assert_eq!(rt; several.as_str(), one.as_str(), "by {workers}");
-    }
+    let files = (THREE, contents.as_slice());
+    assert_eq!(rt;
+        compared(&rt, rt.alloc(), files, &[2, 3, 64])?,
+        (4_504, None)
+    );
     Ok(())
 }
 
@@ -361,14 +419,28 @@ fn modules_behind(
     Ok(text)
 }
 
-// The root's file is above two branches, in more bytes than one worker evaluates. In each branch a file inherits from the
-// file of its own branch, which inherits from the root's.
+// Whether what one worker loads begins, goes on and ends as the branches do.
+fn inherits_in_branches<R: Threads + Sync>(
+    rt: &R,
+    alloc: Global,
+    files: (&str, &[&str]),
+) -> Result<bool, OutOfMemory> {
+    let one = loaded_by(rt, alloc, files.0, files.1, 1)?;
+    let one = one.as_str();
+    Ok(
+        one.starts_with(":r\na:a0\n")
+            && one.contains("\na/b:rab\nc:c0\n")
+            && one.ends_with("\nc/d:rcd\n"),
+    )
+}
+
+// The root's file is above two branches, in more bytes than one worker evaluates. In each branch a file inherits from
+// the file of its own branch, which inherits from the root's.
 #[test]
 fn branches_inherit_from_the_trunk(rt: HostRuntime) -> Result<(), Fail> {
-    let alloc = rt.alloc();
     let list = "Android.bp\na/Android.bp\na/b/Android.bp\nc/Android.bp\nc/d/Android.bp";
-    let a = modules_behind(alloc, "x = r + \"a\"", "a", 1_500)?;
-    let c = modules_behind(alloc, "x = r + \"c\"", "c", 1_500)?;
+    let a = modules_behind(rt.alloc(), "x = r + \"a\"", "a", 1_500)?;
+    let c = modules_behind(rt.alloc(), "x = r + \"c\"", "c", 1_500)?;
     let contents = [
         "r = \"r\"\nfilegroup { name: r }",
         a.as_str(),
@@ -376,33 +448,30 @@ fn branches_inherit_from_the_trunk(rt: HostRuntime) -> Result<(), Fail> {
         c.as_str(),
         "filegroup { name: x + \"d\" }",
     ];
-    let one = loaded_by(&rt, alloc, list, &contents, 1)?;
-    assert_eq!(rt; one.as_str().lines().count(), 3_003);
-    assert!(rt; one.as_str().starts_with(":r\na:a0\n"));
-    assert!(rt; one.as_str().contains("\na/b:rab\nc:c0\n"));
-    assert!(rt; one.as_str().ends_with("\nc/d:rcd\n"));
-    for workers in [2, 3, 64] {
-        let several = loaded_by(&rt, alloc, list, &contents, workers)?;
-        assert_eq!(rt; several.as_str(), one.as_str(), "by {workers}");
-    }
+    let files = (list, contents.as_slice());
+    assert!(rt; inherits_in_branches(&rt, rt.alloc(), files)?);
+    assert_eq!(rt;
+        compared(&rt, rt.alloc(), files, &[2, 3, 64])?,
+        (3_003, None)
+    );
     Ok(())
+}
+
+// So many modules, and a definition of an unknown variable behind them.
+fn modules_before_a_fault(alloc: Global, count: u32) -> Result<String, OutOfMemory> {
+    let mut large = modules(alloc, "m", count)?;
+    large.push_str("y = z\n")?;
+    Ok(large)
 }
 
 // The fault at the end of the large file is found after that of the small one, which is of another branch.
 #[test]
 fn the_front_branchs_fault_is_told(rt: HostRuntime) -> Result<(), Fail> {
-    let alloc = rt.alloc();
-    let mut large = modules(alloc, "m", 3_000)?;
-    large.push_str("y = z\n")?;
     let list = "Android.bp\na/Android.bp\na/b/Android.bp\nb/Android.bp";
+    let large = modules_before_a_fault(rt.alloc(), 3_000)?;
     let contents = ["r = \"r\"", large.as_str(), "", "y = r + z"];
-    for workers in [1, 2, 64] {
-        let line = loaded_by(&rt, alloc, list, &contents, workers)?;
-        assert_eq!(rt;
-            line.as_str(),
-            "2:9001:5: error 10: unknown variable: z\n",
-            "by {workers}"
-        );
-    }
+    let files = (list, contents.as_slice());
+    let want = "2:9001:5: error 10: unknown variable: z\n";
+    assert_eq!(rt; differing(&rt, rt.alloc(), files, &[1, 2, 64], want)?, None);
     Ok(())
 }

@@ -2,7 +2,7 @@ ghost use Rattle.std.specs.Prelude.{◌≤◌, ◌^◌, length};
 
 use bp_faults::{Fault, OutOfMemory, Place, Text, fault_line};
 use bp_lexer::tokens;
-use bp_parser::{Def, Expr, ParseError, parse};
+use bp_parser::{Def, Expr, FileTree, ParseError, parse};
 use std::alloc::Global;
 use std::test::Fail;
 
@@ -13,45 +13,60 @@ fn line(alloc: Global, fault: &Fault) -> Result<String, OutOfMemory> {
     fault_line(alloc, fault, files.as_slice())
 }
 
+// A place, and a text between two others.
+fn placed(
+    alloc: Global,
+    at: Place,
+    open: &str,
+    text: &str,
+    close: &str,
+) -> Result<String, OutOfMemory> {
+    let (line, col) = (at.line, at.col);
+    Ok(format!(in alloc; "{line}:{col} {open}{text}{close}")?)
+}
+
+// A place, and a number of parts between two brackets.
+fn counted(
+    alloc: Global,
+    at: Place,
+    open: &str,
+    count: usize,
+    close: &str,
+) -> Result<String, OutOfMemory> {
+    let number = format!(in alloc; "{count}")?;
+    placed(alloc, at, open, number.as_str(), close)
+}
+
+fn integer(alloc: Global, at: Place, number: i64) -> Result<String, OutOfMemory> {
+    let number = format!(in alloc; "{number}")?;
+    placed(alloc, at, "", number.as_str(), "")
+}
+
+// The number of terms behind the first, and the place of each plus.
+fn sum(alloc: Global, terms: &[(Place, Expr)]) -> Result<String, OutOfMemory> {
+    let count = terms.len();
+    let mut shown = format!(in alloc; "sum of 1 + {count}")?;
+    for term in terms {
+        shown.push_str(" ")?;
+        let (line, col) = (term.0.line, term.0.col);
+        shown.push_str(format!(in alloc; "{line}:{col}")?.as_str())?;
+    }
+    Ok(shown)
+}
+
 // An expression by its place, and its text or the number of its parts.
 fn value(alloc: Global, value: &Expr) -> Result<String, OutOfMemory> {
-    let shown = match value {
+    match value {
         Expr::Bool(at, truth) => {
-            let (line, col) = (at.line, at.col);
-            format!(in alloc; "{line}:{col} {truth}")?
+            placed(alloc, *at, "", if *truth { "true" } else { "false" }, "")
         }
-        Expr::Int(at, number) => {
-            let (line, col) = (at.line, at.col);
-            format!(in alloc; "{line}:{col} {number}")?
-        }
-        Expr::Str(at, text) => {
-            let (line, col, text) = (at.line, at.col, text.as_str());
-            format!(in alloc; "{line}:{col} '{text}'")?
-        }
-        Expr::Name(at, text) => {
-            let (line, col, text) = (at.line, at.col, text.as_str());
-            format!(in alloc; "{line}:{col} {text}")?
-        }
-        Expr::List(at, items) => {
-            let (line, col, count) = (at.line, at.col, items.len());
-            format!(in alloc; "{line}:{col} [{count}]")?
-        }
-        Expr::Map(map) => {
-            let (line, col, count) = (map.at.line, map.at.col, map.entries.len());
-            format!(in alloc; "{line}:{col} {{{count}}}")?
-        }
-        Expr::Sum(_, terms) => {
-            let count = terms.len();
-            let mut shown = format!(in alloc; "sum of 1 + {count}")?;
-            for term in terms.iter() {
-                let (line, col) = (term.0.line, term.0.col);
-                let plus = format!(in alloc; " {line}:{col}")?;
-                shown.push_str(plus.as_str())?;
-            }
-            shown
-        }
-    };
-    Ok(shown)
+        Expr::Int(at, number) => integer(alloc, *at, *number),
+        Expr::Str(at, text) => placed(alloc, *at, "'", text.as_str(), "'"),
+        Expr::Name(at, text) => placed(alloc, *at, "", text.as_str(), ""),
+        Expr::List(at, items) => counted(alloc, *at, "[", items.len(), "]"),
+        Expr::Map(map) => counted(alloc, map.at, "{", map.entries.len(), "}"),
+        Expr::Sum(_, terms) => sum(alloc, terms.as_slice()),
+    }
 }
 
 fn named(
@@ -87,25 +102,31 @@ fn definition(alloc: Global, def: &Def) -> Result<String, OutOfMemory> {
     }
 }
 
-// The file's number and its definitions, or the line of the first fault.
-fn shown(alloc: Global, text: &str) -> Result<String, OutOfMemory>
+// The file's number and its definitions.
+fn told(alloc: Global, tree: &FileTree) -> Result<String, OutOfMemory> {
+    let file = tree.file;
+    let mut shown = format!(in alloc; "{file}")?;
+    for def in tree.defs.iter() {
+        let one = definition(alloc, def)?;
+        shown.push_str(one.as_str())?;
+    }
+    Ok(shown)
+}
+
+fn parsed(alloc: Global, text: &str) -> Result<FileTree, ParseError>
     requires { length text.now ≤ 2 ^ 20 }
 {
-    let list = match tokens(alloc, text, 1) {
-        Ok(list) => list,
-        Err(ParseError::Bad(fault)) => return line(alloc, &fault),
-        Err(ParseError::OutOfMemory) => return Err(OutOfMemory),
-    };
-    match parse(alloc, text, list.as_slice()) {
-        Ok(tree) => {
-            let file = tree.file;
-            let mut shown = format!(in alloc; "{file}")?;
-            for def in tree.defs.iter() {
-                let one = definition(alloc, def)?;
-                shown.push_str(one.as_str())?;
-            }
-            Ok(shown)
-        }
+    let list = tokens(alloc, text, 1)?;
+    parse(alloc, text, list.as_slice())
+}
+
+// The file as it is told, or the line of the first fault. A text over 1 MiB isn't read.
+fn shown(alloc: Global, text: &str) -> Result<String, OutOfMemory> {
+    if text.len() > 1 << 20 {
+        return Ok(String::from_str(alloc, "over 1 MiB")?);
+    }
+    match parsed(alloc, text) {
+        Ok(tree) => told(alloc, &tree),
         Err(ParseError::Bad(fault)) => line(alloc, &fault),
         Err(ParseError::OutOfMemory) => Err(OutOfMemory),
     }
@@ -131,185 +152,189 @@ fn nested(
     Ok(text)
 }
 
+const TREES: &[(&str, &str)] = &[
+    ("", "0"),
+    ("// x\n/* y */", "0"),
+    ("// x\nx = 1", "1; 2:1 x = 2:5 1"),
+    (
+        "x += \"a\\tb\" /* c */ y = `d`",
+        "1; 1:1 x += 1:6 'a\tb'; 1:21 y = 1:25 'd'",
+    ),
+    (
+        "a = true b = false c = d",
+        "1; 1:1 a = 1:5 true; 1:10 b = 1:14 false; 1:20 c = 1:24 d",
+    ),
+    (
+        "select = -9223372036854775808",
+        "1; 1:1 select = 1:10 -9223372036854775808",
+    ),
+    (
+        "cc_binary { name: \"x\", true: false, }",
+        "1; 1:1 cc_binary has ; 1:13 name : 1:19 'x'; 1:24 true : 1:30 false",
+    ),
+    (
+        "x = [1,] y = [[], {a: 1,}, z]",
+        "1; 1:1 x = 1:5 [1]; 1:10 y = 1:14 [3]",
+    ),
+    (
+        "x = {a: 1, b: {a: 2}} y = {a: 3,}",
+        "1; 1:1 x = 1:5 {2}; 1:23 y = 1:27 {1}",
+    ),
+    (
+        "x = [a + b] + {} + `c` + 4 y {}",
+        "1; 1:1 x = sum of 1 + 3 1:13 1:18 1:24; 1:28 y has ",
+    ),
+];
+
+// Whether a text is shown so.
+fn shows_as(alloc: Global, text: &str, want: &str) -> Result<bool, OutOfMemory> {
+    Ok(shown(alloc, text)?.as_str() == want)
+}
+
 #[test]
 fn trees_are_told(rt: HostRuntime) -> Result<(), Fail> {
-    let alloc = rt.alloc();
-    for (text, want) in [
-        ("", "0"),
-        ("// x\n/* y */", "0"),
-        ("// x\nx = 1", "1; 2:1 x = 2:5 1"),
-        (
-            "x += \"a\\tb\" /* c */ y = `d`",
-            "1; 1:1 x += 1:6 'a\tb'; 1:21 y = 1:25 'd'",
-        ),
-        (
-            "a = true b = false c = d",
-            "1; 1:1 a = 1:5 true; 1:10 b = 1:14 false; 1:20 c = 1:24 d",
-        ),
-        (
-            "select = -9223372036854775808",
-            "1; 1:1 select = 1:10 -9223372036854775808",
-        ),
-        (
-            "cc_binary { name: \"x\", true: false, }",
-            "1; 1:1 cc_binary has ; 1:13 name : 1:19 'x'; 1:24 true : 1:30 false",
-        ),
-        (
-            "x = [1,] y = [[], {a: 1,}, z]",
-            "1; 1:1 x = 1:5 [1]; 1:10 y = 1:14 [3]",
-        ),
-        (
-            "x = {a: 1, b: {a: 2}} y = {a: 3,}",
-            "1; 1:1 x = 1:5 {2}; 1:23 y = 1:27 {1}",
-        ),
-        (
-            "x = [a + b] + {} + `c` + 4 y {}",
-            "1; 1:1 x = sum of 1 + 3 1:13 1:18 1:24; 1:28 y has ",
-        ),
-    ] {
-        assert!(rt; text.len() <= 1 << 20);
-        assert_eq!(rt; shown(alloc, text)?.as_str(), want);
+    for (text, want) in TREES {
+        assert!(rt; shows_as(rt.alloc(), text, want)?, "{text}");
     }
     Ok(())
+}
+
+// Texts, and the lines of their faults without the file and the end of the line.
+const BAD: &[(&str, &str)] = &[
+    (
+        "cc_binary { name \"x\" }",
+        "1:18: error 7: unexpected token: \"x\"",
+    ),
+    (
+        "cc_binary {",
+        "1:12: error 7: unexpected token: end of file",
+    ),
+    ("x = { a: 1, a: 2 }", "1:13: error 9: duplicate property: a"),
+    ("x = {a: 1, a }", "1:12: error 9: duplicate property: a"),
+    ("x = [,]", "1:6: error 7: unexpected token: ,"),
+    ("x = [1,,]", "1:8: error 7: unexpected token: ,"),
+    ("x = {,}", "1:6: error 7: unexpected token: ,"),
+    ("x = {a: 1,,}", "1:11: error 7: unexpected token: ,"),
+    ("x = {a: 1 b: 2}", "1:11: error 7: unexpected token: b"),
+    ("x = 1,", "1:6: error 7: unexpected token: ,"),
+    (
+        "x = 1 + // é\n",
+        "2:1: error 7: unexpected token: end of file",
+    ),
+    ("x = + 1", "1:5: error 7: unexpected token: +"),
+    ("x = [1 + ]", "1:10: error 7: unexpected token: ]"),
+    ("x = [1}", "1:7: error 7: unexpected token: }"),
+    ("true = 1", "1:1: error 7: unexpected token: true"),
+    ("x = y false { }", "1:7: error 7: unexpected token: false"),
+    ("x = select(", "1:11: error 7: unexpected token: ("),
+    ("x : 1", "1:3: error 7: unexpected token: :"),
+    ("x =", "1:4: error 7: unexpected token: end of file"),
+    ("x = {`a`: 1}", "1:6: error 7: unexpected token: `a`"),
+];
+
+// Whether a text has the fault of this line.
+fn refuses(alloc: Global, text: &str, want: &str) -> Result<bool, OutOfMemory> {
+    let want = format!(in alloc; "Android.bp:{want}\n")?;
+    shows_as(alloc, text, want.as_str())
 }
 
 #[test]
 fn bad_texts(rt: HostRuntime) -> Result<(), Fail> {
-    let alloc = rt.alloc();
-    for (text, want) in [
-        (
-            "cc_binary { name \"x\" }",
-            "1:18: error 7: unexpected token: \"x\"",
-        ),
-        (
-            "cc_binary {",
-            "1:12: error 7: unexpected token: end of file",
-        ),
-        ("x = { a: 1, a: 2 }", "1:13: error 9: duplicate property: a"),
-        ("x = {a: 1, a }", "1:12: error 9: duplicate property: a"),
-        ("x = [,]", "1:6: error 7: unexpected token: ,"),
-        ("x = [1,,]", "1:8: error 7: unexpected token: ,"),
-        ("x = {,}", "1:6: error 7: unexpected token: ,"),
-        ("x = {a: 1,,}", "1:11: error 7: unexpected token: ,"),
-        ("x = {a: 1 b: 2}", "1:11: error 7: unexpected token: b"),
-        ("x = 1,", "1:6: error 7: unexpected token: ,"),
-        (
-            "x = 1 + // é\n",
-            "2:1: error 7: unexpected token: end of file",
-        ),
-        ("x = + 1", "1:5: error 7: unexpected token: +"),
-        ("x = [1 + ]", "1:10: error 7: unexpected token: ]"),
-        ("x = [1}", "1:7: error 7: unexpected token: }"),
-        ("true = 1", "1:1: error 7: unexpected token: true"),
-        ("x = y false { }", "1:7: error 7: unexpected token: false"),
-        ("x = select(", "1:11: error 7: unexpected token: ("),
-        ("x : 1", "1:3: error 7: unexpected token: :"),
-        ("x =", "1:4: error 7: unexpected token: end of file"),
-        ("x = {`a`: 1}", "1:6: error 7: unexpected token: `a`"),
-    ] {
-        assert!(rt; text.len() <= 1 << 20);
-        let want = format!(in alloc; "Android.bp:{want}\n")?;
-        assert_eq!(rt; shown(alloc, text)?.as_str(), want.as_str());
+    for (text, want) in BAD {
+        assert!(rt; refuses(rt.alloc(), text, want)?, "{text}");
     }
     Ok(())
+}
+
+// A text with so many brackets: what stands before them, the opening one, their number, what they hold, the closing
+// one, and what stands behind them.
+type Nest = (
+    &'static str,
+    &'static str,
+    usize,
+    &'static str,
+    &'static str,
+    &'static str,
+);
+
+const NESTS: &[(Nest, &str)] = &[
+    (("x = ", "[", 64, "", "]", ""), "1; 1:1 x = 1:5 [1]"),
+    (
+        ("x = ", "[", 65, "", "]", ""),
+        "Android.bp:1:69: error 8: nested too deeply\n",
+    ),
+    (("x = ", "{a:", 63, "{}", "}", ""), "1; 1:1 x = 1:5 {1}"),
+    (
+        ("x = ", "{a:", 64, "{}", "}", ""),
+        "Android.bp:1:197: error 8: nested too deeply\n",
+    ),
+    (
+        ("x = ", "{a:", 63, "{{", "}", ""),
+        "Android.bp:1:195: error 7: unexpected token: {\n",
+    ),
+    (("x = ", "[{a:", 32, "1", "}]", ""), "1; 1:1 x = 1:5 [1]"),
+    (
+        ("x = ", "[{a:", 32, "[", "}]", ""),
+        "Android.bp:1:133: error 8: nested too deeply\n",
+    ),
+    (
+        ("m {a:", "[", 63, "", "]", "}"),
+        "1; 1:1 m has ; 1:4 a : 1:6 [1]",
+    ),
+    (
+        ("m {a:", "[", 64, "", "]", "}"),
+        "Android.bp:1:69: error 8: nested too deeply\n",
+    ),
+];
+
+// Whether the text of these brackets is shown so.
+fn nest_shows_as(alloc: Global, nest: Nest, want: &str) -> Result<bool, OutOfMemory> {
+    let (head, open, count, middle, close, tail) = nest;
+    let mut text = nested(alloc, head, open, count, middle, close)?;
+    text.push_str(tail)?;
+    shows_as(alloc, text.as_str(), want)
 }
 
 #[test]
 fn brackets_are_counted(rt: HostRuntime) -> Result<(), Fail> {
-    let alloc = rt.alloc();
-    for (head, open, count, middle, close, tail, want) in [
-        ("x = ", "[", 64, "", "]", "", "1; 1:1 x = 1:5 [1]"),
-        (
-            "x = ",
-            "[",
-            65,
-            "",
-            "]",
-            "",
-            "Android.bp:1:69: error 8: nested too deeply\n",
-        ),
-        ("x = ", "{a:", 63, "{}", "}", "", "1; 1:1 x = 1:5 {1}"),
-        (
-            "x = ",
-            "{a:",
-            64,
-            "{}",
-            "}",
-            "",
-            "Android.bp:1:197: error 8: nested too deeply\n",
-        ),
-        (
-            "x = ",
-            "{a:",
-            63,
-            "{{",
-            "}",
-            "",
-            "Android.bp:1:195: error 7: unexpected token: {\n",
-        ),
-        ("x = ", "[{a:", 32, "1", "}]", "", "1; 1:1 x = 1:5 [1]"),
-        (
-            "x = ",
-            "[{a:",
-            32,
-            "[",
-            "}]",
-            "",
-            "Android.bp:1:133: error 8: nested too deeply\n",
-        ),
-        (
-            "m {a:",
-            "[",
-            63,
-            "",
-            "]",
-            "}",
-            "1; 1:1 m has ; 1:4 a : 1:6 [1]",
-        ),
-        (
-            "m {a:",
-            "[",
-            64,
-            "",
-            "]",
-            "}",
-            "Android.bp:1:69: error 8: nested too deeply\n",
-        ),
-    ] {
-        let mut text = nested(alloc, head, open, count, middle, close)?;
-        text.push_str(tail)?;
-        assert!(rt; text.len() <= 1 << 20);
-        assert_eq!(rt; shown(alloc, text.as_str())?.as_str(), want);
+    for (nest, want) in NESTS {
+        assert!(rt; nest_shows_as(rt.alloc(), *nest, want)?, "{want}");
     }
     Ok(())
 }
 
 #[test]
-fn long_literals_are_read(rt: HostRuntime) -> Result<(), Fail> {
-    let alloc = rt.alloc();
-    let list = nested(alloc, "x = [", "1,", 65_536, "]", "")?;
-    assert!(rt; list.len() <= 1 << 20);
-    assert_eq!(rt;
-        shown(alloc, list.as_str())?.as_str(),
-        "1; 1:1 x = 1:5 [65536]"
-    );
-    let sum = nested(alloc, "x = 1", " + 1", 65_535, "", "")?;
-    assert!(rt; sum.len() <= 1 << 20);
+fn a_long_list_is_read(rt: HostRuntime) -> Result<(), Fail> {
+    let nest = ("x = [", "1,", 65_536, "]", "", "");
+    assert!(rt; nest_shows_as(rt.alloc(), nest, "1; 1:1 x = 1:5 [65536]")?);
+    Ok(())
+}
+
+#[test]
+fn a_long_sum_is_read(rt: HostRuntime) -> Result<(), Fail> {
+    let sum = nested(rt.alloc(), "x = 1", " + 1", 65_535, "", "")?;
+    let shown = shown(rt.alloc(), sum.as_str())?;
     assert!(rt;
-        shown(alloc, sum.as_str())?
+        shown
             .as_str()
             .starts_with("1; 1:1 x = sum of 1 + 65535 1:7 1:11 ")
     );
+    Ok(())
+}
+
+// A map of so many entries.
+fn long_map(alloc: Global, count: u32) -> Result<String, OutOfMemory> {
     let mut map = String::from_str(alloc, "x = {")?;
-    for i in 0..10_000_u32 {
-        let entry = format!(in alloc; "a{i}: 1,")?;
-        map.push_str(entry.as_str())?;
+    for i in 0..count {
+        map.push_str(format!(in alloc; "a{i}: 1,")?.as_str())?;
     }
     map.push_str("}")?;
-    assert!(rt; map.len() <= 1 << 20);
-    assert_eq!(rt;
-        shown(alloc, map.as_str())?.as_str(),
-        "1; 1:1 x = 1:5 {10000}"
-    );
+    Ok(map)
+}
+
+#[test]
+fn a_long_map_is_read(rt: HostRuntime) -> Result<(), Fail> {
+    let map = long_map(rt.alloc(), 10_000)?;
+    assert!(rt; shows_as(rt.alloc(), map.as_str(), "1; 1:1 x = 1:5 {10000}")?);
     Ok(())
 }

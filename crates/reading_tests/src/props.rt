@@ -71,34 +71,79 @@ fn shown(alloc: Global, props: &Props) -> Result<String, AllocError> {
     Ok(out)
 }
 
+/// The record that is merged into: all of the first line, and a group of vendors.
+fn first(alloc: Global) -> Result<Props, OutOfMemory> {
+    record(alloc, "a", 1, GroupId::Vendor)
+}
+
+/// The record that is merged: all of the second line, and a group of an architecture.
+fn second(alloc: Global) -> Result<Props, OutOfMemory> {
+    record(alloc, "b", 2, GroupId::ArchArm)
+}
+
+fn followed(alloc: Global) -> Result<Props, OutOfMemory> {
+    let mut props = first(alloc)?;
+    props.follow(alloc, &second(alloc)?)?;
+    Ok(props)
+}
+
+fn overlaid(alloc: Global) -> Result<Props, OutOfMemory> {
+    let mut props = first(alloc)?.copy(alloc)?;
+    props.over(alloc, &second(alloc)?)?;
+    Ok(props)
+}
+
+fn appended(alloc: Global) -> Result<Props, OutOfMemory> {
+    let mut props = first(alloc)?.copy(alloc)?;
+    props.append(alloc, &second(alloc)?.base)?;
+    Ok(props)
+}
+
+fn restricted(alloc: Global) -> Result<Props, OutOfMemory> {
+    let mut props = overlaid(alloc)?.copy(alloc)?;
+    props.restrict(ModuleKind::Filegroup);
+    Ok(props)
+}
+
 #[test]
-fn records_are_merged(rt: HostRuntime) -> Result<(), Fail> {
-    let alloc = rt.alloc();
-    let mut followed = record(alloc, "a", 1, GroupId::Vendor)?;
-    let other = record(alloc, "b", 2, GroupId::ArchArm)?;
-    let mut over = followed.copy(alloc)?;
-    let mut appended = followed.copy(alloc)?;
-    followed.follow(alloc, &other)?;
-    over.over(alloc, &other)?;
-    appended.append(alloc, &other.base)?;
-    let mut restricted = over.copy(alloc)?;
-    restricted.restrict(ModuleKind::Filegroup);
-    for (record, want) in [
-        (
-            &followed,
-            "1 1 | a b 1 | ArchArm b 2 | Vendor a 1 | Static a b 1",
-        ),
-        (
-            &over,
-            "2 2 | a b 2 | ArchArm b 2 | Vendor a 1 | Static a b 2",
-        ),
-        (&appended, "1 1 | a b 2 | Vendor a 1 | Static a 1"),
-        (&restricted, "2 0 | 2"),
-    ] {
-        assert_eq!(rt; shown(alloc, record)?.as_str(), want);
-    }
-    assert!(rt; over.group(GroupId::Vendor).is_some());
-    assert!(rt; over.group(GroupId::Host).is_none());
+fn a_record_follows_another(rt: HostRuntime) -> Result<(), Fail> {
+    assert_eq!(rt;
+        shown(rt.alloc(), &followed(rt.alloc())?)?.as_str(),
+        "1 1 | a b 1 | ArchArm b 2 | Vendor a 1 | Static a b 1"
+    );
+    Ok(())
+}
+
+#[test]
+fn a_record_is_laid_over_another(rt: HostRuntime) -> Result<(), Fail> {
+    let over = overlaid(rt.alloc())?;
+    assert_eq!(rt;
+        shown(rt.alloc(), &over)?.as_str(),
+        "2 2 | a b 2 | ArchArm b 2 | Vendor a 1 | Static a b 2"
+    );
+    let has = (
+        over.group(GroupId::Vendor).is_some(),
+        over.group(GroupId::Host).is_some(),
+    );
+    assert_eq!(rt; has, (true, false));
+    Ok(())
+}
+
+#[test]
+fn a_group_is_appended(rt: HostRuntime) -> Result<(), Fail> {
+    assert_eq!(rt;
+        shown(rt.alloc(), &appended(rt.alloc())?)?.as_str(),
+        "1 1 | a b 2 | Vendor a 1 | Static a 1"
+    );
+    Ok(())
+}
+
+#[test]
+fn a_record_is_restricted_to_a_kind(rt: HostRuntime) -> Result<(), Fail> {
+    assert_eq!(rt;
+        shown(rt.alloc(), &restricted(rt.alloc())?)?.as_str(),
+        "2 0 | 2"
+    );
     Ok(())
 }
 

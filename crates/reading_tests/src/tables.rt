@@ -97,7 +97,7 @@ fn typed_in(
 }
 
 /// Type, name, dotted path of a property, its value, and the fault that is wanted with its subject.
-const ROWS: [(&str, &str, &str, Given, Option<(FaultKind, &str)>); 37] = [
+const ROWS: &[(&str, &str, &str, Given, Option<(FaultKind, &str)>)] = &[
     ("cc_binary", "a.b+c-d@e_9", "enabled", Given::Truth, None),
     (
         "cc_library",
@@ -295,34 +295,54 @@ fn is_wanted(want: Option<(FaultKind, &str)>, fault: Option<&Fault>) -> bool {
     }
 }
 
+/// Whether a module of one property is refused for the fault, or typed where there is none.
+fn types_as(
+    alloc: Global,
+    (kind, name, path): (&str, &str, &str),
+    given: Given,
+    want: Option<(FaultKind, &str)>,
+) -> Result<bool, OutOfMemory> {
+    let fault = fault_of(typed_in(alloc, kind, name, path, given))?;
+    Ok(is_wanted(want, fault.as_ref()))
+}
+
 #[test]
 fn modules_are_typed_or_refused(rt: HostRuntime) -> Result<(), Fail> {
-    let alloc = rt.alloc();
     for (kind, name, path, given, want) in ROWS {
-        let fault = fault_of(typed_in(alloc, kind, name, path, given))?;
-        assert!(rt; is_wanted(want, fault.as_ref()));
+        assert!(rt;
+            types_as(rt.alloc(), (*kind, *name, *path), *given, *want)?,
+            "{kind} {path}"
+        );
     }
     Ok(())
 }
 
+/// A module's name, and behind it the sources of a group.
+fn shown(alloc: Global, module: &Module, group: GroupId) -> Result<String, OutOfMemory> {
+    let mut shown = String::from_str(alloc, module.name.as_str())?;
+    if let Some(group) = module.props.group(group) {
+        for source in group.srcs.items.as_slice() {
+            shown.push_str(" ")?;
+            shown.push_str(source.item.text.as_str())?;
+        }
+    }
+    Ok(shown)
+}
+
+/// The defaults of a name with these sources for Android, as they are shown.
+fn shown_defaults(alloc: Global, name: &str, sources: Given) -> Result<String, LoadError> {
+    match typed_in(alloc, "cc_defaults", name, "target.android.srcs", sources)? {
+        Some(module) => Ok(shown(alloc, &module, GroupId::Android)?),
+        None => Ok(String::new(alloc)),
+    }
+}
+
 #[test]
 fn values_go_into_the_record(rt: HostRuntime) -> Result<(), Fail> {
-    let alloc = rt.alloc();
-    let srcs = Given::Words("./x//y.c :gen ./:x.c");
-    match typed_in(alloc, "cc_defaults", "demo", "target.android.srcs", srcs)? {
-        Some(demo) => {
-            assert_eq!(rt; demo.name.as_str(), "demo");
-            let wants = ["d/e/x/y.c", "gen", "d/e/:x.c"];
-            let group = demo.props.group(GroupId::Android);
-            let sources = group
-                .map(|group| group.srcs.items.as_slice())
-                .unwrap_or(&[]);
-            assert!(rt; sources.len() == 3);
-            for (source, want) in sources.iter().zip(wants) {
-                assert_eq!(rt; source.item.text.as_str(), want);
-            }
-        }
-        None => assert!(rt; false),
-    }
+    let sources = Given::Words("./x//y.c :gen ./:x.c");
+    assert_eq!(rt;
+        shown_defaults(rt.alloc(), "demo", sources)?.as_str(),
+        "demo d/e/x/y.c gen d/e/:x.c"
+    );
     Ok(())
 }

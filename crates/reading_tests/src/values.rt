@@ -20,10 +20,11 @@ fn evaluated(
     evaluate(alloc, &tree, inherited)
 }
 
-// The line of the first fault, or nothing where there is none.
-fn fault_in(alloc: Global, text: &str, inherited: &Scope) -> Result<String, OutOfMemory>
-    requires { length text.now ≤ 2 ^ 20 }
-{
+// The line of the first fault, or nothing where there is none. A text over 1 MiB isn't read.
+fn fault_in(alloc: Global, text: &str, inherited: &Scope) -> Result<String, OutOfMemory> {
+    if text.len() > 1 << 20 {
+        return Ok(String::from_str(alloc, "over 1 MiB")?);
+    }
     match evaluated(alloc, text, inherited) {
         Ok(_) => Ok(String::new(alloc)),
         Err(EvalError::Bad(fault)) => fault_line(alloc, &fault, &[]),
@@ -56,154 +57,224 @@ fn doubled(alloc: Global, value: &str, times: usize) -> Result<String, OutOfMemo
     Ok(text)
 }
 
+const FAULTS: &[(&str, &str)] = &[
+    (
+        "x = [\"a\"]\ny = x\nx += [\"b\"]",
+        ":3:1: error 13: variable was already used: x\n",
+    ),
+    (
+        "x = \"a\"\nx = \"b\"",
+        ":2:1: error 11: variable is already set: x\n",
+    ),
+    ("x = [\"a\"]\nx += x", ""),
+    (
+        "b = 9223372036854775807 + 1",
+        ":1:25: error 14: cannot add: integer + integer\n",
+    ),
+    ("b = -9223372036854775808", ""),
+    ("x = [1]", ":1:6: error 17: wrong type: list item\n"),
+    (
+        "x = 1 + \"a\" + y",
+        ":1:7: error 14: cannot add: integer + string\n",
+    ),
+    (
+        "x = {a: 1, b: 2} + {b: \"s\", a: [\"t\"]}",
+        ":1:18: error 14: cannot add: integer + list\n",
+    ),
+    (
+        "x = {a: 1, b: 2} + {c: 3} + {b: \"s\", a: [\"t\"]}",
+        ":1:27: error 14: cannot add: integer + list\n",
+    ),
+    (
+        "x = {a: 1}\nx += {b: 2}\nx += {b: true, a: \"s\"}",
+        ":3:1: error 14: cannot add: integer + string\n",
+    ),
+    (
+        "x = {m: {a: 1, b: 2}} + {m: {c: 3}} + {m: {b: \"s\", a: [\"t\"]}}",
+        ":1:37: error 14: cannot add: integer + list\n",
+    ),
+    ("x += [y]", ":1:1: error 10: unknown variable: x\n"),
+    (
+        "cc { a: y }\ny = 1",
+        ":1:9: error 10: unknown variable: y\n",
+    ),
+];
+
+// The first text whose first fault is another.
+fn differing(
+    alloc: Global,
+    inherited: &Scope,
+    cases: &[(&'static str, &str)],
+) -> Result<Option<&'static str>, OutOfMemory> {
+    for (text, want) in cases {
+        if fault_in(alloc, text, inherited)?.as_str() != *want {
+            return Ok(Some(*text));
+        }
+    }
+    Ok(None)
+}
+
 #[test]
 fn the_first_fault_is_reported(rt: HostRuntime) -> Result<(), Fail> {
-    let alloc = rt.alloc();
-    let nothing = Scope::empty(alloc)?;
-    for (text, want) in [
-        (
-            "x = [\"a\"]\ny = x\nx += [\"b\"]",
-            ":3:1: error 13: variable was already used: x\n",
-        ),
-        (
-            "x = \"a\"\nx = \"b\"",
-            ":2:1: error 11: variable is already set: x\n",
-        ),
-        ("x = [\"a\"]\nx += x", ""),
-        (
-            "b = 9223372036854775807 + 1",
-            ":1:25: error 14: cannot add: integer + integer\n",
-        ),
-        ("b = -9223372036854775808", ""),
-        ("x = [1]", ":1:6: error 17: wrong type: list item\n"),
-        (
-            "x = 1 + \"a\" + y",
-            ":1:7: error 14: cannot add: integer + string\n",
-        ),
-        (
-            "x = {a: 1, b: 2} + {b: \"s\", a: [\"t\"]}",
-            ":1:18: error 14: cannot add: integer + list\n",
-        ),
-        (
-            "x = {a: 1, b: 2} + {c: 3} + {b: \"s\", a: [\"t\"]}",
-            ":1:27: error 14: cannot add: integer + list\n",
-        ),
-        (
-            "x = {a: 1}\nx += {b: 2}\nx += {b: true, a: \"s\"}",
-            ":3:1: error 14: cannot add: integer + string\n",
-        ),
-        (
-            "x = {m: {a: 1, b: 2}} + {m: {c: 3}} + {m: {b: \"s\", a: [\"t\"]}}",
-            ":1:37: error 14: cannot add: integer + list\n",
-        ),
-        ("x += [y]", ":1:1: error 10: unknown variable: x\n"),
-        (
-            "cc { a: y }\ny = 1",
-            ":1:9: error 10: unknown variable: y\n",
-        ),
-    ] {
-        assert!(rt; text.len() <= 1 << 20);
-        assert_eq!(rt; fault_in(alloc, text, &nothing)?.as_str(), want);
-    }
-    for (value, times, want) in [
-        ("\"x\"", 20, ":22:9: error 30: too many: string\n"),
-        ("[\"x\"]", 16, ":18:9: error 30: too many: list\n"),
-    ] {
-        let text = doubled(alloc, value, times)?;
-        assert!(rt; text.len() <= 1 << 20);
-        assert_eq!(rt; fault_in(alloc, text.as_str(), &nothing)?.as_str(), want);
-    }
+    let nothing = Scope::empty(rt.alloc())?;
+    assert_eq!(rt; differing(rt.alloc(), &nothing, FAULTS)?, None);
     Ok(())
 }
+
+// The line of the first fault where a value is doubled that many times.
+fn fault_of_doubled(alloc: Global, value: &str, times: usize) -> Result<String, OutOfMemory> {
+    let nothing = Scope::empty(alloc)?;
+    let text = doubled(alloc, value, times)?;
+    fault_in(alloc, text.as_str(), &nothing)
+}
+
+#[test]
+fn a_sum_can_be_too_large(rt: HostRuntime) -> Result<(), Fail> {
+    let strings = fault_of_doubled(rt.alloc(), "\"x\"", 20)?;
+    assert_eq!(rt; strings.as_str(), ":22:9: error 30: too many: string\n");
+    let lists = fault_of_doubled(rt.alloc(), "[\"x\"]", 16)?;
+    assert_eq!(rt; lists.as_str(), ":18:9: error 30: too many: list\n");
+    Ok(())
+}
+
+// Whether that many maps, each in the one before, with more text behind them, have this fault.
+fn maps_fault_as(alloc: Global, count: usize, more: &str, want: &str) -> Result<bool, OutOfMemory> {
+    let nothing = Scope::empty(alloc)?;
+    let mut text = maps(alloc, count)?;
+    text.push_str(more)?;
+    Ok(fault_in(alloc, text.as_str(), &nothing)?.as_str() == want)
+}
+
+const NESTS: &[(usize, &str, &str)] = &[
+    (64, "", ""),
+    (64, "\ny = {a: x}", ":2:5: error 8: nested too deeply\n"),
+    (65, "", ":1:197: error 8: nested too deeply\n"),
+];
 
 #[test]
 fn maps_nest_up_to_the_limit(rt: HostRuntime) -> Result<(), Fail> {
-    let alloc = rt.alloc();
-    let nothing = Scope::empty(alloc)?;
-    for (count, more, want) in [
-        (64, "", ""),
-        (64, "\ny = {a: x}", ":2:5: error 8: nested too deeply\n"),
-        (65, "", ":1:197: error 8: nested too deeply\n"),
-    ] {
-        let mut text = maps(alloc, count)?;
-        text.push_str(more)?;
-        assert!(rt; text.len() <= 1 << 20);
-        assert_eq!(rt; fault_in(alloc, text.as_str(), &nothing)?.as_str(), want);
+    for (count, more, want) in NESTS {
+        assert!(rt;
+            maps_fault_as(rt.alloc(), *count, more, want)?,
+            "{count} {more}"
+        );
     }
     Ok(())
 }
 
+// The scope of a text that inherits nothing. That of a text over 1 MiB is empty.
+fn scope_of(alloc: Global, text: &str) -> Result<Scope, EvalError> {
+    let nothing = Scope::empty(alloc)?;
+    if text.len() > 1 << 20 {
+        return Ok(nothing);
+    }
+    Ok(evaluated(alloc, text, &nothing)?.1)
+}
+
+// Whether both scopes have the variable, with one value.
+fn is_in_both(one: &Scope, other: &Scope, name: &Text) -> bool {
+    match (one.get(name), other.get(name)) {
+        (Some(sum), Some(value)) => sum == value,
+        _ => false,
+    }
+}
+
+// Whether two texts give the variable one value.
+fn give_one_value(alloc: Global, text: &str, plain: &str, name: &Text) -> Result<bool, EvalError> {
+    let scope = scope_of(alloc, text)?;
+    let other = scope_of(alloc, plain)?;
+    Ok(is_in_both(&scope, &other, name))
+}
+
+const SUMS: &[(&str, &str)] = &[
+    (
+        "x = {a: 1, b: \"s\"} + {b: \"t\", c: true}",
+        "x = {a: 1, b: \"st\",           c: true}",
+    ),
+    (
+        "m = {b: 1}\nx = {a: 2, b: 3} + m",
+        "m = 1 + 3 \nx = {a: 2, b: m}",
+    ),
+    (
+        "x = {a: {b: \"p\"}} + {a: {b: \"q\",\n c: 1}}",
+        "x = {a: {b: \"pq\",\n c: 1}}",
+    ),
+    (
+        "x = {a: \"p\"}\nx += {a: \"q\", b: false}",
+        "x = {a: \"pq\",\n              b: false}",
+    ),
+    (
+        "x = {a: 1, b: 2} + {c: 3} + {b: 4, d: 5} + {d: 6, a: 7}",
+        "x = {a: 8, b: 6,    c: 3,          d: 11}",
+    ),
+    (
+        "x = {a: 1}\nx += {b: 2}\nx += {a: 3, c: 4}\nx += {c: 5, b: 6}",
+        "x = {a: 4,\n      b: 8,\n            c: 9}",
+    ),
+    (
+        "x = {a: {b: \"p\"}} + {a: {b: \"q\",\n d: 2}} +\n {c: 1}",
+        "x = {a: {b: \"pq\",\n d: 2},\n  c: 1}",
+    ),
+    (
+        "x = {m: {a: 1, b: 2}} + {m: {c: 3}} + {m: {b: 4, c: 5, d: 6}}",
+        "x = {m: {a: 1, b: 6,         c: 8,                     d: 6}}",
+    ),
+];
+
 #[test]
 fn sums_are_the_values_written_out(rt: HostRuntime) -> Result<(), Fail> {
-    let alloc = rt.alloc();
-    let nothing = Scope::empty(alloc)?;
-    let x = Text::from_str(alloc, "x")?;
-    for (text, plain) in [
-        (
-            "x = {a: 1, b: \"s\"} + {b: \"t\", c: true}",
-            "x = {a: 1, b: \"st\",           c: true}",
-        ),
-        (
-            "m = {b: 1}\nx = {a: 2, b: 3} + m",
-            "m = 1 + 3 \nx = {a: 2, b: m}",
-        ),
-        (
-            "x = {a: {b: \"p\"}} + {a: {b: \"q\",\n c: 1}}",
-            "x = {a: {b: \"pq\",\n c: 1}}",
-        ),
-        (
-            "x = {a: \"p\"}\nx += {a: \"q\", b: false}",
-            "x = {a: \"pq\",\n              b: false}",
-        ),
-        (
-            "x = {a: 1, b: 2} + {c: 3} + {b: 4, d: 5} + {d: 6, a: 7}",
-            "x = {a: 8, b: 6,    c: 3,          d: 11}",
-        ),
-        (
-            "x = {a: 1}\nx += {b: 2}\nx += {a: 3, c: 4}\nx += {c: 5, b: 6}",
-            "x = {a: 4,\n      b: 8,\n            c: 9}",
-        ),
-        (
-            "x = {a: {b: \"p\"}} + {a: {b: \"q\",\n d: 2}} +\n {c: 1}",
-            "x = {a: {b: \"pq\",\n d: 2},\n  c: 1}",
-        ),
-        (
-            "x = {m: {a: 1, b: 2}} + {m: {c: 3}} + {m: {b: 4, c: 5, d: 6}}",
-            "x = {m: {a: 1, b: 6,         c: 8,                     d: 6}}",
-        ),
-    ] {
-        assert!(rt; text.len() <= 1 << 20 && plain.len() <= 1 << 20);
-        let scope = evaluated(alloc, text, &nothing)?.1;
-        let other = evaluated(alloc, plain, &nothing)?.1;
-        let same = match (scope.get(&x), other.get(&x)) {
-            (Some(sum), Some(value)) => sum == value,
-            _ => false,
-        };
-        assert!(rt; same);
+    let x = Text::from_str(rt.alloc(), "x")?;
+    for (text, plain) in SUMS {
+        assert!(rt; give_one_value(rt.alloc(), text, plain, &x)?, "{text}");
     }
     Ok(())
+}
+
+// Whether a scope has a variable.
+fn has(alloc: Global, scope: &Scope, name: &str) -> Result<bool, OutOfMemory> {
+    Ok(scope.get(&Text::from_str(alloc, name)?).is_some())
+}
+
+#[test]
+fn an_inherited_variable_is_not_extended(rt: HostRuntime) -> Result<(), Fail> {
+    let above = scope_of(rt.alloc(), "flags = [\"-Wall\"]")?;
+    let fault = fault_in(rt.alloc(), "flags += [\"-O2\"]", &above)?;
+    assert_eq!(rt;
+        fault.as_str(),
+        ":1:1: error 12: variable is inherited: flags\n"
+    );
+    Ok(())
+}
+
+// How many modules a short text has under a scope, and whether its own scope has a variable.
+fn seen(alloc: Global, text: &str, above: &Scope, name: &str) -> Result<(usize, bool), EvalError> {
+    if text.len() > 1 << 20 {
+        return Ok((0, false));
+    }
+    let (modules, scope) = evaluated(alloc, text, above)?;
+    Ok((modules.len(), has(alloc, &scope, name)?))
 }
 
 #[test]
 fn a_file_sees_the_scope_above(rt: HostRuntime) -> Result<(), Fail> {
-    let alloc = rt.alloc();
-    let nothing = Scope::empty(alloc)?;
-    let above = evaluated(alloc, "flags = [\"-Wall\"]", &nothing)?.1;
-    let text = "flags += [\"-O2\"]";
+    let above = scope_of(rt.alloc(), "flags = [\"-Wall\"]")?;
     assert_eq!(rt;
-        fault_in(alloc, text, &above)?.as_str(),
-        ":1:1: error 12: variable is inherited: flags\n"
+        seen(rt.alloc(), "cc { flags: flags }", &above, "flags")?,
+        (1, true)
     );
-    let (modules, scope) = evaluated(alloc, "cc { flags: flags }", &above)?;
-    assert_eq!(rt; modules.len(), 1);
-    assert!(rt; scope.get(&Text::from_str(alloc, "flags")?).is_some());
-    assert!(rt; nothing.get(&Text::from_str(alloc, "flags")?).is_none());
+    let nothing = Scope::empty(rt.alloc())?;
+    assert!(rt; !has(rt.alloc(), &nothing, "flags")?);
+    Ok(())
+}
+
+#[test]
+fn integers_are_added(rt: HostRuntime) -> Result<(), Fail> {
     let at = Place {
         file: 1,
         line: 1,
         col: 1,
     };
-    let five = sum(alloc, &Value::Int(7), &Value::Int(-2), at)?;
+    let five = sum(rt.alloc(), &Value::Int(7), &Value::Int(-2), at)?;
     assert!(rt; five == Value::Int(5));
     Ok(())
 }
