@@ -17,6 +17,7 @@ use module_rules::{Record, one_variant};
 use mutator_rules::{BottomUp, Config, Split, TopDown, Transition};
 use pass_core::VisitError;
 use std::alloc::Global;
+use std::process::Abort;
 use std::sync::Arc;
 use std::test::Fail;
 
@@ -161,17 +162,20 @@ fn add_nodes(alloc: Global, text: &mut String, nodes: &[NodeId]) -> Result<(), O
     Ok(())
 }
 
+fn add_lists(alloc: Global, text: &mut String, props: &Props) -> Result<(), OutOfMemory> {
+    add_paths(text, props.exports.as_slice())?;
+    add_paths(text, props.includes.as_slice())?;
+    add_nodes(alloc, text, props.line.as_slice())?;
+    add_nodes(alloc, text, props.slibs.as_slice())
+}
+
 /// The four lists of the first variant, or the fault's kind and subject.
 fn lists(alloc: Global, answer: &Result<Split<Record>, VisitError>) -> Result<String, OutOfMemory> {
     let mut text = String::new(alloc);
     match answer {
         Ok(made) => {
             for (_, record) in made.variants.as_slice() {
-                let props = record.props();
-                add_paths(&mut text, props.exports.as_slice())?;
-                add_paths(&mut text, props.includes.as_slice())?;
-                add_nodes(alloc, &mut text, props.line.as_slice())?;
-                add_nodes(alloc, &mut text, props.slibs.as_slice())?;
+                add_lists(alloc, &mut text, record.props())?;
             }
         }
         Err(VisitError::Bad(fault)) => {
@@ -191,44 +195,86 @@ fn config(alloc: Global) -> Config {
     }
 }
 
-#[test]
-fn the_four_lists(rt: HostRuntime) -> Result<(), Fail> {
-    let alloc = rt.alloc();
-    let world = small_world(alloc, app(alloc)?, Props::empty(alloc))?;
+fn made_library(alloc: Global, made: Made) -> Result<Arc<Split<Record>>, OutOfMemory> {
+    done(alloc, library(alloc, made)?)
+}
+
+fn made_empty(alloc: Global) -> Result<Arc<Split<Record>>, OutOfMemory> {
+    done(alloc, Props::empty(alloc))
+}
+
+/// What a rule made of the four libraries.
+fn four_libraries(alloc: Global) -> Result<Vec<Arc<Split<Record>>>, OutOfMemory>
+    ensures { IfOk result (λ ins. length ins.items ≡ 4) }
+{
     let mut ins = Vec::new(alloc);
-    ins.push(done(alloc, library(alloc, ("b/inc", &[3], &[5]))?)?)?;
-    ins.push(done(alloc, library(alloc, ("c/inc", &[8], &[9]))?)?)?;
-    ins.push(done(alloc, library(alloc, ("h/inc", &[7], &[4]))?)?)?;
-    ins.push(done(alloc, library(alloc, ("w/inc", &[3, 11], &[5, 6]))?)?)?;
+    ins.push(made_library(alloc, ("b/inc", &[3], &[5]))?)?;
+    ins.push(made_library(alloc, ("c/inc", &[8], &[9]))?)?;
+    ins.push(made_library(alloc, ("h/inc", &[7], &[4]))?)?;
+    ins.push(made_library(alloc, ("w/inc", &[3, 11], &[5, 6]))?)?;
+    Ok(ins)
+}
+
+/// The lists of an app, by what a rule made of its four libraries.
+fn lists_of_app(
+    alloc: Global,
+    app: Props,
+    ins: &[Arc<Split<Record>>],
+) -> Result<String, OutOfMemory>
+    requires { length ins.now ≡ 4 }
+{
+    let world = small_world(alloc, app, Props::empty(alloc))?;
     let config = config(alloc);
     let rule = Info::new(&world.mods, &config);
-    assert!(rt; rule.axis().is_none());
-    let answer = rule.visit(alloc, &world.graph, NodeId(0), &ins);
-    assert_eq!(rt;
-        lists(alloc, &answer)?.as_str(),
-        "own b/inc w/inc ; local own other b/inc c/inc h/inc w/inc ; 1 3 11 ; 2 5 6 ; "
-    );
-    info_does_not_split();
-    info_holds_nodes();
-    exports_are_included();
+    lists(alloc, &rule.visit(alloc, &world.graph, NodeId(0), ins))
+}
+
+fn the_lists(alloc: Global) -> Result<String, OutOfMemory> {
+    let ins = four_libraries(alloc)?;
+    lists_of_app(alloc, app(alloc)?, &ins)
+}
+
+fn check_lists(rt: &impl Abort, alloc: Global, want: &str) -> Result<(), Fail> {
+    assert_eq!(rt; the_lists(alloc)?.as_str(), want);
     Ok(())
 }
 
-/// A static library with a link line of its own: with the library it has one entry more.
-fn answer_with_line(alloc: Global, entries: u32) -> Result<String, OutOfMemory> {
-    let world = small_world(alloc, Props::empty(alloc), Props::empty(alloc))?;
+#[test]
+fn the_four_lists(rt: HostRuntime) -> Result<(), Fail> {
+    let want = "own b/inc w/inc ; local own other b/inc c/inc h/inc w/inc ; 1 3 11 ; 2 5 6 ; ";
+    check_lists(&rt, rt.alloc(), want)
+}
+
+fn has_axis(alloc: Global) -> bool {
+    let config = config(alloc);
+    Info::new(&[], &config).axis().is_some()
+}
+
+#[test]
+fn info_has_no_axis(rt: HostRuntime) {
+    assert!(rt; !has_axis(rt.alloc()));
+    info_does_not_split();
+    info_holds_nodes();
+    exports_are_included();
+}
+
+/// A library with a link line of the numbers from 0 on.
+fn with_line(alloc: Global, entries: u32) -> Result<Arc<Split<Record>>, OutOfMemory> {
     let mut long = Props::empty(alloc);
     for number in 0..entries {
         long.line.push(NodeId(number))?;
     }
+    done(alloc, long)
+}
+
+/// A static library with a link line of its own: with the library it has one entry more.
+fn answer_with_line(alloc: Global, entries: u32) -> Result<String, OutOfMemory> {
     let mut ins = Vec::new(alloc);
-    ins.push(done(alloc, long)?)?;
-    ins.push(done(alloc, Props::empty(alloc))?)?;
-    ins.push(done(alloc, Props::empty(alloc))?)?;
-    ins.push(done(alloc, Props::empty(alloc))?)?;
-    let config = config(alloc);
-    let rule = Info::new(&world.mods, &config);
-    lists(alloc, &rule.visit(alloc, &world.graph, NodeId(0), &ins))
+    ins.push(with_line(alloc, entries)?)?;
+    ins.push(made_empty(alloc)?)?;
+    ins.push(made_empty(alloc)?)?;
+    ins.push(made_empty(alloc)?)?;
+    lists_of_app(alloc, Props::empty(alloc), &ins)
 }
 
 #[test]
@@ -246,13 +292,20 @@ fn leveled(alloc: Global, level: u32) -> Result<Arc<Record>, OutOfMemory> {
     Ok(Arc::new(alloc, Record::new(alloc, props)?)?)
 }
 
-/// The level of the module that the app depends on as a shared, a header and a whole library.
-fn level_with(alloc: Global, other: Props, levels: [u32; 3]) -> Result<u32, OutOfMemory> {
-    let world = small_world(alloc, Props::empty(alloc), other)?;
+fn three_leveled(alloc: Global, levels: [u32; 3]) -> Result<Vec<Arc<Record>>, OutOfMemory>
+    ensures { IfOk result (λ ins. length ins.items ≡ 3) }
+{
     let mut ins = Vec::new(alloc);
     ins.push(leveled(alloc, levels[0])?)?;
     ins.push(leveled(alloc, levels[1])?)?;
     ins.push(leveled(alloc, levels[2])?)?;
+    Ok(ins)
+}
+
+/// The level of the module that the app depends on as a shared, a header and a whole library.
+fn level_with(alloc: Global, other: Props, levels: [u32; 3]) -> Result<u32, OutOfMemory> {
+    let ins = three_leveled(alloc, levels)?;
+    let world = small_world(alloc, Props::empty(alloc), other)?;
     let kinds = [EdgeKind::Shared, EdgeKind::Header, EdgeKind::Whole];
     let config = config(alloc);
     let rule = SdkLevel::new(&world.mods, &config);
@@ -278,14 +331,21 @@ fn sanitized(alloc: Global, asan: bool) -> Result<Arc<Record>, OutOfMemory> {
     Ok(Arc::new(alloc, Record::new(alloc, props)?)?)
 }
 
-/// How many flags the app is compiled and linked with, where the results of its four dependencies have that field.
-fn flags_with(alloc: Global, asan: [bool; 4]) -> Result<(usize, usize), OutOfMemory> {
-    let world = small_world(alloc, Props::empty(alloc), Props::empty(alloc))?;
+fn four_sanitized(alloc: Global, asan: [bool; 4]) -> Result<Vec<Arc<Record>>, OutOfMemory>
+    ensures { IfOk result (λ ins. length ins.items ≡ 4) }
+{
     let mut ins = Vec::new(alloc);
     ins.push(sanitized(alloc, asan[0])?)?;
     ins.push(sanitized(alloc, asan[1])?)?;
     ins.push(sanitized(alloc, asan[2])?)?;
     ins.push(sanitized(alloc, asan[3])?)?;
+    Ok(ins)
+}
+
+/// How many flags the app is compiled and linked with, where the results of its four dependencies have that field.
+fn flags_with(alloc: Global, asan: [bool; 4]) -> Result<(usize, usize), OutOfMemory> {
+    let ins = four_sanitized(alloc, asan)?;
+    let world = small_world(alloc, Props::empty(alloc), Props::empty(alloc))?;
     let config = config(alloc);
     let rule = Sanitize::new(&world.mods, &config);
     match rule.mutate(alloc, &world.graph, NodeId(0), &ins) {
@@ -302,35 +362,66 @@ fn what_is_sanitized(rt: HostRuntime) -> Result<(), Fail> {
     let alloc = rt.alloc();
     assert_eq!(rt; flags_with(alloc, [false, true, true, false])?, (0, 0));
     assert_eq!(rt; flags_with(alloc, [false, false, false, true])?, (0, 1));
+    Ok(())
+}
+
+/// An app with the sanitizer, and a module that never has it.
+fn sanitized_world(alloc: Global) -> Result<World, OutOfMemory>
+    ensures app { IfOk result (λ w. MayVisit (places_in (length w.mods.items)) w.graph.nodes 0) }
+    ensures other { IfOk result (λ w. MayVisit (places_in (length w.mods.items)) w.graph.nodes 2) }
+{
     let mut on = Props::empty(alloc);
     on.address = given(true);
     let mut never = on.copy(alloc)?;
     never.never = given(true);
-    let world = small_world(alloc, on, never)?;
+    small_world(alloc, on, never)
+}
+
+/// What the app and the other module take, and what goes out along a whole and along a shared edge.
+fn sanitized_along(
+    alloc: Global,
+) -> Result<(Variation, Variation, Variation, Variation), OutOfMemory> {
+    let world = sanitized_world(alloc)?;
     let config = config(alloc);
     let rule = Sanitize::new(&world.mods, &config);
     let graph = &world.graph;
-    assert!(rt; rule.axis() == Axis::Sanitize);
-    assert_eq!(rt;
+    Ok((
         rule.incoming(graph, NodeId(0), Variation::Empty),
-        Variation::Asan
-    );
-    assert_eq!(rt;
         rule.incoming(graph, NodeId(2), Variation::Asan),
-        Variation::Empty
-    );
-    assert_eq!(rt;
         rule.outgoing(graph, NodeId(0), EdgeKind::Whole, Variation::Asan),
-        Variation::Asan
-    );
-    assert_eq!(rt;
         rule.outgoing(graph, NodeId(0), EdgeKind::Shared, Variation::Asan),
-        Variation::Empty
+    ))
+}
+
+#[test]
+fn sanitized_along_edges(rt: HostRuntime) -> Result<(), Fail> {
+    assert_eq!(rt;
+        sanitized_along(rt.alloc())?,
+        (
+            Variation::Asan,
+            Variation::Empty,
+            Variation::Asan,
+            Variation::Empty
+        )
     );
-    match rule.split(alloc, graph, NodeId(0)) {
-        Ok(own) => assert!(rt; own.as_slice() == [Variation::Asan].as_slice()),
-        Err(_) => assert!(rt; false),
-    }
+    Ok(())
+}
+
+/// Whether the rule splits by sanitizer, and the app has that variation alone.
+fn axis_and_own(alloc: Global) -> Result<(bool, bool), OutOfMemory> {
+    let world = sanitized_world(alloc)?;
+    let config = config(alloc);
+    let rule = Sanitize::new(&world.mods, &config);
+    let own = match rule.split(alloc, &world.graph, NodeId(0)) {
+        Ok(own) => own.as_slice() == [Variation::Asan].as_slice(),
+        Err(_) => false,
+    };
+    Ok((rule.axis() == Axis::Sanitize, own))
+}
+
+#[test]
+fn own_variation_of_a_sanitized_app(rt: HostRuntime) -> Result<(), Fail> {
+    assert_eq!(rt; axis_and_own(rt.alloc())?, (true, true));
     own_variations_differ();
     Ok(())
 }

@@ -15,6 +15,7 @@ use mutator_kinds::{PassGraph, run_bottom_up, run_top_down};
 use mutator_rules::{BottomUp, KindError, Request, Split, TopDown, Wanted};
 use pass_core::{PassError, VisitError};
 use std::alloc::Global;
+use std::process::Abort;
 use std::sync::Arc;
 use std::test::Fail;
 use std::thread::Threads;
@@ -260,52 +261,86 @@ fn split<R: Threads + Sync>(
     Ok(Some(run_bottom_up(rt, alloc, 1, g, &Splits, 2, &OpenGate)?))
 }
 
+const SPLIT: [Row<'static>; 5] = [
+    (0, &[]),
+    (1, &[]),
+    (3, &[]),
+    (
+        3,
+        &[
+            (EdgeKind::Static, 0),
+            (EdgeKind::Whole, 1),
+            (EdgeKind::Static, 2),
+        ],
+    ),
+    (4, &[(EdgeKind::Static, 2)]),
+];
+
+/// The module of a new node, and the targets of its edges.
+type New = (u32, &'static [u32]);
+
+const NEW: [New; 11] = [
+    (1, &[]),
+    (2, &[]),
+    (2, &[]),
+    (2, &[]),
+    (3, &[0, 1]),
+    (3, &[0, 2]),
+    (3, &[0, 3]),
+    (4, &[1]),
+    (4, &[2]),
+    (4, &[3]),
+    (4, &[1]),
+];
+
+fn is_new(node: &Node<NodeId>, module: u32, targets: &[u32]) -> bool {
+    let edges = node.edges.as_slice();
+    let mut same = node.module.0 == module && edges.len() == targets.len();
+    for (edge, target) in edges.iter().zip(targets) {
+        same &= edge.to.0 == *target;
+    }
+    same
+}
+
+fn are_new(nodes: &[Node<NodeId>], wanted: &[New]) -> bool {
+    let mut same = nodes.len() == wanted.len();
+    for (node, (module, targets)) in nodes.iter().zip(wanted) {
+        same &= is_new(node, *module, targets);
+    }
+    same
+}
+
+/// Whether rows are split into wanted nodes; how many requests there are, and how many visits.
+fn split_into<R: Threads + Sync>(
+    rt: &R,
+    alloc: Global,
+    rows: &[Row<'_>],
+    wanted: &[New],
+) -> Result<(bool, usize, usize), KindError> {
+    match split(rt, alloc, rows)? {
+        Some(made) => Ok((
+            are_new(made.graph.nodes.as_slice(), wanted),
+            made.asked.as_slice().len(),
+            made.order.as_slice().len(),
+        )),
+        None => Ok((false, 0, 0)),
+    }
+}
+
+fn check_split<R: Threads + Sync + Abort>(
+    rt: &R,
+    alloc: Global,
+    rows: &[Row<'_>],
+    wanted: &[New],
+) -> Result<(), Fail> {
+    assert_eq!(rt; split_into(rt, alloc, rows, wanted)?, (true, 0, 5));
+    Ok(())
+}
+
 #[test]
 fn variants_and_edges(rt: HostRuntime) -> Result<(), Fail> {
-    let alloc = rt.alloc();
-    let rows: [Row<'_>; 5] = [
-        (0, &[]),
-        (1, &[]),
-        (3, &[]),
-        (
-            3,
-            &[
-                (EdgeKind::Static, 0),
-                (EdgeKind::Whole, 1),
-                (EdgeKind::Static, 2),
-            ],
-        ),
-        (4, &[(EdgeKind::Static, 2)]),
-    ];
-    let want: [(u32, &[u32]); 11] = [
-        (1, &[]),
-        (2, &[]),
-        (2, &[]),
-        (2, &[]),
-        (3, &[0, 1]),
-        (3, &[0, 2]),
-        (3, &[0, 3]),
-        (4, &[1]),
-        (4, &[2]),
-        (4, &[3]),
-        (4, &[1]),
-    ];
-    let Some(made) = split(&rt, alloc, &rows)? else {
-        assert!(rt; false, "not valid");
-        return Ok(());
-    };
-    assert_eq!(rt; made.graph.nodes.as_slice().len(), 11);
-    for (node, (module, targets)) in made.graph.nodes.as_slice().iter().zip(want) {
-        assert_eq!(rt; node.module.0, module);
-        assert_eq!(rt; node.edges.as_slice().len(), targets.len());
-        for (edge, target) in node.edges.as_slice().iter().zip(targets) {
-            assert_eq!(rt; edge.to.0, *target);
-        }
-    }
-    assert!(rt; made.asked.as_slice().is_empty());
-    assert_eq!(rt; made.order.as_slice().len(), 5);
     one_bottom_up_outcome::<NodeId>();
-    Ok(())
+    check_split(&rt, rt.alloc(), &SPLIT, &NEW)
 }
 
 /// The number of new nodes, or the number of the module beyond the limit, or the file of the edge beyond it.
@@ -319,7 +354,7 @@ fn size<R: Threads + Sync>(rt: &R, alloc: Global, rows: &[Row<'_>]) -> (usize, u
 }
 
 #[test]
-fn too_many_variants(rt: HostRuntime) -> Result<(), Fail> {
+fn too_many_variants(rt: HostRuntime) {
     let alloc = rt.alloc();
     assert_eq!(rt;
         size(&rt, alloc, &[(200_000, &[]), (62_144, &[])]),
@@ -329,58 +364,88 @@ fn too_many_variants(rt: HostRuntime) -> Result<(), Fail> {
         size(&rt, alloc, &[(200_000, &[]), (62_145, &[]), (3, &[])]),
         (0, 1)
     );
+}
+
+/// The size where each of 2048 variants has so many edges.
+fn size_with<R: Threads + Sync>(
+    rt: &R,
+    alloc: Global,
+    edges: u32,
+) -> Result<(usize, u32), OutOfMemory> {
     let mut many = Vec::new(alloc);
-    for _edge in 0..2048 {
+    for _edge in 0..edges {
         many.push((EdgeKind::Static, 0))?;
     }
-    assert_eq!(rt; size(&rt, alloc, &[(1, &[]), (2048, &many)]), (2049, 0));
-    many.push((EdgeKind::Static, 0))?;
-    assert_eq!(rt; size(&rt, alloc, &[(1, &[]), (2048, &many)]), (1, 1));
+    Ok(size(rt, alloc, &[(1, &[]), (2048, &many)]))
+}
+
+#[test]
+fn too_many_edges(rt: HostRuntime) -> Result<(), Fail> {
+    let alloc = rt.alloc();
+    assert_eq!(rt; size_with(&rt, alloc, 2048)?, (2049, 0));
+    assert_eq!(rt; size_with(&rt, alloc, 2049)?, (1, 1));
     Ok(())
+}
+
+/// Whether requests are of wanted nodes, and stand in the files of these numbers.
+fn are_asked_by(asked: &[(NodeId, Request)], wanted: &[u32]) -> bool {
+    let mut same = asked.len() == wanted.len();
+    for ((node, request), want) in asked.iter().zip(wanted) {
+        same &= node.0 == *want && request.at.file == *want;
+    }
+    same
+}
+
+/// Whether nodes hold wanted numbers.
+fn hold(nodes: &[Node<NodeId>], wanted: &[u32]) -> bool {
+    let mut same = nodes.len() == wanted.len();
+    for (node, want) in nodes.iter().zip(wanted) {
+        same &= node.payload.0 == *want;
+    }
+    same
+}
+
+/// Whether the requests of two nodes, and then their numbers, are as wanted.
+fn asked_by_two<R: Threads + Sync>(rt: &R, alloc: Global) -> Result<(bool, bool), KindError> {
+    let g = graph(alloc, &[(7, &[]), (7, &[(EdgeKind::Static, 0)])])?;
+    let Ok(()) = check_valid(alloc, &g) else {
+        return Ok((false, false));
+    };
+    let made = run_bottom_up(rt, alloc, 1, g, &Asks, 1, &OpenGate)?;
+    Ok((
+        are_asked_by(made.asked.as_slice(), &[0, 0, 1, 1]),
+        hold(made.graph.nodes.as_slice(), &[0, 1]),
+    ))
 }
 
 #[test]
 fn requests_by_node(rt: HostRuntime) -> Result<(), Fail> {
-    let alloc = rt.alloc();
-    let g = graph(alloc, &[(7, &[]), (7, &[(EdgeKind::Static, 0)])])?;
-    let Ok(()) = check_valid(alloc, &g) else {
-        assert!(rt; false, "not valid");
-        return Ok(());
-    };
-    let made = run_bottom_up(&rt, alloc, 1, g, &Asks, 1, &OpenGate)?;
-    assert_eq!(rt; made.asked.as_slice().len(), 4);
-    for ((node, request), want) in made.asked.as_slice().iter().zip([0, 0, 1, 1]) {
-        assert_eq!(rt; (node.0, request.at.file), (want, want));
-    }
-    for (node, want) in made.graph.nodes.as_slice().iter().zip([0, 1]) {
-        assert_eq!(rt; node.payload.0, want);
-    }
+    assert_eq!(rt; asked_by_two(&rt, rt.alloc())?, (true, true));
     Ok(())
 }
 
-/// What the nodes of a graph hold after a pass from the top down, or the node of its fault.
+const HANDED: [Row<'static>; 5] = [
+    (9, &[(EdgeKind::Whole, 1), (EdgeKind::Static, 3)]),
+    (
+        9,
+        &[
+            (EdgeKind::Static, 2),
+            (EdgeKind::Whole, 3),
+            (EdgeKind::Whole, 4),
+        ],
+    ),
+    (9, &[]),
+    (9, &[]),
+    (9, &[]),
+];
+
+/// A graph after a pass from the top down, or its fault.
 fn handed<R: Threads + Sync>(
     rt: &R,
     alloc: Global,
     refused: u32,
 ) -> Result<Graph<NodeId>, PassError> {
-    let g = graph(
-        alloc,
-        &[
-            (9, &[(EdgeKind::Whole, 1), (EdgeKind::Static, 3)]),
-            (
-                9,
-                &[
-                    (EdgeKind::Static, 2),
-                    (EdgeKind::Whole, 3),
-                    (EdgeKind::Whole, 4),
-                ],
-            ),
-            (9, &[]),
-            (9, &[]),
-            (9, &[]),
-        ],
-    )?;
+    let g = graph(alloc, &HANDED)?;
     let Ok(()) = check_valid(alloc, &g) else {
         return Err(PassError::OutOfMemory);
     };
@@ -390,12 +455,8 @@ fn handed<R: Threads + Sync>(
 #[test]
 fn results_from_above(rt: HostRuntime) -> Result<(), Fail> {
     let alloc = rt.alloc();
-    let g = handed(&rt, alloc, 9)?;
-    for (node, want) in g.nodes.as_slice().iter().zip([0, 0, 2, 3, 0]) {
-        assert_eq!(rt; node.payload.0, want);
-    }
-    let faulty = handed(&rt, alloc, 3);
-    assert!(rt; matches!(faulty, Err(PassError::At(NodeId(3), _))));
+    assert!(rt; hold(handed(&rt, alloc, 9)?.nodes.as_slice(), &[0, 0, 2, 3, 0]));
+    assert!(rt; matches!(handed(&rt, alloc, 3), Err(PassError::At(NodeId(3), _))));
     one_top_down_outcome::<NodeId>();
     Ok(())
 }

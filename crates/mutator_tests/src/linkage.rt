@@ -12,6 +12,7 @@ use module_rules::Record;
 use mutator_rules::{BottomUp, Config, Split};
 use pass_core::VisitError;
 use std::alloc::Global;
+use std::process::Abort;
 use std::test::Fail;
 
 #[derive(Clone, Copy)]
@@ -229,17 +230,22 @@ fn spelled(alloc: Global, variation: Variation) -> Result<String, OutOfMemory> {
     Ok(format!(in alloc; "{variation:?}")?)
 }
 
+/// The flags of a record together, and its sources.
+fn add_record(alloc: Global, out: &mut String, own: &Props) -> Result<(), OutOfMemory> {
+    for flag in own.base.cflags.items.as_slice() {
+        out.push_str(flag.as_str())?;
+    }
+    for source in own.base.srcs.items.as_slice() {
+        let text = source.item.text.as_str();
+        out.push_str(format!(in alloc; " {text}")?.as_str())?;
+    }
+    Ok(())
+}
+
 fn add_variants(alloc: Global, out: &mut String, made: &Split<Record>) -> Result<(), OutOfMemory> {
     for (variation, record) in made.variants.as_slice() {
-        let own = record.props();
         out.push_str(format!(in alloc; "{variation:?} ")?.as_str())?;
-        for flag in own.base.cflags.items.as_slice() {
-            out.push_str(flag.as_str())?;
-        }
-        for source in own.base.srcs.items.as_slice() {
-            let text = source.item.text.as_str();
-            out.push_str(format!(in alloc; " {text}")?.as_str())?;
-        }
+        add_record(alloc, out, record.props())?;
         out.push_str(";")?;
     }
     Ok(())
@@ -280,8 +286,8 @@ fn answer<M: BottomUp<Record>>(
     Ok(out)
 }
 
-fn said(alloc: Global, case: Case) -> Result<String, OutOfMemory> {
-    let (rule, kind, link, enabled, _) = case;
+fn said(alloc: Global, case: &Case) -> Result<String, OutOfMemory> {
+    let (rule, kind, link, enabled, _) = *case;
     let mods = modules(alloc, kind)?;
     let g = graph(alloc, link, sample(alloc, enabled)?)?;
     let config = Config {
@@ -300,13 +306,16 @@ fn said(alloc: Global, case: Case) -> Result<String, OutOfMemory> {
     }
 }
 
-#[test]
-fn variants_and_requests(rt: HostRuntime) -> Result<(), Fail> {
-    let alloc = rt.alloc();
-    for case in CASES {
+fn check_cases(rt: &impl Abort, alloc: Global, cases: &[Case]) -> Result<(), Fail> {
+    for case in cases {
         assert_eq!(rt; said(alloc, case)?.as_str(), case.4);
     }
+    Ok(())
+}
+
+#[test]
+fn variants_and_requests(rt: HostRuntime) -> Result<(), Fail> {
     link_variants_differ();
     source_variants_differ();
-    Ok(())
+    check_cases(&rt, rt.alloc(), &CASES)
 }

@@ -16,6 +16,7 @@ use mutator_rules::Config;
 use order_text::journal_text;
 use pass_ways::OrderLine;
 use std::alloc::Global;
+use std::process::Abort;
 use std::test::Fail;
 use std::thread::Threads;
 
@@ -75,22 +76,32 @@ fn named(alloc: Global, name: &str, kind: ModuleKind, props: Props) -> Result<Mo
     })
 }
 
-fn modules(alloc: Global) -> Result<Vec<Module>, OutOfMemory>
-    ensures { IfOk result (λ mods. length mods.items ≡ 4) }
-{
+/// A library that takes over the defaults.
+fn library(alloc: Global) -> Result<Module, OutOfMemory> {
     let mut library = Props::empty(alloc);
     library.defaults.items.push(item(alloc, "d")?)?;
+    named(alloc, "l", ModuleKind::Library, library)
+}
+
+/// A binary with the sanitizer, linked with the static library.
+fn binary(alloc: Global) -> Result<Module, OutOfMemory> {
     let mut binary = Props::empty(alloc);
     binary.base.static_libs.items.push(item(alloc, "s")?)?;
     binary.address = Some(Given {
         value: true,
         at: PLACE,
     });
+    named(alloc, "b", ModuleKind::Binary, binary)
+}
+
+fn modules(alloc: Global) -> Result<Vec<Module>, OutOfMemory>
+    ensures { IfOk result (λ mods. length mods.items ≡ 4) }
+{
     let mut mods = Vec::new(alloc);
     mods.push(named(alloc, "d", ModuleKind::Defaults, Props::empty(alloc))?)?;
-    mods.push(named(alloc, "l", ModuleKind::Library, library)?)?;
+    mods.push(library(alloc)?)?;
     mods.push(named(alloc, "s", ModuleKind::LibraryStatic, Props::empty(alloc))?)?;
-    mods.push(named(alloc, "b", ModuleKind::Binary, binary)?)?;
+    mods.push(binary(alloc)?)?;
     Ok(mods)
 }
 
@@ -124,20 +135,36 @@ fn shown<R: Threads + Sync>(
     }
 }
 
-#[test]
-fn graphs_after_mutators(rt: HostRuntime) -> Result<(), Fail> {
-    let alloc = rt.alloc();
+/// Whether the graph of the small tree after the mutator of a name is as wanted.
+fn is_shown<R: Threads + Sync>(
+    rt: &R,
+    alloc: Global,
+    name: &str,
+    want: &str,
+) -> Result<bool, OutOfMemory> {
     let mods = modules(alloc)?;
     let config = one_target(alloc)?;
-    for (name, want) in GRAPHS {
-        let text = shown(&rt, alloc, &mods, &config, name);
-        match text {
-            Ok(text) => assert_eq!(rt; text.as_slice(), want.as_bytes()),
-            Err(_) => assert!(rt; false, "a fault"),
-        }
+    match shown(rt, alloc, &mods, &config, name) {
+        Ok(text) => Ok(text.as_slice() == want.as_bytes()),
+        Err(_) => Ok(false),
     }
-    one_graph();
+}
+
+fn check_graphs<R: Threads + Sync + Abort>(
+    rt: &R,
+    alloc: Global,
+    graphs: &[(&str, &str)],
+) -> Result<(), Fail> {
+    for (name, want) in graphs {
+        assert!(rt; is_shown(rt, alloc, name, want)?, "{name}");
+    }
     Ok(())
+}
+
+#[test]
+fn graphs_after_mutators(rt: HostRuntime) -> Result<(), Fail> {
+    one_graph();
+    check_graphs(&rt, rt.alloc(), &GRAPHS)
 }
 
 /// The sizes of the graphs after the mutators, as nodes and edges.
@@ -167,30 +194,44 @@ fn has_sizes(made: &Generated) -> bool {
     same
 }
 
-#[test]
-fn generated_on_workers(rt: HostRuntime) -> Result<(), Fail> {
-    let alloc = rt.alloc();
+/// What is generated of the small tree.
+fn generated<R: Threads + Sync>(rt: &R, alloc: Global, workers: u32) -> Result<Generated, GenError>
+    requires workers { (1 ≤ workers) × (workers ≤ 64) }
+{
     let mods = modules(alloc)?;
     let config = one_target(alloc)?;
-    let alone = generate(&rt, alloc, &mods, &config, 1, &OpenGate);
-    let together = generate(&rt, alloc, &mods, &config, 2, &OpenGate);
-    let (Ok(alone), Ok(together)) = (alone, together) else {
-        assert!(rt; false, "a fault");
-        return Ok(());
-    };
-    assert!(rt; alone.ninja.as_slice() == together.ninja.as_slice());
-    assert_eq!(rt; (alone.statements, together.statements), (6, 6));
-    assert_eq!(rt;
-        (
-            alone.journal.as_slice().len(),
-            together.journal.as_slice().len()
+    generate(rt, alloc, &mods, &config, workers, &OpenGate)
+}
+
+/// How many statements and visits there are, and whether each graph has its size.
+fn counted<R: Threads + Sync>(rt: &R, alloc: Global, workers: u32) -> (u32, usize, bool)
+    requires workers { (1 ≤ workers) × (workers ≤ 64) }
+{
+    match generated(rt, alloc, workers) {
+        Ok(made) => (
+            made.statements,
+            made.journal.as_slice().len(),
+            has_sizes(&made),
         ),
-        (54, 54)
-    );
-    assert!(rt; has_sizes(&alone));
-    assert!(rt; has_sizes(&together));
+        Err(_) => (0, 0, false),
+    }
+}
+
+/// Whether one worker and two write the same.
+fn is_same_text<R: Threads + Sync>(rt: &R, alloc: Global) -> bool {
+    match (generated(rt, alloc, 1), generated(rt, alloc, 2)) {
+        (Ok(alone), Ok(together)) => alone.ninja.as_slice() == together.ninja.as_slice(),
+        _ => false,
+    }
+}
+
+#[test]
+fn generated_on_workers(rt: HostRuntime) {
+    let alloc = rt.alloc();
+    assert!(rt; is_same_text(&rt, alloc));
+    assert_eq!(rt; counted(&rt, alloc, 1), (6, 54, true));
+    assert_eq!(rt; counted(&rt, alloc, 2), (6, 54, true));
     one_text();
-    Ok(())
 }
 
 /// The lines of a journal.
@@ -220,85 +261,118 @@ fn told(replayed: Result<Seq<u8>, GenError>, text: &[u8]) -> (u32, u32) {
     }
 }
 
-/// What a replay along at most 100 lines tells.
+/// What a replay of the small tree along at most 100 lines tells.
 fn replayed_at<R: Threads + Sync>(
     rt: &R,
     alloc: Global,
-    mods: &[Module],
-    config: &Config,
     lines: &[OrderLine],
     text: &[u8],
-) -> (u32, u32)
-    requires few { length mods.now ≤ 2 ^ 17 }
-    requires targets { TargetsDiffer config.now }
-{
+) -> Result<(u32, u32), GenError> {
     if lines.len() > 100 {
-        return (3, 3);
+        return Ok((3, 3));
     }
-    told(replay_lines(rt, alloc, mods, config, lines, 9), text)
+    let mods = modules(alloc)?;
+    let config = one_target(alloc)?;
+    Ok(told(replay_lines(rt, alloc, &mods, &config, lines, 9), text))
+}
+
+/// What is left of a journal before it is replayed, or stands behind it.
+#[derive(Clone, Copy)]
+enum Cut {
+    Whole,
+    First,
+    Last,
+    OneMore,
+}
+
+/// The lines of a journal that is cut.
+fn cut_lines(
+    alloc: Global,
+    journal: &[(u32, NodeId)],
+    cut: Cut,
+) -> Result<Vec<OrderLine>, OutOfMemory> {
+    let part = match cut {
+        Cut::Whole | Cut::OneMore => journal,
+        Cut::First => match journal.split_first() {
+            Some((_, rest)) => rest,
+            None => journal,
+        },
+        Cut::Last => match journal.split_last() {
+            Some((_, rest)) => rest,
+            None => journal,
+        },
+    };
+    let mut lines = lines_of(alloc, part)?;
+    if matches!(cut, Cut::OneMore) {
+        lines.push(OrderLine {
+            entry: Some((13, NodeId(0))),
+            text: Text::from_str(alloc, "line")?,
+        })?;
+    }
+    Ok(lines)
+}
+
+/// What a replay along the lines of its own journal, cut, tells.
+fn replayed_along<R: Threads + Sync>(
+    rt: &R,
+    alloc: Global,
+    cut: Cut,
+) -> Result<(u32, u32), GenError> {
+    let made = generated(rt, alloc, 2)?;
+    let lines = cut_lines(alloc, made.journal.as_slice(), cut)?;
+    replayed_at(rt, alloc, &lines, made.ninja.as_slice())
+}
+
+fn is_replayed<R: Threads + Sync>(rt: &R, alloc: Global, cut: Cut, want: (u32, u32)) -> bool {
+    match replayed_along(rt, alloc, cut) {
+        Ok(told) => told == want,
+        Err(_) => false,
+    }
 }
 
 #[test]
-fn replayed_along_lines(rt: HostRuntime) -> Result<(), Fail> {
+fn replayed_along_lines(rt: HostRuntime) {
     let alloc = rt.alloc();
-    let mods = modules(alloc)?;
-    let config = one_target(alloc)?;
-    let Ok(made) = generate(&rt, alloc, &mods, &config, 2, &OpenGate) else {
-        assert!(rt; false, "a fault");
-        return Ok(());
-    };
-    let text = made.ninja.as_slice();
-    let mut lines = lines_of(alloc, made.journal.as_slice())?;
-    assert_eq!(rt;
-        replayed_at(&rt, alloc, &mods, &config, &lines, text),
-        (0, 0)
-    );
-    match (lines.split_first(), lines.split_last()) {
-        (Some((_, late)), Some((_, short))) => {
-            assert_eq!(rt;
-                replayed_at(&rt, alloc, &mods, &config, late, text),
-                (35, 4)
-            );
-            assert_eq!(rt;
-                replayed_at(&rt, alloc, &mods, &config, short, text),
-                (36, 54)
-            );
-        }
-        _ => assert!(rt; false, "no lines"),
-    }
-    lines.push(OrderLine {
-        entry: Some((13, NodeId(0))),
-        text: Text::from_str(alloc, "line")?,
-    })?;
-    assert_eq!(rt;
-        replayed_at(&rt, alloc, &mods, &config, &lines, text),
-        (35, 55)
-    );
+    assert!(rt; is_replayed(&rt, alloc, Cut::Whole, (0, 0)));
+    assert!(rt; is_replayed(&rt, alloc, Cut::First, (35, 4)));
+    assert!(rt; is_replayed(&rt, alloc, Cut::Last, (36, 54)));
+    assert!(rt; is_replayed(&rt, alloc, Cut::OneMore, (35, 55)));
     journals_are_replayed();
     faults_are_replayed();
-    Ok(())
+}
+
+/// What a replay along at most 1000 bytes tells.
+fn replayed_by<R: Threads + Sync>(
+    rt: &R,
+    alloc: Global,
+    order: &[u8],
+    text: &[u8],
+) -> Result<(u32, u32), GenError> {
+    if order.len() > 1000 {
+        return Ok((3, 3));
+    }
+    let mods = modules(alloc)?;
+    let config = one_target(alloc)?;
+    Ok(told(replay(rt, alloc, &mods, &config, order, 9), text))
+}
+
+/// What replays along the bytes of its own journal, and of one wrong line, tell.
+fn replayed_twice<R: Threads + Sync>(
+    rt: &R,
+    alloc: Global,
+) -> Result<((u32, u32), (u32, u32)), GenError> {
+    let made = generated(rt, alloc, 2)?;
+    let order = journal_text(alloc, made.journal.as_slice())?;
+    let text = made.ninja.as_slice();
+    let whole = replayed_by(rt, alloc, &order, text)?;
+    let wrong = replayed_by(rt, alloc, b"01 0\n", text)?;
+    Ok((whole, wrong))
 }
 
 #[test]
-fn replayed_along_bytes(rt: HostRuntime) -> Result<(), Fail> {
-    let alloc = rt.alloc();
-    let mods = modules(alloc)?;
-    let config = one_target(alloc)?;
-    let Ok(made) = generate(&rt, alloc, &mods, &config, 2, &OpenGate) else {
-        assert!(rt; false, "a fault");
-        return Ok(());
-    };
-    let text = made.ninja.as_slice();
-    let order = journal_text(alloc, made.journal.as_slice())?;
-    if order.len() > 1000 {
-        assert!(rt; false, "a long journal");
-        return Ok(());
-    }
-    let whole = replay(&rt, alloc, &mods, &config, &order, 9);
-    assert_eq!(rt; told(whole, text), (0, 0));
-    let wrong = replay(&rt, alloc, &mods, &config, b"01 0\n", 9);
-    assert_eq!(rt; told(wrong, text), (35, 1));
+fn replayed_along_bytes(rt: HostRuntime) {
+    let told = replayed_twice(&rt, rt.alloc());
+    assert!(rt; matches!(told, Ok(((0, 0), (35, 1)))));
     journal_texts_are_replayed();
     one_order();
-    Ok(())
 }

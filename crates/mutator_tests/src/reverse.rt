@@ -11,6 +11,7 @@ use module_graph::{Axis, EdgeKind, Graph, Node, Variation, Variations};
 use mutator_rules::{Request, Wanted};
 use reverse_deps::{apply, laws, resolve};
 use std::alloc::Global;
+use std::process::Abort;
 use std::test::Fail;
 
 const DEVICE: Variation = Variation::Target(Target::AndroidArm64);
@@ -38,7 +39,7 @@ const MODULES: [(&str, ModuleKind); 6] = [
 ];
 
 /// Its nodes: the module, the image, the link and the sanitizer.
-const NODES: [(u32, Variation, Variation, Variation); 7] = [
+const NODES: [Row; 7] = [
     (0, NONE, SHARED, NONE),
     (1, NONE, SHARED, NONE),
     (2, NONE, NONE, NONE),
@@ -51,8 +52,11 @@ const NODES: [(u32, Variation, Variation, Variation); 7] = [
 /// The asking node, the direction, the kind, the name, and the wanted image and link.
 type Ask = (u32, bool, EdgeKind, &'static str, Variation, Variation);
 
+/// A list of requests, and the edges that it adds, or the fault.
+type Case = (&'static [Ask], &'static str);
+
 /// The edges that lists of requests add, or the fault. The request at place n is in line n + 1.
-const CASES: [(&[Ask], &str); 9] = [
+const CASES: [Case; 9] = [
     // edges that are asked for in both directions, and the least node of two
     (
         &[
@@ -119,31 +123,51 @@ fn place(line: u32) -> Place {
     }
 }
 
-fn modules(alloc: Global) -> Result<Vec<Module>, OutOfMemory> {
+fn named(alloc: Global, name: &str, kind: ModuleKind) -> Result<Module, OutOfMemory> {
+    Ok(Module {
+        name: Text::from_str(alloc, name)?,
+        kind,
+        dir: Path::root(alloc),
+        at: place(1),
+        props: Props::empty(alloc),
+    })
+}
+
+fn modules_of(alloc: Global, list: &[(&str, ModuleKind)]) -> Result<Vec<Module>, OutOfMemory> {
     let mut mods = Vec::new(alloc);
-    for (name, kind) in MODULES {
-        mods.push(Module {
-            name: Text::from_str(alloc, name)?,
-            kind,
-            dir: Path::root(alloc),
-            at: place(1),
-            props: Props::empty(alloc),
-        })?;
+    for (name, kind) in list {
+        mods.push(named(alloc, name, *kind)?)?;
     }
     Ok(mods)
 }
 
-fn graph(alloc: Global) -> Result<Graph<bool>, OutOfMemory> {
+fn modules(alloc: Global) -> Result<Vec<Module>, OutOfMemory> {
+    modules_of(alloc, &MODULES)
+}
+
+fn variations(
+    alloc: Global,
+    image: Variation,
+    link: Variation,
+    sanitizer: Variation,
+) -> Variations {
+    let mut vars = Variations::empty(alloc);
+    vars.set(Axis::Target, DEVICE);
+    vars.set(Axis::Image, image);
+    vars.set(Axis::Link, link);
+    vars.set(Axis::Sanitize, sanitizer);
+    vars
+}
+
+/// A node's module, image, link and sanitizer.
+type Row = (u32, Variation, Variation, Variation);
+
+fn graph_of(alloc: Global, rows: &[Row]) -> Result<Graph<bool>, OutOfMemory> {
     let mut nodes = Vec::new(alloc);
-    for (module, image, link, sanitizer) in NODES {
-        let mut vars = Variations::empty(alloc);
-        vars.set(Axis::Target, DEVICE);
-        vars.set(Axis::Image, image);
-        vars.set(Axis::Link, link);
-        vars.set(Axis::Sanitize, sanitizer);
+    for (module, image, link, sanitizer) in rows {
         nodes.push(Node {
-            module: ModuleId(module),
-            vars,
+            module: ModuleId(*module),
+            vars: variations(alloc, *image, *link, *sanitizer),
             payload: false,
             edges: Seq::new(Vec::new(alloc)),
         })?;
@@ -151,6 +175,10 @@ fn graph(alloc: Global) -> Result<Graph<bool>, OutOfMemory> {
     Ok(Graph {
         nodes: Seq::new(nodes),
     })
+}
+
+fn graph(alloc: Global) -> Result<Graph<bool>, OutOfMemory> {
+    graph_of(alloc, &NODES)
 }
 
 fn requests(alloc: Global, asks: &[Ask]) -> Result<Vec<(NodeId, Request)>, OutOfMemory> {
@@ -228,27 +256,41 @@ fn said(alloc: Global, mods: &[Module], asks: &[Ask]) -> Result<String, OutOfMem
     }
 }
 
-#[test]
-fn requests_and_what_they_add(rt: HostRuntime) -> Result<(), Fail> {
-    let alloc = rt.alloc();
+fn check_cases(rt: &impl Abort, alloc: Global, cases: &[Case]) -> Result<(), Fail> {
     let mods = modules(alloc)?;
-    for (asks, want) in CASES {
-        assert_eq!(rt; said(alloc, &mods, asks)?.as_str(), want);
+    for (asks, want) in cases {
+        assert_eq!(rt; said(alloc, &mods, asks)?.as_str(), *want);
     }
     Ok(())
 }
 
 #[test]
-fn one_request_alone(rt: HostRuntime) -> Result<(), Fail> {
-    let alloc = rt.alloc();
+fn requests_and_what_they_add(rt: HostRuntime) -> Result<(), Fail> {
+    check_cases(&rt, rt.alloc(), &CASES)
+}
+
+/// The node for one request alone; the greatest number where there is none.
+fn node_for(alloc: Global, request: &Request) -> Result<u32, OutOfMemory> {
     let mods = modules(alloc)?;
     let g = graph(alloc)?;
     let few = mods.as_slice().len() < 1 << 32;
-    assert!(rt; few);
-    assert!(rt; may_run(&mods, &g));
-    let asks = [(2, FORWARD, EdgeKind::Static, "z", NONE, STATIC)];
-    for (_, request) in &requests(alloc, &asks)? {
-        assert!(rt; resolve(alloc, &mods, &g, request).is_ok_and(|n| n == NodeId(4)));
+    if !few || !may_run(&mods, &g) {
+        return Ok(u32::MAX);
+    }
+    match resolve(alloc, &mods, &g, request) {
+        Ok(n) => Ok(n.0),
+        Err(_) => Ok(u32::MAX),
+    }
+}
+
+/// The one request.
+const ALONE: [Ask; 1] = [(2, FORWARD, EdgeKind::Static, "z", NONE, STATIC)];
+
+#[test]
+fn one_request_alone(rt: HostRuntime) -> Result<(), Fail> {
+    let alloc = rt.alloc();
+    for (_, request) in &requests(alloc, &ALONE)? {
+        assert_eq!(rt; node_for(alloc, request)?, 4);
     }
     laws::one_outcome::<bool>();
     laws::nodes_for_are_least::<bool>();

@@ -10,6 +10,7 @@ use module_graph::{Axis, Graph, Node, Variation, Variations, variation_name};
 use module_rules::Record;
 use mutator_rules::{BottomUp, Config, Split};
 use std::alloc::Global;
+use std::process::Abort;
 use std::test::Fail;
 use target_mutators::laws::{image_variants_differ, target_variants_differ};
 use target_mutators::{ArchSplit, ImageSplit};
@@ -86,14 +87,24 @@ fn set(alloc: Global, record: &mut Props, setting: Setting) -> Result<(), OutOfM
     Ok(())
 }
 
+/// Groups, each with its flag.
+fn add_groups(
+    alloc: Global,
+    record: &mut Props,
+    flags: &[(GroupId, &str)],
+) -> Result<(), OutOfMemory> {
+    for (id, flag) in flags {
+        let mut group = GroupProps::empty(alloc);
+        add_flag(alloc, &mut group, flag)?;
+        record.groups.insert(*id, group)?;
+    }
+    Ok(())
+}
+
 fn record(alloc: Global, settings: &[Setting]) -> Result<Props, OutOfMemory> {
     let mut record = Props::empty(alloc);
     add_flag(alloc, &mut record.base, "own")?;
-    for (id, flag) in FLAGS {
-        let mut group = GroupProps::empty(alloc);
-        add_flag(alloc, &mut group, flag)?;
-        record.groups.insert(id, group)?;
-    }
+    add_groups(alloc, &mut record, &FLAGS)?;
     for setting in settings {
         set(alloc, &mut record, *setting)?;
     }
@@ -139,15 +150,20 @@ fn one_module(
     Ok(World { mods, graph })
 }
 
+fn add_flags(out: &mut String, flags: &[Text]) -> Result<(), OutOfMemory> {
+    for flag in flags {
+        out.push_str(" ")?;
+        out.push_str(flag.as_str())?;
+    }
+    Ok(())
+}
+
 fn shown(alloc: Global, made: &Split<Record>) -> Result<String, OutOfMemory> {
     let mut out = String::new(alloc);
     for (variation, record) in made.variants.as_slice() {
         out.push_str(variation_name(alloc, *variation)?.as_str())?;
         out.push_str(":")?;
-        for flag in record.props().base.cflags.items.as_slice() {
-            out.push_str(" ")?;
-            out.push_str(flag.as_str())?;
-        }
+        add_flags(&mut out, record.props().base.cflags.items.as_slice())?;
         out.push_str("; ")?;
     }
     Ok(out)
@@ -268,18 +284,28 @@ const ARCH: [ArchCase; 13] = [
     ),
 ];
 
+/// Whether the rule splits by target, and the variants that it makes.
+fn by_targets(alloc: Global, case: &ArchCase) -> Result<(bool, String), OutOfMemory> {
+    let (kind, settings, targets, _) = *case;
+    let config = targets_of(alloc, targets)?;
+    let world = one_module(alloc, kind, Variation::Empty, record(alloc, settings)?)?;
+    let rule = ArchSplit::new(&world.mods, &config);
+    let is_by_target = rule.axis() == Some(Axis::Target);
+    Ok((is_by_target, answer(alloc, &rule, &world.graph)?))
+}
+
+fn check_targets(rt: &impl Abort, alloc: Global, cases: &[ArchCase]) -> Result<(), Fail> {
+    for case in cases {
+        let (is_by_target, made) = by_targets(alloc, case)?;
+        assert_eq!(rt; (is_by_target, made.as_str()), (true, case.3));
+    }
+    Ok(())
+}
+
 #[test]
 fn targets_of_modules(rt: HostRuntime) -> Result<(), Fail> {
-    let alloc = rt.alloc();
-    for (kind, settings, targets, want) in ARCH {
-        let config = targets_of(alloc, targets)?;
-        let world = one_module(alloc, kind, Variation::Empty, record(alloc, settings)?)?;
-        let rule = ArchSplit::new(&world.mods, &config);
-        assert!(rt; rule.axis() == Some(Axis::Target));
-        assert_eq!(rt; answer(alloc, &rule, &world.graph)?.as_str(), want);
-    }
     target_variants_differ();
-    Ok(())
+    check_targets(&rt, rt.alloc(), &ARCH)
 }
 
 /// What a library for a target sets, and its variants.
@@ -319,16 +345,26 @@ const IMAGES: [ImageCase; 8] = [
     (Variation::Common, &[Setting::Vendor], ": own; "),
 ];
 
+/// Whether the rule splits by image, and the variants that it makes.
+fn by_images(alloc: Global, case: &ImageCase) -> Result<(bool, String), OutOfMemory> {
+    let (target, settings, _) = *case;
+    let config = targets_of(alloc, &[ARM64])?;
+    let world = one_module(alloc, ModuleKind::Library, target, record(alloc, settings)?)?;
+    let rule = ImageSplit::new(&world.mods, &config);
+    let is_by_image = rule.axis() == Some(Axis::Image);
+    Ok((is_by_image, answer(alloc, &rule, &world.graph)?))
+}
+
+fn check_images(rt: &impl Abort, alloc: Global, cases: &[ImageCase]) -> Result<(), Fail> {
+    for case in cases {
+        let (is_by_image, made) = by_images(alloc, case)?;
+        assert_eq!(rt; (is_by_image, made.as_str()), (true, case.2));
+    }
+    Ok(())
+}
+
 #[test]
 fn images_of_modules(rt: HostRuntime) -> Result<(), Fail> {
-    let alloc = rt.alloc();
-    let config = targets_of(alloc, &[ARM64])?;
-    for (target, settings, want) in IMAGES {
-        let world = one_module(alloc, ModuleKind::Library, target, record(alloc, settings)?)?;
-        let rule = ImageSplit::new(&world.mods, &config);
-        assert!(rt; rule.axis() == Some(Axis::Image));
-        assert_eq!(rt; answer(alloc, &rule, &world.graph)?.as_str(), want);
-    }
     image_variants_differ();
-    Ok(())
+    check_images(&rt, rt.alloc(), &IMAGES)
 }

@@ -2,6 +2,8 @@
 use Rattle.std.specs.Prelude.{ℕ, [], ◌∷◌}
 use Rattle.pass_core.specs.declared.plan.Plan.{Plan}
 use Rattle.pass_core.specs.declared.plan.PlanEdge.{PlanEdge}
+use Rattle.ready_counters.specs.declared.view.View.{View}
+use Rattle.ready_counters.specs.Views.{all_of_it, lighter, one, with_claim, with_fetch, with_filled, with_subtract, with_ticket}
 
 -- An edge between two nodes.
 abbrev pub between : ℕ → ℕ → PlanEdge
@@ -18,3 +20,15 @@ chain = record { count = 3; edges = between 0 1 ∷ between 1 2 ∷ [] }
 -- No node.
 abbrev pub no_nodes : Plan
 no_nodes = record { count = 0; edges = [] }
+
+-- The view of a seat that visited the first node of the chain, with its ticket.
+abbrev pub first_done : ℕ → View
+first_done k = with_subtract (with_filled (with_ticket (with_claim (lighter all_of_it) 0) 0 k) 0) 0
+
+-- The view of another seat that visited the second node.
+abbrev pub second_done : ℕ → View
+second_done k = with_subtract (with_filled (with_ticket (with_fetch (with_claim one 1) 0) 1 k) 1) 1
+
+-- The view of the first seat once it visited the third node too.
+abbrev pub third_done : ℕ → ℕ → View
+third_done first k = with_ticket (with_fetch (with_claim (first_done first) 2) 1) 2 k

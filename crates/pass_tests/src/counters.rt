@@ -5,8 +5,9 @@ ghost use Rattle.pass_core.specs.Results.{Done};
 ghost use Rattle.pass_core.specs.Shown.{shown};
 ghost use Rattle.ready_counters.specs.Answers.{AnswersSubtract};
 ghost use Rattle.ready_counters.specs.Seen.{plan_of, view_of, IsSeatOf};
-ghost use Rattle.ready_counters.specs.Views.{with_claim};
+ghost use Rattle.ready_counters.specs.Views.{all_of_it, lighter, one, with_claim};
 ghost use Rattle.pass_tests.specs.Counters.{pair, chain, no_nodes};
+ghost use Rattle.pass_tests.specs.Counters.{first_done, second_done, third_done};
 
 use bp_faults::{NodeId, OutOfMemory, Seq};
 use pass_core::{Plan, PlanEdge, Published, Visit, VisitError};
@@ -123,6 +124,56 @@ fn core_and_board(rt: HostRuntime) -> Result<(), Fail> {
     Ok(())
 }
 
+/// Ends the visit of the chain's first node, which is claimed: its ticket, and whether the next is ready.
+fn end_first(
+    alloc: Global,
+    board: &Board<Number>,
+    seat: &mut Seat<Number>,
+) -> Result<(u64, bool), OutOfMemory>
+    requires plan { plan_of board.now ≡ chain }
+    requires seat { IsSeatOf board.now seat.old }
+    requires claimed { view_of seat.old ≡ with_claim (lighter all_of_it) 0 }
+    ensures seat { IfOk result (λ told. IsSeatOf board.now seat.new) }
+    ensures done { IfOk result (λ told. view_of seat.new ≡ first_done told.0) }
+{
+    let ticket = board.ticket(seat, NodeId(0));
+    board.fill(seat, 0, published(alloc, 0)?);
+    Ok((ticket, board.subtract(seat, 0)))
+}
+
+/// Visits the chain's second node: its ticket, and whether the next is ready.
+fn visit_second(
+    rt: &impl Abort,
+    alloc: Global,
+    board: &Board<Number>,
+    seat: &mut Seat<Number>,
+) -> Result<(u64, bool), OutOfMemory>
+    requires plan { plan_of board.now ≡ chain }
+    requires seat { IsSeatOf board.now seat.old }
+    requires idle { view_of seat.old ≡ one }
+    ensures seat { IfOk result (λ told. IsSeatOf board.now seat.new) }
+    ensures done { IfOk result (λ told. view_of seat.new ≡ second_done told.0) }
+{
+    take(rt, board, seat, 1);
+    let _zero = board.fetch(seat, 0);
+    let ticket = board.ticket(seat, NodeId(1));
+    board.fill(seat, 1, published(alloc, 1)?);
+    Ok((ticket, board.subtract(seat, 1)))
+}
+
+/// Visits the chain's third node, by the seat that visited the first: its ticket.
+fn visit_third(rt: &impl Abort, board: &Board<Number>, seat: &mut Seat<Number>, first: u64) -> u64
+    requires plan { plan_of board.now ≡ chain }
+    requires seat { IsSeatOf board.now seat.old }
+    requires done { view_of seat.old ≡ first_done first }
+    ensures seat { IsSeatOf board.now seat.new }
+    ensures done { view_of seat.new ≡ third_done first result }
+{
+    take(rt, board, seat, 2);
+    let _one = board.fetch(seat, 1);
+    board.ticket(seat, NodeId(2))
+}
+
 #[test]
 fn chain_by_two_seats_in_turn(rt: HostRuntime) -> Result<(), Fail> {
     let alloc = rt.alloc();
@@ -132,21 +183,12 @@ fn chain_by_two_seats_in_turn(rt: HostRuntime) -> Result<(), Fail> {
     take(&rt, &board, &mut seat, 0);
     miss(&rt, &board, &mut other, 0, Claim::Gone);
     miss(&rt, &board, &mut other, 1, Claim::NotReady(1));
-    let first = board.ticket(&mut seat, NodeId(0));
-    board.fill(&mut seat, 0, published(alloc, 0)?);
-    let ready = board.subtract(&mut seat, 0);
-    assert!(rt; ready);
-    take(&rt, &board, &mut other, 1);
-    let _zero = board.fetch(&mut other, 0);
-    let second = board.ticket(&mut other, NodeId(1));
-    board.fill(&mut other, 1, published(alloc, 1)?);
-    let ready_again = board.subtract(&mut other, 1);
-    assert!(rt; ready_again);
-    take(&rt, &board, &mut seat, 2);
-    let _one = board.fetch(&mut seat, 1);
-    let third = board.ticket(&mut seat, NodeId(2));
-    board.join(&mut seat, other);
+    let (first, is_second_ready) = end_first(alloc, &board, &mut seat)?;
+    let (second, is_third_ready) = visit_second(&rt, alloc, &board, &mut other)?;
+    let third = visit_third(&rt, &board, &mut seat, first);
+    assert!(rt; is_second_ready && is_third_ready);
     assert!(rt; first == 0 && second == 1 && third == 2);
+    board.join(&mut seat, other);
     let order = vec![in alloc; NodeId(0), NodeId(1), NodeId(2)]?;
     let receipt = board.close(seat, &plan, order);
     assert_eq!(rt; receipt.order().len(), 3);

@@ -5,7 +5,15 @@ use module_graph::{
     Axis, Edge, EdgeKind, Graph, GraphError, Node, Variation, Variations, check_cycle, label,
 };
 use std::alloc::Global;
+use std::process::Abort;
 use std::test::Fail;
+
+fn files(alloc: Global) -> Result<Vec<Text>, OutOfMemory> {
+    let mut files = Vec::new(alloc);
+    files.push(Text::from_str(alloc, "list")?)?;
+    files.push(Text::from_str(alloc, "Android.bp")?)?;
+    Ok(files)
+}
 
 /// What the cycle rule says of a graph: nothing, or the fault's line.
 fn said(alloc: Global, g: &Graph<bool>, names: &[Text]) -> Result<String, OutOfMemory> {
@@ -15,12 +23,7 @@ fn said(alloc: Global, g: &Graph<bool>, names: &[Text]) -> Result<String, OutOfM
     match check_cycle(alloc, g, names) {
         Ok(()) => Ok(String::new(alloc)),
         Err(GraphError::OutOfMemory) => Err(OutOfMemory),
-        Err(GraphError::Bad(fault)) => {
-            let mut files = Vec::new(alloc);
-            files.push(Text::from_str(alloc, "list")?)?;
-            files.push(Text::from_str(alloc, "Android.bp")?)?;
-            fault_line(alloc, &fault, &files)
-        }
+        Err(GraphError::Bad(fault)) => fault_line(alloc, &fault, &files(alloc)?),
     }
 }
 
@@ -33,8 +36,17 @@ fn numbers(alloc: Global, count: usize) -> Result<Vec<Text>, OutOfMemory> {
     Ok(names)
 }
 
-/// The targets of each node's edges, and the fault's line, whose cycle begins at the least node that can reach itself.
-const CASES: [(&[&[u32]], &str); 14] = [
+/// What the cycle rule says of the graph of some targets, with each node's number as its label.
+fn said_of(alloc: Global, targets: &[&[u32]]) -> Result<String, OutOfMemory> {
+    let g = graph(alloc, targets)?;
+    said(alloc, &g, &numbers(alloc, targets.len())?)
+}
+
+/// The targets of each node's edges, and the fault's line.
+type Case = (&'static [&'static [u32]], &'static str);
+
+/// Graphs whose reported cycle begins at the least node that can reach itself.
+const CASES: [Case; 14] = [
     (&[], ""),
     (&[&[1, 2], &[3], &[3, 3], &[]], ""),
     // a part that closes before another is met
@@ -94,13 +106,15 @@ const CASES: [(&[&[u32]], &str); 14] = [
     ),
 ];
 
+fn cases() -> &'static [Case] {
+    &CASES
+}
+
 #[test]
 fn which_cycle_is_reported(rt: HostRuntime) -> Result<(), Fail> {
     let alloc = rt.alloc();
-    for (targets, line) in CASES {
-        let g = graph(alloc, targets)?;
-        let names = numbers(alloc, targets.len())?;
-        assert_eq!(rt; said(alloc, &g, &names)?.as_str(), line);
+    for (targets, line) in cases() {
+        assert_eq!(rt; said_of(alloc, targets)?.as_str(), *line);
     }
     Ok(())
 }
@@ -120,16 +134,17 @@ fn chain(
         } else {
             (0, last, n.saturating_sub(1))
         };
-        let edges = match (n == end, closed) {
-            (false, _) => edges_to(alloc, 1, &[next])?,
-            (true, true) => edges_to(alloc, 1, &[start])?,
-            (true, false) => edges_to(alloc, 1, &[])?,
+        let target = [if n == end { start } else { next }];
+        let targets = if n == end && !closed {
+            &[]
+        } else {
+            target.as_slice()
         };
         nodes.push(Node {
             module: ModuleId(n),
             vars: Variations::empty(alloc),
             payload: false,
-            edges,
+            edges: edges_to(alloc, 1, targets)?,
         })?;
     }
     Ok(Graph {
@@ -199,27 +214,36 @@ fn libraries(alloc: Global, edges: &[&[(u32, u32, u32)]]) -> Result<Graph<bool>,
     })
 }
 
+fn label_of(alloc: Global, node: &Node<bool>, name: &str) -> Result<Text, OutOfMemory> {
+    label(alloc, &Text::from_str(alloc, name)?, &node.vars)
+}
+
 fn labels(alloc: Global, g: &Graph<bool>, names: &[&str]) -> Result<Vec<Text>, OutOfMemory> {
     let mut labels = Vec::new(alloc);
     for (node, name) in g.nodes.as_slice().iter().zip(names) {
-        labels.push(label(alloc, &Text::from_str(alloc, name)?, &node.vars)?)?;
+        labels.push(label_of(alloc, node, name)?)?;
     }
     Ok(labels)
 }
 
-/// The example *cycles*: a wants b; b wants c and a; c wants a.
-#[test]
-fn cycles(rt: HostRuntime) -> Result<(), Fail> {
-    let alloc = rt.alloc();
+/// What the cycle rule says of the example *cycles*: a wants b; b wants c and a; c wants a.
+fn said_of_cycles(alloc: Global) -> Result<String, OutOfMemory> {
     let g = libraries(
         alloc,
         &[&[(1, 1, 46)], &[(2, 2, 46), (0, 2, 51)], &[(0, 3, 46)]],
     )?;
-    let names = labels(alloc, &g, &["a", "b", "c"])?;
-    let [a, b] = ["a{android_arm64_static}", "b{android_arm64_static}"];
-    let line = format!(in alloc;
-        "Android.bp:1:46: error 23: dependency cycle: {a} -> {b} -> {a}\n"
-    )?;
-    assert_eq!(rt; said(alloc, &g, &names)?.as_str(), line.as_str());
+    said(alloc, &g, &labels(alloc, &g, &["a", "b", "c"])?)
+}
+
+fn check_cycles(rt: &impl Abort, alloc: Global, want: &str) -> Result<(), Fail> {
+    assert_eq!(rt; said_of_cycles(alloc)?.as_str(), want);
     Ok(())
+}
+
+/// The example *cycles*.
+#[test]
+fn cycles(rt: HostRuntime) -> Result<(), Fail> {
+    let want = "Android.bp:1:46: error 23: dependency cycle: \
+         a{android_arm64_static} -> b{android_arm64_static} -> a{android_arm64_static}\n";
+    check_cycles(&rt, rt.alloc(), want)
 }

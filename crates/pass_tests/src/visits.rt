@@ -1,13 +1,14 @@
-ghost use Rattle.std.specs.Prelude.{IsTrue, IfOk, ⊤};
+ghost use Rattle.std.specs.Prelude.{◌≡◌, IsTrue, IfOk, IfSome, ⊤};
 ghost use Rattle.pass_tests.specs.Visits.{counted_but};
 ghost use Rattle.pass_core.specs.Plans.{IsPlan, HasNoCycle};
 
-use bp_faults::{Fault, FaultKind, NodeId, OutOfMemory, Place, Seq, Text};
+use bp_faults::{Fault, FaultKind, NodeId, OutOfMemory, Place, Seq};
 use pass_core::{
     Core, OrderError, PassError, Plan, PlanEdge, Published, Step, StepError, Visit, VisitError,
     edges_into, heights, laws, run_order, run_pass, serial_order, starts_of,
 };
 use std::alloc::Global;
+use std::process::Abort;
 use std::sync::Arc;
 use std::test::Fail;
 
@@ -120,8 +121,16 @@ const DIAMOND: &[(u32, u32)] = &[(1, 0), (2, 0), (3, 1), (3, 2)];
 
 const TWICE: &[(u32, u32)] = &[(1, 0), (1, 0), (3, 0)];
 
-/// Four nodes: their edges, the two that are refused, the order, and what comes of it.
-const RUNS: [(&[(u32, u32)], u32, u32, &[u32], (&str, u32)); 14] = [
+/// Nodes: their edges, the two that are refused, the order, and what comes of it.
+type Run = (
+    &'static [(u32, u32)],
+    u32,
+    u32,
+    &'static [u32],
+    (&'static str, u32),
+);
+
+const RUNS: [Run; 14] = [
     (DIAMOND, NONE, NONE, &[3, 1, 2, 0], ("results", 0)),
     (DIAMOND, NONE, NONE, &[3, 2, 1, 0], ("results", 0)),
     (DIAMOND, NONE, NONE, &[0], ("not ready", 0)),
@@ -138,16 +147,35 @@ const RUNS: [(&[(u32, u32)], u32, u32, &[u32], (&str, u32)); 14] = [
     (TWICE, NONE, NONE, &[3, 2, 1, 0], ("results", 0)),
 ];
 
-#[test]
-fn runs_along_orders(rt: HostRuntime) -> Result<(), Fail> {
-    let alloc = rt.alloc();
-    for (edges, one, other, order, want) in RUNS {
-        let plan = plan(alloc, 4, edges)?;
-        let order = nodes(alloc, order)?;
-        assert!(rt; falls(&plan));
-        assert_eq!(rt; along(alloc, &plan, CountBut { one, other }, &order), want);
+/// What a run along an order comes to, over so many nodes with such edges.
+fn run_of(
+    alloc: Global,
+    count: u32,
+    edges: &[(u32, u32)],
+    refused: CountBut,
+    order: &[u32],
+) -> Result<(&'static str, u32), OutOfMemory> {
+    let plan = plan(alloc, count, edges)?;
+    if !falls(&plan) {
+        return Ok(("no plan", 0));
+    }
+    Ok(along(alloc, &plan, refused, &nodes(alloc, order)?))
+}
+
+fn check_runs(rt: &impl Abort, alloc: Global, count: u32, runs: &[Run]) -> Result<(), Fail> {
+    for (edges, one, other, order, want) in runs {
+        let refused = CountBut {
+            one: *one,
+            other: *other,
+        };
+        assert_eq!(rt; run_of(alloc, count, edges, refused, order)?, *want);
     }
     Ok(())
+}
+
+#[test]
+fn runs_along_orders(rt: HostRuntime) -> Result<(), Fail> {
+    check_runs(&rt, rt.alloc(), 4, &RUNS)
 }
 
 /// How many results a pass makes that refuses no node.
@@ -162,28 +190,19 @@ fn counted(alloc: Global, plan: &Plan) -> Result<usize, VisitError>
     Ok(run_pass(alloc, plan, &none)?.len())
 }
 
+const REFUSED: CountBut = CountBut {
+    one: NONE,
+    other: NONE,
+};
+
+const NO_NODES: [Run; 2] = [
+    (&[], NONE, NONE, &[], ("results", 0)),
+    (&[], NONE, NONE, &[0], ("not ready", 0)),
+];
+
 #[test]
 fn orders_of_no_nodes(rt: HostRuntime) -> Result<(), Fail> {
-    let alloc = rt.alloc();
-    let empty = plan(alloc, 0, &[])?;
-    let none = CountBut {
-        one: NONE,
-        other: NONE,
-    };
-    assert!(rt; falls(&empty));
-    assert_eq!(rt;
-        along(alloc, &empty, none, &nodes(alloc, &[])?),
-        ("results", 0)
-    );
-    let none = CountBut {
-        one: NONE,
-        other: NONE,
-    };
-    assert_eq!(rt;
-        along(alloc, &empty, none, &nodes(alloc, &[0])?),
-        ("not ready", 0)
-    );
-    Ok(())
+    check_runs(&rt, rt.alloc(), 0, &NO_NODES)
 }
 
 #[test]
@@ -197,17 +216,55 @@ fn large_and_empty_plans(rt: HostRuntime) -> Result<(), Fail> {
     Ok(())
 }
 
-#[test]
-fn diamond(rt: HostRuntime) -> Result<(), Fail> {
-    let alloc = rt.alloc();
+/// The diamond's plan.
+fn diamond(alloc: Global) -> Result<Option<Plan>, OutOfMemory>
+    ensures plan { IfOk result (λ o. IfSome o IsPlan) }
+    ensures free { IfOk result (λ o. IfSome o (λ plan. HasNoCycle plan.edges)) }
+    ensures many { IfOk result (λ o. IfSome o (λ plan. plan.count ≡ 4)) }
+{
     let plan = plan(alloc, 4, DIAMOND)?;
-    assert!(rt; falls(&plan));
-    assert!(rt; plan.count == 4);
+    if !falls(&plan) || plan.count != 4 {
+        return Ok(None);
+    }
+    Ok(Some(plan))
+}
+
+/// How many edges lead to the diamond's first node.
+fn edges_into_first(alloc: Global) -> Result<usize, OutOfMemory> {
+    let Some(plan) = diamond(alloc)? else {
+        return Ok(0);
+    };
     let starts = starts_of(alloc, &plan)?;
-    assert_eq!(rt; edges_into(&plan, &starts, NodeId(0)).len(), 2);
-    assert_eq!(rt; heights(alloc, &plan)?.as_slice(), [2, 1, 1, 0].as_slice());
-    let order = nodes(alloc, &[3, 1, 2, 0])?;
-    assert_eq!(rt; serial_order(alloc, &plan)?.as_slice(), order.as_slice());
+    Ok(edges_into(&plan, &starts, NodeId(0)).len())
+}
+
+fn diamond_heights(alloc: Global) -> Result<Vec<u32>, OutOfMemory> {
+    match diamond(alloc)? {
+        Some(plan) => heights(alloc, &plan),
+        None => Ok(Vec::new(alloc)),
+    }
+}
+
+fn diamond_order(alloc: Global) -> Result<Vec<NodeId>, OutOfMemory> {
+    match diamond(alloc)? {
+        Some(plan) => serial_order(alloc, &plan),
+        None => Ok(Vec::new(alloc)),
+    }
+}
+
+const ORDER: [NodeId; 4] = [NodeId(3), NodeId(1), NodeId(2), NodeId(0)];
+
+#[test]
+fn edges_and_heights_of_the_diamond(rt: HostRuntime) -> Result<(), Fail> {
+    let alloc = rt.alloc();
+    assert_eq!(rt; edges_into_first(alloc)?, 2);
+    assert!(rt; diamond_heights(alloc)?.as_slice() == [2, 1, 1, 0].as_slice());
+    Ok(())
+}
+
+#[test]
+fn order_of_the_diamond(rt: HostRuntime) -> Result<(), Fail> {
+    assert!(rt; diamond_order(rt.alloc())?.as_slice() == ORDER.as_slice());
     Ok(())
 }
 
@@ -244,43 +301,78 @@ fn laws_at_a_type() {
     laws::one_order_outcome::<u32>();
 }
 
-/// What each error says of itself.
-fn texts(alloc: Global) -> Result<Text, OutOfMemory> {
-    let fault = Fault::at(
-        alloc,
-        FaultKind::BadSource,
-        Place {
-            file: 1,
-            line: 1,
-            col: 1,
-        },
-    );
-    let again = Fault::at(
-        alloc,
-        FaultKind::BadSource,
-        Place {
-            file: 1,
-            line: 1,
-            col: 1,
-        },
-    );
-    let (node, pass) = (PassError::At(NodeId(0), fault), PassError::OutOfMemory);
+fn fault(alloc: Global) -> Fault {
+    let at = Place {
+        file: 1,
+        line: 1,
+        col: 1,
+    };
+    Fault::at(alloc, FaultKind::BadSource, at)
+}
+
+/// What each error of a pass says of itself.
+fn pass_texts(alloc: Global) -> Result<String, OutOfMemory> {
+    let node = PassError::At(NodeId(0), fault(alloc));
+    let memory = PassError::OutOfMemory;
+    Ok(format!(in alloc; "{node}; {memory}")?)
+}
+
+/// What the errors of an order's entries say of themselves.
+fn entry_texts(alloc: Global) -> Result<String, OutOfMemory> {
     let (early, late) = (OrderError::NotReady(0), OrderError::Ends(0));
-    let (run, order) = (OrderError::At(NodeId(0), again), OrderError::OutOfMemory);
-    let (step, memory) = (StepError::NotAllowed(Step::Fill(0)), StepError::OutOfMemory);
-    let text = format!(in alloc;
-        "{node}; {pass}; {early}; {late}; {run}; {order}; {step}; {memory}"
-    )?;
-    Ok(Text::new(text))
+    Ok(format!(in alloc; "{early}; {late}")?)
+}
+
+/// What the other errors of an order say of themselves.
+fn order_texts(alloc: Global) -> Result<String, OutOfMemory> {
+    let node = OrderError::At(NodeId(0), fault(alloc));
+    let memory = OrderError::OutOfMemory;
+    Ok(format!(in alloc; "{node}; {memory}")?)
+}
+
+/// What each error of a step says of itself.
+fn step_texts(alloc: Global) -> Result<String, OutOfMemory> {
+    let step = StepError::NotAllowed(Step::Fill(0));
+    let memory = StepError::OutOfMemory;
+    Ok(format!(in alloc; "{step}; {memory}")?)
+}
+
+fn check_text(rt: &impl Abort, text: Result<String, OutOfMemory>, want: &str) -> Result<(), Fail> {
+    assert_eq!(rt; text?.as_str(), want);
+    Ok(())
 }
 
 #[test]
-fn texts_of_errors(rt: HostRuntime) -> Result<(), Fail> {
-    assert_eq!(rt;
-        texts(rt.alloc())?.as_str(),
-        "a node has a fault; out of memory; an entry isn't ready; the order ends early; a node has a fault; out of memory; the step isn't allowed; out of memory"
-    );
-    Ok(())
+fn texts_of_pass_errors(rt: HostRuntime) -> Result<(), Fail> {
+    check_text(
+        &rt,
+        pass_texts(rt.alloc()),
+        "a node has a fault; out of memory",
+    )
+}
+
+#[test]
+fn texts_of_entry_errors(rt: HostRuntime) -> Result<(), Fail> {
+    let want = "an entry isn't ready; the order ends early";
+    check_text(&rt, entry_texts(rt.alloc()), want)
+}
+
+#[test]
+fn texts_of_order_errors(rt: HostRuntime) -> Result<(), Fail> {
+    check_text(
+        &rt,
+        order_texts(rt.alloc()),
+        "a node has a fault; out of memory",
+    )
+}
+
+#[test]
+fn texts_of_step_errors(rt: HostRuntime) -> Result<(), Fail> {
+    check_text(
+        &rt,
+        step_texts(rt.alloc()),
+        "the step isn't allowed; out of memory",
+    )
 }
 
 /// Two nodes, with two edges from node 0 to node 1.
@@ -324,22 +416,42 @@ fn takes(alloc: Global, core: &mut Core<CountBut>, s: Step) -> bool {
     }
 }
 
+fn steps() -> &'static [(Step, bool)] {
+    &STEPS
+}
+
+/// Tries each step: whether the core was finished before none, and took those that are allowed and no others.
+fn takes_allowed(alloc: Global, core: &mut Core<CountBut>) -> bool {
+    let mut same = true;
+    for (s, allowed) in steps() {
+        let finished = core.finished();
+        let taken = takes(alloc, core, *s);
+        same &= !finished && taken == *allowed;
+    }
+    same
+}
+
+/// The results of a core that is finished; the greatest number for none.
+fn results(alloc: Global, core: Core<CountBut>) -> Result<Vec<usize>, OutOfMemory> {
+    let mut results = Vec::new(alloc);
+    if !core.finished() {
+        return Ok(results);
+    }
+    for out in &core.into_outs(alloc)? {
+        results.push(match out {
+            Published::Done(count) => **count,
+            _ => usize::MAX,
+        })?;
+    }
+    Ok(results)
+}
+
 #[test]
 fn core_and_board(rt: HostRuntime) -> Result<(), Fail> {
     let alloc = rt.alloc();
-    let none = CountBut {
-        one: NONE,
-        other: NONE,
-    };
-    let mut core = Core::new(alloc, two_edges(alloc)?, none)?;
-    for (s, allowed) in STEPS {
-        assert!(rt; !core.finished());
-        assert_eq!(rt; takes(alloc, &mut core, s), allowed);
-    }
-    assert!(rt; core.finished());
-    assert_eq!(rt; core.steps(), 8);
-    for (out, want) in core.into_outs(alloc)?.iter().zip([0, 2]) {
-        assert!(rt; matches!(out, Published::Done(count) if **count == want));
-    }
+    let mut core = Core::new(alloc, two_edges(alloc)?, REFUSED)?;
+    let same = takes_allowed(alloc, &mut core);
+    assert_eq!(rt; (same, core.steps()), (true, 8));
+    assert!(rt; results(alloc, core)?.as_slice() == [0, 2].as_slice());
     Ok(())
 }

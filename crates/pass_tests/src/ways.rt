@@ -13,6 +13,7 @@ use pass_ways::laws::{
 };
 use pass_ways::{OrderLine, OrderLines, Way, WayError, run_by_way};
 use std::alloc::Global;
+use std::process::Abort;
 use std::sync::Arc;
 use std::test::Fail;
 use std::thread::Threads;
@@ -90,27 +91,50 @@ fn refused_at<R: Threads + Sync>(
     }
 }
 
-#[test]
-fn lines_of_a_pass(rt: HostRuntime) -> Result<(), Fail> {
-    let alloc = rt.alloc();
+/// The passes and nodes of lines, the node that is refused, and the number of the fault and its line.
+type Case = (&'static [(u32, u32)], u32, (u32, u32));
+
+const CASES: [Case; 9] = [
+    (&[(1, 0), (1, 1)], NONE, (0, 0)),
+    (&[(1, 0), (1, 1), (1, 1)], NONE, (0, 0)),
+    (&[(1, 1), (1, 0)], NONE, (35, 1)),
+    (&[(1, 0), (2, 1)], NONE, (35, 2)),
+    (&[(1, 0), (1, 0)], NONE, (35, 2)),
+    (&[(1, 0)], NONE, (36, 2)),
+    (&[], NONE, (36, 1)),
+    (&[(1, 0)], 0, (36, 2)),
+    (&[(1, 0), (1, 1)], 0, (25, 0)),
+];
+
+/// What a first pass of two nodes along fewer than 100 lines comes to.
+fn refused_along<R: Threads + Sync>(
+    rt: &R,
+    alloc: Global,
+    entries: &[(u32, u32)],
+    refused: u32,
+) -> Result<(u32, u32), OutOfMemory> {
     let plan = two_nodes(alloc)?;
-    let cases: [(&[(u32, u32)], u32, (u32, u32)); 9] = [
-        (&[(1, 0), (1, 1)], NONE, (0, 0)),
-        (&[(1, 0), (1, 1), (1, 1)], NONE, (0, 0)),
-        (&[(1, 1), (1, 0)], NONE, (35, 1)),
-        (&[(1, 0), (2, 1)], NONE, (35, 2)),
-        (&[(1, 0), (1, 0)], NONE, (35, 2)),
-        (&[(1, 0)], NONE, (36, 2)),
-        (&[], NONE, (36, 1)),
-        (&[(1, 0)], 0, (36, 2)),
-        (&[(1, 0), (1, 1)], 0, (25, 0)),
-    ];
+    let lines = lines_of(alloc, entries)?;
+    if lines.len() >= 100 {
+        return Ok((NONE, NONE));
+    }
+    Ok(refused_at(rt, alloc, &plan, &lines, refused))
+}
+
+fn check_cases<R: Threads + Sync + Abort>(
+    rt: &R,
+    alloc: Global,
+    cases: &[Case],
+) -> Result<(), Fail> {
     for (entries, refused, want) in cases {
-        let lines = lines_of(alloc, entries)?;
-        assert!(rt; lines.len() < 100);
-        assert_eq!(rt; refused_at(&rt, alloc, &plan, &lines, refused), want);
+        assert_eq!(rt; refused_along(rt, alloc, entries, *refused)?, *want);
     }
     Ok(())
+}
+
+#[test]
+fn lines_of_a_pass(rt: HostRuntime) -> Result<(), Fail> {
+    check_cases(&rt, rt.alloc(), &CASES)
 }
 
 /// The visits of a pass in an order.
@@ -143,29 +167,50 @@ fn two_passes<R: Threads + Sync>(
     Ok((first.outs.len(), second.order.as_slice().len()))
 }
 
-#[test]
-fn two_passes_each_way(rt: HostRuntime) -> Result<(), Fail> {
-    let alloc = rt.alloc();
+/// Two passes of two nodes on two workers.
+fn two_on_workers<R: Threads + Sync>(rt: &R, alloc: Global) -> Result<(usize, usize), WayError> {
     let plan = two_nodes(alloc)?;
-    let gate = OpenGate;
     let workers = Way::Workers {
         workers: 2,
-        gate: &gate,
+        gate: &OpenGate,
     };
-    let lines = lines_of(alloc, &[(1, 0), (1, 1), (2, 0), (2, 1)])?;
-    assert!(rt; lines.len() < 100);
-    let along = Way::Lines(OrderLines {
+    two_passes(rt, alloc, &plan, &workers)
+}
+
+/// Two passes of two nodes along fewer than 100 lines.
+fn two_along<R: Threads + Sync>(
+    rt: &R,
+    alloc: Global,
+    entries: &[(u32, u32)],
+) -> Result<(usize, usize), WayError> {
+    let plan = two_nodes(alloc)?;
+    let lines = lines_of(alloc, entries)?;
+    if lines.len() >= 100 {
+        return Err(WayError::OutOfMemory);
+    }
+    let way = Way::Lines(OrderLines {
         lines: &lines,
         file: 9,
     });
-    let on_workers = two_passes(&rt, alloc, &plan, &workers);
-    let along_lines = two_passes(&rt, alloc, &plan, &along);
-    assert!(rt; matches!(on_workers, Ok((2, 2))));
-    assert!(rt; matches!(along_lines, Ok((2, 2))));
+    two_passes(rt, alloc, &plan, &way)
+}
+
+#[test]
+fn two_passes_on_workers(rt: HostRuntime) {
+    assert!(rt; matches!(two_on_workers(&rt, rt.alloc()), Ok((2, 2))));
+}
+
+#[test]
+fn two_passes_along_lines(rt: HostRuntime) {
+    let entries = [(1, 0), (1, 1), (2, 0), (2, 1)];
+    assert!(rt; matches!(two_along(&rt, rt.alloc(), &entries), Ok((2, 2))));
+}
+
+#[test]
+fn laws_of_ways() {
     parts_are_short();
     legal_orders_are_whole();
     lines_say_one_order();
     refused_have_no_order();
     one_refusal();
-    Ok(())
 }

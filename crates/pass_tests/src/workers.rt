@@ -6,6 +6,7 @@ use bp_faults::{Fault, FaultKind, NodeId, OutOfMemory, Place, Seq};
 use bp_ports::{OpenGate, PairGate};
 use pass_core::{PassError, Plan, PlanEdge, Visit, VisitError};
 use std::alloc::Global;
+use std::process::Abort;
 use std::sync::Arc;
 use std::test::Fail;
 use std::thread::Threads;
@@ -139,16 +140,37 @@ fn is_held_over_chain<R: Threads + Sync>(
     }
 }
 
+/// Whether two nodes meet at a gate, on two workers.
+fn two_meet<R: Threads + Sync>(rt: &R, alloc: Global) -> Result<bool, PassError> {
+    let two = plan(alloc, 2, &[])?;
+    if !rises(&two) {
+        return Ok(false);
+    }
+    Ok(until_met(rt, alloc, &two, 0, 1)?.is_some())
+}
+
+/// Whether two nodes meet at a gate, on one worker, and how many it visits.
+fn one_alone<R: Threads + Sync>(rt: &R, alloc: Global) -> Result<(bool, usize), PassError> {
+    let two = plan(alloc, 2, &[])?;
+    if !rises(&two) {
+        return Ok((true, 0));
+    }
+    let alone = PairGate::new((7, NodeId(0)), (7, NodeId(1)), 1_000);
+    let run = visit_all(rt, alloc, 7, &two, &ALL, 1, &alone)?;
+    Ok((alone.met(), run.order.len()))
+}
+
 #[test]
 fn gates(rt: HostRuntime) -> Result<(), Fail> {
     let alloc = rt.alloc();
-    let two = plan(alloc, 2, &[])?;
-    assert!(rt; rises(&two));
-    assert!(rt; until_met(&rt, alloc, &two, 0, 1)?.is_some());
-    let alone = PairGate::new((7, NodeId(0)), (7, NodeId(1)), 1_000);
-    let run = visit_all(&rt, alloc, 7, &two, &ALL, 1, &alone)?;
-    assert!(rt; !alone.met());
-    assert_eq!(rt; run.order.len(), 2);
+    assert!(rt; two_meet(&rt, alloc)?);
+    assert_eq!(rt; one_alone(&rt, alloc)?, (false, 2));
+    Ok(())
+}
+
+#[test]
+fn gates_over_chains(rt: HostRuntime) -> Result<(), Fail> {
+    let alloc = rt.alloc();
     assert!(rt; is_held_over_chain(&rt, alloc, 3)?);
     assert!(rt; is_held_over_chain(&rt, alloc, 1_000)?);
     Ok(())
@@ -177,37 +199,95 @@ fn faulty<R: Threads + Sync>(
     }
 }
 
+/// The two nodes that are refused, and the node of the fault.
+type Case = ((u32, u32), Option<u32>);
+
+const CASES: [Case; 5] = [
+    ((3, 1), Some(1)),
+    ((2, 1), Some(1)),
+    ((0, 2), Some(0)),
+    ((3, 3), Some(3)),
+    ((9, 9), None),
+];
+
+fn cases() -> &'static [Case] {
+    &CASES
+}
+
+/// The node of the fault of a pass of four nodes.
+fn faulty_node<R: Threads + Sync>(
+    rt: &R,
+    alloc: Global,
+    refused: (u32, u32),
+    workers: u32,
+) -> Result<Option<u32>, OutOfMemory>
+    requires workers { (1 ≤ workers) × (workers ≤ 64) }
+{
+    let plan = plan(alloc, 4, &[(0, 3), (0, 3), (2, 3)])?;
+    if !rises(&plan) {
+        return Ok(Some(u32::MAX));
+    }
+    Ok(faulty(rt, alloc, &plan, refused, workers))
+}
+
+fn check_faulty<R: Threads + Sync + Abort>(rt: &R, alloc: Global, workers: u32) -> Result<(), Fail>
+    requires workers { (1 ≤ workers) × (workers ≤ 64) }
+{
+    for (refused, want) in cases() {
+        assert_eq!(rt; faulty_node(rt, alloc, *refused, workers)?, *want);
+    }
+    Ok(())
+}
+
 #[test]
 fn two_faults(rt: HostRuntime) -> Result<(), Fail> {
-    let alloc = rt.alloc();
-    let plan = plan(alloc, 4, &[(0, 3), (0, 3), (2, 3)])?;
-    assert!(rt; rises(&plan));
-    let cases = [
-        ((3, 1), Some(1)),
-        ((2, 1), Some(1)),
-        ((0, 2), Some(0)),
-        ((3, 3), Some(3)),
-        ((9, 9), None),
-    ];
-    for (refused, want) in cases {
-        assert_eq!(rt; faulty(&rt, alloc, &plan, refused, 1), want);
-        assert_eq!(rt; faulty(&rt, alloc, &plan, refused, 2), want);
-        assert_eq!(rt; faulty(&rt, alloc, &plan, refused, 64), want);
+    check_faulty(&rt, rt.alloc(), 1)
+}
+
+#[test]
+fn two_faults_on_two_workers(rt: HostRuntime) -> Result<(), Fail> {
+    check_faulty(&rt, rt.alloc(), 2)
+}
+
+#[test]
+fn two_faults_on_many_workers(rt: HostRuntime) -> Result<(), Fail> {
+    check_faulty(&rt, rt.alloc(), 64)
+}
+
+/// How many nodes a pass of so many without edges visits, and whether each makes its own number.
+fn visited<R: Threads + Sync>(
+    rt: &R,
+    alloc: Global,
+    count: u32,
+    workers: u32,
+) -> Result<(usize, bool), PassError> {
+    let plan = plan(alloc, count, &[])?;
+    if !rises(&plan) || workers < 1 || workers > 64 {
+        return Ok((usize::MAX, false));
+    }
+    let run = visit_all(rt, alloc, 0, &plan, &ALL, workers, &OpenGate)?;
+    let mut own = true;
+    for (n, out) in run.outs.iter().enumerate() {
+        own &= **out as usize == n;
+    }
+    Ok((run.order.len(), own))
+}
+
+fn check_visits<R: Threads + Sync + Abort>(
+    rt: &R,
+    alloc: Global,
+    cases: &[(u32, u32)],
+) -> Result<(), Fail> {
+    for (count, workers) in cases {
+        assert_eq!(rt;
+            visited(rt, alloc, *count, *workers)?,
+            (*count as usize, true)
+        );
     }
     Ok(())
 }
 
 #[test]
 fn few_nodes_and_many_workers(rt: HostRuntime) -> Result<(), Fail> {
-    let alloc = rt.alloc();
-    for (count, workers) in [(0, 1), (0, 64), (1, 64), (5, 3)] {
-        let plan = plan(alloc, count, &[])?;
-        assert!(rt; rises(&plan));
-        let run = visit_all(&rt, alloc, 0, &plan, &ALL, workers, &OpenGate)?;
-        assert_eq!(rt; run.order.len(), count as usize);
-        for (n, out) in run.outs.iter().enumerate() {
-            assert_eq!(rt; **out as usize, n);
-        }
-    }
-    Ok(())
+    check_visits(&rt, rt.alloc(), &[(0, 1), (0, 64), (1, 64), (5, 3)])
 }

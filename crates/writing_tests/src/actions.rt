@@ -3,24 +3,31 @@ ghost use Rattle.std.specs.Prelude.{◌≡◌, [], length, IfOk};
 ghost use Rattle.module_graph.specs.Graphs.{targets};
 
 use bp_faults::{Item, ModuleId, NodeId, OutOfMemory, Path, Place, Seq, Target, Text, fault_line};
-use bp_props::{Module, ModuleKind, Props, Source};
+use bp_props::{GroupProps, Module, ModuleKind, Props, Source};
 use build_actions::{ActionVisit, Actions, build_file, laws};
 use module_graph::{Axis, Edge, EdgeKind, Graph, Node, Variation, Variations};
-use ninja_file::{Statement, is_well_formed};
+use ninja_file::{NinjaFile, Statement, is_well_formed};
 use pass_core::{Visit, VisitError};
 use std::alloc::Global;
+use std::process::Abort;
 use std::sync::Arc;
 use std::test::Fail;
 
+/// The lists of flags of a record.
+#[derive(Clone, Copy)]
+enum Flags {
+    Every,
+    C,
+    Cpp,
+    Asm,
+    Link,
+}
+
 /// What a node has besides its sources and edges.
-#[derive(Clone, Copy, Debug)]
+#[derive(Clone, Copy)]
 enum Has {
     Variation(Axis, Variation),
-    Cflag(&'static str),
-    Conlyflag(&'static str),
-    Cppflag(&'static str),
-    Asflag(&'static str),
-    Ldflag(&'static str),
+    Flag(Flags, &'static str),
     Include(&'static str),
     Level(u32),
     Line(u32),
@@ -93,9 +100,9 @@ build out/m/libdemo/linux_glibc_x86_64_static/bin/libdemo.a: ar out/m/libdemo/li
         &["demo/main.cpp"],
         &[(EdgeKind::Static, 1), (EdgeKind::Shared, 0)],
         &[
-            Has::Cflag("-Wall"),
-            Has::Cflag("-Werror"),
-            Has::Cflag("-DARM64"),
+            Has::Flag(Flags::Every, "-Wall"),
+            Has::Flag(Flags::Every, "-Werror"),
+            Has::Flag(Flags::Every, "-DARM64"),
             Has::Include("demo/include"),
             Has::Line(1),
             Has::Slib(0),
@@ -128,7 +135,7 @@ build out/m/demo/android_arm64/bin/demo: link out/m/demo/android_arm64/obj/demo/
         ModuleKind::LibraryStatic,
         &["z.c"],
         &[],
-        &[STATIC, Has::Cflag("-fPIC"), Has::Level(29)],
+        &[STATIC, Has::Flag(Flags::Every, "-fPIC"), Has::Level(29)],
         Some(
             "build out/m/z/android_arm64_static/obj/z.c.o: cc z.c
   target = --target=aarch64-linux-android
@@ -170,7 +177,11 @@ build out/m/app/android_arm64/bin/app: link out/m/app/android_arm64/obj/app.c.o 
         ModuleKind::Binary,
         &[],
         &[(EdgeKind::Static, 7)],
-        &[ASAN, Has::Line(7), Has::Ldflag("-fsanitize=address")],
+        &[
+            ASAN,
+            Has::Line(7),
+            Has::Flag(Flags::Link, "-fsanitize=address"),
+        ],
         Some(
             "build out/m/app2/android_arm64_asan/bin/app2: link out/m/z/android_arm64_static_asan/bin/z.a
   target = --target=aarch64-linux-android
@@ -184,7 +195,7 @@ build out/m/app/android_arm64/bin/app: link out/m/app/android_arm64/obj/app.c.o 
         ModuleKind::Binary,
         &["a b:$.c"],
         &[],
-        &[Has::Cflag(" -X")],
+        &[Has::Flag(Flags::Every, " -X")],
         Some(
             "build out/m/x/android_arm64/obj/a b:$.c.o: cc a b:$.c
   target = --target=aarch64-linux-android
@@ -204,10 +215,10 @@ build out/m/x/android_arm64/bin/x: link out/m/x/android_arm64/obj/a b:$.c.o
         &[],
         &[
             STATIC,
-            Has::Cflag("-all"),
-            Has::Conlyflag("-c"),
-            Has::Cppflag("-cpp"),
-            Has::Asflag("-as"),
+            Has::Flag(Flags::Every, "-all"),
+            Has::Flag(Flags::C, "-c"),
+            Has::Flag(Flags::Cpp, "-cpp"),
+            Has::Flag(Flags::Asm, "-as"),
             Has::Include(""),
             Has::Include("inc"),
         ],
@@ -354,20 +365,30 @@ fn add_sources(alloc: Global, props: &mut Props, words: &[&str]) -> Result<(), O
     Ok(())
 }
 
+fn list(base: &mut GroupProps, flags: Flags) -> &mut Seq<Text> {
+    match flags {
+        Flags::Every => &mut base.cflags.items,
+        Flags::C => &mut base.conlyflags.items,
+        Flags::Cpp => &mut base.cppflags.items,
+        Flags::Asm => &mut base.asflags.items,
+        Flags::Link => &mut base.ldflags.items,
+    }
+}
+
+fn add_include(alloc: Global, props: &mut Props, directory: &str) -> Result<(), OutOfMemory> {
+    match Path::new(Text::from_str(alloc, directory)?) {
+        Some(path) => props.includes.push(path),
+        None => Ok(()),
+    }
+}
+
 fn give(alloc: Global, node: &mut Node<Props>, has: Has) -> Result<(), OutOfMemory> {
-    let base = &mut node.payload.base;
     match has {
         Has::Variation(axis, variation) => node.vars.set(axis, variation),
-        Has::Cflag(flag) => base.cflags.items.push(Text::from_str(alloc, flag)?)?,
-        Has::Conlyflag(flag) => base.conlyflags.items.push(Text::from_str(alloc, flag)?)?,
-        Has::Cppflag(flag) => base.cppflags.items.push(Text::from_str(alloc, flag)?)?,
-        Has::Asflag(flag) => base.asflags.items.push(Text::from_str(alloc, flag)?)?,
-        Has::Ldflag(flag) => base.ldflags.items.push(Text::from_str(alloc, flag)?)?,
-        Has::Include(directory) => {
-            if let Some(path) = Path::new(Text::from_str(alloc, directory)?) {
-                node.payload.includes.push(path)?;
-            }
+        Has::Flag(flags, flag) => {
+            list(&mut node.payload.base, flags).push(Text::from_str(alloc, flag)?)?;
         }
+        Has::Include(directory) => add_include(alloc, &mut node.payload, directory)?,
         Has::Level(level) => node.payload.level = level,
         Has::Line(n) => node.payload.line.push(NodeId(n))?,
         Has::Slib(n) => node.payload.slibs.push(NodeId(n))?,
@@ -375,17 +396,19 @@ fn give(alloc: Global, node: &mut Node<Props>, has: Has) -> Result<(), OutOfMemo
     Ok(())
 }
 
-fn node(alloc: Global, module: u32, row: &Row) -> Result<Node<Props>, OutOfMemory> {
-    let (_, _, sources, edges, has, _) = *row;
+/// A node of a module, for a device, without sources and edges.
+fn bare(alloc: Global, module: u32) -> Node<Props> {
     let mut vars = Variations::empty(alloc);
     vars.set(Axis::Target, Variation::Target(Target::AndroidArm64));
-    let mut node = Node {
+    Node {
         module: ModuleId(module),
         vars,
         payload: Props::empty(alloc),
         edges: Seq::new(Vec::new(alloc)),
-    };
-    add_sources(alloc, &mut node.payload, sources)?;
+    }
+}
+
+fn add_edges(node: &mut Node<Props>, edges: &[(EdgeKind, u32)]) -> Result<(), OutOfMemory> {
     for (kind, to) in edges {
         node.edges.push(Edge {
             kind: *kind,
@@ -393,6 +416,14 @@ fn node(alloc: Global, module: u32, row: &Row) -> Result<Node<Props>, OutOfMemor
             at: place(1),
         })?;
     }
+    Ok(())
+}
+
+fn node(alloc: Global, module: u32, row: &Row) -> Result<Node<Props>, OutOfMemory> {
+    let (_, _, sources, edges, has, _) = *row;
+    let mut node = bare(alloc, module);
+    add_sources(alloc, &mut node.payload, sources)?;
+    add_edges(&mut node, edges)?;
     for what in has {
         give(alloc, &mut node, *what)?;
     }
@@ -422,6 +453,14 @@ fn add_words(out: &mut String, mark: &str, words: &[Text]) -> Result<(), OutOfMe
     Ok(())
 }
 
+fn add_variable(out: &mut String, key: &str, value: &str) -> Result<(), OutOfMemory> {
+    out.push_str("\n  ")?;
+    out.push_str(key)?;
+    out.push_str(" = ")?;
+    out.push_str(value)?;
+    Ok(())
+}
+
 /// A statement as it is written, without escapes.
 fn add_statement(out: &mut String, statement: &Statement) -> Result<(), OutOfMemory> {
     add_words(out, "build", statement.outs.as_slice())?;
@@ -431,13 +470,18 @@ fn add_statement(out: &mut String, statement: &Statement) -> Result<(), OutOfMem
     add_words(out, " |", statement.implicit.as_slice())?;
     add_words(out, " ||", statement.order_only.as_slice())?;
     for (key, value) in statement.vars.as_slice() {
-        out.push_str("\n  ")?;
-        out.push_str(key.as_str())?;
-        out.push_str(" = ")?;
-        out.push_str(value.as_str())?;
+        add_variable(out, key.as_str(), value.as_str())?;
     }
     out.push_str("\n")?;
     Ok(())
+}
+
+fn text_of(alloc: Global, statements: &[Statement]) -> Result<String, OutOfMemory> {
+    let mut text = String::new(alloc);
+    for statement in statements {
+        add_statement(&mut text, statement)?;
+    }
+    Ok(text)
 }
 
 /// What was made at the targets of a node's edges.
@@ -492,10 +536,7 @@ fn said(
 ) -> Result<(Actions, String), OutOfMemory> {
     match visited(alloc, modules, graph, n, ins) {
         Ok(actions) => {
-            let mut text = String::new(alloc);
-            for statement in actions.statements.as_slice() {
-                add_statement(&mut text, statement)?;
-            }
+            let text = text_of(alloc, actions.statements.as_slice())?;
             Ok((actions, text))
         }
         Err(VisitError::Bad(fault)) => Ok((nothing(alloc), fault_line(alloc, &fault, &[])?)),
@@ -503,47 +544,88 @@ fn said(
     }
 }
 
-fn modules_and_graph(alloc: Global) -> Result<(Vec<Module>, Graph<Props>), OutOfMemory> {
+fn modules_of(alloc: Global, rows: &[Row]) -> Result<Vec<Module>, OutOfMemory> {
     let mut modules = Vec::new(alloc);
+    for row in rows {
+        modules.push(module(alloc, row)?)?;
+    }
+    Ok(modules)
+}
+
+fn graph_of(alloc: Global, rows: &[Row]) -> Result<Graph<Props>, OutOfMemory> {
     let mut nodes = Vec::new(alloc);
     let mut number = 0u32;
-    for row in &ROWS {
-        modules.push(module(alloc, row)?)?;
+    for row in rows {
         nodes.push(node(alloc, number, row)?)?;
         number = number.wrapping_add(1);
     }
-    let nodes = Seq::new(nodes);
-    Ok((modules, Graph { nodes }))
+    Ok(Graph {
+        nodes: Seq::new(nodes),
+    })
 }
 
-#[test]
-fn statements_of_worked_examples(rt: HostRuntime) -> Result<(), Fail> {
-    let alloc = rt.alloc();
-    let (modules, graph) = modules_and_graph(alloc)?;
-    let mut made: Vec<Arc<Actions>> = Vec::new(alloc);
-    let mut number = 0u32;
-    for (row, node) in ROWS.iter().zip(graph.nodes.as_slice()) {
-        let ins = below(alloc, node, &made)?;
-        let (actions, text) = said(alloc, &modules, &graph, number, &ins)?;
-        number = number.wrapping_add(1);
-        if let Some(want) = row.5 {
-            assert_eq!(rt; text.as_str(), want);
-        }
-        made.push(Arc::new(alloc, actions)?)?;
+/// What is made at a node, put behind what is made already. Its text is as wanted, where it is compared.
+fn make(
+    rt: &impl Abort,
+    alloc: Global,
+    modules: &[Module],
+    graph: &Graph<Props>,
+    wanted: Option<&str>,
+    made: &mut Vec<Arc<Actions>>,
+) -> Result<(), OutOfMemory> {
+    let place = made.len();
+    let (Some(node), Ok(n)) = (graph.nodes.as_slice().get(place), u32::try_from(place)) else {
+        return Err(OutOfMemory);
+    };
+    let ins = below(alloc, node, made)?;
+    let (actions, text) = said(alloc, modules, graph, n, &ins)?;
+    check_text(rt, text.as_str(), wanted);
+    made.push(Arc::new(alloc, actions)?)?;
+    Ok(())
+}
+
+/// What is made of each row in turn.
+fn made_of(rt: &impl Abort, alloc: Global, rows: &[Row]) -> Result<Vec<Arc<Actions>>, OutOfMemory> {
+    let modules = modules_of(alloc, rows)?;
+    let graph = graph_of(alloc, rows)?;
+    let mut made = Vec::new(alloc);
+    for row in rows {
+        make(rt, alloc, &modules, &graph, row.5, &mut made)?;
     }
-    let file = build_file(alloc, made)?;
-    assert!(rt; is_well_formed(alloc, &file)?);
+    Ok(made)
+}
+
+fn check_text(rt: &impl Abort, text: &str, wanted: Option<&str>) {
+    if let Some(want) = wanted {
+        assert_eq!(rt; text, want);
+    }
+}
+
+fn file_of(rt: &impl Abort, alloc: Global, rows: &[Row]) -> Result<NinjaFile, OutOfMemory> {
+    build_file(alloc, made_of(rt, alloc, rows)?)
+}
+
+fn last_statement(alloc: Global, file: &NinjaFile) -> Result<String, OutOfMemory> {
     let mut last = String::new(alloc);
     for statement in file.statements.as_slice().last() {
         add_statement(&mut last, statement)?;
     }
-    assert!(rt;
-        last.as_str().starts_with(
-            "build out/all: phony out/m/liblog/android_arm64_shared/bin/liblog.so out/m/libdemo/"
-        )
-    );
+    Ok(last)
+}
+
+fn check_rows(rt: &impl Abort, alloc: Global, rows: &[Row], last: &str) -> Result<(), Fail> {
+    let file = file_of(rt, alloc, rows)?;
+    assert!(rt; is_well_formed(alloc, &file)?);
+    assert!(rt; last_statement(alloc, &file)?.as_str().starts_with(last));
     assert_eq!(rt; file.rules.as_slice().len(), 6);
     Ok(())
+}
+
+#[test]
+fn statements_of_worked_examples(rt: HostRuntime) -> Result<(), Fail> {
+    let last =
+        "build out/all: phony out/m/liblog/android_arm64_shared/bin/liblog.so out/m/libdemo/";
+    check_rows(&rt, rt.alloc(), &ROWS, last)
 }
 
 fn one_node(alloc: Global) -> Result<Graph<Props>, OutOfMemory>

@@ -4,6 +4,7 @@ use bp_faults::{OutOfMemory, Seq, Text};
 use ninja_text::laws::{written_alike, written_and_read};
 use ninja_text::{NinjaError, NinjaFile, Statement, is_well_formed, read, write, write_in};
 use std::alloc::Global;
+use std::process::Abort;
 use std::test::Fail;
 use std::thread::Threads;
 
@@ -232,30 +233,35 @@ const ENDS: [Case; 12] = [
     (b"default $a\nbogus\n", Err(1)),
 ];
 
-#[test]
-fn texts_that_are_read(rt: HostRuntime) -> Result<(), Fail> {
-    for case in &READ {
-        assert!(rt; holds(rt.alloc(), case)?, "{:?}", case.0);
+fn check_cases(rt: &impl Abort, alloc: Global, cases: &[Case]) -> Result<(), Fail> {
+    for case in cases {
+        assert!(rt; holds(alloc, case)?, "{:?}", case.0);
     }
     Ok(())
 }
 
 #[test]
-fn texts_that_are_refused(rt: HostRuntime) -> Result<(), Fail> {
-    for case in &REFUSED {
-        assert!(rt; holds(rt.alloc(), case)?, "{:?}", case.0);
-    }
-    for case in &ENDS {
-        assert!(rt; holds(rt.alloc(), case)?, "{:?}", case.0);
-    }
-    Ok(())
+fn texts_that_are_read(rt: HostRuntime) -> Result<(), Fail> {
+    check_cases(&rt, rt.alloc(), &READ)
 }
+
+#[test]
+fn texts_that_are_refused(rt: HostRuntime) -> Result<(), Fail> {
+    check_cases(&rt, rt.alloc(), &REFUSED)
+}
+
+#[test]
+fn ends_that_are_refused(rt: HostRuntime) -> Result<(), Fail> {
+    check_cases(&rt, rt.alloc(), &ENDS)
+}
+
+const SHORT: &[u8] = b"rule r\n command = $ x$y$$\nbuild a$ b:r c || d\n k = :\ndefault a$ b";
 
 // A file that is read is well formed but for empty values and control characters in values.
 const FORMED: [(&[u8], &str, bool); 5] = [
     (b"", "", true),
     (
-        b"rule r\n command = $ x$y$$\nbuild a$ b:r c || d\n k = :\ndefault a$ b",
+        SHORT,
         "rule r\n  command = $ x${y}$$\nbuild a$ b: r c || d\n  k = :\ndefault a$ b\n",
         true,
     ),
@@ -264,17 +270,16 @@ const FORMED: [(&[u8], &str, bool); 5] = [
     (b"build a: phony\n  k = \t\n", "", false),
 ];
 
-#[test]
-fn well_formed_files_come_back(rt: HostRuntime) -> Result<(), Fail> {
-    for (text, wanted, formed) in &FORMED {
-        assert_eq!(rt;
-            comes_back(rt.alloc(), text, wanted)?,
-            *formed,
-            "{:?}",
-            text
-        );
+fn check_formed(rt: &impl Abort, alloc: Global, cases: &[(&[u8], &str, bool)]) -> Result<(), Fail> {
+    for (text, wanted, formed) in cases {
+        assert_eq!(rt; comes_back(alloc, text, wanted)?, *formed, "{:?}", text);
     }
     Ok(())
+}
+
+#[test]
+fn well_formed_files_come_back(rt: HostRuntime) -> Result<(), Fail> {
+    check_formed(&rt, rt.alloc(), &FORMED)
 }
 
 const ODD: &str = "a b:$";
@@ -287,18 +292,26 @@ fn paths(alloc: Global, count: u32) -> Result<Seq<Text>, OutOfMemory> {
     Ok(Seq::new(paths))
 }
 
-fn statement(alloc: Global, number: u32, ins: u32) -> Result<Statement, OutOfMemory> {
-    let mut outs = Vec::new(alloc);
-    outs.push(Text::new(format!(in alloc; "out/{number}")?))?;
+fn one_path(alloc: Global, number: u32) -> Result<Seq<Text>, OutOfMemory> {
+    let mut paths = Vec::new(alloc);
+    paths.push(Text::new(format!(in alloc; "out/{number}")?))?;
+    Ok(Seq::new(paths))
+}
+
+fn one_variable(alloc: Global) -> Result<Seq<(Text, Text)>, OutOfMemory> {
     let mut vars = Vec::new(alloc);
     vars.push((Text::from_str(alloc, "key")?, Text::from_str(alloc, ODD)?))?;
+    Ok(Seq::new(vars))
+}
+
+fn statement(alloc: Global, number: u32, ins: u32) -> Result<Statement, OutOfMemory> {
     Ok(Statement {
-        outs: Seq::new(outs),
+        outs: one_path(alloc, number)?,
         rule: Text::from_str(alloc, "phony")?,
         ins: paths(alloc, ins)?,
         implicit: Seq::new(Vec::new(alloc)),
         order_only: paths(alloc, 1)?,
-        vars: Seq::new(vars),
+        vars: one_variable(alloc)?,
     })
 }
 
@@ -316,31 +329,46 @@ fn long_file(alloc: Global) -> Result<NinjaFile, OutOfMemory> {
     })
 }
 
-fn written_in<R: Threads + Sync>(
+/// Whether so many workers print a file as `write` does.
+fn printed_by<R: Threads + Sync>(
     rt: &R,
     alloc: Global,
     file: &NinjaFile,
     workers: u32,
-    text: &[u8],
 ) -> Result<bool, Fail>
     requires low { 1 ≤ workers }
     requires high { workers ≤ 64 }
 {
-    Ok(write_in(rt, alloc, file, workers)?.as_slice() == text)
+    let text = write(alloc, file)?;
+    Ok(write_in(rt, alloc, file, workers)?.as_slice() == text.as_slice())
+}
+
+/// Whether the two texts of `written_alike` are one.
+fn printed_alike<R: Threads + Sync>(rt: &R, alloc: Global, file: &NinjaFile) -> Result<bool, Fail> {
+    let (alone, together) = written_alike(rt, alloc, file, 5);
+    Ok(alone?.as_slice() == together?.as_slice())
 }
 
 #[test]
 fn parallel_printing(rt: HostRuntime) -> Result<(), Fail> {
     let alloc = rt.alloc();
     let file = long_file(alloc)?;
-    let text = write(alloc, &file)?;
-    assert!(rt; written_in(&rt, alloc, &file, 1, &text)?);
-    assert!(rt; written_in(&rt, alloc, &file, 2, &text)?);
-    assert!(rt; written_in(&rt, alloc, &file, 64, &text)?);
-    let (alone, together) = written_alike(&rt, alloc, &file, 5);
-    assert!(rt; alone?.as_slice() == together?.as_slice());
-    let file = read(alloc, FORMED[1].0)?;
-    let text = write(alloc, &file)?;
-    assert!(rt; written_in(&rt, alloc, &file, 64, &text)?);
+    assert!(rt; printed_by(&rt, alloc, &file, 1)?);
+    assert!(rt; printed_by(&rt, alloc, &file, 2)?);
+    assert!(rt; printed_by(&rt, alloc, &file, 64)?);
+    assert!(rt; printed_alike(&rt, alloc, &file)?);
+    Ok(())
+}
+
+fn short_prints<R: Threads + Sync>(rt: &R, alloc: Global, text: &[u8]) -> Result<bool, Fail> {
+    if text.len() > 1000 {
+        return Ok(false);
+    }
+    printed_by(rt, alloc, &read(alloc, text)?, 64)
+}
+
+#[test]
+fn parallel_printing_of_a_short_file(rt: HostRuntime) -> Result<(), Fail> {
+    assert!(rt; short_prints(&rt, rt.alloc(), SHORT)?);
     Ok(())
 }
