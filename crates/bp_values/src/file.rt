@@ -1,4 +1,4 @@
-ghost use Rattle.std.specs.Prelude.{◌≡◌, map, IfOk, OnOk, [], None, Ok};
+ghost use Rattle.std.specs.Prelude.{◌≡◌, ◌≤◌, map, IfOk, OnOk, [], None, Ok};
 ghost use Rattle.bp_parser.specs.Trees.{tree_of, map_of, definition_of, Assigns, Extends, Declares};
 ghost use Rattle.bp_values.specs.Values.{meaning};
 ghost use Rattle.bp_faults.specs.Answers.{Answers, Refuses, Leaves};
@@ -223,6 +223,7 @@ pub fn evaluate_from(
 ) -> Result<(Vec<RawModule>, Scope), EvalError>
     ensures values { Answers (λ r. (map raw_of r.0.items, pairs_of r.1)) result (evaluated (pairs_of inherited) (map definition_of tree.now.defs.items)) }
     ensures outer { IfOk result (λ r. HasOuter (height_of inherited) inherited r.1) }
+    ensures height { IfOk result (λ r. height_of inherited ≤ height_of r.1) }
 {
     let (layers, own) = inherited.open(alloc);
     let mut state = State {

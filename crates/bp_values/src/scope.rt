@@ -79,7 +79,7 @@ impl Scope {
     pub fn outer(self, count: usize) -> Scope
         ensures pairs { pairs_of result ≡ outer_pairs count self }
         ensures outer { HasOuter count self result }
-        ensures height { height_of result ≤ count }
+        ensures height { count ≤ height_of self → height_of result ≡ count }
     {
         let Scope { mut layers, spots } = self;
         layers.truncate(count);
@@ -106,6 +106,7 @@ impl Scope {
         requires { HasSpots layers.items own }
         ensures pairs { IfOk result (λ scope. pairs_of scope ≡ pairs_in layers.items ++ layer_pairs own.layer) }
         ensures outer { IfOk result (λ scope. (n : ℕ) → n ≤ length layers.items → outer_pairs n scope ≡ pairs_in (take n layers.items)) }
+        ensures height { IfOk result (λ scope. length layers.items ≤ height_of scope) }
     {
         let OwnNames { layer, spots } = own;
         if !layer.is_empty() {
