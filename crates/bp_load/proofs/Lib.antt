@@ -4,6 +4,7 @@ pub mod Joined
 pub mod Above
 pub mod Stack
 pub mod Turns
+pub mod Nested
 pub mod Bases
 pub mod Branches
 pub mod Evaluated

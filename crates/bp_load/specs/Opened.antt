@@ -1,9 +1,10 @@
 -- No public contract speaks of it: how files are evaluated, while the directories above the last file stay open.
-use Rattle.std.specs.Prelude.{ℕ, List, [], ◌∷◌, ◌++◌, map, reverse, Option, Some, None, Result, Ok, if◌then◌else◌}
+use Rattle.std.specs.Prelude.{◌≡◌, ◌≤◌, ℕ, List, [], ◌∷◌, ◌++◌, map, reverse, Option, Some, None, Result, Ok, if◌then◌else◌}
 use Rattle.bp_faults.specs.declared.fault.Fault.{Fault}
 use Rattle.bp_faults.specs.Answers.{then_do}
-use Rattle.bp_values.specs.Scopes.{Pairs, pairs_of}
+use Rattle.bp_values.specs.Scopes.{Pairs, height_of, outer_pairs}
 use Rattle.bp_values.specs.Meaning.{Raw, evaluated}
+use Rattle.bp_values.specs.declared.scope.Scope.{Scope}
 use Rattle.bp_load.specs.declared.opened.Open.{Open}
 use Rattle.bp_load.specs.declared.opened.Evaluation.{Evaluation}
 use Rattle.bp_load.specs.Directories.{is_above}
@@ -23,9 +24,9 @@ evaluated_in base finished (file ∷ files) =
     (λ values. then_do (evaluated_in base (finished ++ (file.directory, values.1) ∷ []) files)
     (λ modules. Ok (in_directory file.dir values.0 ++ modules)))
 
--- An open directory, with the final scope of its file.
-abbrev pub open_of : Open → Finished
-open_of o = (o.directory, pairs_of o.scope)
+-- An open directory, with the final scope of its file: outer layers of that scope.
+abbrev pub open_in : Scope → Open → Finished
+open_in scope o = (o.directory, outer_pairs o.layers scope)
 
 -- The open directories, innermost first, and the modules so far.
 pub record Turn : Type 0 where
@@ -34,12 +35,32 @@ pub record Turn : Type 0 where
 
 -- What an evaluation has so far.
 abbrev pub turn_of : Evaluation → Turn
-turn_of e = record { opened = reverse (map open_of e.opened.items); modules = map placed_raw e.modules.items }
+turn_of e = record { opened = map (open_in e.scope) (reverse e.opened.items); modules = map placed_raw e.modules.items }
 
 -- What stays open for a file: from the innermost outwards, directories that aren't above the file's are closed.
 abbrev pub closed : List (List ℕ) → List Finished → List Finished
 closed directory [] = []
 closed directory (o ∷ more) = if is_above o.0 directory then o ∷ more else closed directory more
+
+-- The same of directories with their layers.
+abbrev pub stay_open : List (List ℕ) → List Open → List Open
+stay_open directory [] = []
+stay_open directory (o ∷ more) = if is_above o.directory directory then o ∷ more else stay_open directory more
+
+-- How many layers the innermost directory's scope has, or the base where none is open.
+abbrev pub layers_in : ℕ → List Open → ℕ
+layers_in base [] = base
+layers_in base (o ∷ more) = o.layers
+
+-- Innermost first: the first directory has at most so many layers, each other at most as many as the one inside it, and the
+-- base at most as many as the last.
+abbrev pub AreNested : ℕ → ℕ → List Open → Type 0
+AreNested base height [] = base ≤ height
+AreNested base height (o ∷ more) = (o.layers ≤ height) × AreNested base o.layers more
+
+-- The scopes of the open directories, and the base with those pairs, are outer layers of the scope.
+abbrev pub IsBelow : Pairs → Evaluation → Type 0
+IsBelow base e = AreNested e.base (height_of e.scope) (reverse e.opened.items) × (outer_pairs e.base e.scope ≡ base)
 
 -- The innermost open directory.
 abbrev pub innermost : List Finished → Option Finished

@@ -11,7 +11,7 @@ ghost use Rattle.bp_load.specs.Branches.{directories_of, IsTrunk, IsBranch};
 
 use crate::LoadError;
 use crate::halves::joined;
-use crate::opened::{evaluate_files, evaluate_in, scope};
+use crate::opened::{evaluate_files, evaluate_in, finish};
 use crate::parsed::Parsed;
 use bp_faults::{OutOfMemory, Path};
 use bp_values::{RawModule, Scope};
@@ -104,12 +104,12 @@ fn in_two(mut files: Vec<Parsed>, at: usize) -> Result<(Vec<Parsed>, Vec<Parsed>
 fn evaluate_below<R: Threads + Sync>(
     rt: &R,
     alloc: Global,
-    base: &Scope,
+    base: Scope,
     files: Vec<Parsed>,
     workers: u32,
 ) -> Result<Vec<(Path, RawModule)>, LoadError>
     requires { IsStrictlySortedBy directory_cmp (directories_of files.items) }
-    ensures { Answers (λ modules. map placed_raw modules.items) result (evaluated_in (pairs_of base.now) [] (map placed_of files.items)) }
+    ensures { Answers (λ modules. map placed_raw modules.items) result (evaluated_in (pairs_of base) [] (map placed_of files.items)) }
 {
     if workers < 2 || size(files.as_slice()) < FEW_BYTES {
         return evaluate_in(alloc, base, files);
@@ -117,24 +117,24 @@ fn evaluate_below<R: Threads + Sync>(
     let count = trunk(files.as_slice());
     let (trunk, branches) = in_two(files, count)?;
     let evaluation = evaluate_files(alloc, base, trunk)?;
-    let below = scope(evaluation.opened.as_slice(), base);
+    let (below, modules) = finish(evaluation);
     let back = evaluate_branches(rt, alloc, below, branches, workers);
-    joined(Ok(evaluation.modules), back)
+    joined(Ok(modules), back)
 }
 
 /// Files evaluated by so many workers, as `evaluate_in` does it. They are cut in two where a branch begins, so that no
-/// file behind the cut inherits from one in front.
+/// file behind the cut inherits from one in front. Each part begins with its own copy of the base.
 #[cycle(evaluating)]
 fn evaluate_branches<R: Threads + Sync>(
     rt: &R,
     alloc: Global,
-    base: &Scope,
+    base: Scope,
     files: Vec<Parsed>,
     workers: u32,
 ) -> Result<Vec<(Path, RawModule)>, LoadError>
     requires order { IsStrictlySortedBy directory_cmp (directories_of files.items) }
     requires several { 1 < workers }
-    ensures { Answers (λ modules. map placed_raw modules.items) result (evaluated_in (pairs_of base.now) [] (map placed_of files.items)) }
+    ensures { Answers (λ modules. map placed_raw modules.items) result (evaluated_in (pairs_of base) [] (map placed_of files.items)) }
 {
     let bytes = size(files.as_slice());
     let at = cut(files.as_slice(), bytes / 2);
@@ -144,14 +144,15 @@ fn evaluate_branches<R: Threads + Sync>(
     let (front, back) = in_two(files, at)?;
     let some = workers_for(size(front.as_slice()), bytes, workers);
     let others = workers - some;
+    let shared = base.share(alloc)?;
     let evaluate_front = move || -> Result<Vec<(Path, RawModule)>, LoadError>
         requires { IsSync R.row × IsStrictlySortedBy directory_cmp (directories_of front.items) }
-        ensures { Answers (λ modules. map placed_raw modules.items) result (evaluated_in (pairs_of base.entry.now) [] (map placed_of front.items)) }
+        ensures { Answers (λ modules. map placed_raw modules.items) result (evaluated_in (pairs_of base) [] (map placed_of front.items)) }
     { evaluate_below(rt, alloc, base, front, some) };
     let evaluate_back = move || -> Result<Vec<(Path, RawModule)>, LoadError>
         requires { IsSync R.row × IsStrictlySortedBy directory_cmp (directories_of back.items) }
-        ensures { Answers (λ modules. map placed_raw modules.items) result (evaluated_in (pairs_of base.entry.now) [] (map placed_of back.items)) }
-    { evaluate_below(rt, alloc, base, back, others) };
+        ensures { Answers (λ modules. map placed_raw modules.items) result (evaluated_in (pairs_of shared) [] (map placed_of back.items)) }
+    { evaluate_below(rt, alloc, shared, back, others) };
     let (front, back) = join(rt, evaluate_front, evaluate_back);
     joined(front, back)
 }
@@ -167,5 +168,5 @@ pub fn evaluate_by<R: Threads + Sync>(
     ensures { Answers (λ modules. map placed_raw modules.items) result (all_evaluated [] (map placed_of files.items)) }
 {
     let none = Scope::empty(alloc)?;
-    evaluate_below(rt, alloc, &none, files, workers)
+    evaluate_below(rt, alloc, none, files, workers)
 }

@@ -1,37 +1,43 @@
-ghost use Rattle.std.specs.Prelude.{◌≡◌, [], ◌++◌, List, map, reverse, OnOk};
+ghost use Rattle.std.specs.Prelude.{◌≡◌, [], ◌++◌, List, map, reverse, IfOk, OnOk};
 ghost use Rattle.std.specs.List.Sorted.{IsStrictlySortedBy};
-ghost use Rattle.bp_faults.specs.Answers.{Answers, Leaves};
-ghost use Rattle.bp_values.specs.Scopes.{pairs_of};
+ghost use Rattle.bp_faults.specs.Answers.{Answers};
+ghost use Rattle.bp_values.specs.Scopes.{Pairs, pairs_of};
 ghost use Rattle.bp_values.specs.Meaning.{raw_of};
 ghost use Rattle.bp_load.specs.Directories.{directory_cmp};
 ghost use Rattle.bp_load.specs.Trees.{placed_of};
 ghost use Rattle.bp_load.specs.Inherited.{in_directory, placed_raw, all_evaluated};
-ghost use Rattle.bp_load.specs.Opened.{open_of, turn_of, no_turn, closed, innermost, scope_in, turned, all_turned, evaluated_in};
+ghost use Rattle.bp_load.specs.Opened.{turn_of, no_turn, stay_open, layers_in, IsBelow, innermost, scope_in, turned, all_turned, evaluated_in};
 
 use crate::LoadError;
 use crate::directory::Directory;
 use crate::parsed::Parsed;
 use bp_faults::{OutOfMemory, Path};
-use bp_values::{RawModule, Scope, evaluate};
+use bp_values::{RawModule, Scope, evaluate_from};
 use std::alloc::Global;
 
-/// A directory that is above the last file, or the file's own, and the final scope of its file.
+/// A directory that is above the last file, or the file's own, and how many layers the final scope of its file has.
 #[derive(Drop)]
 pub struct Open {
     directory: Directory,
-    scope: Scope,
+    layers: usize,
 }
 
-/// What is kept from file to file: the open directories, outermost first, and the modules so far.
+/// What is kept from file to file.
 #[derive(Drop)]
 pub struct Evaluation {
-    pub opened: Vec<Open>,
-    pub modules: Vec<(Path, RawModule)>,
+    // The open directories, outermost first.
+    opened: Vec<Open>,
+    // The final scope of the last file, or the base. The scopes of the open directories are outer layers of it.
+    scope: Scope,
+    // How many layers the base has.
+    base: usize,
+    // The modules so far.
+    modules: Vec<(Path, RawModule)>,
 }
 
 /// Closes directories until one is above the other.
 fn close(opened: &mut Vec<Open>, directory: &Directory)
-    ensures { reverse (map open_of opened.new.items) ≡ closed directory.now (reverse (map open_of opened.old.items)) }
+    ensures { reverse opened.new.items ≡ stay_open directory.now (reverse opened.old.items) }
 {
     while let Some(last) = opened.last() {
         if last.directory.is_above(directory) {
@@ -41,14 +47,28 @@ fn close(opened: &mut Vec<Open>, directory: &Directory)
     }
 }
 
-/// The scope of the innermost directory, or the base where none is open.
-pub fn scope<'a>(opened: &'a [Open], base: &'a Scope) -> &'a Scope
-    ensures { pairs_of result.now ≡ scope_in (pairs_of base.now) (innermost (reverse (map open_of opened.now))) }
+/// How many layers the scope of the innermost directory has, or the base where none is open.
+fn layers(opened: &[Open], base: usize) -> usize
+    ensures { result ≡ layers_in base (reverse opened.now) }
 {
     match opened.last() {
-        Some(last) => &last.scope,
+        Some(last) => last.layers,
         None => base,
     }
+}
+
+/// The scope of the innermost directory, or the base where none is open; and the modules so far.
+pub fn finish(evaluation: Evaluation) -> (Scope, Vec<(Path, RawModule)>)
+    ensures scope { (base : Pairs) → IsBelow base evaluation → pairs_of result.0 ≡ scope_in base (innermost (turn_of evaluation).opened) }
+    ensures modules { map placed_raw result.1.items ≡ (turn_of evaluation).modules }
+{
+    let Evaluation {
+        opened,
+        scope,
+        base,
+        modules,
+    } = evaluation;
+    (scope.outer(layers(opened.as_slice(), base)), modules)
 }
 
 /// Puts modules behind others, in their directory.
@@ -69,35 +89,50 @@ fn put_modules(
 /// Evaluates a file, in the scope of its nearest ancestor directory that is open.
 fn evaluate_file(
     alloc: Global,
-    base: &Scope,
-    evaluation: &mut Evaluation,
+    evaluation: Evaluation,
     file: Parsed,
-) -> Result<(), LoadError>
-    ensures { Leaves turn_of evaluation.new result (turned (pairs_of base.now) (turn_of evaluation.old) (placed_of file)) }
+) -> Result<Evaluation, LoadError>
+    ensures turn { (base : Pairs) → IsBelow base evaluation → Answers turn_of result (turned base (turn_of evaluation) (placed_of file)) }
+    ensures below { (base : Pairs) → IsBelow base evaluation → IfOk result (IsBelow base) }
 {
-    close(&mut evaluation.opened, &file.directory);
-    let inherited = scope(evaluation.opened.as_slice(), base);
-    let (modules, scope) = evaluate(alloc, &file.tree, inherited)?;
-    put_modules(alloc, &mut evaluation.modules, &file.dir, modules)?;
+    let Evaluation {
+        mut opened,
+        scope,
+        base,
+        mut modules,
+    } = evaluation;
+    close(&mut opened, &file.directory);
+    let inherited = scope.outer(layers(opened.as_slice(), base));
+    let (more, scope) = evaluate_from(alloc, &file.tree, inherited)?;
+    put_modules(alloc, &mut modules, &file.dir, more)?;
     let Parsed { directory, .. } = file;
-    evaluation.opened.push(Open { directory, scope })?;
-    Ok(())
+    let layers = scope.height();
+    opened.push(Open { directory, layers })?;
+    Ok(Evaluation {
+        opened,
+        scope,
+        base,
+        modules,
+    })
 }
 
 /// Files evaluated one after another. Where no directory above a file is open, it inherits the base.
 pub fn evaluate_files(
     alloc: Global,
-    base: &Scope,
+    base: Scope,
     files: Vec<Parsed>,
 ) -> Result<Evaluation, LoadError>
-    ensures { Answers turn_of result (all_turned (pairs_of base.now) no_turn (map placed_of files.items)) }
+    ensures turn { Answers turn_of result (all_turned (pairs_of base) no_turn (map placed_of files.items)) }
+    ensures below { IfOk result (IsBelow (pairs_of base)) }
 {
     let mut evaluation = Evaluation {
         opened: Vec::new(alloc),
+        base: base.height(),
+        scope: base,
         modules: Vec::new(alloc),
     };
     for file in files {
-        evaluate_file(alloc, base, &mut evaluation, file)?;
+        evaluation = evaluate_file(alloc, evaluation, file)?;
     }
     Ok(evaluation)
 }
@@ -105,11 +140,11 @@ pub fn evaluate_files(
 /// The modules of files, which stand in file order, where those that have no ancestor inherit the base.
 pub fn evaluate_in(
     alloc: Global,
-    base: &Scope,
+    base: Scope,
     files: Vec<Parsed>,
 ) -> Result<Vec<(Path, RawModule)>, LoadError>
     requires { IsStrictlySortedBy directory_cmp (map (λ f. f.directory) (map placed_of files.items)) }
-    ensures { Answers (λ modules. map placed_raw modules.items) result (evaluated_in (pairs_of base.now) [] (map placed_of files.items)) }
+    ensures { Answers (λ modules. map placed_raw modules.items) result (evaluated_in (pairs_of base) [] (map placed_of files.items)) }
 {
     let evaluation = evaluate_files(alloc, base, files)?;
     Ok(evaluation.modules)
@@ -121,5 +156,5 @@ pub fn evaluate_all(alloc: Global, files: Vec<Parsed>) -> Result<Vec<(Path, RawM
     ensures { Answers (λ modules. map placed_raw modules.items) result (all_evaluated [] (map placed_of files.items)) }
 {
     let none = Scope::empty(alloc)?;
-    evaluate_in(alloc, &none, files)
+    evaluate_in(alloc, none, files)
 }

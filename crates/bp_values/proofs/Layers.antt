@@ -1,5 +1,5 @@
 -- The layers of a scope: where in them a name is found, and what one more changes.
-use Rattle.std.proofs.Common.{◌≡◌, ℕ, suc, ◌+◌, ◌<◌, ◌≤◌, List, [], ◌∷◌, ◌++◌, drop, get_or, length, Option, None, Some, option_map, refl, ap, sym, ◌∙◌, add-one, append_assoc, append-nil, arith}
+use Rattle.std.proofs.Common.{◌≡◌, ℕ, zero, suc, take, ◌+◌, ◌<◌, ◌≤◌, List, [], ◌∷◌, ◌++◌, drop, get_or, length, Option, None, Some, option_map, refl, ap, sym, ◌∙◌, add-one, append_assoc, append-nil, arith}
 use Rattle.std.specs.Option.{option_or}
 use Rattle.std.specs.Str.{bytes_eq}
 use Rattle.std.specs.declared.sync.Arc.{Arc}
@@ -96,21 +96,43 @@ found_behind {Z} layers own name s is = by (spot_in_layers layers name) refl (pl
           place = λ le. here ∙ ap (λ (x : Spot). Some x.place) same;
         }
 
--- the place of a name that isn't inherited
-pub own_place : {Z : Type 0} (layers : List (Arc Layer Z)) (own : List (List ℕ × Value)) (name : List ℕ) → value_in (pairs_in layers) name ≡ None
-    → option_map (λ s. s.place) (spot_behind layers own name) ≡ place_in own name
-own_place {Z} layers own name none = by (spot_in_layers layers name) refl (place_in own name)
+-- a name without a value has no spot
+pub no_spot_without : {Z : Type 0} (layers : List (Arc Layer Z)) (name : List ℕ) → value_in (pairs_in layers) name ≡ None → spot_in_layers layers name ≡ None
+no_spot_without {Z} layers name none = by (spot_in_layers layers name) refl
   where
-    inherited : (ls : List (Arc Layer Z)) (name : List ℕ) (s : Spot) → spot_in_layers ls name ≡ Some s → value_in (pairs_in ls) name ≡ None → ⊥
-    inherited [] name s has none = cc
-    inherited (l ∷ ls) name s has none =
+    inherited : (ls : List (Arc Layer Z)) (s : Spot) → spot_in_layers ls name ≡ Some s → value_in (pairs_in ls) name ≡ None → ⊥
+    inherited [] s has none = cc
+    inherited (l ∷ ls) s has none =
         let there = found_in (l ∷ ls) name s l has in
         value_with_place (items (get_or (l ∷ ls) s.layer l)) name s.place there.place (there.value ∙ none)
 
-    by : (o : Option Spot) → spot_in_layers layers name ≡ o → (p : Option ℕ) → option_map (λ s. s.place) (option_or o (option_map (spot_at (length layers)) p)) ≡ p
-    by (Some s) has p = absurd (inherited layers name s has none)
-    by None lacks None = refl
-    by None lacks (Some p) = refl
+    by : (o : Option Spot) → spot_in_layers layers name ≡ o → o ≡ None
+    by (Some s) has = absurd (inherited layers s has none)
+    by None lacks = refl
+
+-- a name that no layer has stands in none of them
+pub nowhere_at : {Z : Type 0} (layers : List (Arc Layer Z)) (name : List ℕ) (n : ℕ) (d : Arc Layer Z) → spot_in_layers layers name ≡ None → n < length layers → place_in (items (get_or layers n d)) name ≡ None
+nowhere_at [] name n d is within = absurd (omega arith)
+nowhere_at {Z} (l ∷ ls) name n d is within = by (place_in (items l) name) refl (spot_in_layers ls name) (λ m. nowhere_at ls name m d) is n within
+  where
+    by : (p : Option ℕ) → place_in (items l) name ≡ p → (o : Option Spot) → ((k : ℕ) → o ≡ None → k < length ls → place_in (items (get_or ls k d)) name ≡ None)
+        → option_or (option_map (spot_at 0) p) (option_map one_behind o) ≡ None → (m : ℕ) → m < length (l ∷ ls) → place_in (items (get_or (l ∷ ls) m d)) name ≡ None
+    by (Some p) here o rest is m within = cc
+    by None here (Some t) rest is m within = cc
+    by None here None rest is zero within = here
+    by None here None rest is (suc m) within = rest m refl (omega arith)
+
+-- what stands in the outermost layers stands there also among more
+pub spot_in_outer : {Z : Type 0} (layers : List (Arc Layer Z)) (n : ℕ) (name : List ℕ) (s : Spot) → spot_in_layers (take n layers) name ≡ Some s → spot_in_layers layers name ≡ Some s
+spot_in_outer layers zero name s is = cc
+spot_in_outer [] (suc n) name s is = cc
+spot_in_outer (l ∷ ls) (suc n) name s is = by (place_in (items l) name) (spot_in_layers (take n ls) name) (spot_in_outer ls n name) is
+  where
+    by : (p : Option ℕ) (o : Option Spot) → ((t : Spot) → o ≡ Some t → spot_in_layers ls name ≡ Some t)
+        → option_or (option_map (spot_at 0) p) (option_map one_behind o) ≡ Some s → option_or (option_map (spot_at 0) p) (option_map one_behind (spot_in_layers ls name)) ≡ Some s
+    by (Some p) o rest is = is
+    by None None rest is = cc
+    by None (Some t) rest is = ap (option_map one_behind) (rest t refl) ∙ is
 
 -- the value of a name, by its spot
 pub value_above : {Z : Type 0} (layers : List (Arc Layer Z)) (own : Pairs) (name : List ℕ) (s : Spot) (d : Arc Layer Z) (v : Meaning) → spot_in_layers layers name ≡ Some s
@@ -170,11 +192,6 @@ spot_behind_nothing layers name = by (spot_in_layers layers name)
 -- names that keep their places keep their spots
 pub spot_kept : {Z : Type 0} (layers : List (Arc Layer Z)) (old new : List (List ℕ × Value)) (q : List ℕ) → place_in new q ≡ place_in old q → spot_behind layers old q ≡ spot_behind layers new q
 spot_kept layers old new q same = ap (λ o. option_or (spot_in_layers layers q) (option_map (spot_at (length layers)) o)) (sym same)
-
--- the spots are the same behind layers that are alike
-pub spot_alike_behind : {Z : Type 0} (before layers : List (Arc Layer Z)) (own : List (List ℕ × Value)) (q : List ℕ) → spot_in_layers layers q ≡ spot_in_layers before q → length layers ≡ length before
-    → spot_behind before own q ≡ spot_behind layers own q
-spot_alike_behind before layers own q same count = λ i. option_or (sym same i) (option_map (spot_at (sym count i)) (place_in own q))
 
 -- one name more of the file
 pub spot_set : {Z : Type 0} (layers : List (Arc Layer Z)) (own : List (List ℕ × Value)) (name q : List ℕ) (v : Value)

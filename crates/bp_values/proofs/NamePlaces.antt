@@ -107,3 +107,25 @@ spot_of_place (Some x) f p b n = refl
 spot_of_place None f (Some p) b n = refl
 spot_of_place None f None true n = refl
 spot_of_place None f None false n = refl
+
+-- which name stands at a place
+pub here : {V : Type 0} (es : List (List ℕ × V)) (q : List ℕ) (n : ℕ) (d : List ℕ × V) → place_in es q ≡ Some n → bytes_eq q (get_or es n d).0 ≡ true
+here [] q n d is = cc
+here (e ∷ es) q n d is = by (bytes_eq q e.0) refl (place_in es q) (λ m. here es q m d) is
+  where
+    by : (b : Bool) → bytes_eq q e.0 ≡ b → (o : Option ℕ) → ((m : ℕ) → o ≡ Some m → bytes_eq q (get_or es m d).0 ≡ true)
+        → cond b (Some 0) (option_map suc o) ≡ Some n → bytes_eq q (get_or (e ∷ es) n d).0 ≡ true
+    by true same o rest is = let first : n ≡ 0 = cc in rw first same
+    by false apart None rest is = cc
+    by false apart (Some m) rest is = let next : n ≡ suc m = cc in rw next (rest m refl)
+
+pub elsewhere : {V : Type 0} (es : List (List ℕ × V)) (q : List ℕ) (n : ℕ) (d : List ℕ × V) → place_in es q ≡ None → n < length es → bytes_eq q (get_or es n d).0 ≡ false
+elsewhere [] q n d is within = absurd (omega arith)
+elsewhere (e ∷ es) q n d is within = by (bytes_eq q e.0) refl (place_in es q) refl is n within (λ m lacks less. elsewhere es q m d lacks less)
+  where
+    by : (b : Bool) → bytes_eq q e.0 ≡ b → (o : Option ℕ) → place_in es q ≡ o → cond b (Some 0) (option_map suc o) ≡ None → (m : ℕ) → m < length (e ∷ es)
+        → ((k : ℕ) → place_in es q ≡ None → k < length es → bytes_eq q (get_or es k d).0 ≡ false) → bytes_eq q (get_or (e ∷ es) m d).0 ≡ false
+    by true same o lacks is m within rest = cc
+    by false apart (Some p) lacks is m within rest = cc
+    by false apart None lacks is zero within rest = apart
+    by false apart None lacks is (suc m) within rest = rest m lacks (omega arith)

@@ -5,7 +5,7 @@ use Rattle.std.specs.Ordering.{nat_cmp, is_eq, match_ordering}
 use Rattle.std.specs.declared.cmp.Ordering.{Ordering}
 use Rattle.std.specs.declared.cmp.Ordering.TheVariants.{Less, Equal, Greater}
 use Rattle.std.specs.Cmp.Lexicographic.{slice_cmp}
-use Rattle.std.proofs.lemmas.Cmp.{nat_list_cmp_total, nat_list_eq_equiv}
+use Rattle.std.proofs.lemmas.Cmp.{nat_list_cmp_total, nat_list_eq_equiv, tied_back}
 use Rattle.std.proofs.lemmas.Map.Text.{is_eq-slice_cmp}
 use Rattle.bp_values.specs.NameTree.{Search, found_between, spot_for}
 use Rattle.bp_values.specs.declared.name_tree.Spot.{Spot}
@@ -74,44 +74,46 @@ other name k q n o p here there apart = spot_test name n q ∙ by (slice_cmp nat
     by Equal e = absurd (apart (sym there ∙ nat_list_cmp_total.congr q name k e ∙ here))
     by Greater e = refl
 
-unchanged : (o r : Option Spot) → r ≡ None → o ≡ option_or o r
-unchanged o r none = sym (or_none o) ∙ ap (option_or o) (sym none)
+unchanged : (o r : Option Spot) → r ≡ None → o ≡ option_or r o
+unchanged o r none = ap (λ p. option_or p o) (sym none)
 
 -- one name more, before a node's
 pub more_before : (whole new before before2 behind behind2 : Search) (name k : List ℕ) (m n : Spot) → slice_cmp nat_cmp name k ≡ Less
-    → ((q : List ℕ) → whole q ≡ found_between before k m behind q) → ((q : List ℕ) → before2 q ≡ option_or (before q) (spot_for name n q)) → ((q : List ℕ) → behind2 q ≡ behind q)
-    → ((q : List ℕ) → new q ≡ found_between before2 k m behind2 q) → (q : List ℕ) → new q ≡ option_or (whole q) (spot_for name n q)
+    → ((q : List ℕ) → whole q ≡ found_between before k m behind q) → ((q : List ℕ) → before2 q ≡ option_or (spot_for name n q) (before q)) → ((q : List ℕ) → behind2 q ≡ behind q)
+    → ((q : List ℕ) → new q ≡ found_between before2 k m behind2 q) → (q : List ℕ) → new q ≡ option_or (spot_for name n q) (whole q)
 more_before whole new before before2 behind behind2 name k m n less is_whole more same is_new q =
-    is_new q ∙ in_parts before2 behind2 (λ r. option_or (before r) (spot_for name n r)) behind k m q (more q) (same q)
-    ∙ by (slice_cmp nat_cmp q k) refl ∙ ap (λ o. option_or o (spot_for name n q)) (sym (is_whole q))
+    is_new q ∙ in_parts before2 behind2 (λ r. option_or (spot_for name n r) (before r)) behind k m q (more q) (same q)
+    ∙ by (slice_cmp nat_cmp q k) refl ∙ ap (λ o. option_or (spot_for name n q) o) (sym (is_whole q))
   where
     by : (o : Ordering) → slice_cmp nat_cmp q k ≡ o
-        → match_ordering o (option_or (before q) (spot_for name n q)) (Some m) (behind q) ≡ option_or (match_ordering o (before q) (Some m) (behind q)) (spot_for name n q)
+        → match_ordering o (option_or (spot_for name n q) (before q)) (Some m) (behind q) ≡ option_or (spot_for name n q) (match_ordering o (before q) (Some m) (behind q))
     by Less e = refl
-    by Equal e = refl
+    by Equal e = unchanged (Some m) (spot_for name n q) (other name k q n Less Equal less e (λ (never : Equal ≡ Less). cc))
     by Greater e = unchanged (behind q) (spot_for name n q) (other name k q n Less Greater less e (λ (never : Greater ≡ Less). cc))
 
 -- one name more, behind a node's
 pub more_behind : (whole new before before2 behind behind2 : Search) (name k : List ℕ) (m n : Spot) → slice_cmp nat_cmp name k ≡ Greater
-    → ((q : List ℕ) → whole q ≡ found_between before k m behind q) → ((q : List ℕ) → behind2 q ≡ option_or (behind q) (spot_for name n q)) → ((q : List ℕ) → before2 q ≡ before q)
-    → ((q : List ℕ) → new q ≡ found_between before2 k m behind2 q) → (q : List ℕ) → new q ≡ option_or (whole q) (spot_for name n q)
+    → ((q : List ℕ) → whole q ≡ found_between before k m behind q) → ((q : List ℕ) → behind2 q ≡ option_or (spot_for name n q) (behind q)) → ((q : List ℕ) → before2 q ≡ before q)
+    → ((q : List ℕ) → new q ≡ found_between before2 k m behind2 q) → (q : List ℕ) → new q ≡ option_or (spot_for name n q) (whole q)
 more_behind whole new before before2 behind behind2 name k m n greater is_whole more same is_new q =
-    is_new q ∙ in_parts before2 behind2 before (λ r. option_or (behind r) (spot_for name n r)) k m q (same q) (more q)
-    ∙ by (slice_cmp nat_cmp q k) refl ∙ ap (λ o. option_or o (spot_for name n q)) (sym (is_whole q))
+    is_new q ∙ in_parts before2 behind2 before (λ r. option_or (spot_for name n r) (behind r)) k m q (same q) (more q)
+    ∙ by (slice_cmp nat_cmp q k) refl ∙ ap (λ o. option_or (spot_for name n q) o) (sym (is_whole q))
   where
     by : (o : Ordering) → slice_cmp nat_cmp q k ≡ o
-        → match_ordering o (before q) (Some m) (option_or (behind q) (spot_for name n q)) ≡ option_or (match_ordering o (before q) (Some m) (behind q)) (spot_for name n q)
+        → match_ordering o (before q) (Some m) (option_or (spot_for name n q) (behind q)) ≡ option_or (spot_for name n q) (match_ordering o (before q) (Some m) (behind q))
     by Less e = unchanged (before q) (spot_for name n q) (other name k q n Greater Less greater e (λ (never : Less ≡ Greater). cc))
-    by Equal e = refl
+    by Equal e = unchanged (Some m) (spot_for name n q) (other name k q n Greater Equal greater e (λ (never : Equal ≡ Greater). cc))
     by Greater e = refl
 
--- a name that is a node's keeps its spot
-pub no_more : (whole new before behind : Search) (name k : List ℕ) (m n : Spot) → slice_cmp nat_cmp name k ≡ Equal
-    → ((q : List ℕ) → whole q ≡ found_between before k m behind q) → ((q : List ℕ) → new q ≡ whole q) → (q : List ℕ) → new q ≡ option_or (whole q) (spot_for name n q)
-no_more whole new before behind name k m n equal is_whole same q =
-    same q ∙ is_whole q ∙ by (slice_cmp nat_cmp q k) refl ∙ ap (λ o. option_or o (spot_for name n q)) (sym (is_whole q))
+-- a node's name gets another spot
+pub another : (whole new before behind : Search) (name k : List ℕ) (m n : Spot) → slice_cmp nat_cmp name k ≡ Equal
+    → ((q : List ℕ) → whole q ≡ found_between before k m behind q) → ((q : List ℕ) → new q ≡ found_between before k n behind q) → (q : List ℕ) → new q ≡ option_or (spot_for name n q) (whole q)
+another whole new before behind name k m n equal is_whole is_new q =
+    is_new q ∙ by (slice_cmp nat_cmp q k) refl ∙ ap (λ o. option_or (spot_for name n q) o) (sym (is_whole q))
   where
-    by : (o : Ordering) → slice_cmp nat_cmp q k ≡ o → match_ordering o (before q) (Some m) (behind q) ≡ option_or (match_ordering o (before q) (Some m) (behind q)) (spot_for name n q)
+    by : (o : Ordering) → slice_cmp nat_cmp q k ≡ o → match_ordering o (before q) (Some n) (behind q) ≡ option_or (spot_for name n q) (match_ordering o (before q) (Some m) (behind q))
     by Less e = unchanged (before q) (spot_for name n q) (other name k q n Equal Less equal e (λ (never : Less ≡ Equal). cc))
-    by Equal e = refl
+    by Equal e =
+        let here : slice_cmp nat_cmp q name ≡ Equal = nat_list_cmp_total.congr q k name e ∙ tied_back nat_list_cmp_total name k equal in
+        ap (λ o. option_or o (Some m)) (sym (spot_test name n q ∙ ap (λ r. if is_eq r then Some n else None) here))
     by Greater e = unchanged (behind q) (spot_for name n q) (other name k q n Equal Greater equal e (λ (never : Greater ≡ Equal). cc))

@@ -9,7 +9,7 @@ use Rattle.bp_values.specs.declared.file.State.{State}
 use Rattle.bp_values.specs.declared.scope.Names.{Names}
 use Rattle.bp_values.specs.declared.map_sum.MapSum.{MapSum}
 use Rattle.bp_values.specs.Values.{Meaning, Field, field_of, body}
-use Rattle.bp_values.specs.Scopes.{Pairs, pairs_of, layer_pairs, value_in}
+use Rattle.bp_values.specs.Scopes.{Pairs, pairs_in, layer_pairs, value_in}
 use Rattle.bp_values.specs.Sums.{has_name}
 use Rattle.bp_values.specs.MapPlaces.{PlacesOf}
 use Rattle.bp_values.specs.KeptPlaces.{kept_for}
@@ -17,7 +17,7 @@ use Rattle.bp_values.specs.Meaning.{Known, raw_of}
 
 -- What a file inherits, and its own behind.
 abbrev pub visible : Names → Pairs
-visible names = pairs_of names.inherited.now ++ layer_pairs names.own.now.layer
+visible names = pairs_in names.inherited.now ++ layer_pairs names.own.now.layer
 
 -- What a file knows that inherits those pairs.
 abbrev pub known_of : Pairs → State → Known

@@ -1,5 +1,5 @@
 -- Layers as lists of pairs: what each file sets, one file behind the other.
-use Rattle.std.specs.Prelude.{ℕ, suc, List, [], ◌∷◌, map, length, Option, None, option_map}
+use Rattle.std.specs.Prelude.{◌≡◌, ℕ, suc, List, [], ◌∷◌, map, length, Option, None, Some, option_map}
 use Rattle.std.specs.Option.{option_or}
 use Rattle.std.specs.Arc.{arc_value}
 use Rattle.std.specs.Str.{bytes_eq}
@@ -49,3 +49,7 @@ spot_in_layers (layer ∷ layers) name =
 -- The same, where the names of one file more stand behind the layers. No public contract speaks of it.
 abbrev pub spot_behind : {Z : Type 0} → List (Arc Layer Z) → List (List ℕ × Value) → List ℕ → Option Spot
 spot_behind layers own name = option_or (spot_in_layers layers name) (option_map (spot_at (length layers)) (place_in own name))
+
+-- A search finds the spot of each name that has one. For another name it may find any. No public contract speaks of it.
+abbrev pub Finds : (List ℕ → Option Spot) → (List ℕ → Option Spot) → Type 0
+Finds search spots = (name : List ℕ) (s : Spot) → spots name ≡ Some s → search name ≡ Some s

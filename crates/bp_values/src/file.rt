@@ -1,14 +1,15 @@
-ghost use Rattle.std.specs.Prelude.{◌≡◌, map, IfOk, OnOk, [], None, Ok};
+ghost use Rattle.std.specs.Prelude.{◌≡◌, ◌≤◌, map, IfOk, OnOk, [], None, Ok};
 ghost use Rattle.bp_parser.specs.Trees.{tree_of, map_of, definition_of, Assigns, Extends, Declares};
 ghost use Rattle.bp_values.specs.Values.{meaning};
 ghost use Rattle.bp_faults.specs.Answers.{Answers, Refuses, Leaves};
-ghost use Rattle.bp_values.specs.Scopes.{pairs_of, value_in};
+ghost use Rattle.bp_values.specs.Scopes.{pairs_of, pairs_in, value_in, height_of, HasOuter};
 ghost use Rattle.bp_values.specs.OwnNames.{HasSpots};
 ghost use Rattle.bp_values.specs.Inside.{known_of, KeepsPlaces};
 ghost use Rattle.bp_values.specs.Meaning.{raw_of, after_assignment, after_extension, after_module, after_definition, after_definitions, evaluated};
 
 use crate::expression::{entries_of, value_of};
 use crate::kept_places::KeptPlaces;
+use crate::layer::Layer;
 use crate::map_sum::add_to;
 use crate::marks::{mark, mark_entries};
 use crate::own_names::OwnNames;
@@ -18,6 +19,7 @@ use bp_faults::{Fault, FaultKind, Place, Text};
 use bp_names::NameSet;
 use bp_parser::{Def, Expr, FileTree, MapExpr};
 use std::alloc::Global;
+use std::sync::Arc;
 
 /// A module as it is written, with its values.
 #[derive(Drop)]
@@ -41,7 +43,7 @@ pub struct State<'a> {
 /// `name = value`
 fn assign<'a>(
     alloc: Global,
-    inherited: &Scope,
+    inherited: &[Arc<Layer>],
     state: &mut State<'a>,
     name: &Text,
     at: Place,
@@ -49,7 +51,7 @@ fn assign<'a>(
 ) -> Result<(), EvalError>
     requires spots { HasSpots inherited.now state.old.own }
     requires places { KeepsPlaces state.old }
-    ensures known { Leaves (known_of (pairs_of inherited.now)) state.new result (after_assignment (known_of (pairs_of inherited.now) state.old) name.now at (tree_of value.now) (value_in (known_of (pairs_of inherited.now) state.old).scope name.now)) }
+    ensures known { Leaves (known_of (pairs_in inherited.now)) state.new result (after_assignment (known_of (pairs_in inherited.now) state.old) name.now at (tree_of value.now) (value_in (known_of (pairs_in inherited.now) state.old).scope name.now)) }
     ensures spots { OnOk result (HasSpots inherited.now state.new.own) }
     ensures places { OnOk result (KeepsPlaces state.new) }
 {
@@ -69,16 +71,16 @@ fn assign<'a>(
 /// `name += value`, where the name isn't inherited.
 fn extend<'a>(
     alloc: Global,
-    inherited: &Scope,
+    inherited: &[Arc<Layer>],
     state: &mut State<'a>,
     name: &'a Text,
     at: Place,
     value: &'a Expr,
 ) -> Result<(), EvalError>
-    requires own { value_in (pairs_of inherited.now) name.now ≡ None }
+    requires own { value_in (pairs_in inherited.now) name.now ≡ None }
     requires spots { HasSpots inherited.now state.old.own }
     requires places { KeepsPlaces state.old }
-    ensures known { Leaves (known_of (pairs_of inherited.now)) state.new result (after_extension (known_of (pairs_of inherited.now) state.old) name.now at (tree_of value.now) (value_in (known_of (pairs_of inherited.now) state.old).scope name.now)) }
+    ensures known { Leaves (known_of (pairs_in inherited.now)) state.new result (after_extension (known_of (pairs_in inherited.now) state.old) name.now at (tree_of value.now) (value_in (known_of (pairs_in inherited.now) state.old).scope name.now)) }
     ensures spots { OnOk result (HasSpots inherited.now state.new.own) }
     ensures places { OnOk result (KeepsPlaces state.new) }
 {
@@ -118,7 +120,7 @@ fn extend<'a>(
 /// `kind { .. }`
 fn declare<'a>(
     alloc: Global,
-    inherited: &Scope,
+    inherited: &[Arc<Layer>],
     state: &mut State<'a>,
     kind: &Text,
     at: Place,
@@ -126,7 +128,7 @@ fn declare<'a>(
 ) -> Result<(), EvalError>
     requires spots { HasSpots inherited.now state.old.own }
     requires places { KeepsPlaces state.old }
-    ensures known { Leaves (known_of (pairs_of inherited.now)) state.new result (after_module (known_of (pairs_of inherited.now) state.old) kind.now at (map_of body.now)) }
+    ensures known { Leaves (known_of (pairs_in inherited.now)) state.new result (after_module (known_of (pairs_in inherited.now) state.old) kind.now at (map_of body.now)) }
     ensures spots { OnOk result (HasSpots inherited.now state.new.own) }
     ensures places { OnOk result (KeepsPlaces state.new) }
 {
@@ -147,20 +149,24 @@ fn declare<'a>(
 /// One definition.
 fn define<'a>(
     alloc: Global,
-    inherited: &Scope,
+    inherited: &[Arc<Layer>],
     state: &mut State<'a>,
     def: &'a Def,
 ) -> Result<(), EvalError>
     requires spots { HasSpots inherited.now state.old.own }
     requires places { KeepsPlaces state.old }
-    ensures known { Leaves (known_of (pairs_of inherited.now)) state.new result (after_definition (pairs_of inherited.now) (known_of (pairs_of inherited.now) state.old) (definition_of def.now)) }
+    ensures known { Leaves (known_of (pairs_in inherited.now)) state.new result (after_definition (pairs_in inherited.now) (known_of (pairs_in inherited.now) state.old) (definition_of def.now)) }
     ensures spots { OnOk result (HasSpots inherited.now state.new.own) }
     ensures places { OnOk result (KeepsPlaces state.new) }
 {
     match def {
         Def::Assign { name, at, value } => assign(alloc, inherited, state, name, *at, value),
         Def::Extend { name, at, value } => {
-            if inherited.get(name).is_some() {
+            let names = Names {
+                inherited,
+                own: &state.own,
+            };
+            if names.inherits(name) {
                 return Err(EvalError::Bad(Fault::on(
                     alloc,
                     FaultKind::NotLocal,
@@ -177,13 +183,13 @@ fn define<'a>(
 /// The definitions in turn.
 fn define_all<'a>(
     alloc: Global,
-    inherited: &Scope,
+    inherited: &[Arc<Layer>],
     state: &mut State<'a>,
     defs: &'a [Def],
 ) -> Result<(), EvalError>
     requires spots { HasSpots inherited.now state.old.own }
     requires places { KeepsPlaces state.old }
-    ensures known { Leaves (known_of (pairs_of inherited.now)) state.new result (after_definitions (pairs_of inherited.now) (known_of (pairs_of inherited.now) state.old) (map definition_of defs.now)) }
+    ensures known { Leaves (known_of (pairs_in inherited.now)) state.new result (after_definitions (pairs_in inherited.now) (known_of (pairs_in inherited.now) state.old) (map definition_of defs.now)) }
     ensures spots { OnOk result (HasSpots inherited.now state.new.own) }
     ensures places { OnOk result (KeepsPlaces state.new) }
 {
@@ -205,13 +211,28 @@ pub fn evaluate(
 ) -> Result<(Vec<RawModule>, Scope), EvalError>
     ensures { Answers (λ r. (map raw_of r.0.items, pairs_of r.1)) result (evaluated (pairs_of inherited.now) (map definition_of tree.now.defs.items)) }
 {
+    evaluate_from(alloc, tree, inherited.share(alloc)?)
+}
+
+/// As `evaluate`, where the inherited scope is handed over: the names of the file are put into it, and
+/// of what no copy of it shares nothing is copied. Its layers stay the outer ones of the final scope.
+pub fn evaluate_from(
+    alloc: Global,
+    tree: &FileTree,
+    inherited: Scope,
+) -> Result<(Vec<RawModule>, Scope), EvalError>
+    ensures values { Answers (λ r. (map raw_of r.0.items, pairs_of r.1)) result (evaluated (pairs_of inherited) (map definition_of tree.now.defs.items)) }
+    ensures outer { IfOk result (λ r. HasOuter (height_of inherited) inherited r.1) }
+    ensures height { IfOk result (λ r. height_of inherited ≤ height_of r.1) }
+{
+    let (layers, own) = inherited.open(alloc);
     let mut state = State {
-        own: OwnNames::below(alloc, inherited)?,
+        own,
         kept: KeptPlaces::new(alloc),
         used: NameSet::new(alloc),
         modules: Vec::new(alloc),
     };
-    define_all(alloc, inherited, &mut state, tree.defs.as_slice())?;
+    define_all(alloc, layers.as_slice(), &mut state, tree.defs.as_slice())?;
     let State { own, modules, .. } = state;
-    Ok((modules, inherited.with(alloc, own)?))
+    Ok((modules, Scope::close(alloc, layers, own)?))
 }

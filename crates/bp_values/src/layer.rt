@@ -1,4 +1,4 @@
-ghost use Rattle.std.specs.Prelude.{◌≡◌, ◌++◌, ◌∷◌, ◌↔◌, ◌<◌, ℕ, List, [], length, OnOk, IsTrue, Some};
+ghost use Rattle.std.specs.Prelude.{◌≡◌, ◌++◌, ◌∷◌, ◌↔◌, ◌<◌, ℕ, List, [], length, option_map, true, false, OnOk, IsTrue, None, Some};
 ghost use Rattle.bp_values.specs.Values.{meaning};
 ghost use Rattle.bp_values.specs.NamePlaces.{place_in};
 ghost use Rattle.bp_values.specs.Layers.{value_in, layer_pairs};
@@ -36,12 +36,25 @@ impl Layer {
         self.values.len()
     }
 
-    /// The value at a place.
-    pub fn at(&self, place: usize) -> &Value
-        requires { place < length self.now.values.items }
-        ensures { (name : List ℕ) → place_in self.now.values.items name ≡ Some place → Some (meaning result.now) ≡ value_in (layer_pairs self.now) name }
+    /// Whether a name stands at a place.
+    pub fn has(&self, place: usize, name: &Text) -> bool
+        ensures there { place_in self.now.values.items name.now ≡ Some place → result ≡ true }
+        ensures nowhere { place_in self.now.values.items name.now ≡ None → result ≡ false }
+        ensures within { IsTrue result → place < length self.now.values.items }
     {
-        &self.values[place].1
+        place < self.values.len() && *name == self.values[place].0
+    }
+
+    /// The value at a place, where the name stands there.
+    pub fn value_of(&self, place: usize, name: &Text) -> Option<&Value>
+        ensures there { place_in self.now.values.items name.now ≡ Some place → option_map (λ v. meaning v.now) result ≡ value_in (layer_pairs self.now) name.now }
+        ensures nowhere { place_in self.now.values.items name.now ≡ None → option_map (λ v. meaning v.now) result ≡ None }
+    {
+        if self.has(place, name) {
+            Some(&self.values[place].1)
+        } else {
+            None
+        }
     }
 
     /// Puts a name behind the others.

@@ -23,7 +23,7 @@ mod sums;
 mod value;
 
 pub use bp_faults::Refusal as EvalError;
-pub use file::{RawModule, evaluate};
+pub use file::{RawModule, evaluate, evaluate_from};
 pub use scope::Scope;
 pub use sums::sum;
 pub use value::{Entry, Value};

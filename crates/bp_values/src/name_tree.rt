@@ -15,7 +15,8 @@ pub struct Spot {
     pub place: usize,
 }
 
-/// Names with their spots, in a balanced tree. What it shares with other trees is never written over.
+/// Names with their spots, in a balanced tree. What it shares with other trees is never written over:
+/// it is copied first.
 #[cycle(name_tree)]
 #[derive(Drop)]
 pub enum NameTree {
@@ -53,10 +54,10 @@ impl NameTree {
         }
     }
 
-    /// One name more, unless it is here. A node that another tree shares is copied first.
+    /// Gives a name a spot, also where it had another. A node that another tree shares is copied first.
     #[cycle(insert)]
     pub fn insert(&mut self, alloc: Global, name: Text, spot: Spot) -> Result<(), OutOfMemory>
-        ensures { OnOk result ((q : List ℕ) → found self.new q ≡ option_or (found self.old q) (spot_for name spot q)) }
+        ensures { OnOk result ((q : List ℕ) → found self.new q ≡ option_or (spot_for name spot q) (found self.old q)) }
     {
         let NameTree::Fork(shared) = self else {
             *self = leaf(alloc, name, spot)?;
@@ -75,7 +76,7 @@ impl NameTree {
                     self.balance(alloc)?;
                 }
             }
-            Ordering::Equal => {}
+            Ordering::Equal => node.spot = spot,
             Ordering::Greater => {
                 node.behind.insert(alloc, name, spot)?;
                 if node.behind.height() == height {

@@ -1,8 +1,9 @@
-ghost use Rattle.std.specs.Prelude.{◌≡◌, ◌++◌, ℕ, List, [], length, option_map, IfOk, None};
+ghost use Rattle.std.specs.Prelude.{◌≡◌, ◌++◌, ◌≤◌, ℕ, List, [], length, take, option_map, is_some, IfOk, None};
 ghost use Rattle.std.proofs.Props.{props};
 ghost use Rattle.bp_values.specs.Values.{meaning};
 ghost use Rattle.bp_values.specs.NamePlaces.{place_in};
-ghost use Rattle.bp_values.specs.Layers.{value_in, pairs_in, layer_pairs, spot_in_layers, spot_behind};
+ghost use Rattle.bp_values.specs.Layers.{value_in, pairs_in, layer_pairs, spot_in_layers, spot_behind, Finds};
+ghost use Rattle.bp_values.specs.OwnNames.{HasSpots};
 ghost use Rattle.bp_values.specs.NameTree.{found};
 
 use crate::Value;
@@ -14,33 +15,33 @@ use std::alloc::Global;
 use std::sync::Arc;
 
 /// Names and their values, in the order in which the names were first set. Contracts see the list
-/// of its pairs: those that a file inherits, and its own behind. What is inherited is shared.
+/// of its pairs: those that a file inherits, and its own behind.
 #[derive(Drop)]
 pub struct Scope {
-    // Those of the files that set names, the outermost first.
-    layers: Arc<Vec<Arc<Layer>>>,
-    // Each name with its layer and its place there, so that no look-up goes through the layers.
+    // Those of the files that set names, the outermost first. Copies of the scope share them.
+    layers: Vec<Arc<Layer>>,
+    // Each name with its layer and its place there, so that no look-up goes through the layers. It may
+    // hold names of layers that were dropped, so what is found counts only where the name stands there.
     spots: NameTree,
-    ghost spotted: { (name : List ℕ) → found spots name ≡ spot_in_layers layers.value.items name } by { Prim.hlevel props },
+    ghost spotted: { Finds (found spots) (spot_in_layers layers.items) } by { Prim.hlevel props },
 }
 
 /// The names that a file sees while it is evaluated: those that it inherits, and its own so far.
 #[derive(Drop)]
 pub struct Names<'a> {
-    pub inherited: &'a Scope,
+    pub inherited: &'a [Arc<Layer>],
     pub own: &'a OwnNames,
-    ghost spotted: { (name : List ℕ) → found own.now.spots name ≡ spot_behind inherited.now.layers.value.items own.now.layer.values.items name } by { Prim.hlevel props },
+    ghost spotted: { HasSpots inherited.now own.now } by { Prim.hlevel props },
 }
 
 impl Scope {
-    ghost use Rattle.bp_values.specs.Scopes.{pairs_of};
-    ghost use Rattle.bp_values.specs.OwnNames.{HasSpots};
+    ghost use Rattle.bp_values.specs.Scopes.{pairs_of, height_of, outer_pairs, HasOuter};
 
     pub fn empty(alloc: Global) -> Result<Scope, OutOfMemory>
         ensures { IfOk result (λ scope. pairs_of scope ≡ []) }
     {
         Ok(Scope {
-            layers: Arc::new(alloc, Vec::new(alloc))?,
+            layers: Vec::new(alloc),
             spots: NameTree::Empty,
         })
     }
@@ -50,52 +51,76 @@ impl Scope {
         ensures { option_map (λ v. meaning v.now) result ≡ value_in (pairs_of self.now) name.now }
     {
         match self.spots.spot_of(name.as_str()) {
-            Some(spot) => Some(self.layers[spot.layer].at(spot.place)),
-            None => None,
+            Some(spot) if spot.layer < self.layers.len() => {
+                self.layers[spot.layer].value_of(spot.place, name)
+            }
+            _ => None,
         }
     }
 
-    /// How many layers it has.
-    pub(crate) fn height(&self) -> usize
-        ensures { result ≡ length self.now.layers.value.items }
+    /// How many layers it has, one of each file that sets names.
+    pub fn height(&self) -> usize
+        ensures { result ≡ height_of self.now }
     {
         self.layers.len()
     }
 
-    /// The spots of its names.
-    pub(crate) fn spots(&self) -> Result<NameTree, OutOfMemory>
-        ensures { IfOk result (λ spots. (name : List ℕ) → found spots name ≡ spot_in_layers self.now.layers.value.items name) }
+    /// The same scope.
+    pub fn share(&self, alloc: Global) -> Result<Scope, OutOfMemory>
+        ensures { IfOk result (λ scope. pairs_of scope ≡ pairs_of self.now) }
     {
-        Ok(self.spots.share()?)
-    }
-
-    /// The scope of a file that inherits this one and sets those names.
-    pub(crate) fn with(&self, alloc: Global, own: OwnNames) -> Result<Scope, OutOfMemory>
-        requires { HasSpots self.now own }
-        ensures { IfOk result (λ scope. pairs_of scope ≡ pairs_of self.now ++ layer_pairs own.layer) }
-    {
-        let OwnNames { layer, spots } = own;
-        if layer.is_empty() {
-            return Ok(Scope {
-                layers: self.layers.clone()?,
-                spots,
-            });
-        }
-        let mut layers = self.shared(alloc)?;
-        layers.push(Arc::new(alloc, layer)?)?;
         Ok(Scope {
-            layers: Arc::new(alloc, layers)?,
-            spots,
+            layers: self.shared(alloc)?,
+            spots: self.spots.share()?,
         })
     }
 
-    /// The layers, with room for one more.
+    /// The scope of the outermost layers, so many of them.
+    pub fn outer(self, count: usize) -> Scope
+        ensures pairs { pairs_of result ≡ outer_pairs count self }
+        ensures outer { HasOuter count self result }
+        ensures height { count ≤ height_of self → height_of result ≡ count }
+    {
+        let Scope { mut layers, spots } = self;
+        layers.truncate(count);
+        Scope { layers, spots }
+    }
+
+    /// Its layers, and the names of a file that inherits them and has set none.
+    pub(crate) fn open(self, alloc: Global) -> (Vec<Arc<Layer>>, OwnNames)
+        ensures layers { result.0.items ≡ self.layers.items }
+        ensures pairs { layer_pairs result.1.layer ≡ [] }
+        ensures spots { HasSpots result.0.items result.1 }
+    {
+        let Scope { layers, spots } = self;
+        let layer = Layer::new(alloc);
+        (layers, OwnNames { layer, spots })
+    }
+
+    /// The scope of a file that inherits those layers and sets those names.
+    pub(crate) fn close(
+        alloc: Global,
+        mut layers: Vec<Arc<Layer>>,
+        own: OwnNames,
+    ) -> Result<Scope, OutOfMemory>
+        requires { HasSpots layers.items own }
+        ensures pairs { IfOk result (λ scope. pairs_of scope ≡ pairs_in layers.items ++ layer_pairs own.layer) }
+        ensures outer { IfOk result (λ scope. (n : ℕ) → n ≤ length layers.items → outer_pairs n scope ≡ pairs_in (take n layers.items)) }
+        ensures height { IfOk result (λ scope. length layers.items ≤ height_of scope) }
+    {
+        let OwnNames { layer, spots } = own;
+        if !layer.is_empty() {
+            layers.push(Arc::new(alloc, layer)?)?;
+        }
+        Ok(Scope { layers, spots })
+    }
+
+    /// The layers once more.
     fn shared(&self, alloc: Global) -> Result<Vec<Arc<Layer>>, OutOfMemory>
         ensures pairs { IfOk result (λ layers. pairs_in layers.items ≡ pairs_of self.now) }
-        ensures spots { IfOk result (λ layers. (name : List ℕ) → spot_in_layers layers.items name ≡ spot_in_layers self.now.layers.value.items name) }
-        ensures count { IfOk result (λ layers. length layers.items ≡ length self.now.layers.value.items) }
+        ensures spots { IfOk result (λ layers. (name : List ℕ) → spot_in_layers layers.items name ≡ spot_in_layers self.now.layers.items name) }
     {
-        let mut shared = Vec::with_capacity(alloc, self.layers.len() + 1)?;
+        let mut shared = Vec::with_capacity(alloc, self.layers.len())?;
         'layers: for layer in self.layers.iter() {
             shared.push(layer.clone()?)?;
         }
@@ -104,7 +129,6 @@ impl Scope {
 }
 
 impl<'a> Names<'a> {
-    ghost use Rattle.bp_values.specs.Scopes.{pairs_of};
     ghost use Rattle.bp_values.specs.Inside.{visible};
 
     /// The value of a name.
@@ -113,22 +137,34 @@ impl<'a> Names<'a> {
     {
         let (inherited, own) = (self.inherited, self.own);
         match own.spots.spot_of(name.as_str()) {
-            Some(spot) if spot.layer < inherited.layers.len() => {
-                Some(inherited.layers[spot.layer].at(spot.place))
+            Some(spot) if spot.layer < inherited.len() => {
+                inherited[spot.layer].value_of(spot.place, name)
             }
-            Some(spot) => Some(own.layer.at(spot.place)),
+            Some(spot) => own.layer.value_of(spot.place, name),
             None => None,
+        }
+    }
+
+    /// Whether the file inherits a name.
+    pub fn inherits(&self, name: &Text) -> bool
+        ensures { result ≡ is_some (value_in (pairs_in self.now.inherited.now) name.now) }
+    {
+        match self.own.spots.spot_of(name.as_str()) {
+            Some(spot) if spot.layer < self.inherited.len() => {
+                self.inherited[spot.layer].has(spot.place, name)
+            }
+            _ => false,
         }
     }
 
     /// The place of a name that isn't inherited.
     pub fn own_place(&self, name: &Text) -> Option<usize>
-        requires { value_in (pairs_of self.now.inherited.now) name.now ≡ None }
+        requires { value_in (pairs_in self.now.inherited.now) name.now ≡ None }
         ensures { result ≡ place_in self.now.own.now.layer.values.items name.now }
     {
         match self.own.spots.spot_of(name.as_str()) {
-            Some(spot) => Some(spot.place),
-            None => None,
+            Some(spot) if self.own.layer.has(spot.place, name) => Some(spot.place),
+            _ => None,
         }
     }
 }

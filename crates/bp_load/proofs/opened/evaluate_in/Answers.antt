@@ -12,13 +12,13 @@ use Rattle.bp_load.proofs.opened.evaluate_in.Goals as goal
 pub returns-in_err-evaluation : goal.returns-in_err-evaluation
 returns-in_err-evaluation c =
     let files = map placed_of c.args.files.items in
-    let base = pairs_of c.args.base.now in
+    let base = pairs_of c.args.base in
     let refused = err_from_is_err_and c.from_residual.result c.from_residual.ensures.1 in
     rw (refused.1, refused.2)
-    (answered (λ (modules : Vec (List ℕ × RawModule) Global). map placed_raw modules.items) c.in_err-evaluation.field-0.0 (all_turned base no_turn files) (evaluated_in base [] files) c.in_err-evaluation.ensures
+    (answered (λ (modules : Vec (List ℕ × RawModule) Global). map placed_raw modules.items) c.in_err-evaluation.field-0.0 (all_turned base no_turn files) (evaluated_in base [] files) c.in_err-evaluation.ensures.turn
     (λ fault is. sym (turned_first base files c.requires) ∙ ap modules_of is))
 
 pub returns : goal.returns
 returns c =
     let files = map placed_of c.args.files.items in
-    sym (turned_first (pairs_of c.args.base.now) files c.requires) ∙ ap modules_of c.in_ok-evaluation.ensures
+    sym (turned_first (pairs_of c.args.base) files c.requires) ∙ ap modules_of c.in_ok-evaluation.ensures.turn

@@ -1,7 +1,7 @@
 use Rattle.std.proofs.Common.{rules, ◌≡◌, false, is_some, sym, ◌∙◌}
 use Rattle.bp_parser.specs.Trees.{tree_of}
 use Rattle.bp_values.specs.Values.{meaning}
-use Rattle.bp_values.specs.Scopes.{pairs_of, layer_pairs}
+use Rattle.bp_values.specs.Scopes.{pairs_in, layer_pairs}
 use Rattle.bp_values.specs.Inside.{known_of}
 use Rattle.bp_names.specs.Meaning.{knows}
 use Rattle.bp_values.proofs.Noted.{noted_is}
@@ -13,7 +13,7 @@ use Rattle.bp_values.proofs.file.assign.Goals as goal
 
 pub returns-clause-known : goal.returns-clause-known
 returns-clause-known c =
-    let inherited = pairs_of c.args.inherited.now in
+    let inherited = pairs_in c.args.inherited.now in
     let own = layer_pairs c.args.state.now.own.layer in
     let known = known_of inherited c.args.state.now in
     let absent : is_some c.get.result ≡ false = search rules in
@@ -24,7 +24,7 @@ returns-clause-known c =
 
 pub returns-clause-places : goal.returns-clause-places
 returns-clause-places c =
-    let inherited = pairs_of c.args.inherited.now in
+    let inherited = pairs_in c.args.inherited.now in
     let own = layer_pairs c.args.state.now.own.layer in
     let absent : is_some c.get.result ≡ false = search rules in
     let v = meaning c.in_ok-new.new in

@@ -5,7 +5,7 @@ use Rattle.bp_parser.specs.declared.tree.Expr.{the_lemmas}
 use Rattle.bp_parser.specs.declared.tree.Expr.TheViews.{the_lemmas as the_views}
 use Rattle.bp_names.specs.Meaning.{knows}
 use Rattle.bp_values.specs.Values.{field_of}
-use Rattle.bp_values.specs.Scopes.{pairs_of, layer_pairs}
+use Rattle.bp_values.specs.Scopes.{pairs_in, layer_pairs}
 use Rattle.bp_values.specs.Inside.{known_of, noted_entries}
 use Rattle.bp_values.specs.Meaning.{raw_of}
 use Rattle.bp_values.proofs.Noted.{entries_noted}
@@ -14,7 +14,7 @@ use Rattle.bp_values.proofs.file.declare.Goals as goal
 
 pub returns-clause-known : goal.returns-clause-known
 returns-clause-known c =
-    let inherited = pairs_of c.args.inherited.now in
+    let inherited = pairs_in c.args.inherited.now in
     let known = known_of inherited c.args.state.now in
     let body = map_of c.args.body.now in
     let fields = map field_of c.in_ok-entries.entries.items in

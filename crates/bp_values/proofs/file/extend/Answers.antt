@@ -1,5 +1,4 @@
 use Rattle.std.proofs.Common.{rules, ◌≡◌, ◌++◌, true, false, ap, sym, ◌∙◌, Ok, Err, Some, None, cond}
-use Rattle.std.specs.Arc.{arc_value}
 use Rattle.std.specs.Str.{bytes_eq}
 use Rattle.bp_faults.specs.Answers.{then_do, Refuses}
 use Rattle.bp_faults.specs.Faults.{fault_on}
@@ -7,7 +6,7 @@ use Rattle.bp_faults.specs.declared.kind.FaultKind.TheVariants.{AfterUse, Unknow
 use Rattle.bp_parser.specs.Trees.{tree_of}
 use Rattle.bp_values.specs.Values.{meaning}
 use Rattle.bp_values.specs.Sums.{sum}
-use Rattle.bp_values.specs.Scopes.{pairs_of, layer_pairs}
+use Rattle.bp_values.specs.Scopes.{pairs_in, layer_pairs}
 use Rattle.bp_values.specs.Expressions.{val}
 use Rattle.bp_values.specs.NamePlaces.{place_in}
 use Rattle.bp_values.specs.Inside.{known_of}
@@ -24,7 +23,7 @@ use Rattle.bp_values.proofs.file.extend.Goals as goal
 
 pub returns-in_err-new-in-Some-clause-known : goal.returns-in_err-new-in-Some-clause-known
 returns-in_err-new-in-Some-clause-known c =
-    let inherited = pairs_of c.args.inherited.now in
+    let inherited = pairs_in c.args.inherited.now in
     let own = layer_pairs c.args.state.now.own.layer in
     let now = known_of inherited c.args.state.now in
     let name = c.args.name.now in
@@ -42,7 +41,7 @@ returns-in_err-new-in-Some-clause-known c =
 
 pub returns-in_ok-keep-in-Some-clause-known : goal.returns-in_ok-keep-in-Some-clause-known
 returns-in_ok-keep-in-Some-clause-known c =
-    let inherited = pairs_of c.args.inherited.now in
+    let inherited = pairs_in c.args.inherited.now in
     let own = layer_pairs c.args.state.now.own.layer in
     let now = known_of inherited c.args.state.now in
     let name = c.args.name.now in
@@ -67,7 +66,7 @@ replace-requires c =
 
 pub returns-then-knows-clause-known : goal.returns-then-knows-clause-known
 returns-then-knows-clause-known c =
-    let inherited = pairs_of c.args.inherited.now in
+    let inherited = pairs_in c.args.inherited.now in
     let now = known_of inherited c.args.state.now in
     let own = c.args.state.now.own.layer.values.items in
     let name = c.args.name.now in
@@ -78,7 +77,7 @@ returns-then-knows-clause-known c =
 
 pub returns-in_err-other-in-Some-clause-known : goal.returns-in_err-other-in-Some-clause-known
 returns-in_err-other-in-Some-clause-known c =
-    let inherited = pairs_of c.args.inherited.now in
+    let inherited = pairs_in c.args.inherited.now in
     let now = known_of inherited c.args.state.now in
     let own = c.args.state.now.own.layer.values.items in
     let pairs = layer_pairs c.args.state.now.own.layer in
@@ -93,7 +92,7 @@ returns-in_err-other-in-Some-clause-known c =
 
 pub returns-in_ok-copy-in-None-clause-known : goal.returns-in_ok-copy-in-None-clause-known
 returns-in_ok-copy-in-None-clause-known c =
-    let inherited = pairs_of c.args.inherited.now in
+    let inherited = pairs_in c.args.inherited.now in
     let now = known_of inherited c.args.state.now in
     let name = c.args.name.now in
     let lacks = no_value_without c.args.state.now.own.layer.values.items name (sym c.own_place.ensures ∙ c.in-None.is) in
@@ -124,7 +123,7 @@ returns-in_ok-keep-in-Some-clause-places c =
     c.in_ok-new-in-Some.ensures.places c.requires.places
 
 pub returns-in_ok-keep-in-Some-clause-spots : goal.returns-in_ok-keep-in-Some-clause-spots
-returns-in_ok-keep-in-Some-clause-spots c q =
-    let layers = (arc_value c.args.inherited.now.layers).items in
-    c.requires.spots q
-    ∙ spot_kept layers c.args.state.now.own.layer.values.items c.replace.new.self.values.items q (c.replace.ensures.places q ∙ c.replace-old.ensures.places q)
+returns-in_ok-keep-in-Some-clause-spots c q s is =
+    let layers = c.args.inherited.now in
+    c.requires.spots q s
+    (spot_kept layers c.args.state.now.own.layer.values.items c.replace.new.self.values.items q (c.replace.ensures.places q ∙ c.replace-old.ensures.places q) ∙ is)

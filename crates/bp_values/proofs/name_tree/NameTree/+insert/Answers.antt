@@ -1,4 +1,4 @@
-use Rattle.std.proofs.Common.{rules, ◌≡◌, ◌+◌, ◌<◌, suc, List, ℕ, arith, refl, sym, ◌∙◌}
+use Rattle.std.proofs.Common.{rules, ◌≡◌, ◌+◌, ◌<◌, suc, List, ℕ, arith, refl, ◌∙◌}
 use Rattle.std.specs.Arc.{arc_with_value}
 use Rattle.std.specs.Ordering.{nat_cmp}
 use Rattle.std.specs.Cmp.Lexicographic.{slice_cmp}
@@ -7,7 +7,7 @@ use Rattle.bp_values.specs.NameTree.{found, found_below, found_between, nodes, n
 use Rattle.bp_values.specs.declared.name_tree.NameTree.{the_lemmas}
 use Rattle.bp_values.specs.declared.name_tree.NameTree.TheViews.{the_lemmas as the_views, Fork, roll-Node}
 use Rattle.bp_values.proofs.Nodes.{found_fork}
-use Rattle.bp_values.proofs.Searches.{more_before, more_behind, no_more}
+use Rattle.bp_values.proofs.Searches.{more_before, more_behind, another}
 use Rattle.bp_values.proofs.name_tree.NameTree.+insert.Goals as goal
 
 pub insert-requires : goal.insert-requires
@@ -32,10 +32,11 @@ returns-in-Equal t c =
     let here : (q : List ℕ) → found c.args.self.now q ≡ found_below node q = λ q. search (rules, the_lemmas, the_views) in
     let parts : (q : List ℕ) → found_below node q ≡ found_between (found node.before) node.name node.spot (found node.behind) q = λ q. search (rules, the_lemmas, the_views) in
     let equal : slice_cmp nat_cmp c.args.name node.name ≡ Equal = search rules in
-    let new = found (Fork (arc_with_value c.unshare.new.node node)) in
-    let same : (q : List ℕ) → new q ≡ found_below node q = λ q. search (rules, the_lemmas, the_views) in
-    no_more (found c.args.self.now) new (found node.before) (found node.behind) c.args.name node.name node.spot c.args.spot equal
-    (λ q. here q ∙ parts q) (λ q. same q ∙ sym (here q))
+    let own = roll-Node (record { before = node.before; name = node.name; spot = c.args.spot; behind = node.behind; height = node.height }) in
+    let new = found (Fork (arc_with_value c.unshare.new.node own)) in
+    let is_own : (q : List ℕ) → found_below own q ≡ found_between (found node.before) node.name c.args.spot (found node.behind) q = λ q. search (rules, the_lemmas, the_views) in
+    another (found c.args.self.now) new (found node.before) (found node.behind) c.args.name node.name node.spot c.args.spot equal
+    (λ q. here q ∙ parts q) (λ q. found_fork (arc_with_value c.unshare.new.node own) q ∙ is_own q)
 
 pub returns-else-height : goal.returns-else-height
 returns-else-height t c =

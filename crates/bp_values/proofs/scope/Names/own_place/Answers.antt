@@ -1,14 +1,32 @@
-use Rattle.std.proofs.Common.{◌≡◌, Some, ap, sym, ◌∙◌, option_map}
-use Rattle.bp_values.specs.Layers.{spot_behind}
-use Rattle.bp_values.specs.declared.name_tree.Spot.{Spot}
-use Rattle.bp_values.proofs.Layers.{own_place}
+use Rattle.std.proofs.Common.{rules, ◌≡◌, Some, None, true, false, ap, sym, ◌∙◌}
+use Rattle.bp_values.specs.NameTree.{found}
+use Rattle.bp_values.proofs.Seen.{own_there, own_elsewhere, own_nowhere}
 use Rattle.bp_values.proofs.scope.Names.own_place.Goals as goal
 
 pub returns-in-Some : goal.returns-in-Some
 returns-in-Some c =
-    let layers = c.args.self.now.inherited.now.layers.value.items in
-    let own = c.args.self.now.own.now.layer.values.items in
+    let layers = c.args.self.now.inherited.now in
+    let own = c.args.self.now.own.now in
     let name = c.args.name.now in
-    let is : spot_behind layers own name ≡ Some c.in-Some.spot =
-    ap (spot_behind layers own) (sym c.as_str.ensures) ∙ sym (c.args.self.now.spotted c.as_str.result.now) ∙ sym c.spot_of.ensures ∙ c.in-Some.is in
-    ap (option_map (λ (s : Spot). s.place)) (sym is) ∙ own_place layers own name c.requires
+    let spot = c.in-Some.spot in
+    let is : found own.spots name ≡ Some spot = ap (found own.spots) (sym c.as_str.ensures) ∙ sym c.spot_of.ensures ∙ c.in-Some.is in
+    own_there layers own.layer.values.items name (found own.spots name) (c.args.self.now.spotted name) c.requires spot is
+    (λ lacks. let never : true ≡ false = sym (search rules) ∙ c.has.ensures.nowhere lacks in cc)
+
+pub returns-in_default : goal.returns-in_default
+returns-in_default c =
+    let layers = c.args.self.now.inherited.now in
+    let own = c.args.self.now.own.now in
+    let name = c.args.name.now in
+    let is : found own.spots name ≡ Some c.in-Some.spot = ap (found own.spots) (sym c.as_str.ensures) ∙ sym c.spot_of.ensures ∙ c.in-Some.is in
+    own_elsewhere layers own.layer.values.items name (found own.spots name) (c.args.self.now.spotted name) c.requires c.in-Some.spot is
+    (λ there. let never : true ≡ false = sym (c.has.ensures.there there) ∙ c.if-has.false in cc)
+
+pub returns-in_default-2 : goal.returns-in_default-2
+returns-in_default-2 c =
+    let layers = c.args.self.now.inherited.now in
+    let own = c.args.self.now.own.now in
+    let name = c.args.name.now in
+    let none : c.spot_of.result ≡ None = search rules in
+    own_nowhere layers own.layer.values.items name (found own.spots name) (c.args.self.now.spotted name) c.requires
+    (ap (found own.spots) (sym c.as_str.ensures) ∙ sym c.spot_of.ensures ∙ none)

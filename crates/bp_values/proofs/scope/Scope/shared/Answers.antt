@@ -13,9 +13,6 @@ layers-preserved c =
     let i = c.layers.layer-index in
     let same : arc_value c.in_ok-clone.field-0 ≡ arc_value c.layer-item.result = search rules in (
       shared_more (pairs_of c.args.self.now) done now items i c.layer-item.result c.in_ok-clone.field-0 c.layers-test.true c.layer-item.is same c.in_ok-push.ensures.items c.layers.invariant.0,
-      (
-        λ name. spotted_more (spot_in_layers c.args.self.now.layers.value.items name) done now items i c.layer-item.result c.in_ok-clone.field-0 name c.layers-test.true c.layer-item.is same c.in_ok-push.ensures.items
-            (c.layers.invariant.1.0 name),
-        search rules,
-      ),
+      λ name. spotted_more (spot_in_layers c.args.self.now.layers.items name) done now items i c.layer-item.result c.in_ok-clone.field-0 name c.layers-test.true c.layer-item.is same c.in_ok-push.ensures.items
+          (c.layers.invariant.1 name),
     )
