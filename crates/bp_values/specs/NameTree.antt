@@ -1,6 +1,8 @@
 -- What a search of a tree finds. No public contract speaks of it.
-use Rattle.std.specs.Prelude.{ℕ, suc, ◌+◌, List, Option, Some, None, if◌then◌else◌}
-use Rattle.std.specs.Ordering.{nat_cmp, match_ordering}
+use Rattle.std.specs.Prelude.{ℕ, suc, ◌+◌, ◌*◌, ◌%◌, ◌^◌, List, Option, Some, None, if◌then◌else◌}
+use Rattle.std.specs.Ordering.{nat_cmp, ordering_then, match_ordering}
+use Rattle.std.specs.declared.cmp.Ordering.{Ordering}
+use Rattle.std.specs.List.{fold}
 use Rattle.std.specs.Cmp.Lexicographic.{slice_cmp}
 use Rattle.std.specs.Str.{bytes_eq}
 use Rattle.std.specs.Arc.{arc_value}
@@ -19,10 +21,22 @@ Search = List ℕ → Option Spot
 abbrev pub spot_for : List ℕ → Spot → Search
 spot_for name spot query = if bytes_eq name query then Some spot else None
 
--- A search that compares with one name, and goes on before it or behind it.
-abbrev pub found_between : Search → List ℕ → Spot → Search → Search
+-- The key of a name: the number that its bytes write to the base 131, modulo 2^64.
+unfoldable pub key_of : List ℕ → ℕ
+key_of name = fold (λ key byte. (key * 131 + byte) % 2 ^ 64) 0 name
+
+-- A name behind its key. Several names may have one key, and nothing depends on that.
+abbrev pub keyed : List ℕ → ℕ × List ℕ
+keyed name = (key_of name, name)
+
+-- The order of the tree: that of the keys, and where these are the same that of the names by their bytes.
+abbrev pub keyed_cmp : ℕ × List ℕ → ℕ × List ℕ → Ordering
+keyed_cmp a b = ordering_then (nat_cmp a.0 b.0) (slice_cmp nat_cmp a.1 b.1)
+
+-- A search that compares with one name behind a key, and goes on before it or behind it.
+abbrev pub found_between : Search → ℕ × List ℕ → Spot → Search → Search
 found_between before name spot behind query =
-    match_ordering (slice_cmp nat_cmp query name) (before query) (Some spot) (behind query)
+    match_ordering (keyed_cmp (keyed query) name) (before query) (Some spot) (behind query)
 
 -- One layer of a tree, with what is found in each part.
 abbrev pub tree_step : NameTree-F Search Search → Search
@@ -31,7 +45,7 @@ tree_step (layer.Fork node) = arc_value node
 
 -- One layer of a node, with what is found in each part.
 abbrev pub node_step : Node-F Search Search → Search
-node_step n = found_between n.before n.name n.spot n.behind
+node_step n = found_between n.before (n.key, n.name) n.spot n.behind
 
 -- The spot that a tree finds for a name.
 abbrev pub found : NameTree → Search

@@ -1,6 +1,6 @@
 ghost use Rattle.std.specs.Prelude.{◌≡◌, List, ℕ, None, Some, IfOk, OnOk};
 ghost use Rattle.std.specs.Option.{option_or};
-ghost use Rattle.bp_values.specs.NameTree.{found, found_below, found_between, nodes, nodes_below, spot_for};
+ghost use Rattle.bp_values.specs.NameTree.{found, found_below, found_between, key_of, keyed_cmp, nodes, nodes_below, spot_for};
 
 use bp_faults::{OutOfMemory, Text};
 use std::alloc::Global;
@@ -15,8 +15,8 @@ pub struct Spot {
     pub place: usize,
 }
 
-/// Names with their spots, in a balanced tree. What it shares with other trees is never written over:
-/// it is copied first.
+/// Names with their spots, in a balanced tree, in the order of their keys, and where these are the same
+/// in that of their bytes. What it shares with other trees is never written over: it is copied first.
 #[cycle(name_tree)]
 #[derive(Drop)]
 pub enum NameTree {
@@ -27,40 +27,65 @@ pub enum NameTree {
 /// A name with its spot, between the names before it and those behind it.
 ///
 /// The height is how many nodes stand one below the other on the longest way, this one among them.
-/// Those of the two sides differ by at most one.
+/// Those of the two sides differ by at most one. What a search reads at each node stands together, and
+/// the text of a name is elsewhere in memory, so it is read only where the keys are the same.
 #[cycle(name_tree)]
 #[derive(Drop)]
 pub struct Node {
     before: NameTree,
+    key: u64,
+    behind: NameTree,
     name: Text,
     spot: Spot,
-    behind: NameTree,
     height: u32,
 }
 
 impl NameTree {
     /// Where the value of a name stands.
-    #[cycle(spot_of)]
     pub fn spot_of(&self, name: &str) -> Option<Spot>
+        ensures { result ≡ found self.now name.now }
+    {
+        self.spot_by_key(key_of(name), name)
+    }
+
+    /// The same, where the key of the name is known. It is made once, and not at each node.
+    #[cycle(spot_by_key)]
+    fn spot_by_key(&self, key: u64, name: &str) -> Option<Spot>
+        requires { key ≡ key_of name.now }
         ensures { result ≡ found self.now name.now }
     {
         match self {
             NameTree::Empty => None,
-            NameTree::Fork(node) => match name.cmp(node.name.as_str()) {
-                Ordering::Less => node.before.spot_of(name),
+            NameTree::Fork(node) => match node.compare(key, name) {
+                Ordering::Less => node.before.spot_by_key(key, name),
                 Ordering::Equal => Some(node.spot),
-                Ordering::Greater => node.behind.spot_of(name),
+                Ordering::Greater => node.behind.spot_by_key(key, name),
             },
         }
     }
 
     /// Gives a name a spot, also where it had another. A node that another tree shares is copied first.
-    #[cycle(insert)]
     pub fn insert(&mut self, alloc: Global, name: Text, spot: Spot) -> Result<(), OutOfMemory>
         ensures { OnOk result ((q : List ℕ) → found self.new q ≡ option_or (spot_for name spot q) (found self.old q)) }
     {
+        let key = key_of(name.as_str());
+        self.insert_by_key(alloc, key, name, spot)
+    }
+
+    /// The same, where the key of the name is known. It is made once, and not at each node.
+    #[cycle(insert_by_key)]
+    fn insert_by_key(
+        &mut self,
+        alloc: Global,
+        key: u64,
+        name: Text,
+        spot: Spot,
+    ) -> Result<(), OutOfMemory>
+        requires { key ≡ key_of name }
+        ensures { OnOk result ((q : List ℕ) → found self.new q ≡ option_or (spot_for name spot q) (found self.old q)) }
+    {
         let NameTree::Fork(shared) = self else {
-            *self = leaf(alloc, name, spot)?;
+            *self = leaf(alloc, key, name, spot)?;
             return Ok(());
         };
         unshare(alloc, shared)?;
@@ -69,16 +94,16 @@ impl NameTree {
             return Err(OutOfMemory);
         };
         let height = node.height;
-        match name.as_str().cmp(node.name.as_str()) {
+        match node.compare(key, name.as_str()) {
             Ordering::Less => {
-                node.before.insert(alloc, name, spot)?;
+                node.before.insert_by_key(alloc, key, name, spot)?;
                 if node.before.height() == height {
                     self.balance(alloc)?;
                 }
             }
             Ordering::Equal => node.spot = spot,
             Ordering::Greater => {
-                node.behind.insert(alloc, name, spot)?;
+                node.behind.insert_by_key(alloc, key, name, spot)?;
                 if node.behind.height() == height {
                     self.balance(alloc)?;
                 }
@@ -138,6 +163,30 @@ impl NameTree {
     }
 }
 
+impl Node {
+    /// How a name stands to that of the node, by their keys and then by their bytes.
+    fn compare(&self, key: u64, name: &str) -> Ordering
+        ensures { result ≡ keyed_cmp (key, name.now) (self.now.key, self.now.name) }
+    {
+        match key.cmp(&self.key) {
+            Ordering::Equal => name.cmp(self.name.as_str()),
+            order => order,
+        }
+    }
+}
+
+/// The key of a name. Names that count up at their end have keys near one another, so the nodes of such
+/// names stay near one another too.
+fn key_of(name: &str) -> u64
+    ensures { result ≡ key_of name.now }
+{
+    let mut key: u64 = 0;
+    for byte in name.as_bytes() {
+        key = key.wrapping_mul(131).wrapping_add(*byte as u64);
+    }
+    key
+}
+
 /// Copies a node that another tree shares.
 fn unshare(alloc: Global, node: &mut Arc<Node>) -> Result<(), OutOfMemory>
     ensures found { OnOk result ((q : List ℕ) → found_below node.new.value q ≡ found_below node.old.value q) }
@@ -157,9 +206,10 @@ fn copied(alloc: Global, node: &Node) -> Result<Node, OutOfMemory>
 {
     Ok(Node {
         before: node.before.share()?,
+        key: node.key,
+        behind: node.behind.share()?,
         name: node.name.copy(alloc)?,
         spot: node.spot,
-        behind: node.behind.share()?,
         height: node.height,
     })
 }
@@ -175,10 +225,14 @@ fn taken(alloc: Global, node: Arc<Node>) -> Result<Node, OutOfMemory>
 }
 
 /// One name alone.
-fn leaf(alloc: Global, name: Text, spot: Spot) -> Result<NameTree, OutOfMemory>
+fn leaf(alloc: Global, key: u64, name: Text, spot: Spot) -> Result<NameTree, OutOfMemory>
+    requires { key ≡ key_of name }
     ensures { IfOk result (λ tree. (q : List ℕ) → found tree q ≡ spot_for name spot q) }
 {
-    Ok(fork(alloc, joined(NameTree::Empty, name, spot, NameTree::Empty))?)
+    Ok(fork(
+        alloc,
+        joined(NameTree::Empty, key, name, spot, NameTree::Empty),
+    )?)
 }
 
 fn fork(alloc: Global, node: Node) -> Result<NameTree, OutOfMemory>
@@ -188,15 +242,16 @@ fn fork(alloc: Global, node: Node) -> Result<NameTree, OutOfMemory>
 }
 
 /// A name between others.
-fn joined(before: NameTree, name: Text, spot: Spot, behind: NameTree) -> Node
-    ensures { (q : List ℕ) → found_below result q ≡ found_between (found before) name spot (found behind) q }
+fn joined(before: NameTree, key: u64, name: Text, spot: Spot, behind: NameTree) -> Node
+    ensures { (q : List ℕ) → found_below result q ≡ found_between (found before) (key, name) spot (found behind) q }
 {
     let height = before.height().max(behind.height()).saturating_add(1);
     Node {
         before,
+        key,
+        behind,
         name,
         spot,
-        behind,
         height,
     }
 }
@@ -207,20 +262,21 @@ fn balanced(alloc: Global, node: Node) -> Result<Node, OutOfMemory>
 {
     let Node {
         before,
+        key,
+        behind,
         name,
         spot,
-        behind,
         ..
     } = node;
     let (first, second) = (before.height(), behind.height());
     if first > second.saturating_add(1) {
         let before = higher_before(alloc, before)?;
-        Ok(before_on_top(alloc, joined(before, name, spot, behind))?)
+        Ok(before_on_top(alloc, joined(before, key, name, spot, behind))?)
     } else if second > first.saturating_add(1) {
         let behind = higher_behind(alloc, behind)?;
-        Ok(behind_on_top(alloc, joined(before, name, spot, behind))?)
+        Ok(behind_on_top(alloc, joined(before, key, name, spot, behind))?)
     } else {
-        Ok(joined(before, name, spot, behind))
+        Ok(joined(before, key, name, spot, behind))
     }
 }
 
@@ -259,20 +315,21 @@ fn before_on_top(alloc: Global, node: Node) -> Result<Node, OutOfMemory>
 {
     let Node {
         before,
+        key,
+        behind,
         name,
         spot,
-        behind,
         ..
     } = node;
     let NameTree::Fork(first) = before else {
-        return Ok(joined(NameTree::Empty, name, spot, behind));
+        return Ok(joined(NameTree::Empty, key, name, spot, behind));
     };
     let top = taken(alloc, first)?;
-    if top.name.as_str().cmp(name.as_str()) != Ordering::Less {
-        return Ok(joined(fork(alloc, top)?, name, spot, behind));
+    if top.compare(key, name.as_str()) != Ordering::Greater {
+        return Ok(joined(fork(alloc, top)?, key, name, spot, behind));
     }
-    let lower = joined(top.behind, name, spot, behind);
-    Ok(joined(top.before, top.name, top.spot, fork(alloc, lower)?))
+    let lower = joined(top.behind, key, name, spot, behind);
+    Ok(joined(top.before, top.key, top.name, top.spot, fork(alloc, lower)?))
 }
 
 /// Puts the next name along `behind` in the place of a node.
@@ -281,18 +338,19 @@ fn behind_on_top(alloc: Global, node: Node) -> Result<Node, OutOfMemory>
 {
     let Node {
         before,
+        key,
+        behind,
         name,
         spot,
-        behind,
         ..
     } = node;
     let NameTree::Fork(second) = behind else {
-        return Ok(joined(before, name, spot, NameTree::Empty));
+        return Ok(joined(before, key, name, spot, NameTree::Empty));
     };
     let top = taken(alloc, second)?;
-    if name.as_str().cmp(top.name.as_str()) != Ordering::Less {
-        return Ok(joined(before, name, spot, fork(alloc, top)?));
+    if top.compare(key, name.as_str()) != Ordering::Less {
+        return Ok(joined(before, key, name, spot, fork(alloc, top)?));
     }
-    let lower = joined(before, name, spot, top.before);
-    Ok(joined(fork(alloc, lower)?, top.name, top.spot, top.behind))
+    let lower = joined(before, key, name, spot, top.before);
+    Ok(joined(fork(alloc, lower)?, top.key, top.name, top.spot, top.behind))
 }

@@ -10,7 +10,7 @@ pub returns : goal.returns
 returns c q =
     let node = c.in-Some.node.now in
     let here : found c.args.self.now q ≡ found_below node q = search (rules, the_lemmas, the_views) in
-    let parts : found_below node q ≡ found_between (found node.before) node.name node.spot (found node.behind) q = search (rules, the_lemmas, the_views) in
-    let own = roll-Node (record { before = node.before; name = node.name; spot = node.spot; behind = node.behind; height = c.saturating_add-node.result }) in
-    let is_own : found_below own q ≡ found_between (found node.before) node.name node.spot (found node.behind) q = search (rules, the_lemmas, the_views) in
+    let parts : found_below node q ≡ found_between (found node.before) (node.key, node.name) node.spot (found node.behind) q = search (rules, the_lemmas, the_views) in
+    let own = roll-Node (record { before = node.before; key = node.key; behind = node.behind; name = node.name; spot = node.spot; height = c.saturating_add-node.result }) in
+    let is_own : found_below own q ≡ found_between (found node.before) (node.key, node.name) node.spot (found node.behind) q = search (rules, the_lemmas, the_views) in
     found_fork (arc_with_value c.in-Fork.shared own) q ∙ is_own ∙ sym (here ∙ parts)
