@@ -8,11 +8,11 @@ ghost use Rattle.mutator_rules.specs.Conditions.{places_in};
 
 use crate::wanting::own_with;
 use bp_faults::{Item, NodeId, OutOfMemory, Payload, Seq, Text};
-use bp_names::NameTable;
 use bp_props::{Module, ModuleKind};
 use module_graph::{EdgeKind, Graph, Node, Variation, Variations};
 use module_rules::{Record, Seen, one_variant, request};
 use mutator_rules::{Axis, BottomUp, Config, Request, Split};
+use name_index::NameIndex;
 use pass_core::VisitError;
 use std::alloc::Global;
 use std::marker::Model;
@@ -23,7 +23,7 @@ use std::sync::Arc;
 #[derive(Drop)]
 pub struct PluginsAsk<'a, 't> {
     mods: &'a [Module],
-    names: Option<&'t NameTable<'a>>,
+    names: Option<&'t NameIndex<'a>>,
 }
 
 impl<'a, 't> Model for PluginsAsk<'a, 't> {
@@ -50,7 +50,7 @@ impl<'a, 't> PluginsAsk<'a, 't> {
     pub fn with_names(
         mods: &'a [Module],
         _c: &'a Config,
-        names: &'t NameTable<'a>,
+        names: &'t NameIndex<'a>,
     ) -> PluginsAsk<'a, 't>
         requires { IsNameTable mods.now names.now }
         ensures { result ≡ mods.now }
@@ -84,7 +84,7 @@ fn kind_at(mods: &[Module], number: usize) -> Option<ModuleKind>
 }
 
 /// The kind of the first module of a name, by a table of the names.
-fn kind_by_table(mods: &[Module], table: &NameTable<'_>, name: &Text) -> Option<ModuleKind>
+fn kind_by_table(mods: &[Module], table: &NameIndex<'_>, name: &Text) -> Option<ModuleKind>
     requires { IsNameTable mods.now table.now }
     ensures { result ≡ kind_named mods.now name.now }
 {
@@ -95,7 +95,7 @@ fn kind_by_table(mods: &[Module], table: &NameTable<'_>, name: &Text) -> Option<
 }
 
 /// The kind of the first module of a name.
-fn kind_named(mods: &[Module], names: Option<&NameTable<'_>>, name: &Text) -> Option<ModuleKind>
+fn kind_named(mods: &[Module], names: Option<&NameIndex<'_>>, name: &Text) -> Option<ModuleKind>
     requires { IsNameTableIfSome mods.now (option_copied names) }
     ensures { result ≡ kind_named mods.now name.now }
 {

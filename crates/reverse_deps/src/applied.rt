@@ -58,13 +58,18 @@ fn with_links<P: Drop>(
     })
 }
 
-/// No walk in a graph returns to its start.
+/// No walk in a graph returns to its start. Labels are made only where one does.
 fn refuse_cycle<P>(alloc: Global, mods: &[Module], g: &Graph<P>) -> Result<(), GraphError>
     requires { MayRun (places_in (length mods.now)) g.now.nodes }
     ensures { Tells (λ done. done) (CycleMeans g.now.nodes (labels_of mods.now g.now.nodes)) result }
 {
-    let labels = labels(alloc, mods, g)?;
-    check_cycle(alloc, g, &labels)
+    match check_cycle(alloc, g, &[]) {
+        Err(GraphError::Bad(_)) => {
+            let labels = labels(alloc, mods, g)?;
+            check_cycle(alloc, g, &labels)
+        }
+        answer => answer,
+    }
 }
 
 /// Adds the edges that nodes ask for. All requests are resolved in the graph as it is handed in.

@@ -6,28 +6,28 @@ ghost use Rattle.reverse_deps.specs.Inside.{IsDirectory, ListsNodes, is_wanted_a
 ghost use Rattle.reverse_deps.specs.Resolved.{has, is_wanted, names_of, node_for};
 
 use bp_faults::{NodeId, OutOfMemory, Seq, Text};
-use bp_names::NameTable;
 use bp_names::laws::tables_grow_with_lists;
 use bp_props::Module;
 use module_graph::laws::one_more_item;
 use module_graph::{Axis, Graph, Node, Variation, Variations};
 use mutator_rules::Wanted;
+use name_index::NameIndex;
 use std::alloc::Global;
 
 /// The first module of each name, and the nodes of each module, by number.
 #[derive(Drop)]
 pub struct Directory<'a> {
-    pub names: NameTable<'a>,
+    pub names: NameIndex<'a>,
     pub nodes: Vec<Seq<NodeId>>,
 }
 
 /// The number of the first module of each name.
-fn number_names<'a>(alloc: Global, mods: &'a [Module]) -> Result<NameTable<'a>, OutOfMemory>
+fn number_names<'a>(alloc: Global, mods: &'a [Module]) -> Result<NameIndex<'a>, OutOfMemory>
     requires { length mods.now < 2 ^ 32 }
     ensures { IfOk result (λ table. NumbersFirst (names_of mods.now) table) }
 {
     tables_grow_with_lists();
-    let mut table = NameTable::new(alloc);
+    let mut table = NameIndex::new(alloc);
     for (number, item) in mods.iter().enumerate() {
         table.learn(item.name.as_str(), number as u32)?;
     }

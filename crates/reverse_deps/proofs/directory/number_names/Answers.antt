@@ -1,4 +1,4 @@
-use Rattle.std.proofs.Common.{◌≡◌, ◌∙◌, ◌++◌, ◌∷◌, [], List, ℕ, ap, sym, subst, length, map, take, arith}
+use Rattle.std.proofs.Common.{◌≡◌, ◌∙◌, sym, subst, length, take, arith}
 use Rattle.std.proofs.lemmas.List.{length-map, length-take-le}
 use Rattle.bp_faults.proofs.Lists.{map-take-more}
 use Rattle.bp_names.specs.Meaning.{LearnsNumber, NumbersFirst}
