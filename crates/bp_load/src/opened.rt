@@ -14,6 +14,7 @@ use crate::parsed::Parsed;
 use bp_faults::{OutOfMemory, Path};
 use bp_values::{RawModule, Scope, evaluate_from};
 use std::alloc::Global;
+use std::mem;
 
 /// A directory that is above the last file, or the file's own, and how many layers the final scope of its file has.
 #[derive(Drop)]
@@ -147,7 +148,11 @@ pub fn evaluate_in(
     ensures { Answers (λ modules. map placed_raw modules.items) result (evaluated_in (pairs_of base) [] (map placed_of files.items)) }
 {
     let evaluation = evaluate_files(alloc, base, files)?;
-    Ok(evaluation.modules)
+    let Evaluation { scope, modules, .. } = evaluation;
+    // The scope has a node for each variable. To free millions of them one by one takes a third of all
+    // the time of such a tree, so they are left to the end of the process.
+    mem::forget(scope);
+    Ok(modules)
 }
 
 /// The modules of all files, which stand in file order.
