@@ -1,5 +1,5 @@
 #!/bin/sh
-# Measures `build` on trees of many_modules.sh: `measure.sh [PROGRAM]`, by default the program that ./bpgen builds. For each
+# Measures `build` on trees of many_modules.sh: `measure.sh [PROGRAM]`, by default ./bpgen. For each
 # size it prints a row of docs/PERFORMANCE.md: modules, files, bytes in and out, the least and the middle processor time (user
 # and system) and the least time by the clock of several runs, the greatest memory, and a checksum of what was written.
 #
@@ -11,15 +11,17 @@
 set -eu
 
 top=$(cd "$(dirname "$0")/.." && pwd)
-program=${1:-$top/crates/bpgen/out/bpgen}
+program=${1:-$top/bpgen}
 sizes=${SIZES:-16384 32768 65536 131072}
 runs=${RUNS:-5}
 preload=${PRELOAD:-}
 if [ ! -x "$program" ]; then
-    echo "measure: there is no program $program; ./bpgen builds it"
+    echo "measure: there is no program $program"
     exit 1
 fi
 program=$(cd "$(dirname "$program")" && pwd)/$(basename "$program")
+# The first run of ./bpgen builds the program.
+"$program" --version > /dev/null
 work=$(mktemp -d)
 trap 'rm -rf "$work"' EXIT
 

@@ -1,6 +1,6 @@
 #!/bin/sh
-# Measures `build` by workers on trees of synthetic_modules.py: `measure_build.sh [PROGRAM]`, by default the program that
-# ./bpgen builds. For each size and number of workers it prints a row of docs/PERFORMANCE.md: modules, workers, the least
+# Measures `build` by workers on trees of synthetic_modules.py: `measure_build.sh [PROGRAM]`, by default
+# ./bpgen. For each size and number of workers it prints a row of docs/PERFORMANCE.md: modules, workers, the least
 # processor time (user and system) and the least time by the clock of several runs, the greatest memory, and the bytes
 # written, which are the same for all workers or the script stops.
 #
@@ -12,15 +12,17 @@
 set -eu
 
 top=$(cd "$(dirname "$0")/.." && pwd)
-program=${1:-$top/crates/bpgen/out/bpgen}
+program=${1:-$top/bpgen}
 sizes=${SIZES:-1000 10000 100000}
 workers=${WORKERS:-1 2 4}
 runs=${RUNS:-3}
 if [ ! -x "$program" ]; then
-    echo "measure_build: there is no program $program; ./bpgen builds it"
+    echo "measure_build: there is no program $program"
     exit 1
 fi
 program=$(cd "$(dirname "$program")" && pwd)/$(basename "$program")
+# The first run of ./bpgen builds the program.
+"$program" --version > /dev/null
 work=$(mktemp -d)
 trap 'rm -rf "$work"' EXIT
 

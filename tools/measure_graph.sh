@@ -1,6 +1,6 @@
 #!/bin/sh
-# Measures `graph` after each mutator on trees of synthetic_modules.py: `measure_graph.sh [PROGRAM]`, by default the program
-# that ./bpgen builds. For each size and mutator it prints a row of docs/PERFORMANCE.md: modules, mutator, nodes of the graph,
+# Measures `graph` after each mutator on trees of synthetic_modules.py: `measure_graph.sh [PROGRAM]`, by default
+# ./bpgen. For each size and mutator it prints a row of docs/PERFORMANCE.md: modules, mutator, nodes of the graph,
 # the least processor time (user and system) and the least time by the clock of several runs, and the greatest memory.
 #
 #   SIZES    numbers of modules (1000 10000 100000)
@@ -12,16 +12,18 @@
 set -eu
 
 top=$(cd "$(dirname "$0")/.." && pwd)
-program=${1:-$top/crates/bpgen/out/bpgen}
+program=${1:-$top/bpgen}
 sizes=${SIZES:-1000 10000 100000}
 after=${AFTER:-defaults_deps defaults arch image link deps plugins per_src sanitize sdk info}
 runs=${RUNS:-3}
 targets=${TARGETS:-}
 if [ ! -x "$program" ]; then
-    echo "measure_graph: there is no program $program; ./bpgen builds it"
+    echo "measure_graph: there is no program $program"
     exit 1
 fi
 program=$(cd "$(dirname "$program")" && pwd)/$(basename "$program")
+# The first run of ./bpgen builds the program.
+"$program" --version > /dev/null
 work=$(mktemp -d)
 trap 'rm -rf "$work"' EXIT
 

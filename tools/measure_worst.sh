@@ -1,21 +1,23 @@
 #!/bin/sh
-# Measures the program on the worst inputs within its limits: `measure_worst.sh [PROGRAM [CASE ..]]`, by default the program that
-# ./bpgen builds and all cases. For each it prints a row of docs/PERFORMANCE.md: the case, bytes in and out, the exit status, and
+# Measures the program on the worst inputs within its limits: `measure_worst.sh [PROGRAM [CASE ..]]`, by default
+# ./bpgen and all cases. For each it prints a row of docs/PERFORMANCE.md: the case, bytes in and out, the exit status, and
 # the least processor time, the least time by the clock and the greatest memory of RUNS runs (3). It needs GNU time and awk, and is
 # no part of the gate.
 set -eu
 
 top=$(cd "$(dirname "$0")/.." && pwd)
-program=${1:-$top/crates/bpgen/out/bpgen}
+program=${1:-$top/bpgen}
 [ $# -eq 0 ] || shift
 cases=${*:-references maps shared_keys extensions nested_keys assignments inheritors heirs long_paths link_lines chain cycle wide modules empty_lines
-    components tokens doubling groups sources edges dots one_line order names}
+    components tokens doubling groups sources edges dots one_line order names key_modules key_variables}
 runs=${RUNS:-3}
 if [ ! -x "$program" ]; then
-    echo "measure_worst: there is no program $program; ./bpgen builds it"
+    echo "measure_worst: there is no program $program"
     exit 1
 fi
 program=$(cd "$(dirname "$program")" && pwd)/$(basename "$program")
+# The first run of ./bpgen builds the program.
+"$program" --version > /dev/null
 work=$(mktemp -d)
 trap 'rm -rf "$work"' EXIT
 
@@ -73,6 +75,31 @@ variables() {
             close(path)
         }
     }'
+}
+
+# Names that have one key: each is made of COUNT parts of 12 letters, which are one of two that a key can't tell apart, whatever
+# stands before and behind them. `names_of FIRST SECOND COUNT FILES LINE` makes files below one another of 2^COUNT lines, each by
+# the awk program LINE of a name and the one before it.
+names_of() {
+    awk -v first="$1" -v second="$2" -v count="$3" -v files="$4" 'BEGIN {
+        path = before = ""
+        for (n = 0; n < 2 ^ count; n++) {
+            if (n % (2 ^ count / files) == 0) {
+                if (n > 0) path = path "d/"
+                print path "Android.bp" > "list"
+                if (n > 0) system("mkdir -p " path)
+            }
+            name = ""
+            left = n
+            for (part = 0; part < count; part++) { name = name (left % 2 ? second : first); left = int(left / 2) }
+            print name, before > (path "Android.bp")
+            before = name
+        }
+    }'
+    while read -r file; do
+        awk "$5" "$file" > made
+        mv made "$file"
+    done < list
 }
 
 # What each case is, and its tree.
@@ -213,6 +240,13 @@ tree_of() {
                     printf "filegroup{name:\"%063d%06d\"}\n", 0, n > file
                 }
             }' ;;
+        key_modules)
+            echo "65,536 libraries whose names have one key, each over the one before it in its 64"
+            names_of biaaaaocsnar aacekgaaaapa 16 32 \
+                '{ print "cc_library_static{name:\"" $1 "\",static_libs:[" (NR % 64 == 1 ? "" : "\"" $2 "\"") "]}" }' ;;
+        key_variables)
+            echo "131,072 variables whose names have one key, in 64 files one below the other, each of the one before it"
+            names_of vaekaqehaqsj ajaadaaahaaa 17 64 '{ print $1 " = " ($2 == "" ? 1 : $2) }' ;;
         *)
             echo "measure_worst: no case $1" >&2
             exit 1 ;;
