@@ -83,7 +83,7 @@ def definitions_of(crate, path, lines):
             comment.append(line.strip()[2:].strip())
             continue
         head = HEAD.fullmatch(line)
-        if head and head.group(3) not in ("mod", "mutual", "{"):
+        if head and head.group(3) not in ("mod", "mutual", "use", "{"):
             spaces, words, name, rest = head.groups()
             more = number
             while more < len(lines) and lines[more].startswith(spaces + "  ") and "=" not in rest:

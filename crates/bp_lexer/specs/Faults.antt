@@ -28,7 +28,8 @@ OpensString text = ((slice_index text 0 ≡ 34) × IsOpen (drop 1 text)) ⊎ (sl
 
 -- A string that ends, with its first bad escape at k.
 abbrev pub HasBadEscape : List ℕ → ℕ → Type 0
-HasBadEscape text k = (slice_index text 0 ≡ 34) × ((n : ℕ) × IsClosedAt in_line (drop 1 text) n) × IsBadEscapeAt (drop 1 text) k
+HasBadEscape text k =
+    (slice_index text 0 ≡ 34) × ((n : ℕ) × IsClosedAt in_line (drop 1 text) n) × IsBadEscapeAt (drop 1 text) k
 
 -- What is wrong at the front of a text: no form fits, and why; or the longest form is a number out of range.
 abbrev pub IsFlaw : List ℕ → Flaw → Type 0
@@ -47,5 +48,6 @@ abbrev pub fault_of : ℕ → List ℕ → ℕ → Flaw → Fault
 fault_of file text at BadChar = fault_on fault.BadChar (place_at file text at) (first_char (drop at text))
 fault_of file text at OpenString = fault_at fault.OpenString (place_at file text at)
 fault_of file text at OpenComment = fault_at fault.OpenComment (place_at file text at)
-fault_of file text at (BadEscape k) = fault_on fault.BadEscape (place_at file text (at + 1 + k)) (first_char (drop (at + 1 + k + 1) text))
+fault_of file text at (BadEscape k) =
+    fault_on fault.BadEscape (place_at file text (at + 1 + k)) (first_char (drop (at + 1 + k + 1) text))
 fault_of file text at (BadNumber n) = fault_on fault.BadNumber (place_at file text at) (take n (drop at text))

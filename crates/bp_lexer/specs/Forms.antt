@@ -32,13 +32,16 @@ IsFirstEnd bytes n = IsEnd bytes n × ((m : ℕ) → m < n → IsEnd bytes m →
 
 -- The bytes are a token of the kind. 45 is `-`, 34 the quote, 96 the backquote, 47 `/` and 42 `*`.
 abbrev pub IsForm : TokenKind → List ℕ → Type 0
-IsForm Ident word = (first : ℕ) × (more : List ℕ) × (word ≡ first ∷ more) × IsTrue (is_letter first) × IsTrue (list_all is_word more)
-IsForm Int word = (sign digits : List ℕ) × (word ≡ sign ++ digits) × ((sign ≡ []) ⊎ (sign ≡ 45 ∷ [])) × (0 < length digits) × IsTrue (list_all is_digit digits)
+IsForm Ident word = (first : ℕ) × (more : List ℕ) × (word ≡ first ∷ more) × IsTrue (is_letter first)
+    × IsTrue (list_all is_word more)
+IsForm Int word = (sign digits : List ℕ) × (word ≡ sign ++ digits) × ((sign ≡ []) ⊎ (sign ≡ 45 ∷ []))
+    × (0 < length digits) × IsTrue (list_all is_digit digits)
 IsForm Quoted word = (inner : List ℕ) × (word ≡ 34 ∷ (inner ++ 34 ∷ [])) × IsTrue (is_body is_escape false inner)
 IsForm Raw word = (inner : List ℕ) × (word ≡ 96 ∷ (inner ++ 96 ∷ [])) × IsTrue (list_all in_raw inner)
 IsForm (Mark punct) word = word ≡ punct_text punct
 IsForm LineComment word = (inner : List ℕ) × (word ≡ 47 ∷ 47 ∷ inner) × IsTrue (list_all in_line inner)
-IsForm BlockComment word = (behind : List ℕ) × (n : ℕ) × (word ≡ 47 ∷ 42 ∷ behind) × (length behind ≡ n + 2) × IsFirstEnd behind n
+IsForm BlockComment word =
+    (behind : List ℕ) × (n : ℕ) × (word ≡ 47 ∷ 42 ∷ behind) × (length behind ≡ n + 2) × IsFirstEnd behind n
 
 -- A token of the kind, and n bytes long, is the longest that the text begins with.
 pub record IsLongest (text : List ℕ) (kind : TokenKind) (n : ℕ) : Type 0 where

@@ -13,7 +13,8 @@ use Rattle.bp_lexer.specs.Places.{place_at, last_line, IsBefore}
 
 -- A text has at most one token list.
 abbrev pub OneTokenList : Type 0
-OneTokenList = (file : ℕ) (text : List ℕ) (ts us : List Token) → IsTokenList file text ts → IsTokenList file text us → ts ≡ us
+OneTokenList = (file : ℕ) (text : List ℕ) (ts us : List Token) → IsTokenList file text ts
+    → IsTokenList file text us → ts ≡ us
 
 -- Each text has a token list or a first fault.
 abbrev pub SomeListOrFault : Type 0
@@ -31,7 +32,8 @@ OneFault = (file : ℕ) (text : List ℕ) (a b : Fault) → IsFirstFault file te
 
 -- A text means one thing alone.
 abbrev pub OneMeaning : Type 0
-OneMeaning = (file : ℕ) (text : List ℕ) (a b : Result (List Token) Fault) → LexMeans file text a → LexMeans file text b → a ≡ b
+OneMeaning = (file : ℕ) (text : List ℕ) (a b : Result (List Token) Fault) → LexMeans file text a
+    → LexMeans file text b → a ≡ b
 
 -- In UTF-8 the column of a character is one more than the characters before it on its line.
 abbrev pub ColumnsCountCharacters : Type 0

@@ -2,7 +2,8 @@
 use Rattle.std.specs.Prelude.{◌≡◌, ℕ, ◌+◌, ◌<◌, Bool, true, false, not, ◌&&◌, ◌==◌, if◌then◌else◌, List, [], ◌∷◌, length, take, slice_index, Option, Some, None, is_some, unwrap_or}
 use Rattle.bp_lexer.specs.Classes.{in_line}
 
--- The nine escapes: what a backslash and this character stand for. They are `\a` `\b` `\f` `\n` `\r` `\t` `\v` `\\` and `\"`.
+-- The nine escapes: what a backslash and this character stand for. They are `\a` `\b` `\f` `\n` `\r` `\t` `\v` `\\` and
+-- `\"`.
 abbrev pub escape_of : ℕ → Option ℕ
 escape_of c =
     if c == 97 then Some 7 else if c == 98 then Some 8 else if c == 102 then Some 12
@@ -34,7 +35,8 @@ IsOpen rest = (n : ℕ) → IsClosedAt in_line rest n → ⊥
 
 -- The first bad escape is at k.
 abbrev pub IsBadEscapeAt : List ℕ → ℕ → Type 0
-IsBadEscapeAt rest k = (k + 1 < length rest) × (is_body is_escape false (take k rest) ≡ true) × (slice_index rest k ≡ 92) × (is_escape (slice_index rest (k + 1)) ≡ false)
+IsBadEscapeAt rest k = (k + 1 < length rest) × (is_body is_escape false (take k rest) ≡ true)
+    × (slice_index rest k ≡ 92) × (is_escape (slice_index rest (k + 1)) ≡ false)
 
 -- The characters that a string stands for, from those between its quotes.
 -- `slash`: a backslash stands before.

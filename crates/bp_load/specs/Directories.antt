@@ -8,11 +8,11 @@ use Rattle.std.specs.Ordering.{nat_cmp}
 use Rattle.std.specs.Cmp.Lexicographic.{slice_cmp}
 use Rattle.property_tables.specs.Paths.{parts}
 
--- the components of the directory of a file: all of its path's but the last
+-- The components of the directory of a file: all of its path's but the last.
 abbrev pub directories : List ℕ → List (List ℕ)
 directories path = take (length (parts path) - 1) (parts path)
 
--- the directory of a file, as a path
+-- The directory of a file, as a path.
 abbrev pub directory_of : List ℕ → List ℕ
 directory_of path = join_with_byte 47 (directories path)
 
@@ -24,6 +24,6 @@ directory_cmp a b = slice_cmp (slice_cmp nat_cmp) a b
 abbrev pub AreInFileOrder : List (List ℕ) → Type 0
 AreInFileOrder paths = IsStrictlySortedBy directory_cmp (map directories paths)
 
--- a directory is above another, or the same
+-- A directory is above another, or the same.
 abbrev pub is_above : List (List ℕ) → List (List ℕ) → Bool
 is_above above directory = starts_with bytes_eq directory above

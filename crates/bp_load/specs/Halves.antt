@@ -28,4 +28,5 @@ CanParse number files = (number + length files < 2 ^ 32) × All (λ f. length f.
 
 -- An answer tells what files mean, the first of which has the number.
 abbrev pub TellsTrees : ℕ → List (List ℕ × Vec ℕ Global) → Result (Vec Parsed Global) Refusal → Type 0
-TellsTrees number files answer = Tells (λ parsed. map placed_of parsed.items) (Phase FileMeans number (sources files)) answer
+TellsTrees number files answer =
+    Tells (λ parsed. map placed_of parsed.items) (Phase FileMeans number (sources files)) answer

@@ -11,20 +11,21 @@ use Rattle.bp_load.specs.Directories.{is_above}
 use Rattle.bp_faults.specs.Phases.{Then}
 use Rattle.bp_load.specs.Trees.{Source, Placed, TreesMean}
 
--- a file that is evaluated: its directory and its final scope
+-- A file that is evaluated: its directory and its final scope.
 abbrev pub Finished : Type 0
 Finished = List (List ℕ) × Pairs
 
--- of two files above a directory, that in the nearer directory, which has more components
+-- Of two files above a directory, the nearer is that whose directory has more components, and the second where both
+-- have as many or there is no first.
 abbrev pub nearer : Option Finished → Finished → Option Finished
 nearer None file = Some file
 nearer (Some best) file = if nat_le (length best.0) (length file.0) then Some file else Some best
 
--- the file in the nearest directory above, if there is one
+-- The file in the nearest directory that is above this one or the same, if there is one.
 abbrev pub nearest : List (List ℕ) → List Finished → Option Finished
 nearest directory files = fold nearer None (filter (λ f. is_above f.0 directory) files)
 
--- the scope of a file, and the empty one where there is none
+-- The final scope of a file, and the empty one where there is no file.
 abbrev pub scope_of : Option Finished → Pairs
 scope_of None = []
 scope_of (Some file) = file.1
@@ -34,11 +35,11 @@ scope_of (Some file) = file.1
 abbrev pub inherited : List (List ℕ) → List Finished → Pairs
 inherited directory files = scope_of (nearest directory files)
 
--- a module in the directory of its file
+-- Modules, each with the directory of its file.
 abbrev pub in_directory : List ℕ → List Raw → List (List ℕ × Raw)
 in_directory dir modules = map (λ m. (dir, m)) modules
 
--- the modules of the files in turn, behind files that are finished
+-- The modules of the files in turn, behind files that are finished, or the first fault.
 abbrev pub all_evaluated : List Finished → List Placed → Result (List (List ℕ × Raw)) Fault
 all_evaluated finished [] = Ok []
 all_evaluated finished (file ∷ files) =
@@ -46,6 +47,7 @@ all_evaluated finished (file ∷ files) =
     (λ values. then_do (all_evaluated (finished ++ (file.directory, values.1) ∷ []) files)
     (λ modules. Ok (in_directory file.dir values.0 ++ modules)))
 
+-- How contracts see a raw module of the code with its directory.
 abbrev pub placed_raw : List ℕ × RawModule → List ℕ × Raw
 placed_raw m = (m.0, raw_of m.1)
 

@@ -21,12 +21,14 @@ OneList = (bytes : List ℕ) (a b : Result (List (List ℕ)) Fault) → ListMean
 
 -- Each path that a list means may be listed.
 abbrev pub ListsWhatMayBe : Type 0
-ListsWhatMayBe = (bytes : List ℕ) (paths : List (List ℕ)) → ListMeans bytes (Ok paths) → All (λ path. IsTrue (is_listed path)) paths
+ListsWhatMayBe = (bytes : List ℕ) (paths : List (List ℕ)) → ListMeans bytes (Ok paths)
+    → All (λ path. IsTrue (is_listed path)) paths
 
 -- A directory above another is the same, or stands before it in file order. So the files before a file are all
 -- that it could inherit from.
 abbrev pub AncestorsStandFirst : Type 0
-AncestorsStandFirst = (above below : List (List ℕ)) → is_above above below ≡ true → (above ≡ below) ⊎ (directory_cmp above below ≡ Less)
+AncestorsStandFirst = (above below : List (List ℕ)) → is_above above below ≡ true
+    → (above ≡ below) ⊎ (directory_cmp above below ≡ Less)
 
 -- Files mean some raw modules, or have some fault.
 abbrev pub SomeRaw : Type 0

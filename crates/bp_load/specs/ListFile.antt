@@ -30,7 +30,8 @@ file_name path = slice_index_or (parts path) (length (parts path) - 1) []
 
 -- What may be listed: a path in normal form whose last component is `Android.bp`.
 abbrev pub is_listed : List ℕ → Bool
-is_listed path = is_normal path && (not (list_any is_barred_in_paths path) && bytes_eq (file_name path) (codes "Android.bp"))
+is_listed path =
+    is_normal path && (not (list_any is_barred_in_paths path) && bytes_eq (file_name path) (codes "Android.bp"))
 
 -- A line is sound where it is blank, or what it names may be listed.
 abbrev pub is_sound : List ℕ → Bool
@@ -53,8 +54,10 @@ line_place at = record { file = 0; line = at + 1; col = 1 }
 -- A line that isn't sound is wrong, and the line with which the paths become more than 16,384.
 abbrev pub IsWrongAt : List (List ℕ) → ℕ → Fault → Type 0
 IsWrongAt lines at fault =
-    ((is_sound (slice_index_or lines at []) ≡ false) × (fault ≡ fault_on BadList (line_place at) (slice_index_or lines at [])))
-    ⊎ ((paths : List (List ℕ)) × AreListed (take (at + 1) lines) paths × (MOST_FILES < length paths) × (fault ≡ fault_on TooMany (line_place at) (codes "files")))
+    ((is_sound (slice_index_or lines at []) ≡ false)
+    × (fault ≡ fault_on BadList (line_place at) (slice_index_or lines at [])))
+    ⊎ ((paths : List (List ℕ)) × AreListed (take (at + 1) lines) paths × (MOST_FILES < length paths)
+    × (fault ≡ fault_on TooMany (line_place at) (codes "files")))
 
 -- These are the paths of the list: all lines are sound, and the paths are no more than 16,384.
 pub record AreFiles (lines paths : List (List ℕ)) : Type 0 where
@@ -69,6 +72,7 @@ pub record IsFirstFault (lines : List (List ℕ)) (fault : Fault) : Type 0 where
   pub files : AreFiles (take at lines) before
   pub wrong : IsWrongAt lines at fault
 
+-- What the lines of a list file mean: the paths of its files in file order, or its first fault.
 abbrev pub LinesMean : List (List ℕ) → Result (List (List ℕ)) Fault → Type 0
 LinesMean lines (Ok paths) = AreFiles lines paths
 LinesMean lines (Err fault) = IsFirstFault lines fault

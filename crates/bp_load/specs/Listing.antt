@@ -14,7 +14,8 @@ Entries = List (List (List ℕ) × List ℕ)
 
 -- A map has no more paths than the limit.
 abbrev pub counted : ℕ → Entries → Result Entries Fault
-counted at entries = if nat_le (length entries) MOST_FILES then Ok entries else Err (fault_on TooMany (line_place at) (codes "files"))
+counted at entries = if nat_le (length entries) MOST_FILES then Ok entries
+    else Err (fault_on TooMany (line_place at) (codes "files"))
 
 -- A path is put in its directory's place.
 abbrev pub with_path : ℕ → Entries → List ℕ → Result Entries Fault

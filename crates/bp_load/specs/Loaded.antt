@@ -21,7 +21,7 @@ abbrev pub all_typed : List (List ℕ × Raw) → Result (List Module) Fault
 all_typed [] = Ok []
 all_typed (m ∷ ms) = then_do (typed m.1 m.0) (λ made. then_do (all_typed ms) (λ more. Ok (option_to_list made ++ more)))
 
--- where a module has its name
+-- The place of the entry that gives a module its name, and the module's own place where none does.
 abbrev pub name_place : Place → Option (Given (List ℕ)) → Place
 name_place at None = at
 name_place at (Some name) = name.at
@@ -46,7 +46,7 @@ abbrev pub names_tested : List Module → List Module → Result Unit Fault
 names_tested before [] = Ok tt
 names_tested before (m ∷ ms) = then_do (name_tested before m) (λ fine. names_tested (before ++ m ∷ []) ms)
 
--- what raw modules load as: first every module is typed, and then every name is tested
+-- What raw modules load as: first every module is typed, and then every name is tested.
 abbrev pub all_named : List (List ℕ × Raw) → Result (List Module) Fault
 all_named raws = then_do (all_typed raws) (λ modules. then_do (names_tested [] modules) (λ fine. Ok modules))
 

@@ -16,7 +16,8 @@ abbrev pub scope_in : Pairs → Option Finished → Pairs
 scope_in base None = base
 scope_in base (Some file) = file.1
 
--- The modules of the files in turn, behind files that are finished. Where none of these is above a file, it inherits the base.
+-- The modules of the files in turn, behind files that are finished. Where none of these is above a file, it inherits
+-- the base.
 abbrev pub evaluated_in : Pairs → List Finished → List Placed → Result (List (List ℕ × Raw)) Fault
 evaluated_in base finished [] = Ok []
 evaluated_in base finished (file ∷ files) =
@@ -52,8 +53,8 @@ abbrev pub layers_in : ℕ → List Open → ℕ
 layers_in base [] = base
 layers_in base (o ∷ more) = o.layers
 
--- Innermost first: the first directory has at most so many layers, each other at most as many as the one inside it, and the
--- base at most as many as the last.
+-- Innermost first: the first directory has at most so many layers, each other at most as many as the one inside it, and
+-- the base at most as many as the last.
 abbrev pub AreNested : ℕ → ℕ → List Open → Type 0
 AreNested base height [] = base ≤ height
 AreNested base height (o ∷ more) = (o.layers ≤ height) × AreNested base o.layers more
@@ -71,7 +72,8 @@ innermost (o ∷ more) = Some o
 abbrev pub with_values : Pairs → Turn → List Finished → Placed → Result Turn Fault
 with_values base turn stay file =
     then_do (evaluated (scope_in base (innermost stay)) file.defs)
-    (λ values. Ok (record { opened = (file.directory, values.1) ∷ stay; modules = turn.modules ++ in_directory file.dir values.0 }))
+    (λ values. Ok
+    (record { opened = (file.directory, values.1) ∷ stay; modules = turn.modules ++ in_directory file.dir values.0 }))
 
 -- One file more is evaluated.
 abbrev pub turned : Pairs → Turn → Placed → Result Turn Fault

@@ -12,4 +12,5 @@ not_utf8 file bytes = fault_at NotUtf8 (place_at file bytes (utf8_valid_len byte
 
 -- What the bytes of a file mean, where a meaning is given to every text: they must be UTF-8.
 abbrev pub AsText : {A : Type 0} → ℕ → List ℕ → (Result A Fault → Type 0) → Result A Fault → Type 0
-AsText file bytes Means outcome = (IsUtf8 bytes × Means outcome) ⊎ ((IsUtf8 bytes → ⊥) × (outcome ≡ Err (not_utf8 file bytes)))
+AsText file bytes Means outcome =
+    (IsUtf8 bytes × Means outcome) ⊎ ((IsUtf8 bytes → ⊥) × (outcome ≡ Err (not_utf8 file bytes)))

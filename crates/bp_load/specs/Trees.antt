@@ -11,23 +11,25 @@ use Rattle.bp_load.specs.Directories.{directories, directory_of}
 use Rattle.bp_load.specs.Texts.{AsText}
 use Rattle.bp_faults.specs.Phases.{Then, Phase}
 
--- a file: its path and its bytes
+-- A source file: its path and its bytes.
 abbrev pub Source : Type 0
 Source = List ℕ × List ℕ
 
--- how contracts see the files that are handed in
+-- How contracts see the files that are handed in.
 abbrev pub sources : List (List ℕ × Vec ℕ Global) → List Source
 sources files = map (λ f. (f.0, f.1.items)) files
 
--- a file as it is parsed: the components of its directory, the directory as a path, and its definitions
+-- A file as it is parsed: the components of its directory, the directory as a path, and its definitions.
 pub record Placed : Type 0 where
   pub directory : List (List ℕ)
   pub dir : List ℕ
   pub defs : List Definition
 
+-- How contracts see a parsed file of the code.
 abbrev pub placed_of : Parsed → Placed
 placed_of p = record { directory = p.directory; dir = p.dir; defs = (tree_view p.tree).defs }
 
+-- The parsed file that a path and a tree make.
 abbrev pub placed : List ℕ → File → Placed
 placed path tree = record { directory = directories path; dir = directory_of path; defs = tree.defs }
 
@@ -37,7 +39,8 @@ TextMeans file text outcome = Then (LexMeans file text) (ParseMeans text) outcom
 
 -- What a file means, by its number.
 abbrev pub FileMeans : ℕ → Source → Result Placed Fault → Type 0
-FileMeans file source outcome = Then (AsText file source.1 (TextMeans file source.1)) (λ tree o. Ok (placed source.0 tree) ≡ o) outcome
+FileMeans file source outcome =
+    Then (AsText file source.1 (TextMeans file source.1)) (λ tree o. Ok (placed source.0 tree) ≡ o) outcome
 
 -- What all files mean. The first has the number 1.
 abbrev pub TreesMean : List Source → Result (List Placed) Fault → Type 0

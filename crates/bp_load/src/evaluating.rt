@@ -109,7 +109,8 @@ fn evaluate_below<R: Threads + Sync>(
     workers: u32,
 ) -> Result<Vec<(Path, RawModule)>, LoadError>
     requires { IsStrictlySortedBy directory_cmp (directories_of files.items) }
-    ensures { Answers (λ modules. map placed_raw modules.items) result (evaluated_in (pairs_of base) [] (map placed_of files.items)) }
+    ensures { Answers (λ modules. map placed_raw modules.items) result
+        (evaluated_in (pairs_of base) [] (map placed_of files.items)) }
 {
     if workers < 2 || size(files.as_slice()) < FEW_BYTES {
         return evaluate_in(alloc, base, files);
@@ -134,7 +135,8 @@ fn evaluate_branches<R: Threads + Sync>(
 ) -> Result<Vec<(Path, RawModule)>, LoadError>
     requires order { IsStrictlySortedBy directory_cmp (directories_of files.items) }
     requires several { 1 < workers }
-    ensures { Answers (λ modules. map placed_raw modules.items) result (evaluated_in (pairs_of base) [] (map placed_of files.items)) }
+    ensures { Answers (λ modules. map placed_raw modules.items) result
+        (evaluated_in (pairs_of base) [] (map placed_of files.items)) }
 {
     let bytes = size(files.as_slice());
     let at = cut(files.as_slice(), bytes / 2);
@@ -147,11 +149,13 @@ fn evaluate_branches<R: Threads + Sync>(
     let shared = base.share(alloc)?;
     let evaluate_front = move || -> Result<Vec<(Path, RawModule)>, LoadError>
         requires { IsSync R.row × IsStrictlySortedBy directory_cmp (directories_of front.items) }
-        ensures { Answers (λ modules. map placed_raw modules.items) result (evaluated_in (pairs_of base) [] (map placed_of front.items)) }
+        ensures { Answers (λ modules. map placed_raw modules.items) result
+            (evaluated_in (pairs_of base) [] (map placed_of front.items)) }
     { evaluate_below(rt, alloc, base, front, some) };
     let evaluate_back = move || -> Result<Vec<(Path, RawModule)>, LoadError>
         requires { IsSync R.row × IsStrictlySortedBy directory_cmp (directories_of back.items) }
-        ensures { Answers (λ modules. map placed_raw modules.items) result (evaluated_in (pairs_of shared) [] (map placed_of back.items)) }
+        ensures { Answers (λ modules. map placed_raw modules.items) result
+            (evaluated_in (pairs_of shared) [] (map placed_of back.items)) }
     { evaluate_below(rt, alloc, shared, back, others) };
     let (front, back) = join(rt, evaluate_front, evaluate_back);
     joined(front, back)

@@ -60,7 +60,8 @@ fn layers(opened: &[Open], base: usize) -> usize
 
 /// The scope of the innermost directory, or the base where none is open; and the modules so far.
 pub fn finish(evaluation: Evaluation) -> (Scope, Vec<(Path, RawModule)>)
-    ensures scope { (base : Pairs) → IsBelow base evaluation → pairs_of result.0 ≡ scope_in base (innermost (turn_of evaluation).opened) }
+    ensures scope { (base : Pairs) → IsBelow base evaluation
+        → pairs_of result.0 ≡ scope_in base (innermost (turn_of evaluation).opened) }
     ensures modules { map placed_raw result.1.items ≡ (turn_of evaluation).modules }
 {
     let Evaluation {
@@ -79,7 +80,8 @@ fn put_modules(
     dir: &Path,
     more: Vec<RawModule>,
 ) -> Result<(), OutOfMemory>
-    ensures { OnOk result (map placed_raw modules.new.items ≡ map placed_raw modules.old.items ++ in_directory dir.now (map raw_of more.items)) }
+    ensures { OnOk result (map placed_raw modules.new.items
+        ≡ map placed_raw modules.old.items ++ in_directory dir.now (map raw_of more.items)) }
 {
     for module in more {
         modules.push((dir.copy(alloc)?, module))?;
@@ -93,7 +95,8 @@ fn evaluate_file(
     evaluation: Evaluation,
     file: Parsed,
 ) -> Result<Evaluation, LoadError>
-    ensures turn { (base : Pairs) → IsBelow base evaluation → Answers turn_of result (turned base (turn_of evaluation) (placed_of file)) }
+    ensures turn { (base : Pairs) → IsBelow base evaluation
+        → Answers turn_of result (turned base (turn_of evaluation) (placed_of file)) }
     ensures below { (base : Pairs) → IsBelow base evaluation → IfOk result (IsBelow base) }
 {
     let Evaluation {
@@ -145,7 +148,8 @@ pub fn evaluate_in(
     files: Vec<Parsed>,
 ) -> Result<Vec<(Path, RawModule)>, LoadError>
     requires { IsStrictlySortedBy directory_cmp (map (λ f. f.directory) (map placed_of files.items)) }
-    ensures { Answers (λ modules. map placed_raw modules.items) result (evaluated_in (pairs_of base) [] (map placed_of files.items)) }
+    ensures { Answers (λ modules. map placed_raw modules.items) result
+        (evaluated_in (pairs_of base) [] (map placed_of files.items)) }
 {
     let evaluation = evaluate_files(alloc, base, files)?;
     let Evaluation { scope, modules, .. } = evaluation;

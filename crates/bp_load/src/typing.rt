@@ -26,7 +26,8 @@ fn put_typed(
     dir: &Path,
     raw: &RawModule,
 ) -> Result<(), LoadError>
-    ensures { Leaves (λ modules. modules.items) modules.new result (then_do (typed_as (raw_of raw.now) dir.now) (λ made. Ok (modules.old.items ++ option_to_list made))) }
+    ensures { Leaves (λ modules. modules.items) modules.new result
+        (then_do (typed_as (raw_of raw.now) dir.now) (λ made. Ok (modules.old.items ++ option_to_list made))) }
 {
     if let Some(module) = typed(alloc, raw, dir)? {
         modules.push(module)?;

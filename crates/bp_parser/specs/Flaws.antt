@@ -47,7 +47,9 @@ pub record IsTooNested (ws : List Word) (k : ℕ) : Type 0 where
 -- Entries, each with a comma behind it, and then rest.
 abbrev pub SpellsFirst : Entries → List Word → List Word → Type 0
 SpellsFirst no_entry ts rest = ts ≡ rest
-SpellsFirst (entry_and name at x es) ts rest = (colon next comma mid : List Word) × IsWord Ident at name ts colon × IsMark Colon colon next × Spells x next comma × IsMark Comma comma mid × SpellsFirst es mid rest
+SpellsFirst (entry_and name at x es) ts rest =
+    (colon next comma mid : List Word) × IsWord Ident at name ts colon × IsMark Colon colon next
+    × Spells x next comma × IsMark Comma comma mid × SpellsFirst es mid rest
 
 -- A name that its map already has: behind the map's brace stand entries, each with a comma behind it, one of
 -- them with the name, and then the name.

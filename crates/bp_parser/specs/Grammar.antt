@@ -35,50 +35,69 @@ abbrev pub HasTerm : Terms → Type 0
 HasTerm no_term = ⊥
 HasTerm (term_and at x terms) = ⊤
 
--- Expr = Prim { "+" Prim },  Prim = Ident | Int | Quoted | Raw | List | Map
 abbrev mutual
+  -- The words begin with the expression, by Expr = Prim { "+" Prim } and
+  -- Prim = Ident | Int | Quoted | Raw | List | Map.
   pub Spells : Tree → List Word → List Word → Type 0
-  Spells (Leaf at atom) ts rest = (kind : TokenKind) × (text : List ℕ) × IsWord kind at text ts rest × (atom_of kind text ≡ Some atom)
+  Spells (Leaf at atom) ts rest =
+      (kind : TokenKind) × (text : List ℕ) × IsWord kind at text ts rest × (atom_of kind text ≡ Some atom)
   Spells (Items at xs) ts rest = (inner : List Word) × IsMarkAt OpenBracket at ts inner × SpellsItems xs inner rest
   Spells (Body at es) ts rest = (inner : List Word) × IsMarkAt OpenBrace at ts inner × SpellsEntries es inner rest
-  Spells (Sum x terms) ts rest = (mid : List Word) × IsPrim x × HasTerm terms × Spells x ts mid × SpellsTerms terms mid rest
+  Spells (Sum x terms) ts rest =
+      (mid : List Word) × IsPrim x × HasTerm terms × Spells x ts mid × SpellsTerms terms mid rest
 
-  -- { "+" Prim }
+  -- The words begin with the further terms of a sum, by { "+" Prim }.
   pub SpellsTerms : Terms → List Word → List Word → Type 0
   SpellsTerms no_term ts rest = ts ≡ rest
-  SpellsTerms (term_and at x terms) ts rest = (next mid : List Word) × IsMarkAt Plus at ts next × IsPrim x × Spells x next mid × SpellsTerms terms mid rest
+  SpellsTerms (term_and at x terms) ts rest =
+      (next mid : List Word) × IsMarkAt Plus at ts next × IsPrim x × Spells x next mid × SpellsTerms terms mid rest
 
-  -- behind the bracket of a list: [ Expr { "," Expr } [ "," ] ] "]"
+  -- Behind the bracket that opens a list, the words begin with its items and the bracket that closes it, by
+  -- [ Expr { "," Expr } [ "," ] ] "]".
   pub SpellsItems : Trees → List Word → List Word → Type 0
   SpellsItems no_tree ts rest = IsMark CloseBracket ts rest
   SpellsItems (tree_and x xs) ts rest = (mid : List Word) × Spells x ts mid × SpellsMoreItems xs mid rest
 
-  -- behind an item: { "," Expr } [ "," ] "]"
+  -- Behind an item, the words begin with the items that follow and the bracket that closes the list, by
+  -- { "," Expr } [ "," ] "]".
   pub SpellsMoreItems : Trees → List Word → List Word → Type 0
-  SpellsMoreItems no_tree ts rest = IsMark CloseBracket ts rest ⊎ ((next : List Word) × IsMark Comma ts next × IsMark CloseBracket next rest)
-  SpellsMoreItems (tree_and x xs) ts rest = (next mid : List Word) × IsMark Comma ts next × Spells x next mid × SpellsMoreItems xs mid rest
+  SpellsMoreItems no_tree ts rest =
+      IsMark CloseBracket ts rest ⊎ ((next : List Word) × IsMark Comma ts next × IsMark CloseBracket next rest)
+  SpellsMoreItems (tree_and x xs) ts rest =
+      (next mid : List Word) × IsMark Comma ts next × Spells x next mid × SpellsMoreItems xs mid rest
 
-  -- behind the brace of a map: [ Entry { "," Entry } [ "," ] ] "}",  Entry = Ident ":" Expr
+  -- Behind the brace that opens a map, the words begin with its entries and the brace that closes it, by
+  -- [ Entry { "," Entry } [ "," ] ] "}" and Entry = Ident ":" Expr.
   pub SpellsEntries : Entries → List Word → List Word → Type 0
   SpellsEntries no_entry ts rest = IsMark CloseBrace ts rest
-  SpellsEntries (entry_and name at x es) ts rest = (colon next mid : List Word) × IsWord Ident at name ts colon × IsMark Colon colon next × Spells x next mid × SpellsMoreEntries es mid rest
+  SpellsEntries (entry_and name at x es) ts rest =
+      (colon next mid : List Word) × IsWord Ident at name ts colon × IsMark Colon colon next × Spells x next mid
+      × SpellsMoreEntries es mid rest
 
-  -- behind an entry: { "," Entry } [ "," ] "}"
+  -- Behind an entry, the words begin with the entries that follow and the brace that closes the map, by
+  -- { "," Entry } [ "," ] "}".
   pub SpellsMoreEntries : Entries → List Word → List Word → Type 0
-  SpellsMoreEntries no_entry ts rest = IsMark CloseBrace ts rest ⊎ ((next : List Word) × IsMark Comma ts next × IsMark CloseBrace next rest)
-  SpellsMoreEntries (entry_and name at x es) ts rest = (first colon next mid : List Word) × IsMark Comma ts first × IsWord Ident at name first colon × IsMark Colon colon next × Spells x next mid × SpellsMoreEntries es mid rest
+  SpellsMoreEntries no_entry ts rest =
+      IsMark CloseBrace ts rest ⊎ ((next : List Word) × IsMark Comma ts next × IsMark CloseBrace next rest)
+  SpellsMoreEntries (entry_and name at x es) ts rest =
+      (first colon next mid : List Word) × IsMark Comma ts first × IsWord Ident at name first colon
+      × IsMark Colon colon next × Spells x next mid × SpellsMoreEntries es mid rest
 
 -- The identifier that begins a definition is no boolean.
 abbrev pub IsDefName : List ℕ → Place → List Word → List Word → Type 0
 IsDefName name at ts rest = IsWord Ident at name ts rest × (is_truth name ≡ false)
 
--- Def = Ident "=" Expr | Ident "+=" Expr | Ident Map
+-- The words begin with the definition, by Def = Ident "=" Expr | Ident "+=" Expr | Ident Map, where the Ident that
+-- begins it is no boolean.
 abbrev pub SpellsDef : Definition → List Word → List Word → Type 0
-SpellsDef (Assigns name at x) ts rest = (mark next : List Word) × IsDefName name at ts mark × IsMark Equal mark next × Spells x next rest
-SpellsDef (Extends name at x) ts rest = (mark next : List Word) × IsDefName name at ts mark × IsMark PlusEqual mark next × Spells x next rest
-SpellsDef (Declares kind at m) ts rest = (next : List Word) × IsDefName kind at ts next × Spells (Body m.at m.entries) next rest
+SpellsDef (Assigns name at x) ts rest =
+    (mark next : List Word) × IsDefName name at ts mark × IsMark Equal mark next × Spells x next rest
+SpellsDef (Extends name at x) ts rest =
+    (mark next : List Word) × IsDefName name at ts mark × IsMark PlusEqual mark next × Spells x next rest
+SpellsDef (Declares kind at m) ts rest =
+    (next : List Word) × IsDefName kind at ts next × Spells (Body m.at m.entries) next rest
 
--- File = { Def }, and nothing follows
+-- The words are the definitions, by File = { Def }, and nothing follows.
 abbrev pub SpellsFile : List Definition → List Word → Type 0
 SpellsFile [] ts = ts ≡ []
 SpellsFile (d ∷ ds) ts = (rest : List Word) × SpellsDef d ts rest × SpellsFile ds rest

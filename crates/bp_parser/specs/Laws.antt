@@ -29,7 +29,8 @@ OneFault = (text : List ℕ) (ws : List Word) (a b : Fault) → IsFirstFault tex
 
 -- A text with its tokens means one thing alone.
 abbrev pub OneMeaning : Type 0
-OneMeaning = (text : List ℕ) (ts : List Token) (a b : Result File Fault) → ParseMeans text ts a → ParseMeans text ts b → a ≡ b
+OneMeaning = (text : List ℕ) (ts : List Token) (a b : Result File Fault) → ParseMeans text ts a
+    → ParseMeans text ts b → a ≡ b
 
 -- The names of each map differ in the tree of any words.
 abbrev pub TreesHaveDistinctNames : Type 0
@@ -38,5 +39,6 @@ TreesHaveDistinctNames = (ws : List Word) (tree : File) → IsTree ws tree → F
 -- Words that spell definitions have them as their tree, where the names of each map differ and no bracket is nested too
 -- deeply.
 abbrev pub SpelledDefinitionsAreTrees : Type 0
-SpelledDefinitionsAreTrees = (ws : List Word) (ds : List Definition) → SpellsFile ds ws → All DefinitionHasDistinctNames ds
-    → ((k : ℕ) → IsTooNested ws k → ⊥) → IsTree ws (record { file = file_of ws; defs = ds })
+SpelledDefinitionsAreTrees = (ws : List Word) (ds : List Definition) → SpellsFile ds ws
+    → All DefinitionHasDistinctNames ds → ((k : ℕ) → IsTooNested ws k → ⊥)
+    → IsTree ws (record { file = file_of ws; defs = ds })

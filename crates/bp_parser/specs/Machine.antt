@@ -128,19 +128,23 @@ go_behind (Some new) None at go = go new
 -- Where the words, the first of which is number `at`, leave what is expected, if they do.
 abbrev pub stuck : List Word → ℕ → List Part → Option Flaw
 stuck [] at parts = at_end parts at
-stuck (w ∷ ws) at parts = go_behind (behind_all parts w.kind w.text) (flaw_at parts w.kind w.text at) at (λ new. stuck ws (at + 1) new)
+stuck (w ∷ ws) at parts =
+    go_behind (behind_all parts w.kind w.text) (flaw_at parts w.kind w.text at) at (λ new. stuck ws (at + 1) new)
 
 -- The words do not begin with one of the kind.
 abbrev pub StartsNot : TokenKind → List Word → Type 0
 StartsNot kind ws = (w : Word) (rest : List Word) → ws ≡ w ∷ rest → w.kind ≡ kind → ⊥
 
--- The words from `at` to `next` are what is expected, where depth brackets are open around; behind them `qs` is expected.
+-- The words from `at` to `next` are what is expected, where depth brackets are open around; behind them `qs` is
+-- expected.
 abbrev pub GoesOn : List Part → List Part → List Word → ℕ → ℕ → ℕ → Type 0
-GoesOn ps qs ws depth at next = (parts : List Part) → depth_of parts ≡ depth → stuck (drop at ws) at (ps ++ parts) ≡ stuck (drop next ws) next (qs ++ parts)
+GoesOn ps qs ws depth at next = (parts : List Part) → depth_of parts ≡ depth
+    → stuck (drop at ws) at (ps ++ parts) ≡ stuck (drop next ws) next (qs ++ parts)
 
 -- From `at` on, there is this flaw.
 abbrev pub StopsAt : List Part → List Word → ℕ → ℕ → Flaw → Type 0
-StopsAt ps ws at depth flaw = (parts : List Part) → depth_of parts ≡ depth → stuck (drop at ws) at (ps ++ parts) ≡ Some flaw
+StopsAt ps ws at depth flaw =
+    (parts : List Part) → depth_of parts ≡ depth → stuck (drop at ws) at (ps ++ parts) ≡ Some flaw
 
 -- What is known of a flaw beside where it is.
 abbrev pub IsKnown : List Word → Flaw → Type 0

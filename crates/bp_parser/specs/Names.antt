@@ -12,22 +12,25 @@ names_of (entry_and name at x es) = name ∷ names_of es
 abbrev pub AreDistinct : List (List ℕ) → Type 0
 AreDistinct names = AllPairs (λ a b. a ≢ b) names
 
--- The names of each map in an expression differ, all the way down.
 abbrev mutual
+  -- The names of each map in an expression differ, all the way down.
   pub HasDistinctNames : Tree → Type 0
   HasDistinctNames (Leaf at atom) = ⊤
   HasDistinctNames (Items at xs) = ItemsHaveDistinctNames xs
   HasDistinctNames (Body at es) = AreDistinct (names_of es) × ValuesHaveDistinctNames es
   HasDistinctNames (Sum x terms) = HasDistinctNames x × TermsHaveDistinctNames terms
 
+  -- The names of each map in the items of a list differ, all the way down.
   pub ItemsHaveDistinctNames : Trees → Type 0
   ItemsHaveDistinctNames no_tree = ⊤
   ItemsHaveDistinctNames (tree_and x xs) = HasDistinctNames x × ItemsHaveDistinctNames xs
 
+  -- The names of each map in the further terms of a sum differ, all the way down.
   pub TermsHaveDistinctNames : Terms → Type 0
   TermsHaveDistinctNames no_term = ⊤
   TermsHaveDistinctNames (term_and at x terms) = HasDistinctNames x × TermsHaveDistinctNames terms
 
+  -- The names of each map in the values of entries differ, all the way down.
   pub ValuesHaveDistinctNames : Entries → Type 0
   ValuesHaveDistinctNames no_entry = ⊤
   ValuesHaveDistinctNames (entry_and name at x es) = HasDistinctNames x × ValuesHaveDistinctNames es

@@ -27,7 +27,8 @@ pub record IsTokenAt (text : List ℕ) (ts : List Token) (at : ℕ) (t : Token) 
 -- A mark stands at a place.
 pub record HasMark (mark : Punct) (ts : List Token) (at : ℕ) : Type 0 where
   pub within : at < length ts
-  pub place : (text : List ℕ) (d : Token) → IsMarkAt mark (slice_index_or ts at d).place (drop at (all_words text ts)) (drop (at + 1) (all_words text ts))
+  pub place : (text : List ℕ) (d : Token)
+      → IsMarkAt mark (slice_index_or ts at d).place (drop at (all_words text ts)) (drop (at + 1) (all_words text ts))
   pub here : (text : List ℕ) → IsMark mark (drop at (all_words text ts)) (drop (at + 1) (all_words text ts))
 
 -- Another word stands there, or none.

@@ -18,23 +18,26 @@ pub data Atom : Type 0 where
   Str : List ℕ → Atom
   Name : List ℕ → Atom
 
--- An expression: an atom, a list, a map, or a sum of a first term and others.
--- Each is at the place of its first token, and each further term has the place of its `+`.
 mutual
+  -- An expression is an atom, a list, a map, or a sum of a first term and others, and is at the place of its first
+  -- token.
   pub data Tree : Type 0 where
     Leaf : Place → Atom → Tree
     Items : Place → Trees → Tree
     Body : Place → Entries → Tree
     Sum : Tree → Terms → Tree
 
+  -- The items of a list are expressions, in order.
   pub data Trees : Type 0 where
     no_tree : Trees
     tree_and : Tree → Trees → Trees
 
+  -- The further terms of a sum stand in order, each with the place of its `+`.
   pub data Terms : Type 0 where
     no_term : Terms
     term_and : Place → Tree → Terms → Terms
 
+  -- The entries of a map stand in order, each with its name, the name's place, and its value.
   pub data Entries : Type 0 where
     no_entry : Entries
     entry_and : List ℕ → Place → Tree → Entries → Entries

@@ -34,7 +34,8 @@ fn int_of(text: &str, token: Token) -> i64
 /// What a word is by itself as an expression, if it is one.
 pub fn atom(alloc: Global, text: &str, token: Token) -> Result<Option<Expr>, OutOfMemory>
     requires { IsToken token.place.file text.now token }
-    ensures { IfOk result (λ found. option_map tree_of found ≡ option_map (Leaf token.place) (atom_of token.kind (word_of text.now token))) }
+    ensures { IfOk result (λ found. option_map tree_of found
+        ≡ option_map (Leaf token.place) (atom_of token.kind (word_of text.now token))) }
 {
     let at = token.place;
     match token.kind {

@@ -26,7 +26,8 @@ fn is_truth(name: &str) -> bool
 fn def_name_at(text: &str, words: &[Token], at: usize) -> Result<Token, Stop>
     requires tokens { AreTokens text.now words.now }
     requires within { at < length words.now }
-    ensures ok { IfOk result (λ t. IsTokenAt text.now words.now at t × (t.kind ≡ Ident) × (is_truth (word_of text.now t) ≡ false)) }
+    ensures ok { IfOk result
+        (λ t. IsTokenAt text.now words.now at t × (t.kind ≡ Ident) × (is_truth (word_of text.now t) ≡ false)) }
     ensures err { IfErr result (DefsStopWith (all_words text.now words.now) at) }
 {
     let name = name_at(text, words, at)?;
@@ -40,7 +41,8 @@ fn def_name_at(text: &str, words: &[Token], at: usize) -> Result<Token, Stop>
 pub fn def_at(alloc: Global, text: &str, words: &[Token], at: usize) -> Result<(Def, usize), Stop>
     requires tokens { AreTokens text.now words.now }
     requires within { at < length words.now }
-    ensures spells { IfOk result (λ x. SpellsDef (definition_of x.0) (drop at (all_words text.now words.now)) (drop x.1 (all_words text.now words.now))) }
+    ensures spells { IfOk result (λ x. SpellsDef (definition_of x.0) (drop at (all_words text.now words.now))
+        (drop x.1 (all_words text.now words.now))) }
     ensures further { IfOk result (λ x. (at < x.1) × (x.1 ≤ length words.now)) }
     ensures goes_on { IfOk result (λ x. DefsGoOn (all_words text.now words.now) at x.1) }
     ensures stops { IfErr result (DefsStopWith (all_words text.now words.now) at) }

@@ -42,7 +42,8 @@ fn sum(alloc: Global, first: Expr, terms: Vec<(Place, Expr)>) -> Result<Expr, Ou
 
 // A first term and others, or the first alone.
 fn sum_of(alloc: Global, first: Expr, terms: Vec<(Place, Expr)>) -> Result<Expr, OutOfMemory>
-    ensures { IfOk result (λ expr. tree_of expr ≡ sum_of (tree_of first) (terms_then (map term_of terms.items) no_term)) }
+    ensures { IfOk result
+        (λ expr. tree_of expr ≡ sum_of (tree_of first) (terms_then (map term_of terms.items) no_term)) }
 {
     if terms.is_empty() {
         return Ok(first);
@@ -53,7 +54,8 @@ fn sum_of(alloc: Global, first: Expr, terms: Vec<(Place, Expr)>) -> Result<Expr,
 // The entry of a name and its value.
 fn entry(alloc: Global, text: &str, name: Token, value: Expr) -> Result<EntryExpr, OutOfMemory>
     requires { IsToken name.place.file text.now name }
-    ensures { IfOk result (λ entry. entry_of entry ≡ record { name = word_of text.now name; at = name.place; value = tree_of value }) }
+    ensures { IfOk result (λ entry. entry_of entry
+        ≡ record { name = word_of text.now name; at = name.place; value = tree_of value }) }
 {
     Ok(EntryExpr {
         name: Text::from_str(alloc, name.text(text))?,
@@ -74,7 +76,8 @@ pub fn expr_at(
     requires tokens { AreTokens text.now words.now }
     requires within { at ≤ length words.now }
     requires room { depth ≤ 64 }
-    ensures spells { IfOk result (λ x. Spells (tree_of x.0) (drop at (all_words text.now words.now)) (drop x.1 (all_words text.now words.now))) }
+    ensures spells { IfOk result (λ x. Spells (tree_of x.0) (drop at (all_words text.now words.now))
+        (drop x.1 (all_words text.now words.now))) }
     ensures further { IfOk result (λ x. (at < x.1) × (x.1 ≤ length words.now)) }
     ensures goes_on { IfOk result (λ x. GoesOn (an_expr ∷ []) [] (all_words text.now words.now) depth at x.1) }
     ensures stops { IfErr result (StopsWith (an_expr ∷ []) (all_words text.now words.now) at depth) }
@@ -96,7 +99,8 @@ fn terms_at(
     requires tokens { AreTokens text.now words.now }
     requires within { at ≤ length words.now }
     requires room { depth ≤ 64 }
-    ensures spells { IfOk result (λ x. SpellsTerms (terms_then (map term_of x.0.items) no_term) (drop at (all_words text.now words.now)) (drop x.1 (all_words text.now words.now))) }
+    ensures spells { IfOk result (λ x. SpellsTerms (terms_then (map term_of x.0.items) no_term)
+        (drop at (all_words text.now words.now)) (drop x.1 (all_words text.now words.now))) }
     ensures further { IfOk result (λ x. (at ≤ x.1) × (x.1 ≤ length words.now)) }
     ensures goes_on { IfOk result (λ x. GoesOn (more_terms ∷ []) [] (all_words text.now words.now) depth at x.1) }
     ensures stops { IfErr result (StopsWith (more_terms ∷ []) (all_words text.now words.now) at depth) }
@@ -124,9 +128,11 @@ fn prim_at(
     requires within { at ≤ length words.now }
     requires room { depth ≤ 64 }
     ensures prim { IfOk result (λ x. IsPrim (tree_of x.0)) }
-    ensures spells { IfOk result (λ x. Spells (tree_of x.0) (drop at (all_words text.now words.now)) (drop x.1 (all_words text.now words.now))) }
+    ensures spells { IfOk result (λ x. Spells (tree_of x.0) (drop at (all_words text.now words.now))
+        (drop x.1 (all_words text.now words.now))) }
     ensures further { IfOk result (λ x. (at < x.1) × (x.1 ≤ length words.now)) }
-    ensures goes_on { IfOk result (λ x. GoesOn (an_expr ∷ []) (more_terms ∷ []) (all_words text.now words.now) depth at x.1) }
+    ensures goes_on { IfOk result
+        (λ x. GoesOn (an_expr ∷ []) (more_terms ∷ []) (all_words text.now words.now) depth at x.1) }
     ensures stops { IfErr result (StopsWith (an_expr ∷ []) (all_words text.now words.now) at depth) }
 {
     if is_mark(words, at, Punct::OpenBracket) {
@@ -161,7 +167,8 @@ fn list_at(
     requires tokens { AreTokens text.now words.now }
     requires within { at ≤ length words.now }
     requires room { depth < 64 }
-    ensures spells { IfOk result (λ x. SpellsItems (trees_then (map tree_of x.0.items) no_tree) (drop at (all_words text.now words.now)) (drop x.1 (all_words text.now words.now))) }
+    ensures spells { IfOk result (λ x. SpellsItems (trees_then (map tree_of x.0.items) no_tree)
+        (drop at (all_words text.now words.now)) (drop x.1 (all_words text.now words.now))) }
     ensures further { IfOk result (λ x. (at < x.1) × (x.1 ≤ length words.now)) }
     ensures goes_on { IfOk result (λ x. GoesOn (items ∷ []) [] (all_words text.now words.now) depth at x.1) }
     ensures stops { IfErr result (StopsWith (items ∷ []) (all_words text.now words.now) at depth) }
@@ -189,7 +196,8 @@ pub fn map_at(
     requires tokens { AreTokens text.now words.now }
     requires brace { HasMark Punct.OpenBrace words.now at }
     requires room { depth < 64 }
-    ensures spells { IfOk result (λ x. Spells (Body (map_of x.0).at (map_of x.0).entries) (drop at (all_words text.now words.now)) (drop x.1 (all_words text.now words.now))) }
+    ensures spells { IfOk result (λ x. Spells (Body (map_of x.0).at (map_of x.0).entries)
+        (drop at (all_words text.now words.now)) (drop x.1 (all_words text.now words.now))) }
     ensures further { IfOk result (λ x. (at < x.1) × (x.1 ≤ length words.now)) }
     ensures goes_on { IfOk result (λ x. GoesOn (entries [] ∷ []) [] (all_words text.now words.now) depth (at + 1) x.1) }
     ensures stops { IfErr result (StopsWith (entries [] ∷ []) (all_words text.now words.now) (at + 1) depth) }

@@ -37,7 +37,8 @@ fn subject_at(
 ) -> Result<(Place, Text), OutOfMemory>
     requires tokens { AreTokens text.now words.now }
     requires short { length text.now ≤ 2 ^ 20 }
-    ensures { IfOk result (λ x. (x.0 ≡ place_of text.now (all_words text.now words.now) at) × (x.1 ≡ subject_of (all_words text.now words.now) at)) }
+    ensures { IfOk result (λ x. (x.0 ≡ place_of text.now (all_words text.now words.now) at)
+        × (x.1 ≡ subject_of (all_words text.now words.now) at)) }
 {
     match word_at(text, words, at) {
         Some(token) => Ok((token.place, Text::from_str(alloc, token.text(text))?)),

@@ -45,7 +45,8 @@ pub fn word_at(text: &str, words: &[Token], at: usize) -> Option<Token>
 pub fn name_at(text: &str, words: &[Token], at: usize) -> Result<Token, Stop>
     requires { AreTokens text.now words.now }
     ensures ok { IfOk result (λ t. IsTokenAt text.now words.now at t × (t.kind ≡ Ident)) }
-    ensures err { IfErr result (λ stop. IsUnexpectedAt at stop × StartsNot Ident (drop at (all_words text.now words.now))) }
+    ensures err { IfErr result
+        (λ stop. IsUnexpectedAt at stop × StartsNot Ident (drop at (all_words text.now words.now))) }
 {
     match word_at(text, words, at) {
         Some(token) => {
@@ -85,7 +86,8 @@ pub fn expect(words: &[Token], at: usize, mark: Punct) -> Result<(), Stop>
 /// Where the next part of a list or a map may begin, behind a part: behind a comma, or at the mark that closes.
 pub fn after_part(words: &[Token], at: usize, close: Punct) -> Result<usize, Stop>
     ensures ok { IfOk result (EndsPart close words.now at) }
-    ensures err { IfErr result (λ stop. IsUnexpectedAt at stop × LacksMark Punct.Comma words.now at × LacksMark close words.now at) }
+    ensures err { IfErr result
+        (λ stop. IsUnexpectedAt at stop × LacksMark Punct.Comma words.now at × LacksMark close words.now at) }
 {
     if is_mark(words, at, Punct::Comma) {
         Ok(at + 1)

@@ -29,7 +29,8 @@ ReadGives held limit (Err ReadError.OutOfMemory) = ⊤
 abbrev pub SameBut : List ℕ → Files → Files → Type 0
 SameBut path old new = (other : List ℕ) → other ≢ path → get new other ≡ get old other
 
--- A write leaves exactly these bytes at the path, or it fails and nothing is said of the path. Every other path is as it was.
+-- A write leaves exactly these bytes at the path, or it fails and nothing is said of the path. Every other path is as
+-- it was.
 abbrev pub WriteLeaves : {E : Type 0} → List ℕ → List ℕ → Result Unit E → Files → Files → Type 0
 WriteLeaves path bytes (Ok done) old new = new ≡ insert old path bytes
 WriteLeaves path bytes (Err failed) old new = SameBut path old new

@@ -57,9 +57,11 @@ impl Sink for FreeSink {
 
         // No put fails. The telling ends exactly where the bytes don't fit.
         ensures ok { IsOk result }
-        ensures kept { length more.now ≤ room_for_bytes self.old → told_bytes self.new ≡ option_map (λ bytes. bytes ++ more.now) (told_bytes self.old) }
+        ensures kept { length more.now ≤ room_for_bytes self.old
+            → told_bytes self.new ≡ option_map (λ bytes. bytes ++ more.now) (told_bytes self.old) }
         ensures ended { room_for_bytes self.old < length more.now → IsNone (told_bytes self.new) }
-        ensures spent { length more.now ≤ room_for_bytes self.old → room_for_bytes self.new + length more.now ≡ room_for_bytes self.old }
+        ensures spent { length more.now ≤ room_for_bytes self.old
+            → room_for_bytes self.new + length more.now ≡ room_for_bytes self.old }
     {
         if self.sink.put(more).is_err() {
             self.told = false;

@@ -78,7 +78,8 @@ impl Store for FreeStore {
 
         // No call fails, and memory is wanted only for what is given.
         ensures not_failed { ¬ IsErrOf result ReadError.Failed }
-        ensures memory { IsErrOf result ReadError.OutOfMemory → IfSome (told_files self.old) (λ held. IsSomeAnd (get held path.now) (λ bytes. length bytes ≤ limit)) }
+        ensures memory { IsErrOf result ReadError.OutOfMemory
+            → IfSome (told_files self.old) (λ held. IsSomeAnd (get held path.now) (λ bytes. length bytes ≤ limit)) }
         ensures counted { calls_so_far self.new ≡ next_number (calls_so_far self.old) }
         ensures room { room_for_writes self.new ≡ room_for_writes self.old }
     {
@@ -91,10 +92,13 @@ impl Store for FreeStore {
 
         // No call fails. The telling ends exactly where the room is wanting.
         ensures ok { IsOk result }
-        ensures kept { need_of path.now bytes.now ≤ room_for_writes self.old → told_files self.new ≡ option_map (λ files. insert files path.now bytes.now) (told_files self.old) }
+        ensures kept { need_of path.now bytes.now ≤ room_for_writes self.old
+            → told_files self.new ≡ option_map (λ files. insert files path.now bytes.now) (told_files self.old) }
         ensures ended { room_for_writes self.old < need_of path.now bytes.now → IsNone (told_files self.new) }
-        ensures spent { need_of path.now bytes.now ≤ room_for_writes self.old → room_for_writes self.new + need_of path.now bytes.now ≡ room_for_writes self.old }
-        ensures saved { room_for_writes self.old < need_of path.now bytes.now → room_for_writes self.new ≡ room_for_writes self.old }
+        ensures spent { need_of path.now bytes.now ≤ room_for_writes self.old
+            → room_for_writes self.new + need_of path.now bytes.now ≡ room_for_writes self.old }
+        ensures saved { room_for_writes self.old < need_of path.now bytes.now
+            → room_for_writes self.new ≡ room_for_writes self.old }
         ensures counted { calls_so_far self.new ≡ next_number (calls_so_far self.old) }
     {
         if self.store.write(path, bytes).is_err() {

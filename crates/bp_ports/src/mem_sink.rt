@@ -66,8 +66,10 @@ impl Sink for MemSink {
 
         // The put fails exactly where it is listed or the bytes don't fit, and appends half of them then.
         ensures exactly { IsErr result ↔ (FailsNext (puts_of self.old) ⊎ room_left self.old < length more.now) }
-        ensures half { OnErr result (bytes_so_far self.new ≡ bytes_so_far self.old ++ fitting_half (room_left self.old) more.now) }
-        ensures room { length (bytes_so_far self.new) + room_left self.new ≡ length (bytes_so_far self.old) + room_left self.old }
+        ensures half { OnErr result
+            (bytes_so_far self.new ≡ bytes_so_far self.old ++ fitting_half (room_left self.old) more.now) }
+        ensures room { length (bytes_so_far self.new) + room_left self.new
+            ≡ length (bytes_so_far self.old) + room_left self.old }
         ensures counted { puts_of self.new ≡ one_later (puts_of self.old) }
         ensures raised { failed_puts self.new ≡ count_after result (failed_puts self.old) }
     {

@@ -17,7 +17,8 @@ fn copy_of(alloc: Global, held: Option<&[u8]>, limit: u64) -> Result<Vec<u8>, Re
     ensures gives { ReadGives (option_copied held.entry) limit result }
     ensures bound { IfOk result (λ bytes. length bytes.items ≤ limit) }
     ensures not_failed { ¬ IsErrOf result ReadError.Failed }
-    ensures memory { IsErrOf result ReadError.OutOfMemory → IsSomeAnd (option_copied held.entry) (λ bytes. length bytes ≤ limit) }
+    ensures memory { IsErrOf result ReadError.OutOfMemory
+        → IsSomeAnd (option_copied held.entry) (λ bytes. length bytes ≤ limit) }
 {
     match held {
         None => Err(ReadError::Absent),
@@ -112,7 +113,8 @@ impl Store for MemStore {
 
         // The call fails exactly where it is listed, and wants memory only for what it gives.
         ensures exactly { IsErrOf result ReadError.Failed ↔ FailsNext (calls_of self.old) }
-        ensures memory { IsErrOf result ReadError.OutOfMemory → IsSomeAnd (get (held self.old) path.now) (λ bytes. length bytes ≤ limit) }
+        ensures memory { IsErrOf result ReadError.OutOfMemory
+            → IsSomeAnd (get (held self.old) path.now) (λ bytes. length bytes ≤ limit) }
         ensures counted { calls_of self.new ≡ one_later (calls_of self.old) }
         ensures raised { failed_reads self.new ≡ read_count_after result (failed_reads self.old) }
         ensures room { room_left self.new ≡ room_left self.old }
@@ -130,7 +132,8 @@ impl Store for MemStore {
         ensures reads { failed_reads self.new ≡ failed_reads self.old }
 
         // The call fails exactly where it is listed or the room is wanting, and changes nothing then.
-        ensures exactly { IsErr result ↔ (FailsNext (calls_of self.old) ⊎ room_left self.old < need_of path.now bytes.now) }
+        ensures exactly { IsErr result ↔ (FailsNext (calls_of self.old)
+            ⊎ room_left self.old < need_of path.now bytes.now) }
         ensures counted { calls_of self.new ≡ one_later (calls_of self.old) }
         ensures raised { failed_writes self.new ≡ count_after result (failed_writes self.old) }
         ensures spent { OnOk result (room_left self.new + need_of path.now bytes.now ≡ room_left self.old) }

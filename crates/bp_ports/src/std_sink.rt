@@ -53,7 +53,8 @@ impl<W: Write + Drop> Sink for StdSink<W> {
         ensures cause { HasCause (failed_puts self.old) (failed_puts self.new) result }
 
         // What was put is with the writer, and a failure is counted once.
-        ensures through { OnOk result (Appends (W.contents (stream_of self.old)) (W.contents (stream_of self.new)) more.now) }
+        ensures through { OnOk result
+            (Appends (W.contents (stream_of self.old)) (W.contents (stream_of self.new)) more.now) }
         ensures raised { failed_puts self.new ≡ count_after result (failed_puts self.old) }
     {
         match write_through(&mut self.stream, more) {

@@ -1,4 +1,5 @@
-//! How a read that fails is told, by the kind of its error. All other tests are in `ground_tests`, which sees the public calls.
+//! How a read that fails is told, by the kind of its error. All other tests are in `ground_tests`, which sees the
+//! public calls.
 use crate::ReadError;
 use crate::fs_store::contents;
 use std::io;

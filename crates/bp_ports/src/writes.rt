@@ -46,7 +46,8 @@ fn append(spans: &mut Vec<Span>, run: &mut Vec<u8>, path: &[u8], bytes: &[u8])
     requires whole { total spans.old.items ≡ length run.old.items }
     requires run_room { vec_len run.old + length path.now + length bytes.now ≤ vec_capacity run.old }
     requires span_room { vec_len spans.old < vec_capacity spans.old }
-    ensures spans { spans.new.items ≡ spans.old.items ++ record { path = length path.now; bytes = length bytes.now } ∷ [] }
+    ensures spans { spans.new.items ≡ spans.old.items
+        ++ record { path = length path.now; bytes = length bytes.now } ∷ [] }
     ensures run { run.new.items ≡ run.old.items ++ (path.now ++ bytes.now) }
     ensures run_capacity { vec_capacity run.old ≤ vec_capacity run.new }
     ensures span_capacity { vec_capacity spans.old ≤ vec_capacity spans.new }
@@ -86,7 +87,8 @@ impl Writes {
 
     /// What the path holds after the writes, if it held this before.
     pub fn after<'a>(&'a self, path: &str, held: Option<&'a [u8]>) -> Option<&'a [u8]>
-        ensures { option_copied result ≡ held_after self.now.spans.items self.now.run.items path.now (option_copied held.entry) }
+        ensures { option_copied result ≡ held_after self.now.spans.items self.now.run.items path.now
+            (option_copied held.entry) }
     {
         latest(&self.spans, &self.run, path, held)
     }
@@ -95,7 +97,8 @@ impl Writes {
     pub fn add(&mut self, path: &[u8], bytes: &[u8], need: u32)
         requires need { need ≡ need_of path.now bytes.now }
         requires room { need ≤ self.old.room }
-        ensures written { (files : _) → written self.new.spans.items self.new.run.items files ≡ insert (written self.old.spans.items self.old.run.items files) path.now bytes.now }
+        ensures written { (files : _) → written self.new.spans.items self.new.run.items files
+            ≡ insert (written self.old.spans.items self.old.run.items files) path.now bytes.now }
         ensures room { self.new.room + need ≡ self.old.room }
     {
         append(&mut self.spans, &mut self.run, path, bytes);

@@ -126,4 +126,5 @@ AreJournalLines typed c lines =
 -- The lines are a legal journal of the modules that a list and its files load as.
 abbrev pub IsJournalOfList : BuildWords → Files → List ℕ → Type 0
 IsJournalOfList words files lines =
-    (typed : List Module) × ListLoads words.list files (Ok typed) × AreJournalLines typed (config_of words.targets) lines
+    (typed : List Module) × ListLoads words.list files (Ok typed)
+    × AreJournalLines typed (config_of words.targets) lines

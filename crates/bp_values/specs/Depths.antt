@@ -6,8 +6,8 @@ use Rattle.bp_faults.specs.declared.kind.FaultKind.TheVariants.{TooNested}
 use Rattle.bp_faults.specs.Faults.{fault_at}
 use Rattle.bp_values.specs.Values.{Meaning, Truth, Number, Str, Items, Body, Fields, no_field, field_and, Field, body}
 
--- A map's depth is one more than the greatest depth of its values, and 1 where it has none.
 abbrev mutual
+  -- A map's depth is one more than the greatest depth of its values, and 1 where it has none; another value's is 0.
   pub depth : Meaning → ℕ
   depth (Truth b) = 0
   depth (Number n) = 0
@@ -15,6 +15,7 @@ abbrev mutual
   depth (Items items) = 0
   depth (Body fields) = 1 + depth_of_fields fields
 
+  -- The greatest depth of the values of entries, and 0 where there is none.
   pub depth_of_fields : Fields → ℕ
   depth_of_fields no_field = 0
   depth_of_fields (field_and name at value more) = max (depth value) (depth_of_fields more)

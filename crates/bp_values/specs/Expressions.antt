@@ -38,28 +38,36 @@ val_atom scope at (tree.Number n) = Ok (Number n)
 val_atom scope at (tree.Str text) = Ok (Str text)
 val_atom scope at (tree.Name name) = known at name (value_in scope name)
 
--- A list is tested for its length, and a map for its depth, once all that stands in it has its value.
 abbrev mutual
+  -- The value of an expression: a list is tested for its length, and a map for its depth, once all that stands in it
+  -- has its value.
   pub val : Pairs → Tree → Result Meaning Fault
   val scope (tree.Leaf at atom) = val_atom scope at atom
-  val scope (tree.Items at items) = then_do (val_items scope items) (λ l. then_do (limited (2 ^ 16) (codes "list") at l) (λ m. Ok (Items m)))
-  val scope (tree.Body at entries) = then_do (then_do (val_entries scope entries) (λ fs. nested at fs)) (λ fs. Ok (body fs))
+  val scope (tree.Items at items) =
+      then_do (val_items scope items) (λ l. then_do (limited (2 ^ 16) (codes "list") at l) (λ m. Ok (Items m)))
+  val scope (tree.Body at entries) =
+      then_do (then_do (val_entries scope entries) (λ fs. nested at fs)) (λ fs. Ok (body fs))
   val scope (tree.Sum first terms) = then_do (val scope first) (λ value. val_terms scope value terms)
 
-  -- the items in turn, each evaluated and then checked to be a string
+  -- The items are evaluated in turn, and each is checked to be a string before the next is evaluated.
   pub val_items : Pairs → Trees → Result (List Item) Fault
   val_items scope no_tree = Ok []
-  val_items scope (tree_and item more) = then_do (then_do (val scope item) (λ v. item_of (first_place item) v)) (λ i. then_do (val_items scope more) (λ l. Ok (i ∷ l)))
+  val_items scope (tree_and item more) =
+      then_do (then_do (val scope item) (λ v. item_of (first_place item) v))
+      (λ i. then_do (val_items scope more) (λ l. Ok (i ∷ l)))
 
-  -- a value, and to it each term in turn, evaluated and then added
+  -- Each term in turn is evaluated and then added to the value so far.
   pub val_terms : Pairs → Meaning → Terms → Result Meaning Fault
   val_terms scope value no_term = Ok value
-  val_terms scope value (term_and at term more) = then_do (then_do (val scope term) (λ w. sum at value w)) (λ s. val_terms scope s more)
+  val_terms scope value (term_and at term more) =
+      then_do (then_do (val scope term) (λ w. sum at value w)) (λ s. val_terms scope s more)
 
-  -- the entries in turn
+  -- The entries are evaluated in turn, and each keeps its name and its place.
   pub val_entries : Pairs → Entries → Result (List Field) Fault
   val_entries scope no_entry = Ok []
-  val_entries scope (entry_and name at value more) = then_do (val scope value) (λ v. then_do (val_entries scope more) (λ fs. Ok ((record { name = name; at = at; value = v }) ∷ fs)))
+  val_entries scope (entry_and name at value more) =
+      then_do (val scope value) (λ v. then_do (val_entries scope more)
+      (λ fs. Ok ((record { name = name; at = at; value = v }) ∷ fs)))
 
 -- The fields of a map literal.
 abbrev pub val_map : Pairs → Place → Entries → Result (List Field) Fault

@@ -44,11 +44,13 @@ one_behind spot = spot_at (suc spot.layer) spot.place
 abbrev pub spot_in_layers : {Z : Type 0} → List (Arc Layer Z) → List ℕ → Option Spot
 spot_in_layers [] name = None
 spot_in_layers (layer ∷ layers) name =
-    option_or (option_map (spot_at 0) (place_in (arc_value layer).values.items name)) (option_map one_behind (spot_in_layers layers name))
+    option_or (option_map (spot_at 0) (place_in (arc_value layer).values.items name))
+    (option_map one_behind (spot_in_layers layers name))
 
 -- The same, where the names of one file more stand behind the layers. No public contract speaks of it.
 abbrev pub spot_behind : {Z : Type 0} → List (Arc Layer Z) → List (List ℕ × Value) → List ℕ → Option Spot
-spot_behind layers own name = option_or (spot_in_layers layers name) (option_map (spot_at (length layers)) (place_in own name))
+spot_behind layers own name =
+    option_or (spot_in_layers layers name) (option_map (spot_at (length layers)) (place_in own name))
 
 -- A search finds the spot of each name that has one. For another name it may find any. No public contract speaks of it.
 abbrev pub Finds : (List ℕ → Option Spot) → (List ℕ → Option Spot) → Type 0

@@ -86,7 +86,8 @@ after_definition inherited k (Declares kind at m) = after_module k kind at m
 -- What is known after these definitions more, one after the other.
 abbrev pub after_definitions : Pairs → Known → List Definition → Result Known Fault
 after_definitions inherited k [] = Ok k
-after_definitions inherited k (d ∷ ds) = then_do (after_definition inherited k d) (λ next. after_definitions inherited next ds)
+after_definitions inherited k (d ∷ ds) =
+    then_do (after_definition inherited k d) (λ next. after_definitions inherited next ds)
 
 -- Before the first definition the scope is what the file inherits.
 abbrev pub known_first : Pairs → Known

@@ -11,8 +11,8 @@ abbrev pub names_of : Fields → List (List ℕ)
 names_of no_field = []
 names_of (field_and name at value more) = name ∷ names_of more
 
--- The names of each map in a value differ, all the way down.
 abbrev mutual
+  -- The names of each map in a value differ, all the way down.
   pub HasDistinctNames : Meaning → Type 0
   HasDistinctNames (Truth b) = ⊤
   HasDistinctNames (Number n) = ⊤
@@ -20,6 +20,7 @@ abbrev mutual
   HasDistinctNames (Items items) = ⊤
   HasDistinctNames (Body fields) = AreDistinct (names_of fields) × FieldsHaveDistinctNames fields
 
+  -- The names of each map in the values of entries differ, all the way down.
   pub FieldsHaveDistinctNames : Fields → Type 0
   FieldsHaveDistinctNames no_field = ⊤
   FieldsHaveDistinctNames (field_and name at value more) = HasDistinctNames value × FieldsHaveDistinctNames more

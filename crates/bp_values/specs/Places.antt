@@ -61,10 +61,12 @@ value_at_place values place = option_map meaning (get nat_cmp values place)
 -- The entries, each with the sum where there is a value for its place.
 abbrev pub sum_places : Place → List Field → (ℕ → Option Meaning) → Result (List Field) Fault
 sum_places at [] others = Ok []
-sum_places at (f ∷ fs) others = field_then f.name f.at (met f.value (sum at f.value) (others 0)) (sum_places at fs (λ i. others (suc i)))
+sum_places at (f ∷ fs) others =
+    field_then f.name f.at (met f.value (sum at f.value) (others 0)) (sum_places at fs (λ i. others (suc i)))
 
 -- The entries, that at one place with its sum.
 abbrev pub sum_place : Place → List Field → ℕ → Meaning → Result (List Field) Fault
 sum_place at [] place other = Ok []
-sum_place at (f ∷ fs) zero other = then_do (sum at f.value other) (λ v. Ok ((record { name = f.name; at = f.at; value = v }) ∷ fs))
+sum_place at (f ∷ fs) zero other =
+    then_do (sum at f.value other) (λ v. Ok ((record { name = f.name; at = f.at; value = v }) ∷ fs))
 sum_place at (f ∷ fs) (suc place) other = then_do (sum_place at fs place other) (λ gs. Ok (f ∷ gs))

@@ -63,7 +63,8 @@ met value add (Some other) = add other
 
 -- A field, and the fields behind it, if each has a value.
 abbrev pub field_then : List ℕ → Place → Result Meaning Fault → Result (List Field) Fault → Result (List Field) Fault
-field_then name at value more = then_do value (λ v. then_do more (λ fs. Ok ((record { name = name; at = at; value = v }) ∷ fs)))
+field_then name at value more =
+    then_do value (λ v. then_do more (λ fs. Ok ((record { name = name; at = at; value = v }) ∷ fs)))
 
 -- An integer and another value.
 abbrev pub sum_number : Place → ℤ → Meaning → Result Meaning Fault
@@ -85,8 +86,8 @@ abbrev pub sum_body : Place → Fields → (List Field → Result (List Field) F
 sum_body at a each (Body b) = then_do (each (fields_of b)) (λ fs. Ok (body (fs ++ others (fields_of b) (fields_of a))))
 sum_body at a each b = Err (cannot_add at (Body a) b)
 
--- The sum of two values, the first of which decides by its type.
 abbrev mutual
+  -- The sum of two values, the first of which decides by its type.
   pub sum : Place → Meaning → Meaning → Result Meaning Fault
   sum at (Truth a) b = Err (cannot_add at (Truth a) b)
   sum at (Number a) b = sum_number at a b
@@ -94,7 +95,8 @@ abbrev mutual
   sum at (Items a) b = sum_item at a b
   sum at (Body a) b = sum_body at a (sum_fields at a) b
 
-  -- each entry of the first map, with the sum where the second has its name
+  -- Each entry of the first map has the sum for its value where the second has its name, and else stays as it is.
   pub sum_fields : Place → Fields → List Field → Result (List Field) Fault
   sum_fields at no_field second = Ok []
-  sum_fields at (field_and name place value more) second = field_then name place (met value (sum at value) (value_at name second)) (sum_fields at more second)
+  sum_fields at (field_and name place value more) second =
+      field_then name place (met value (sum at value) (value_at name second)) (sum_fields at more second)

@@ -8,8 +8,8 @@ use Rattle.bp_values.specs.declared.value.Value.TheOpen as layer
 use Rattle.bp_values.specs.declared.value.Entry.{Entry}
 use Rattle.bp_values.specs.declared.value.Value.TheFolds.{fold-Value, fold-Entry}
 
--- A boolean, an integer, a string, a list of strings, or a map of fields in order.
 mutual
+  -- A value is a boolean, an integer, a string, a list of strings, or a map of entries in order.
   pub data Meaning : Type 0 where
     Truth : Bool → Meaning
     Number : ℤ → Meaning
@@ -17,6 +17,7 @@ mutual
     Items : List Item → Meaning
     Body : Fields → Meaning
 
+  -- The entries of a map stand in order, each with its name, the name's place, and its value.
   pub data Fields : Type 0 where
     no_field : Fields
     field_and : List ℕ → Place → Meaning → Fields → Fields

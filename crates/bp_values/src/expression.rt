@@ -119,7 +119,8 @@ fn list_value(alloc: Global, at: Place, items: Vec<Item>) -> Result<Value, EvalE
 /// The items in turn.
 #[cycle(expressions)]
 fn items_of(alloc: Global, scope: &Names<'_>, items: &[Expr]) -> Result<Vec<Item>, EvalError>
-    ensures { Answers (λ v. v.items) result (val_items (visible scope.now) (trees_then (map tree_of items.now) no_tree)) }
+    ensures { Answers (λ v. v.items) result
+        (val_items (visible scope.now) (trees_then (map tree_of items.now) no_tree)) }
 {
     let mut list = Vec::with_capacity(alloc, items.len())?;
     'items: for expr in items {
@@ -130,7 +131,8 @@ fn items_of(alloc: Global, scope: &Names<'_>, items: &[Expr]) -> Result<Vec<Item
 
 #[cycle(expressions)]
 fn item_value(alloc: Global, scope: &Names<'_>, expr: &Expr) -> Result<Item, EvalError>
-    ensures { Answers (λ i. i) result (then_do (val (visible scope.now) (tree_of expr.now)) (item_of (place_of (tree_of expr.now)))) }
+    ensures { Answers (λ i. i) result
+        (then_do (val (visible scope.now) (tree_of expr.now)) (item_of (place_of (tree_of expr.now)))) }
 {
     let value = value_of(alloc, scope, expr)?;
     item(alloc, first_place(expr), value)
@@ -144,7 +146,8 @@ fn add_terms(
     terms: &[(Place, Expr)],
     first: Value,
 ) -> Result<Value, EvalError>
-    ensures { Answers meaning result (val_terms (visible scope.now) (meaning first) (terms_then (map term_of terms.now) no_term)) }
+    ensures { Answers meaning result
+        (val_terms (visible scope.now) (meaning first) (terms_then (map term_of terms.now) no_term)) }
 {
     let mut total = first;
     'terms: for (at, term) in terms {
@@ -161,7 +164,8 @@ fn add_term(
     at: Place,
     total: Value,
 ) -> Result<Value, EvalError>
-    ensures { Answers meaning result (then_do (val (visible scope.now) (tree_of term.now)) (sum_of at (meaning total))) }
+    ensures { Answers meaning result
+        (then_do (val (visible scope.now) (tree_of term.now)) (sum_of at (meaning total))) }
 {
     if let Expr::Name(place, name) = term {
         let other = named(alloc, scope, *place, name)?;
@@ -179,7 +183,8 @@ fn add_maps(
     terms: &[(Place, Expr)],
     first: Vec<Entry>,
 ) -> Result<Value, EvalError>
-    ensures { Answers meaning result (val_terms (visible scope.now) (body (map field_of first.items)) (terms_then (map term_of terms.now) no_term)) }
+    ensures { Answers meaning result (val_terms (visible scope.now)
+        (body (map field_of first.items)) (terms_then (map term_of terms.now) no_term)) }
 {
     let mut total = MapSum::of(first);
     'terms: for (at, term) in terms {
@@ -197,7 +202,8 @@ fn add_map(
     total: MapSum,
 ) -> Result<MapSum, EvalError>
     requires { HasPlaces total }
-    ensures total { Answers sum_so_far result (then_do (val (visible scope.now) (tree_of term.now)) (sum_of at (sum_so_far total))) }
+    ensures total { Answers sum_so_far result
+        (then_do (val (visible scope.now) (tree_of term.now)) (sum_of at (sum_so_far total))) }
     ensures places { IfOk result HasPlaces }
 {
     let other = value_of(alloc, scope, term)?;
@@ -211,7 +217,8 @@ pub fn entries_of(
     scope: &Names<'_>,
     literal: &MapExpr,
 ) -> Result<Vec<Entry>, EvalError>
-    ensures { Answers (λ es. map field_of es.items) result (val_map (visible scope.now) (map_of literal.now).at (map_of literal.now).entries) }
+    ensures { Answers (λ es. map field_of es.items) result
+        (val_map (visible scope.now) (map_of literal.now).at (map_of literal.now).entries) }
 {
     let entries = all_entries(alloc, scope, literal.entries.as_slice())?;
     within_depth(alloc, literal.at, entries)
@@ -223,7 +230,8 @@ fn all_entries(
     scope: &Names<'_>,
     entries: &[EntryExpr],
 ) -> Result<Vec<Entry>, EvalError>
-    ensures { Answers (λ es. map field_of es.items) result (val_entries (visible scope.now) (entries_then (map entry_of entries.now) no_entry)) }
+    ensures { Answers (λ es. map field_of es.items) result
+        (val_entries (visible scope.now) (entries_then (map entry_of entries.now) no_entry)) }
 {
     let mut list = Vec::with_capacity(alloc, entries.len())?;
     'entries: for entry in entries {

@@ -29,7 +29,8 @@ impl<'a> KeptPlaces<'a> {
         places: Option<MapPlaces>,
     ) -> Result<Option<MapPlaces>, OutOfMemory>
         ensures had { IfOk result (λ had. had ≡ kept_for self.old variable.now) }
-        ensures kept { OnOk result ((name : List ℕ) → kept_for self.new name ≡ (if bytes_eq variable.now name then places else kept_for self.old name)) }
+        ensures kept { OnOk result ((name : List ℕ)
+            → kept_for self.new name ≡ (if bytes_eq variable.now name then places else kept_for self.old name)) }
     {
         match self.known.insert(variable, places)? {
             Some(had) => Ok(had),

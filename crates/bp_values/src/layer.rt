@@ -47,8 +47,10 @@ impl Layer {
 
     /// The value at a place, where the name stands there.
     pub fn value_of(&self, place: usize, name: &Text) -> Option<&Value>
-        ensures there { place_in self.now.values.items name.now ≡ Some place → option_map (λ v. meaning v.now) result ≡ value_in (layer_pairs self.now) name.now }
-        ensures nowhere { place_in self.now.values.items name.now ≡ None → option_map (λ v. meaning v.now) result ≡ None }
+        ensures there { place_in self.now.values.items name.now ≡ Some place
+            → option_map (λ v. meaning v.now) result ≡ value_in (layer_pairs self.now) name.now }
+        ensures nowhere { place_in self.now.values.items name.now ≡ None
+            → option_map (λ v. meaning v.now) result ≡ None }
     {
         if self.has(place, name) {
             Some(&self.values[place].1)
@@ -69,8 +71,10 @@ impl Layer {
     pub fn replace(&mut self, place: usize, value: Value) -> Value
         requires { place < length self.old.values.items }
         ensures places { (name : List ℕ) → place_in self.new.values.items name ≡ place_in self.old.values.items name }
-        ensures pairs { (name : List ℕ) → place_in self.old.values.items name ≡ Some place → layer_pairs self.new ≡ with_other (layer_pairs self.old) name (meaning value) }
-        ensures old { (name : List ℕ) → place_in self.old.values.items name ≡ Some place → Some (meaning result) ≡ value_in (layer_pairs self.old) name }
+        ensures pairs { (name : List ℕ) → place_in self.old.values.items name ≡ Some place
+            → layer_pairs self.new ≡ with_other (layer_pairs self.old) name (meaning value) }
+        ensures old { (name : List ℕ) → place_in self.old.values.items name ≡ Some place
+            → Some (meaning result) ≡ value_in (layer_pairs self.old) name }
     {
         mem::replace(&mut self.values[place].1, value)
     }

@@ -20,7 +20,8 @@ pub fn keep_below(
     places: Option<MapPlaces>,
 ) -> Result<(), OutOfMemory>
     requires { get nat_cmp below.old place ≡ None }
-    ensures { OnOk result ((i : ℕ) → get nat_cmp below.new i ≡ (if i == place then places else get nat_cmp below.old i)) }
+    ensures { OnOk result
+        ((i : ℕ) → get nat_cmp below.new i ≡ (if i == place then places else get nat_cmp below.old i)) }
 {
     if let Some(places) = places {
         below.insert(place, places)?;

@@ -142,7 +142,8 @@ fn add_placed(
     second: Vec<Entry>,
 ) -> Result<MapSum, EvalError>
     requires { PlacesOf (Some places) (Some (body (map field_of first.items))) }
-    ensures total { Answers sum_so_far result (sum_of at (body (map field_of first.items)) (body (map field_of second.items))) }
+    ensures total { Answers sum_so_far result
+        (sum_of at (body (map field_of first.items)) (body (map field_of second.items))) }
     ensures places { IfOk result HasPlaces }
 {
     let MapPlaces { names, mut below } = places;
@@ -164,7 +165,8 @@ fn with_others(
 ) -> Result<MapSum, OutOfMemory>
     requires placed { IsPlaced (found_place names) (names_in (map field_of entries.items)) }
     requires known { AreKnown below (map field_of entries.items) }
-    ensures total { IfOk result (λ sum. sum_so_far sum ≡ body (map field_of entries.items ++ map field_of others.items)) }
+    ensures total { IfOk result
+        (λ sum. sum_so_far sum ≡ body (map field_of entries.items ++ map field_of others.items)) }
     ensures places { IfOk result HasPlaces }
 {
     let (mut all, mut others) = (entries, others);
@@ -185,8 +187,10 @@ fn split(
     names: &PlaceTable,
     second: Vec<Entry>,
 ) -> Result<(BTreeMap<usize, Value>, Vec<Entry>), OutOfMemory>
-    ensures shared { IfOk result (λ r. (i : ℕ) → value_at_place r.0 i ≡ value_for (found_place names.now) i (map field_of second.items)) }
-    ensures others { IfOk result (λ r. map field_of r.1.items ≡ unplaced (found_place names.now) (map field_of second.items)) }
+    ensures shared { IfOk result
+        (λ r. (i : ℕ) → value_at_place r.0 i ≡ value_for (found_place names.now) i (map field_of second.items)) }
+    ensures others { IfOk result
+        (λ r. map field_of r.1.items ≡ unplaced (found_place names.now) (map field_of second.items)) }
 {
     let mut shared = BTreeMap::new(alloc);
     let mut others = Vec::new(alloc);
@@ -205,7 +209,8 @@ fn put_first(
     place: usize,
     value: Value,
 ) -> Result<(), OutOfMemory>
-    ensures { OnOk result ((i : ℕ) → value_at_place shared.new i ≡ option_or (value_at_place shared.old i) (if is_place (Some place) i then Some (meaning value) else None)) }
+    ensures { OnOk result ((i : ℕ) → value_at_place shared.new i
+        ≡ option_or (value_at_place shared.old i) (if is_place (Some place) i then Some (meaning value) else None)) }
 {
     if !shared.contains_key(&place) {
         shared.insert(place, value)?;
@@ -226,7 +231,8 @@ fn add_at(
     requires within { place < length entries.old.items }
     requires known { AreKnown below.old (map field_of entries.old.items) }
     ensures len { length entries.new.items ≡ length entries.old.items }
-    ensures sum { Leaves (λ es. map field_of es.items) entries.new result (sum_place at (map field_of entries.old.items) place (meaning other)) }
+    ensures sum { Leaves (λ es. map field_of es.items) entries.new result
+        (sum_place at (map field_of entries.old.items) place (meaning other)) }
     ensures known { OnOk result (AreKnown below.new (map field_of entries.new.items)) }
 {
     let blank = make_entry(Text::new(String::new(alloc)), at, Value::Bool(false));

@@ -29,7 +29,8 @@ pub fn mark<'a>(used: &mut NameSet<'a>, expr: &'a Expr) -> Result<(), OutOfMemor
 
 #[cycle(marks)]
 fn mark_items<'a>(used: &mut NameSet<'a>, items: &'a [Expr]) -> Result<(), OutOfMemory>
-    ensures { OnOk result ((q : List ℕ) → knows used.new q ≡ noted_items (knows used.old q) q (trees_then (map tree_of items.now) no_tree)) }
+    ensures { OnOk result ((q : List ℕ) → knows used.new q
+        ≡ noted_items (knows used.old q) q (trees_then (map tree_of items.now) no_tree)) }
 {
     'items: for item in items {
         mark(used, item)?;
@@ -39,7 +40,8 @@ fn mark_items<'a>(used: &mut NameSet<'a>, items: &'a [Expr]) -> Result<(), OutOf
 
 #[cycle(marks)]
 fn mark_terms<'a>(used: &mut NameSet<'a>, terms: &'a [(Place, Expr)]) -> Result<(), OutOfMemory>
-    ensures { OnOk result ((q : List ℕ) → knows used.new q ≡ noted_terms (knows used.old q) q (terms_then (map term_of terms.now) no_term)) }
+    ensures { OnOk result ((q : List ℕ) → knows used.new q
+        ≡ noted_terms (knows used.old q) q (terms_then (map term_of terms.now) no_term)) }
 {
     'terms: for (_, term) in terms {
         mark(used, term)?;
@@ -49,7 +51,8 @@ fn mark_terms<'a>(used: &mut NameSet<'a>, terms: &'a [(Place, Expr)]) -> Result<
 
 #[cycle(marks)]
 pub fn mark_entries<'a>(used: &mut NameSet<'a>, entries: &'a [EntryExpr]) -> Result<(), OutOfMemory>
-    ensures { OnOk result ((q : List ℕ) → knows used.new q ≡ noted_entries (knows used.old q) q (entries_then (map entry_of entries.now) no_entry)) }
+    ensures { OnOk result ((q : List ℕ) → knows used.new q
+        ≡ noted_entries (knows used.old q) q (entries_then (map entry_of entries.now) no_entry)) }
 {
     'entries: for entry in entries {
         mark(used, &entry.value)?;

@@ -29,7 +29,8 @@ impl PlaceTable {
 
     /// Puts a name at a place.
     pub fn put(&mut self, alloc: Global, name: &Text, place: usize) -> Result<(), OutOfMemory>
-        ensures { OnOk result ((q : List ℕ) → found_place self.new q ≡ (if bytes_eq name.now q then Some place else found_place self.old q)) }
+        ensures { OnOk result ((q : List ℕ)
+            → found_place self.new q ≡ (if bytes_eq name.now q then Some place else found_place self.old q)) }
     {
         let key = String::from_str(alloc, name.as_str())?;
         self.places.insert(key, place)?;

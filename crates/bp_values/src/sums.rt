@@ -176,7 +176,8 @@ pub(crate) fn unite(
     first: Vec<Entry>,
     second: Vec<Entry>,
 ) -> Result<Vec<Entry>, EvalError>
-    ensures { Answers (λ es. body (map field_of es.items)) result (sum_of at (body (map field_of first.items)) (body (map field_of second.items))) }
+    ensures { Answers (λ es. body (map field_of es.items)) result
+        (sum_of at (body (map field_of first.items)) (body (map field_of second.items))) }
 {
     let places = index(alloc, second.as_slice())?;
     let mut entries = sum_each(alloc, at, first, second.as_slice(), &places)?;
@@ -198,7 +199,8 @@ fn sum_each(
     places: &NameTable<'_>,
 ) -> Result<Vec<Entry>, EvalError>
     requires { IsIndex places.now (map field_of second.now) }
-    ensures { Answers (λ es. map field_of es.items) result (sum_fields at (fields_then (map field_of first.items) no_field) (map field_of second.now)) }
+    ensures { Answers (λ es. map field_of es.items) result
+        (sum_fields at (fields_then (map field_of first.items) no_field) (map field_of second.now)) }
 {
     let mut entries = Vec::with_capacity(alloc, first.len())?;
     for entry in first {
@@ -211,7 +213,8 @@ fn sum_each(
 /// The value alone, or its sum with another.
 #[cycle(sums)]
 fn meet(alloc: Global, value: Value, other: Option<&Entry>, at: Place) -> Result<Value, EvalError>
-    ensures { Answers meaning result (met (meaning value) (sum_of at (meaning value)) (option_map (λ e. (field_of e.now).value) other.entry)) }
+    ensures { Answers meaning result
+        (met (meaning value) (sum_of at (meaning value)) (option_map (λ e. (field_of e.now).value) other.entry)) }
 {
     match other {
         Some(entry) => add_copy(alloc, value, &entry.value, at),
@@ -225,7 +228,8 @@ fn meet_name<'a>(
     name: &'a Text,
     places: &NameTable<'_>,
 ) -> Result<(), OutOfMemory>
-    ensures { OnOk result ((q : List ℕ) → knows met.new q ≡ (knows met.old q || (bytes_eq q name.now && is_some (number_of places.now q)))) }
+    ensures { OnOk result ((q : List ℕ) → knows met.new q
+        ≡ (knows met.old q || (bytes_eq q name.now && is_some (number_of places.now q)))) }
 {
     if places.number_of(name.as_str()).is_some() {
         met.learn(name.as_str())?;
@@ -264,7 +268,8 @@ fn move_others(
 }
 
 fn push_unless(entries: &mut Vec<Entry>, met: bool, entry: Entry) -> Result<(), OutOfMemory>
-    ensures { OnOk result (map field_of entries.new.items ≡ map field_of entries.old.items ++ (if met then [] else (field_of entry ∷ []))) }
+    ensures { OnOk result (map field_of entries.new.items
+        ≡ map field_of entries.old.items ++ (if met then [] else (field_of entry ∷ []))) }
 {
     if !met {
         entries.push(entry)?;
@@ -293,7 +298,8 @@ fn copy_unless(
     met: bool,
     entry: &Entry,
 ) -> Result<(), OutOfMemory>
-    ensures { OnOk result (map field_of entries.new.items ≡ map field_of entries.old.items ++ (if met then [] else (field_of entry.now ∷ []))) }
+    ensures { OnOk result (map field_of entries.new.items
+        ≡ map field_of entries.old.items ++ (if met then [] else (field_of entry.now ∷ []))) }
 {
     if !met {
         entries.push(copy_entry(alloc, entry)?)?;

@@ -38,7 +38,8 @@ fn make(
     ins: &[Arc<Actions>],
     files: Vec<Item>,
 ) -> Result<Actions, OutOfMemory>
-    ensures { IfOk result (λ made. made ≡ made_of modules.now graph.now.nodes «module».now node.now (map arc_value ins.now) files.items) }
+    ensures { IfOk result (λ made. made ≡ made_of modules.now graph.now.nodes «module».now node.now
+        (map arc_value ins.now) files.items) }
 {
     let list = files.as_slice();
     let compiler = compiler_of(alloc, module, node, list)?;
@@ -65,7 +66,8 @@ pub fn act(
     node: &Node<Props>,
     ins: &[Arc<Actions>],
 ) -> Result<Actions, VisitError>
-    ensures { Answers (λ made. made) result (acts modules.now graph.now.nodes «module».now node.now (map arc_value ins.now)) }
+    ensures { Answers (λ made. made) result
+        (acts modules.now graph.now.nodes «module».now node.now (map arc_value ins.now)) }
 {
     match role_of(module.kind) {
         Role::Neither => Ok(idle(alloc, Vec::new(alloc))),

@@ -1,9 +1,9 @@
 //! Shows faults of bpgen where they are: behind each fault line of standard input it prints the line of the file with a
 //! caret under the column, and the known names that are nearest to an unknown one. All other lines are passed on.
 //!
-//! Lines flow in, and the same lines flow out with notes behind them. It is measured by `specs/View.antt`, the text that
-//! is printed, over `specs/Lines.antt`, what is a fault line, `specs/Excerpts.antt`, the quoted line with its caret, and
-//! `specs/Nearest.antt`, the nearest names.
+//! Lines flow in, and the same lines flow out with notes behind them. It is measured by `specs/View.antt`, the text
+//! that is printed, over `specs/Lines.antt`, what is a fault line, `specs/Excerpts.antt`, the quoted line with its
+//! caret, and `specs/Nearest.antt`, the nearest names.
 #![tactic(auto)]
 
 mod cut;

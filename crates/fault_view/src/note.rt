@@ -20,7 +20,8 @@ use std::alloc::Global;
 
 // The properties that are nearest to a property.
 fn nearest_properties(alloc: Global, property: &str) -> Result<Vec<Text>, OutOfMemory>
-    ensures { IfOk result (λ names. names.items ≡ nearest (table_names (last_parts property.now).0) (last_parts property.now).1) }
+    ensures { IfOk result
+        (λ names. names.items ≡ nearest (table_names (last_parts property.now).0) (last_parts property.now).1) }
 {
     let (group, word) = last_parts(alloc, property)?;
     let known = property_names(alloc, group)?;
@@ -120,7 +121,8 @@ fn shown<S: Store>(
     ensures files { S.files store.new ≡ S.files store.old }
     ensures reads { S.read_faults store.old ≤ S.read_faults store.new }
     ensures exact { IfOk result (λ shown. Softly (S.files store.old) (S.read_faults store.old) (S.read_faults store.new)
-        (λ files. option_map string_bytes shown ≡ shown_of (within LARGEST_ORDER_FILE (get files line.now.path)) line.now)) }
+        (λ files. option_map string_bytes shown
+        ≡ shown_of (within LARGEST_ORDER_FILE (get files line.now.path)) line.now)) }
 {
     match source(alloc, store, &line.path, LARGEST_ORDER_FILE)? {
         Some(bytes) => excerpt(alloc, &bytes, line.line, line.col),

@@ -126,7 +126,8 @@ fn put_line<S: Store, O: Sink>(
 // The next line with its end. At the end of the input it is empty.
 fn next_line<I: BufRead>(alloc: Global, input: &mut I) -> Result<Vec<u8>, End>
     ensures line { IfOk result (λ line. IfSome (I.remaining input.old) (λ text. line.items ≡ take_through 10 text)) }
-    ensures rest { IfOk result (λ line. IfSome (I.remaining input.old) (λ text. I.remaining input.new ≡ Some (drop_through 10 text))) }
+    ensures rest { IfOk result
+        (λ line. IfSome (I.remaining input.old) (λ text. I.remaining input.new ≡ Some (drop_through 10 text))) }
     ensures read { ¬ IsErrOf result End.CannotWrite }
 {
     let mut line = Vec::new(alloc);
@@ -149,10 +150,14 @@ pub fn view<I: BufRead, S: Store, O: Sink>(
 ) -> Result<(), End>
     ensures files { S.files store.new ≡ S.files store.old }
 
-    // All that came in was passed on, and where no read of the store failed, exactly what is meant stands behind each line.
-    ensures kept { OnOk result (IfSome (I.remaining input.old) (λ text. WhereTold (Shows Anything text) (O.bytes out.old) (O.bytes out.new))) }
+    // All that came in was passed on, and where no read of the store failed, exactly what is meant stands behind
+    // each line.
+    ensures kept { OnOk result (IfSome (I.remaining input.old)
+        (λ text. WhereTold (Shows Anything text) (O.bytes out.old) (O.bytes out.new))) }
     ensures exact { OnOk result (Softly (S.files store.old) (S.read_faults store.old) (S.read_faults store.new)
-        (λ files. IfSome (I.remaining input.old) (λ text. WhereTold (Shows (IsBehind (option_copied list.entry) files) text) (O.bytes out.old) (O.bytes out.new)))) }
+        (λ files. IfSome (I.remaining input.old)
+        (λ text. WhereTold (Shows (IsBehind (option_copied list.entry) files) text)
+        (O.bytes out.old) (O.bytes out.new)))) }
     ensures unwritten { IsErrOf result End.CannotWrite → Rose (O.faults out.old) (O.faults out.new) }
 {
     for turn in 0..u64::MAX {

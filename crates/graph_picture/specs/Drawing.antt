@@ -24,11 +24,12 @@ escaped b =
 unfoldable pub quoted : List ℕ → List ℕ
 quoted name = codes "\"" ++ (flat_map escaped name ++ codes "\"")
 
--- The names of a variant, and empty ones beyond the variants.
+-- The name of a variant's module, and the empty one beyond the variants.
 abbrev pub module_of : Option Variant → List ℕ
 module_of (Some v) = v.module
 module_of None = []
 
+-- A variant's own name, and the empty one beyond the variants.
 abbrev pub variation_of : Option Variant → List ℕ
 variation_of (Some v) = v.variation
 variation_of None = []
@@ -100,10 +101,11 @@ arrow_drawn a =
     codes "  n" ++ (decimal a.0 ++ (codes " -> n" ++ (decimal a.1.to ++ (codes " [label=\"" ++ (kind_word a.1.kind
     ++ (codes "\", " ++ (style_of a.1.kind ++ codes "];\n")))))))
 
--- The clusters that a picture shows, and its edges.
+-- The clusters that a picture shows: those of the marked variants.
 abbrev pub shown_clusters : List Variant → List Bool → List Cluster
 shown_clusters variants marks = clusters_behind variants [] (marked marks)
 
+-- The edges that a picture shows: those of which both ends are marked.
 abbrev pub shown_arrows : List Variant → List Bool → List (ℕ × Arrow)
 shown_arrows variants marks = filter (is_inside marks) (arrows_of variants)
 

@@ -138,7 +138,8 @@ fn put_arrow(
     n: usize,
     arrow: &Arrow,
 ) -> Result<(), OutOfMemory>
-    ensures { OnOk result (text.new.items ≡ text.old.items ++ flat_map arrow_drawn (filter (is_inside marks.now) ((n, arrow.now) ∷ []))) }
+    ensures { OnOk result (text.new.items
+        ≡ text.old.items ++ flat_map arrow_drawn (filter (is_inside marks.now) ((n, arrow.now) ∷ []))) }
 {
     let to = arrow.to;
     if !is_marked(marks, n) || !is_marked(marks, to as usize) {
@@ -158,7 +159,8 @@ fn put_arrows(
     n: usize,
     edges: &[Arrow],
 ) -> Result<(), OutOfMemory>
-    ensures { OnOk result (text.new.items ≡ text.old.items ++ flat_map arrow_drawn (filter (is_inside marks.now) (map (λ a. (n, a)) edges.now))) }
+    ensures { OnOk result (text.new.items
+        ≡ text.old.items ++ flat_map arrow_drawn (filter (is_inside marks.now) (map (λ a. (n, a)) edges.now))) }
 {
     for arrow in edges {
         put_arrow(alloc, text, marks, n, arrow)?;
@@ -173,7 +175,8 @@ fn put_all_arrows(
     variants: &[Variant],
     marks: &[bool],
 ) -> Result<(), OutOfMemory>
-    ensures { OnOk result (text.new.items ≡ text.old.items ++ flat_map arrow_drawn (shown_arrows variants.now marks.now)) }
+    ensures { OnOk result
+        (text.new.items ≡ text.old.items ++ flat_map arrow_drawn (shown_arrows variants.now marks.now)) }
 {
     for (n, variant) in variants.iter().enumerate() {
         put_arrows(alloc, text, marks, n, variant.edges.as_slice())?;

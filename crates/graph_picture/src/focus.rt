@@ -48,7 +48,8 @@ pub fn marks_of(
     focus: &Focus,
 ) -> Result<Option<Vec<bool>>, OutOfMemory>
     requires { IsGraph variants.now }
-    ensures { IfOk result (λ marks. MatchOption marks ((n : ℕ) → IsOf variants.now focus.now.module n → ⊥) (λ marks. AreMarks variants.now (Some focus.now) marks.items)) }
+    ensures { IfOk result (λ marks. MatchOption marks ((n : ℕ) → IsOf variants.now focus.now.module n → ⊥)
+        (λ marks. AreMarks variants.now (Some focus.now) marks.items)) }
 {
     let starts = numbers_of(alloc, variants, focus.module.as_str())?;
     if starts.is_empty() {

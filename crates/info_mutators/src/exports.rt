@@ -46,7 +46,8 @@ fn export_names<'a>(alloc: Global, own: &'a Props) -> Result<ExportNames<'a>, Ou
 
 /// Whether a module hands on what a dependency exports.
 fn is_handed_on(names: &ExportNames, dependency: &Dependency) -> bool
-    ensures { (own : Props) → AreExportNames own names.now → result ≡ is_handed_on own dependency.now.kind dependency.now.name }
+    ensures { (own : Props) → AreExportNames own names.now
+        → result ≡ is_handed_on own dependency.now.kind dependency.now.name }
 {
     let name = dependency.name().as_str();
     match dependency.kind() {
@@ -74,7 +75,8 @@ fn note_handed_on<'a>(
     names: &ExportNames,
     dependency: &Dependency<'a>,
 ) -> Result<(), OutOfMemory>
-    ensures { (own : Props) → AreExportNames own names.now → OnOk result (NotesAllPaths seen.old.keys (export_part own dependency.now) seen.new.keys) }
+    ensures { (own : Props) → AreExportNames own names.now
+        → OnOk result (NotesAllPaths seen.old.keys (export_part own dependency.now) seen.new.keys) }
 {
     if is_handed_on(names, dependency) {
         note_all(seen, dependency.exports())?;
@@ -87,7 +89,8 @@ fn note_all_handed_on<'a>(
     names: &ExportNames,
     dependencies: &[Dependency<'a>],
 ) -> Result<(), OutOfMemory>
-    ensures { (own : Props) → AreExportNames own names.now → OnOk result (NotesAllPaths seen.old.keys (flat_map (export_part own) dependencies.now) seen.new.keys) }
+    ensures { (own : Props) → AreExportNames own names.now
+        → OnOk result (NotesAllPaths seen.old.keys (flat_map (export_part own) dependencies.now) seen.new.keys) }
 {
     for dependency in dependencies {
         note_handed_on(seen, names, dependency)?;

@@ -32,7 +32,8 @@ fn dependencies_of<'a>(
     requires may { MayRun (places_in (length mods.now)) g.now.nodes }
     requires ends { AllByRecursion (λ (e : Edge). e.to.0 < length g.now.nodes) edges.now }
     requires each { length made.now ≡ length edges.now }
-    ensures { IfOk result (λ list. list.items ≡ dependencies_of mods.now g.now.nodes edges.now (map arc_value made.now)) }
+    ensures { IfOk result
+        (λ list. list.items ≡ dependencies_of mods.now g.now.nodes edges.now (map arc_value made.now)) }
 {
     let mut list = Vec::with_capacity(alloc, edges.len())?;
     for (place, edge) in edges.iter().enumerate() {

@@ -47,7 +47,8 @@ fn note_from_end(seen: &mut IndexSet<u32>, nodes: &[NodeId]) -> Result<(), OutOf
 
 /// Notes what a dependency puts into the link line, from the last to the first.
 fn note_line_part(seen: &mut IndexSet<u32>, dependency: &Dependency) -> Result<(), OutOfMemory>
-    ensures { OnOk result (NotesNumbers seen.old.keys (reverse (numbers (line_part dependency.now.node dependency.now.props dependency.now.kind))) seen.new.keys) }
+    ensures { OnOk result (NotesNumbers seen.old.keys
+        (reverse (numbers (line_part dependency.now.node dependency.now.props dependency.now.kind))) seen.new.keys) }
 {
     match dependency.kind() {
         EdgeKind::Whole => note_from_end(seen, dependency.line()),
@@ -62,7 +63,8 @@ fn note_line_part(seen: &mut IndexSet<u32>, dependency: &Dependency) -> Result<(
 
 /// Notes what all dependencies put into it, from the last to the first.
 fn note_line(seen: &mut IndexSet<u32>, dependencies: &[Dependency]) -> Result<(), OutOfMemory>
-    ensures { OnOk result (NotesNumbers seen.old.keys (reverse (flat_map (λ d. numbers (line_part d.node d.props d.kind)) dependencies.now)) seen.new.keys) }
+    ensures { OnOk result (NotesNumbers seen.old.keys
+        (reverse (flat_map (λ d. numbers (line_part d.node d.props d.kind)) dependencies.now)) seen.new.keys) }
 {
     let mut place = dependencies.len();
     while place > 0 {
@@ -101,7 +103,8 @@ pub fn link_line_of(
 
 /// Notes a dependency that is a shared library.
 fn note_shared_part(seen: &mut IndexSet<u32>, dependency: &Dependency) -> Result<(), OutOfMemory>
-    ensures { OnOk result (NotesNumbers seen.old.keys (numbers (shared_part dependency.now.node dependency.now.kind)) seen.new.keys) }
+    ensures { OnOk result (NotesNumbers seen.old.keys
+        (numbers (shared_part dependency.now.node dependency.now.kind)) seen.new.keys) }
 {
     match dependency.kind() {
         EdgeKind::Shared => note(seen, dependency.node()),
@@ -121,7 +124,8 @@ fn note_needed_part(seen: &mut IndexSet<u32>, dependency: &Dependency) -> Result
 
 /// Notes the shared libraries that a module asks for.
 fn note_shared(seen: &mut IndexSet<u32>, dependencies: &[Dependency]) -> Result<(), OutOfMemory>
-    ensures { OnOk result (NotesNumbers seen.old.keys (flat_map (λ d. numbers (shared_part d.node d.kind)) dependencies.now) seen.new.keys) }
+    ensures { OnOk result (NotesNumbers seen.old.keys
+        (flat_map (λ d. numbers (shared_part d.node d.kind)) dependencies.now) seen.new.keys) }
 {
     for dependency in dependencies {
         note_shared_part(seen, dependency)?;
@@ -131,7 +135,8 @@ fn note_shared(seen: &mut IndexSet<u32>, dependencies: &[Dependency]) -> Result<
 
 /// Notes what its static libraries need.
 fn note_needed(seen: &mut IndexSet<u32>, dependencies: &[Dependency]) -> Result<(), OutOfMemory>
-    ensures { OnOk result (NotesNumbers seen.old.keys (flat_map (λ d. numbers (needed_part d)) dependencies.now) seen.new.keys) }
+    ensures { OnOk result
+        (NotesNumbers seen.old.keys (flat_map (λ d. numbers (needed_part d)) dependencies.now) seen.new.keys) }
 {
     for dependency in dependencies {
         note_needed_part(seen, dependency)?;

@@ -93,7 +93,8 @@ pub fn includes_of(
     own: &Props,
     dependencies: &[Dependency],
 ) -> Result<Option<Vec<Path>>, OutOfMemory>
-    ensures { IfOk result (λ list. option_map (λ list. list.items) list ≡ if_short (includes_of own.now dependencies.now)) }
+    ensures { IfOk result
+        (λ list. option_map (λ list. list.items) list ≡ if_short (includes_of own.now dependencies.now)) }
 {
     let mut seen = IndexSet::new(alloc);
     note_own(&mut seen, own)?;

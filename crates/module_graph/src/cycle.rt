@@ -19,7 +19,8 @@ use std::alloc::Global;
 fn rest_of_cycle<P>(alloc: Global, g: &Graph<P>, start: &Start) -> Result<Vec<Edge>, OutOfMemory>
     requires numbered { IsNumbered g.now.nodes }
     requires start { IsFoundStart g.now.nodes (Some start.now) }
-    ensures { IfOk result (λ rest. IsWay g.now.nodes start.now.node start.now.first.edge.to.0 rest.items start.now.node) }
+    ensures { IfOk result
+        (λ rest. IsWay g.now.nodes start.now.node start.now.first.edge.to.0 rest.items start.now.node) }
 {
     let mut rest = Vec::new(alloc);
     let mut node = start.first.edge.to;
@@ -44,7 +45,8 @@ fn chain_of(
     first: Edge,
     rest: &[Edge],
 ) -> Result<Vec<Text>, OutOfMemory>
-    ensures { IfOk result (λ chain. chain.items ≡ name_at names.now node ∷ map (λ (e : Edge). name_at names.now e.to.0) (first ∷ rest.now)) }
+    ensures { IfOk result (λ chain. chain.items
+        ≡ name_at names.now node ∷ map (λ (e : Edge). name_at names.now e.to.0) (first ∷ rest.now)) }
 {
     let mut chain = Vec::new(alloc);
     chain.push(Text::from_str(alloc, name_of(names, node as usize))?)?;

@@ -40,7 +40,8 @@ fn put_node<P>(
     name: &str,
     node: &Node<P>,
 ) -> Result<(), OutOfMemory>
-    ensures { OnOk result (string_bytes text.new ≡ string_bytes text.old ++ ended (node_line n name.now node.now.vars)) }
+    ensures { OnOk result
+        (string_bytes text.new ≡ string_bytes text.old ++ ended (node_line n name.now node.now.vars)) }
 {
     let variant = variant_name(alloc, &node.vars)?;
     let mut shown = variant.as_str();
@@ -69,7 +70,8 @@ fn put_lines<P>(
     names: &[Text],
     node: &Node<P>,
 ) -> Result<(), OutOfMemory>
-    ensures { OnOk result (string_bytes text.new ≡ string_bytes text.old ++ flat_map ended (node_lines names.now n node.now)) }
+    ensures { OnOk result
+        (string_bytes text.new ≡ string_bytes text.old ++ flat_map ended (node_lines names.now n node.now)) }
 {
     put_node(alloc, text, n, name_of(names, n), node)?;
     put_edges(text, node.edges.as_slice())

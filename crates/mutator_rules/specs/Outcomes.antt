@@ -6,7 +6,8 @@ use Rattle.bp_faults.specs.declared.place.Place.{Place}
 use Rattle.mutator_rules.specs.declared.error.KindError.{KindError}
 use Rattle.mutator_rules.specs.declared.error.KindError.TheVariants.{At, Nodes, Edges, OutOfMemory}
 
--- A new graph, or the fault of a node, or the module of the first node or the place of the first edge beyond the limits.
+-- A new graph, or the fault of a node, or the module of the first node or the place of the first edge beyond the
+-- limits.
 pub data KindOutcome (G : Type 0) : Type 0 where
   Made : G → KindOutcome G
   FaultAt : ℕ → Fault → KindOutcome G

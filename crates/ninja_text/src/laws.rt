@@ -30,7 +30,8 @@ pub fn written_and_read(
     Ok(read(alloc, text.as_slice()))
 }
 
-/// Writes a file without and with workers. Two texts are one text, and no text is beside an answer that it is too large.
+/// Writes a file without and with workers. Two texts are one text, and no text is beside an answer that it is too
+/// large.
 pub fn written_alike<R: Threads + Sync>(
     rt: &R,
     alloc: Global,

@@ -38,7 +38,8 @@ pub fn held_by<'a, 'b, T>(held: &'a [T], starts: &'b [u32], n: NodeId) -> &'a [T
     requires rises { slice_index starts.now n.0 ≤ slice_index starts.now (n.0 + 1) }
     requires ends { slice_index starts.now (n.0 + 1) ≤ length held.now }
     requires inside { n.0 + 1 < length starts.now }
-    ensures { result.now ≡ take (slice_index starts.now (n.0 + 1) - slice_index starts.now n.0) (drop (slice_index starts.now n.0) held.now) }
+    ensures { result.now ≡ take (slice_index starts.now (n.0 + 1) - slice_index starts.now n.0)
+        (drop (slice_index starts.now n.0) held.now) }
 {
     let begin = starts[n.0 as usize] as usize;
     let end = starts[n.0 as usize + 1] as usize;
@@ -76,7 +77,8 @@ pub fn publish_last<V: Visit>(
 ) -> Result<(), OutOfMemory>
     requires takes { V.takes v.now n.0 (length held.now) }
     requires inside { n.0 < length published.old.items }
-    ensures done { OnOk result (PublishesLast (IsTrue last) n.0 (judged (V.meaning v.now n.0) (held_outs held.now)) published.old.items published.new.items) }
+    ensures done { OnOk result (PublishesLast (IsTrue last) n.0
+        (judged (V.meaning v.now n.0) (held_outs held.now)) published.old.items published.new.items) }
     ensures unchanged { OnErr result (published.new.items ≡ published.old.items) }
 {
     if last {

@@ -36,7 +36,9 @@ impl<V: Visit> Model for Core<V> {
 
     ghost view = { λ c. record { plan = c.plan; visitor = c.visitor; state = state_of c.counters.items c.claimed.items c.filled.items c.subtracted.items c.fetched.items } };
 
-    ghost invariant = { λ c. IsCore (V.meaning c.visitor) (V.takes c.visitor) c.plan c.starts.items (state_of c.counters.items c.claimed.items c.filled.items c.subtracted.items c.fetched.items) c.unfetched.items c.published.items c.steps };
+    ghost invariant = { λ c. IsCore (V.meaning c.visitor) (V.takes c.visitor) c.plan c.starts.items
+        (state_of c.counters.items c.claimed.items c.filled.items c.subtracted.items c.fetched.items)
+        c.unfetched.items c.published.items c.steps };
 }
 
 impl<V: Visit> Core<V> {
@@ -187,7 +189,8 @@ impl<V: Visit + Drop> Core<V> {
     /// The results by node number.
     pub fn into_outs(self, alloc: Global) -> Result<Vec<Published<V::Out>>, OutOfMemory>
         requires { IsFinished self.plan self.state }
-        ensures { IfOk result (λ outs. map shown outs.items ≡ map (node_result (V.meaning self.visitor) self.plan) (range_with_len 0 self.plan.count)) }
+        ensures { IfOk result (λ outs. map shown outs.items
+            ≡ map (node_result (V.meaning self.visitor) self.plan) (range_with_len 0 self.plan.count)) }
     {
         Ok(unwrapped(alloc, self.published)?)
     }

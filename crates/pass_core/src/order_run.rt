@@ -73,7 +73,8 @@ fn visit_along<V: Visit>(
     requires takes { TakesPlan (V.takes v.now) plan.now }
     requires starts { AreStarts plan.now starts.now }
     requires legal { IsLegal plan.now (numbers order.now) }
-    ensures { IfOk result (λ r. IfSome r (λ outs. IsOutcome (V.meaning v.now) plan.now (Ok (map arc_value outs.items)))) }
+    ensures { IfOk result
+        (λ r. IfSome r (λ outs. IsOutcome (V.meaning v.now) plan.now (Ok (map arc_value outs.items)))) }
 {
     let mut made = empty_places(alloc, plan.count)?;
     for n in order {

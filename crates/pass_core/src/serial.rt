@@ -27,7 +27,8 @@ fn gather<O: Drop>(
     made: &[Option<Arc<O>>],
 ) -> Result<Option<Vec<Arc<O>>>, OutOfMemory>
     requires { AllByRecursion (λ (e : PlanEdge). e.from.0 < length made.now) edges.now }
-    ensures { IfOk result (λ r. option_map (λ ins. map arc_value ins.items) r ≡ all_of (map (made_at made.now) (sources edges.now))) }
+    ensures { IfOk result (λ r. option_map (λ ins. map arc_value ins.items) r
+        ≡ all_of (map (made_at made.now) (sources edges.now))) }
 {
     let mut ins = Vec::new(alloc);
     for edge in edges {

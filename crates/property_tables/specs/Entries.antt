@@ -71,7 +71,8 @@ abbrev pub groups_entry : List ℕ → List ℕ → List Property → List (Grou
     → Result (List (GroupId × GroupProps)) Fault
 groups_entry dir prefix table groups entry = then_do (property_in table prefix entry)
     (λ p. then_do (map_in entry.at (prefix ++ entry.name) entry.value)
-    (λ fields. then_do (group_typed dir (within prefix entry.name) fields) (λ g. Ok (groups_with_group p.effect g groups))))
+    (λ fields. then_do (group_typed dir (within prefix entry.name) fields)
+    (λ g. Ok (groups_with_group p.effect g groups))))
 
 -- An entry of `sanitize` has a property of its table, and a value that fits it.
 abbrev pub sanitize_entry : List ℕ → List ℕ → Props → Entry → Result Props Fault

@@ -38,7 +38,8 @@ fn module_row(kind: ModuleKind, name: &Text) -> Option<Row>
 
 fn known(alloc: Global, row: Option<Row>, prefix: &str, entry: &Entry) -> Result<Row, LoadError>
     ensures { Answers property_of result
-        (property_or_unknown (field_of entry.now).at (prefix.now ++ (field_of entry.now).name) (option_map property_of row)) }
+        (property_or_unknown (field_of entry.now).at (prefix.now ++ (field_of entry.now).name)
+        (option_map property_of row)) }
 {
     match row {
         Some(row) => Ok(row),

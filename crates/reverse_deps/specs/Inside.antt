@@ -16,7 +16,7 @@ abbrev pub AreHeld : ℕ → List Link → Type 0
 AreHeld count ls = AllByRecursion (λ (l : Link). l.0.0 < count) ls
 
 module _ {P : Type 0} where
-  -- node n, if it is of module m
+  -- Node n alone where it is of module m, and else no node.
   abbrev pub if_of : ℕ → ℕ → Node P → List NodeId
   if_of m n x = cond (nat_eq x.«module».0 m) (record { 0 = n } ∷ []) []
 
@@ -28,7 +28,7 @@ module _ {P : Type 0} where
   abbrev pub ListsNodes : List (Node P) → ℕ → List (List NodeId) → Type 0
   ListsNodes nodes count lists = (m : ℕ) → m < count → slice_index_or lists m [] ≡ nodes_of nodes m
 
-  -- node n has the wanted variations
+  -- Node n is there, and has the wanted target, image and link.
   abbrev pub is_wanted_at : List (Node P) → Wanted → NodeId → Bool
   is_wanted_at nodes want n = option_map_or (λ (x : Node P). is_wanted want x.vars) (slice_get nodes n.0) false
 

@@ -47,7 +47,8 @@ pub record IsFitStill {P : Type 0} (count : ℕ) (old new : List (Node P)) : Typ
   pub same : map bare new ≡ map bare old
 
 module _ (P : Type 0) where
-  -- The node that is found is the least of its module with the wanted variations, and none is found where there is none.
+  -- The node that is found is the least of its module with the wanted variations, and none is found where there is
+  -- none.
   abbrev pub NodesForAreLeast : Type 0
   NodesForAreLeast =
       (nodes : List (Node P)) (m : ℕ) (want : Wanted) → IsLeastFor nodes m want (node_for nodes m want)

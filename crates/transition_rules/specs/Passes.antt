@@ -39,8 +39,10 @@ module _ {P : Type 0} (m : TransitionMeaning P) (nodes : List (Node P)) where
   WantsMean (Made new) =
       (lists : List (List Variation)) × AreWants (Ok lists) × IsWithinLimits (varied lists) × (new ≡ varied lists)
   WantsMean (FaultAt n fault) = AreWants (Err (n, fault))
-  WantsMean (NodesBeyond at) = (lists : List (List Variation)) × AreWants (Ok lists) × IsFirstNodeBeyond (varied lists) at
-  WantsMean (EdgesBeyond at) = (lists : List (List Variation)) × AreWants (Ok lists) × IsFirstEdgeBeyond (varied lists) at
+  WantsMean (NodesBeyond at) =
+      (lists : List (List Variation)) × AreWants (Ok lists) × IsFirstNodeBeyond (varied lists) at
+  WantsMean (EdgesBeyond at) =
+      (lists : List (List Variation)) × AreWants (Ok lists) × IsFirstEdgeBeyond (varied lists) at
 
   -- What the second pass, from the bottom up, comes to: the payload of each node, or a node's fault.
   abbrev pub AreMutated : Result (List P) (ℕ × Fault) → Type 0

@@ -34,4 +34,5 @@ module _ {P : Type 0} (m : TransitionMeaning P) (nodes : List (Node P)) where
 
   -- The variations of node n, given those of the nodes whose edges lead to it.
   abbrev pub variations_meant : ℕ → List (List Variation) → Result (List Variation) Fault
-  variations_meant n lists = then_do (m.split nodes n) (λ own. Ok (own ++ others_of own (wanted n (arrivals nodes n) lists)))
+  variations_meant n lists =
+      then_do (m.split nodes n) (λ own. Ok (own ++ others_of own (wanted n (arrivals nodes n) lists)))

@@ -70,7 +70,8 @@ where
     requires may { MayRun (M.accepts rule.now) g.now.nodes }
     requires way { IsPassWay way.now }
     requires follows { Follows way.now before.now }
-    ensures { AnswersWay way.now ((M.meaning rule.now).mutate g.now.nodes) (plan_of BottomUp g.now.nodes) pass before.now result }
+    ensures { AnswersWay way.now ((M.meaning rule.now).mutate g.now.nodes)
+        (plan_of BottomUp g.now.nodes) pass before.now result }
 {
     valid_plans_have_no_cycle::<P>();
     predecessors_are_targets::<P>();
@@ -109,7 +110,8 @@ where
     requires follows { Follows way.now before.now }
     ensures means { AnswersStep (λ made. made.graph.nodes) (MutateMeans (M.meaning rule.now) g.nodes)
         (RefusesPass way.now before.now pass (plan_of BottomUp g.nodes)) result }
-    ensures followed { HasFollowed (λ made. made.order) (Runs (Follows way.now) (plan_of BottomUp g.nodes) pass before.now) result }
+    ensures followed { HasFollowed (λ made. made.order)
+        (Runs (Follows way.now) (plan_of BottomUp g.nodes) pass before.now) result }
     ensures valid { IfOk result (λ made. IsValid made.graph.nodes) }
     ensures may { IfOk result (λ made. MayRun (M.accepts rule.now) made.graph.nodes) }
     ensures free { IfOk result (λ made. StayFree None g.nodes made.graph.nodes) }

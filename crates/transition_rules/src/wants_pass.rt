@@ -44,7 +44,8 @@ where
     requires may { MayRun (M.accepts rule.now) g.now.nodes }
     requires way { IsPassWay way.now }
     requires follows { Follows way.now before.now }
-    ensures { AnswersWay way.now (variations_meant (M.meaning rule.now) g.now.nodes) (plan_of TopDown g.now.nodes) pass before.now result }
+    ensures { AnswersWay way.now (variations_meant (M.meaning rule.now) g.now.nodes)
+        (plan_of TopDown g.now.nodes) pass before.now result }
 {
     valid_plans_have_no_cycle::<P>();
     predecessors_are_arrivals::<P>();
@@ -69,7 +70,8 @@ fn split<P: Payload + Drop, M: Transition<P>>(
     requires may { MayRun (M.accepts rule.now) g.now.nodes }
     requires differ { SplitsDiffer (M.meaning rule.now) g.now.nodes }
     requires wants { AreWants (M.meaning rule.now) g.now.nodes (Ok lists.items) }
-    ensures { AnswersSplit (splitting (wanted_variants (M.meaning rule.now) g.now.nodes) lists.items) g.now.nodes result }
+    ensures { AnswersSplit
+        (splitting (wanted_variants (M.meaning rule.now) g.now.nodes) lists.items) g.now.nodes result }
 {
     wants_split::<P>();
     let s = WantedVariants { graph: g, rule };
@@ -110,7 +112,8 @@ where
     requires follows { Follows way.now before.now }
     ensures means { AnswersStep (λ made. made.graph.nodes) (WantsMean (M.meaning rule.now) g.nodes)
         (RefusesPass way.now before.now pass (plan_of TopDown g.nodes)) result }
-    ensures followed { HasFollowed (λ made. made.order) (Runs (Follows way.now) (plan_of TopDown g.nodes) pass before.now) result }
+    ensures followed { HasFollowed (λ made. made.order)
+        (Runs (Follows way.now) (plan_of TopDown g.nodes) pass before.now) result }
     ensures valid { IfOk result (λ made. IsValid made.graph.nodes) }
     ensures may { IfOk result (λ made. MayRun (M.accepts rule.now) made.graph.nodes) }
     ensures free { IfOk result (λ made. StayFree (Some (M.meaning rule.now).axis) g.nodes made.graph.nodes) }

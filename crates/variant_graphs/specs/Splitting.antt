@@ -54,7 +54,8 @@ module _ {P B : Type 0} (s : Splitting P B) where
   -- The edge of a variant of node n with variation v.
   abbrev pub led : ℕ → Variation → Edge → Option Edge
   led n v e =
-      option_map (λ place. record { kind = e.kind; to = record { 0 = first_of e.to.0 + place }; at = e.at }) (s.lead n v e)
+      option_map (λ place. record { kind = e.kind; to = record { 0 = first_of e.to.0 + place }; at = e.at })
+      (s.lead n v e)
 
   -- A variant of node n: its variation is set on the axis, and it has the edges of the old node, in order.
   abbrev pub variant_node : ℕ → Node P → B → Node P

@@ -35,7 +35,8 @@ pub trait Splitter<P> {
 
     /// The place, among the variants of its target, to which an edge leads from the variant of node `n` with `v`.
     ///
-    /// `theirs` has the variations of the target. `place` is that of the variant among those of `n`: a good first guess.
+    /// `theirs` has the variations of the target. `place` is that of the variant among those of `n`: a good first
+    /// guess.
     fn lead(
         &self,
         n: NodeId,
