@@ -8,7 +8,7 @@ set -eu
 top=$(cd "$(dirname "$0")/.." && pwd)
 program=${1:-$top/bpgen}
 [ $# -eq 0 ] || shift
-cases=${*:-references maps shared_keys extensions nested_keys assignments inheritors heirs long_paths link_lines chain cycle wide modules empty_lines
+cases=${*:-references maps shared_keys extensions nested_keys assignments inheritors heirs random_heirs long_paths link_lines chain cycle wide modules empty_lines
     components tokens doubling groups sources edges dots one_line order names key_modules key_variables}
 runs=${RUNS:-3}
 if [ ! -x "$program" ]; then
@@ -144,6 +144,29 @@ tree_of() {
                     if (file > 0) system("mkdir -p " path)
                     for (n = 0; n < 86000; n++) {
                         printf "a%08x=1\n", ((file * 86000 + n) * 40503) % 16777213 > path "Android.bp"
+                    }
+                    close(path "Android.bp")
+                    path = path "d/"
+                }
+            }' ;;
+        random_heirs)
+            echo "109 files one below the other with 87,000 variables each, whose names are of four letters, in random order"
+            awk 'function letter(place) { return substr(letters, place + 1, 1) }
+            BEGIN {
+                # The first letter is one of 53. Each number below 53 * 63^3 comes once, by a generator of that period.
+                letters = "abcdefghijklmnopqrstuvwxyzABCDEFGHIJKLMNOPQRSTUVWXYZ_0123456789"
+                number = 1
+                path = ""
+                for (file = 0; file < 109; file++) {
+                    print path "Android.bp" > "list"
+                    if (file > 0) system("mkdir -p " path)
+                    for (n = 0; n < 87000; n++) {
+                        do {
+                            number = (number * 5935630 + 12345677) % 13252491
+                            name = letter(int(number / 250047)) letter(int(number / 3969) % 63)
+                            name = name letter(int(number / 63) % 63) letter(number % 63)
+                        } while (name == "true")
+                        print name "=1" > path "Android.bp"
                     }
                     close(path "Android.bp")
                     path = path "d/"
