@@ -77,7 +77,8 @@ const CASES: [Case; 9] = [
             (1, FORWARD, EdgeKind::Shared, "host", NONE, SHARED),
             (1, REVERSE, EdgeKind::Shared, "host", NONE, SHARED),
         ],
-        ":2:1: error 23: dependency cycle: host{android_arm64_shared} -> p{android_arm64_shared} -> host{android_arm64_shared}\n",
+        ":2:1: error 23: dependency cycle: host{android_arm64_shared} -> p{android_arm64_shared} -> \
+            host{android_arm64_shared}\n",
     ),
     // a plugin of itself
     (

@@ -113,7 +113,8 @@ fn each_rule_gives_its_gap(rt: HostRuntime) -> Result<(), Fail> {
 const LAYOUTS: &[(&str, &str)] = &[
     (
         "cc_binary{name:\"a\",srcs:[\"x.c\",\"y.c\"],cflags:[\"-g\"],// t\n}\n",
-        "cc_binary {\n    name: \"a\",\n    srcs: [\n        \"x.c\",\n        \"y.c\"\n    ],\n    cflags: [\"-g\"], // t\n}\n",
+        "cc_binary {\n    name: \"a\",\n    srcs: [\n        \"x.c\",\n        \"y.c\"\n    ],\n    \
+            cflags: [\"-g\"], // t\n}\n",
     ),
     ("", ""),
     (" \n", ""),
@@ -123,11 +124,13 @@ const LAYOUTS: &[(&str, &str)] = &[
     ),
     (
         "//1\nm//2\n{//3\na//4\n://5\n[//6\n1//7\n,//8\n2//9\n]//10\n,//11\n}//12",
-        "//1\nm //2\n{ //3\n    a //4\n    : //5\n    [ //6\n        1 //7\n        , //8\n        2 //9\n    ] //10\n    , //11\n} //12\n",
+        "//1\nm //2\n{ //3\n    a //4\n    : //5\n    [ //6\n        1 //7\n        , //8\n        2 //9\n    \
+            ] //10\n    , //11\n} //12\n",
     ),
     (
         "/*1*/\nm\n/*2*/\n{\n/*3*/\na\n/*4*/\n:\n/*5*/\n[\n/*6*/\n1\n/*7*/\n]\n/*8*/\n}\n/*9*/",
-        "/*1*/\nm\n/*2*/\n{\n    /*3*/\n    a\n    /*4*/\n    :\n    /*5*/\n    [\n        /*6*/\n        1\n        /*7*/\n    ]\n    /*8*/\n}\n\n/*9*/\n",
+        "/*1*/\nm\n/*2*/\n{\n    /*3*/\n    a\n    /*4*/\n    :\n    /*5*/\n    [\n        /*6*/\n        1\n        \
+            /*7*/\n    ]\n    /*8*/\n}\n\n/*9*/\n",
     ),
     (
         "/*1*/a/*2*/=/*3*/1/*4*/\n//5",
@@ -140,7 +143,8 @@ const LAYOUTS: &[(&str, &str)] = &[
     ),
     (
         "m{a:{b:[[1,2]]}}",
-        "m {\n    a: {\n        b: [\n            [\n                1,\n                2\n            ]\n        ]\n    }\n}\n",
+        "m {\n    a: {\n        b: [\n            [\n                1,\n                2\n            ]\n        \
+            ]\n    }\n}\n",
     ),
     ("?", ":1:1: error 2: unexpected character: ?\n"),
     ("m{", ":1:3: error 7: unexpected token: end of file\n"),

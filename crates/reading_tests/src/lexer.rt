@@ -61,11 +61,13 @@ const CUT: &[(&str, &str)] = &[
     (" \t\r\n", ""),
     (
         "cc {\r\n\tn: \"x\",\r\n}",
-        "Ident 0..2 1:1; Punct(OpenBrace) 3..4 1:4; Ident 7..8 2:2; Punct(Colon) 8..9 2:3; Quoted 10..13 2:5; Punct(Comma) 13..14 2:8; Punct(CloseBrace) 16..17 3:1; ",
+        "Ident 0..2 1:1; Punct(OpenBrace) 3..4 1:4; Ident 7..8 2:2; Punct(Colon) 8..9 2:3; Quoted 10..13 2:5; \
+            Punct(Comma) 13..14 2:8; Punct(CloseBrace) 16..17 3:1; ",
     ),
     (
         "+= + =[(",
-        "Punct(PlusEqual) 0..2 1:1; Punct(Plus) 3..4 1:4; Punct(Equal) 5..6 1:6; Punct(OpenBracket) 6..7 1:7; Punct(OpenParen) 7..8 1:8; ",
+        "Punct(PlusEqual) 0..2 1:1; Punct(Plus) 3..4 1:4; Punct(Equal) 5..6 1:6; Punct(OpenBracket) 6..7 1:7; \
+            Punct(OpenParen) 7..8 1:8; ",
     ),
     ("a1 //", "Ident 0..2 1:1; LineComment 3..5 1:4; "),
     (

@@ -76,7 +76,8 @@ const ROWS: [Row; 19] = [
   target = --target=aarch64-linux-android
 build out/m/libdemo/android_arm64_static/obj/demo/android.cpp.o: cxx demo/android.cpp
   target = --target=aarch64-linux-android
-build out/m/libdemo/android_arm64_static/bin/libdemo.a: ar out/m/libdemo/android_arm64_static/obj/demo/demo.cpp.o out/m/libdemo/android_arm64_static/obj/demo/android.cpp.o
+build out/m/libdemo/android_arm64_static/bin/libdemo.a: ar out/m/libdemo/android_arm64_static/obj/demo/demo.cpp.o \
+    out/m/libdemo/android_arm64_static/obj/demo/android.cpp.o
 ",
         ),
     ),
@@ -89,7 +90,8 @@ build out/m/libdemo/android_arm64_static/bin/libdemo.a: ar out/m/libdemo/android
         Some(
             "build out/m/libdemo/linux_glibc_x86_64_static/obj/demo/demo.cpp.o: cxx demo/demo.cpp
   target = --target=x86_64-linux-gnu
-build out/m/libdemo/linux_glibc_x86_64_static/bin/libdemo.a: ar out/m/libdemo/linux_glibc_x86_64_static/obj/demo/demo.cpp.o
+build out/m/libdemo/linux_glibc_x86_64_static/bin/libdemo.a: ar \
+    out/m/libdemo/linux_glibc_x86_64_static/obj/demo/demo.cpp.o
 ",
         ),
     ),
@@ -112,7 +114,8 @@ build out/m/libdemo/linux_glibc_x86_64_static/bin/libdemo.a: ar out/m/libdemo/li
   target = --target=aarch64-linux-android
   cflags = -Wall -Werror -DARM64
   includes = -Idemo/include
-build out/m/demo/android_arm64/bin/demo: link out/m/demo/android_arm64/obj/demo/main.cpp.o out/m/libdemo/android_arm64_static/bin/libdemo.a out/m/liblog/android_arm64_shared/bin/liblog.so
+build out/m/demo/android_arm64/bin/demo: link out/m/demo/android_arm64/obj/demo/main.cpp.o \
+    out/m/libdemo/android_arm64_static/bin/libdemo.a out/m/liblog/android_arm64_shared/bin/liblog.so
   target = --target=aarch64-linux-android
 ",
         ),
@@ -124,7 +127,9 @@ build out/m/demo/android_arm64/bin/demo: link out/m/demo/android_arm64/obj/demo/
         &[(EdgeKind::DataBin, 3), (EdgeKind::DataBin, 3)],
         &[FIRST, Has::Line(1), Has::Slib(0)],
         Some(
-            "build out/m/demo_test/android_arm64_t1/bin/demo_test: link out/m/libdemo/android_arm64_static/bin/libdemo.a out/m/liblog/android_arm64_shared/bin/liblog.so || out/m/demo/android_arm64/bin/demo
+            "build out/m/demo_test/android_arm64_t1/bin/demo_test: link \
+    out/m/libdemo/android_arm64_static/bin/libdemo.a out/m/liblog/android_arm64_shared/bin/liblog.so || \
+    out/m/demo/android_arm64/bin/demo
   target = --target=aarch64-linux-android
 ",
         ),
@@ -158,7 +163,8 @@ build out/m/z/android_arm64_static/bin/z.a: ar out/m/z/android_arm64_static/obj/
         Some(
             "build out/m/app/android_arm64/obj/app.c.o: cc app.c
   target = --target=aarch64-linux-android
-build out/m/app/android_arm64/bin/app: link out/m/app/android_arm64/obj/app.c.o out/m/z/android_arm64_static/obj/z.c.o out/m/z/android_arm64_static/bin/z.a
+build out/m/app/android_arm64/bin/app: link out/m/app/android_arm64/obj/app.c.o out/m/z/android_arm64_static/obj/z.c.o \
+    out/m/z/android_arm64_static/bin/z.a
   target = --target=aarch64-linux-android
 ",
         ),
@@ -247,7 +253,10 @@ build out/m/all/android_arm64_static/obj/f.s.o: as f.s | g.h h.hh i.hpp j.inc
   target = --target=aarch64-linux-android
   cflags = -as
   includes = -I. -Iinc
-build out/m/all/android_arm64_static/bin/all.a: ar out/m/all/android_arm64_static/obj/a.c.o out/m/all/android_arm64_static/obj/b.cc.o out/m/all/android_arm64_static/obj/c.cpp.o out/m/all/android_arm64_static/obj/d.cxx.o out/m/all/android_arm64_static/obj/e.S.o out/m/all/android_arm64_static/obj/f.s.o
+build out/m/all/android_arm64_static/bin/all.a: ar out/m/all/android_arm64_static/obj/a.c.o \
+    out/m/all/android_arm64_static/obj/b.cc.o out/m/all/android_arm64_static/obj/c.cpp.o \
+    out/m/all/android_arm64_static/obj/d.cxx.o out/m/all/android_arm64_static/obj/e.S.o \
+    out/m/all/android_arm64_static/obj/f.s.o
 ",
         ),
     ),
@@ -279,7 +288,8 @@ build out/m/all/android_arm64_static/bin/all.a: ar out/m/all/android_arm64_stati
   target = --target=aarch64-linux-android
 build out/m/asks/android_arm64_shared/obj/in.c.o: cc in.c | out.h
   target = --target=aarch64-linux-android
-build out/m/asks/android_arm64_shared/bin/asks.so: solink out/m/asks/android_arm64_shared/obj/own.c.o out/m/asks/android_arm64_shared/obj/in.c.o
+build out/m/asks/android_arm64_shared/bin/asks.so: solink out/m/asks/android_arm64_shared/obj/own.c.o \
+    out/m/asks/android_arm64_shared/obj/in.c.o
   target = --target=aarch64-linux-android
 ",
         ),

@@ -92,9 +92,11 @@ const READ: [Case; 34] = [
     (b"build   a:phony   b  \n", Ok("build a: phony b\n")),
     (b"bu$\nild a: ph$\n    ony b\n", Ok("build a: phony b\n")),
     (
-        b"rule build\n  command = x\nrule rule\n  command = y\nbuild default: build include\nbuild rule: rule subninja\ndefault default rule\n",
+        b"rule build\n  command = x\nrule rule\n  command = y\nbuild default: build include\n\
+            build rule: rule subninja\ndefault default rule\n",
         Ok(
-            "rule build\n  command = x\nrule rule\n  command = y\nbuild default: build include\nbuild rule: rule subninja\ndefault default rule\n",
+            "rule build\n  command = x\nrule rule\n  command = y\nbuild default: build include\n\
+                build rule: rule subninja\ndefault default rule\n",
         ),
     ),
     (

@@ -1,10 +1,13 @@
 //! Trees with faults, and the line that reports the first of them.
 
-use super::{put, refuses, tree_of};
+use bp_faults::OutOfMemory;
+use memory_runs::{one_file, refuses, tree_of};
+use std::alloc::Global;
 use std::test::Fail;
+use std::thread::Threads;
 
 /// A tree, as `tree_of` reads it, and the line.
-const FAULTS: [(&str, &str); 34] = [
+const FAULTS: &[(&str, &str)] = &[
     (
         "@../x/Android.bp\n",
         "list:1:1: error 33: bad path in list: ../x/Android.bp\n",
@@ -114,8 +117,10 @@ const FAULTS: [(&str, &str); 34] = [
         "b/Android.bp:1:31: error 25: bad source: b/z\n",
     ),
     (
-        "@a/Android.bp\ncc_library_static { name: \"a\", static_libs: [\"b\"] }@b/Android.bp\ncc_library_static { name: \"b\", static_libs: [\"a\"] }",
-        "a/Android.bp:1:46: error 23: dependency cycle: a{android_arm64_static} -> b{android_arm64_static} -> a{android_arm64_static}\n",
+        "@a/Android.bp\ncc_library_static { name: \"a\", static_libs: [\"b\"] }@b/Android.bp\n\
+            cc_library_static { name: \"b\", static_libs: [\"a\"] }",
+        "a/Android.bp:1:46: error 23: dependency cycle: a{android_arm64_static} -> b{android_arm64_static} -> \
+            a{android_arm64_static}\n",
     ),
     (
         "@Android.bp\ncc_binary { name: \"a\", static_libs: [\"b\"] }\ncc_binary { name: \"b\" }",
@@ -130,27 +135,40 @@ const FAULTS: [(&str, &str); 34] = [
         "Android.bp:2:13: error 20: duplicate module name: a\n",
     ),
     (
-        "@Android.bp\ncc_library_static { name: \"a\", static_libs: [\"a\"] }\ncc_binary { name: \"b\", static_libs: [\"x\"] }",
+        "@Android.bp\ncc_library_static { name: \"a\", static_libs: [\"a\"] }\n\
+            cc_binary { name: \"b\", static_libs: [\"x\"] }",
         "Android.bp:2:38: error 21: missing module: x\n",
     ),
     (
-        "@Android.bp\ncc_library_static { name: \"a\", static_libs: [\"a\"] }\ncc_binary { name: \"b\", static_libs: [\"b\"] }",
+        "@Android.bp\ncc_library_static { name: \"a\", static_libs: [\"a\"] }\n\
+            cc_binary { name: \"b\", static_libs: [\"b\"] }",
         "Android.bp:2:38: error 24: missing variant: b{android_arm64_static}\n",
     ),
     (
-        "@Android.bp\ncc_binary { name: \"b\", srcs: [\"b\"] }\ncc_library_static { name: \"a\", static_libs: [\"a\"] }",
+        "@Android.bp\ncc_binary { name: \"b\", srcs: [\"b\"] }\n\
+            cc_library_static { name: \"a\", static_libs: [\"a\"] }",
         "Android.bp:2:46: error 23: dependency cycle: a{android_arm64_static} -> a{android_arm64_static}\n",
     ),
 ];
 
+// The first tree that isn't refused so.
+fn differing<R: Threads + Sync>(
+    rt: &R,
+    alloc: Global,
+    cases: &[(&'static str, &str)],
+) -> Result<Option<&'static str>, OutOfMemory> {
+    for (tree, line) in cases {
+        if !refuses(rt, alloc, tree_of(alloc, tree)?, line)? {
+            return Ok(Some(*tree));
+        }
+    }
+    Ok(None)
+}
+
 #[test]
 fn the_first_fault_is_reported(rt: HostRuntime) -> Result<(), Fail> {
-    let alloc = rt.alloc();
-    for (tree, line) in FAULTS {
-        assert!(rt; refuses(&rt, alloc, tree_of(alloc, tree)?, line)?, "{line}");
-    }
-    let mut tree = Vec::new(alloc);
-    put(alloc, "list", b"\xff", &mut tree)?;
-    assert!(rt; refuses(&rt, alloc, tree, "list:1:1: error 1: not UTF-8\n")?);
+    assert_eq!(rt; differing(&rt, rt.alloc(), FAULTS)?, None);
+    let tree = one_file(rt.alloc(), "list", b"\xff")?;
+    assert!(rt; refuses(&rt, rt.alloc(), tree, "list:1:1: error 1: not UTF-8\n")?);
     Ok(())
 }

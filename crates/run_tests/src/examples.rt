@@ -1,7 +1,7 @@
 //! The worked examples that one call shows, by their names.
 
-use super::{BUILD, end_of, store_of, tree_of};
 use bp_faults::OutOfMemory;
+use memory_runs::{BUILD, DEMO_TREE, Ended, end_of, store_of, tree_of};
 use std::alloc::Global;
 use std::str;
 use std::test::Fail;
@@ -35,66 +35,23 @@ cc_library_static { name: "a" }
 cc_library_static { name: "b", enabled: false, static_libs: ["a"] }
 "#;
 
-const DEFAULTS_GRAPH: &str = r#"@Android.bp
-cc_defaults { name: "d0", cflags: ["-A"], host_supported: true }
-cc_defaults { name: "d1", defaults: ["d0"], cflags: ["-B"], compile_multilib: "both" }
-cc_binary { name: "app", defaults: ["d1"], srcs: ["a.c"], cflags: ["-C"], compile_multilib: "first", host_supported: false }
-"#;
+const DEFAULTS_GRAPH: &str = "@Android.bp
+cc_defaults { name: \"d0\", cflags: [\"-A\"], host_supported: true }
+cc_defaults { name: \"d1\", defaults: [\"d0\"], cflags: [\"-B\"], compile_multilib: \"both\" }
+cc_binary { name: \"app\", defaults: [\"d1\"], srcs: [\"a.c\"], cflags: [\"-C\"], compile_multilib: \"first\", \
+    host_supported: false }
+";
 
 const DEFAULTS_CHAIN: &str = r#"@Android.bp
 cc_binary { name: "app" }
 cc_binary { name: "b", defaults: ["app"] }
 "#;
 
-pub const DEMO_TREE: &str = r#"@demo/Android.bp
-package { default_applicable_licenses: ["demo_license"] }
-
-license {
-    name: "demo_license",
-    license_kinds: ["SPDX-license-identifier-Apache-2.0"],
-}
-
-cc_defaults {
-    name: "demo_defaults",
-    cflags: ["-Wall", "-Werror"],
-    arch: { arm64: { cflags: ["-DARM64"] } },
-}
-
-// The library and what uses it.
-cc_library {
-    name: "libdemo",
-    defaults: ["demo_defaults"],
-    host_supported: true,
-    srcs: ["demo.cpp"],
-    export_include_dirs: ["include"],
-    shared_libs: ["liblog"],
-    target: { android: { srcs: ["android.cpp"] } },
-}
-
-cc_library_shared { name: "liblog", host_supported: true, srcs: ["log.c"] }
-
-cc_binary {
-    name: "demo",
-    defaults: ["demo_defaults"],
-    srcs: ["main.cpp"],
-    static_libs: ["libdemo"],
-    shared_libs: ["liblog"],
-}
-
-cc_test {
-    name: "demo_test",
-    srcs: ["test_a.cpp", "test_b.cpp"],
-    test_per_src: true,
-    test_suites: ["general-tests"],
-    static_libs: ["libdemo"],
-    shared_libs: ["liblog"],
-    data_bins: ["demo"],
-}
-"#;
-
 /// The name, a tree as `tree_of` reads it, the words, the status, and what the call gives: the parts that stand in what
 /// `build` writes, each behind `@`, all that `graph` shows, or the line of the fault.
-const EXAMPLES: [(&str, &str, &str, u8, &str); 36] = [
+type Example = (&'static str, &'static str, &'static str, u8, &'static str);
+
+const EXAMPLES: &[Example] = &[
     (
         "empty_list",
         "",
@@ -121,7 +78,8 @@ default out/all
         ONE_LIBRARY_THREE_EDGES,
         BUILD,
         0,
-        "@build out/m/app/android_arm64/bin/app: link out/m/app/android_arm64/obj/app.c.o out/m/z/android_arm64_static/obj/z.c.o out/m/z/android_arm64_static/bin/z.a
+        "@build out/m/app/android_arm64/bin/app: link out/m/app/android_arm64/obj/app.c.o \
+    out/m/z/android_arm64_static/obj/z.c.o out/m/z/android_arm64_static/bin/z.a
 ",
     ),
     (
@@ -129,7 +87,8 @@ default out/all
         DIAMOND,
         BUILD,
         0,
-        "@build out/m/app/android_arm64/bin/app: link out/m/app/android_arm64/obj/app.c.o out/m/l/android_arm64_static/bin/l.a out/m/r/android_arm64_static/bin/r.a out/m/base/android_arm64_static/bin/base.a
+        "@build out/m/app/android_arm64/bin/app: link out/m/app/android_arm64/obj/app.c.o \
+    out/m/l/android_arm64_static/bin/l.a out/m/r/android_arm64_static/bin/r.a out/m/base/android_arm64_static/bin/base.a
 @build out/m/base/android_arm64_static/obj/base.c.o: cc base.c
   target = --target=aarch64-linux-android
   cflags = -fPIC
@@ -182,7 +141,8 @@ cc_library_static { name: "c", static_libs: ["a"] }
 "#,
         BUILD,
         1,
-        "Android.bp:1:46: error 23: dependency cycle: a{android_arm64_static} -> b{android_arm64_static} -> a{android_arm64_static}
+        "Android.bp:1:46: error 23: dependency cycle: a{android_arm64_static} -> b{android_arm64_static} -> \
+    a{android_arm64_static}
 ",
     ),
     (
@@ -210,7 +170,8 @@ cc_library_static { name: "a", static_libs: ["a"] }
         REVERSE_CYCLE,
         "graph -l list -t android_arm64 -a plugins",
         1,
-        "Android.bp:2:67: error 23: dependency cycle: host{android_arm64_shared} -> p{android_arm64_shared} -> host{android_arm64_shared}
+        "Android.bp:2:67: error 23: dependency cycle: host{android_arm64_shared} -> p{android_arm64_shared} -> \
+    host{android_arm64_shared}
 ",
     ),
     (
@@ -218,7 +179,8 @@ cc_library_static { name: "a", static_libs: ["a"] }
         REVERSE_CYCLE,
         BUILD,
         1,
-        "Android.bp:2:67: error 23: dependency cycle: host{android_arm64_shared} -> p{android_arm64_shared} -> host{android_arm64_shared}
+        "Android.bp:2:67: error 23: dependency cycle: host{android_arm64_shared} -> p{android_arm64_shared} -> \
+    host{android_arm64_shared}
 ",
     ),
     (
@@ -441,7 +403,8 @@ build ",
   target = --target=aarch64-linux-android
   cflags = -Wall -Werror -DARM64
   includes = -Idemo/include
-build out/m/demo/android_arm64/bin/demo: link out/m/demo/android_arm64/obj/demo/main.cpp.o out/m/libdemo/android_arm64_static/bin/libdemo.a out/m/liblog/android_arm64_shared/bin/liblog.so
+build out/m/demo/android_arm64/bin/demo: link out/m/demo/android_arm64/obj/demo/main.cpp.o \
+    out/m/libdemo/android_arm64_static/bin/libdemo.a out/m/liblog/android_arm64_shared/bin/liblog.so
   target = --target=aarch64-linux-android
 @ || out/m/demo/android_arm64/bin/demo
 @build out/m/libdemo/android_arm64_static/obj/demo/demo.cpp.o: cxx demo/demo.cpp
@@ -518,31 +481,42 @@ fn has_parts(text: &[u8], parts: &str) -> bool {
     }
 }
 
+// Whether a call has told what an example gives, where this is written.
+fn is_given(ended: &Ended, written: Option<&[u8]>, words: &str, gives: &str) -> bool {
+    match (ended.status, words.starts_with("graph")) {
+        (1, _) => ended.said.as_slice() == gives.as_bytes() && written.is_none(),
+        (_, true) => ended.out.as_slice() == gives.as_bytes() && written.is_none(),
+        (_, false) => has_parts(written.unwrap_or_default(), gives),
+    }
+}
+
 // Whether a call over a tree comes to what an example says.
 fn comes_to<R: Threads + Sync>(
     rt: &R,
     alloc: Global,
-    tree: &str,
-    words: &str,
-    status: u8,
-    gives: &str,
+    (_, tree, words, status, gives): &Example,
 ) -> Result<bool, OutOfMemory> {
     let mut store = store_of(alloc, tree_of(alloc, tree)?)?;
     let ended = end_of(rt, alloc, words, &mut store)?;
     let written = store.held("build.ninja");
-    let is_told = match (status, words.starts_with("graph")) {
-        (1, _) => ended.said.as_slice() == gives.as_bytes() && written.is_none(),
-        (_, true) => ended.out.as_slice() == gives.as_bytes() && written.is_none(),
-        (_, false) => has_parts(written.unwrap_or_default(), gives),
-    };
-    Ok(ended.status == status && is_told)
+    Ok(ended.status == *status && is_given(&ended, written, words, gives))
+}
+
+// The name of the first example that comes to something else.
+fn differing<R: Threads + Sync>(
+    rt: &R,
+    alloc: Global,
+) -> Result<Option<&'static str>, OutOfMemory> {
+    for example in EXAMPLES {
+        if !comes_to(rt, alloc, example)? {
+            return Ok(Some(example.0));
+        }
+    }
+    Ok(None)
 }
 
 #[test]
 fn worked_examples(rt: HostRuntime) -> Result<(), Fail> {
-    let alloc = rt.alloc();
-    for (name, tree, words, status, gives) in EXAMPLES {
-        assert!(rt; comes_to(&rt, alloc, tree, words, status, gives)?, "{name}");
-    }
+    assert_eq!(rt; differing(&rt, rt.alloc())?, None);
     Ok(())
 }

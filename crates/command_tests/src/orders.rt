@@ -1,0 +1,179 @@
+//! Replays along order files, of four modules of which one is needed by two ways.
+
+use bp_faults::OutOfMemory;
+use bp_ports::MemStore;
+use memory_runs::{BUILD, end_of, put, store_of, tree_of};
+use std::alloc::Global;
+use std::test::Fail;
+use std::thread::Threads;
+
+const TREE: &str = "@Android.bp\n\
+    cc_binary { name: \"app\", srcs: [\"app.c\"], static_libs: [\"l\", \"r\"] }\n\
+    cc_library_static { name: \"l\", srcs: [\"l.c\"], static_libs: [\"base\"] }\n\
+    cc_library_static { name: \"r\", srcs: [\"r.c\"], static_libs: [\"base\"] }\n\
+    cc_library_static { name: \"base\", srcs: [\"base.c\"] }\n";
+
+const REPLAY: &str = "replay -l list -o build.ninja --order order.txt -t android_arm64";
+
+/// The nodes of the first six passes, of those that go up from what is needed, and of those that go down.
+type Nodes = (&'static str, &'static str, &'static str);
+
+const FIRST: Nodes = ("0123", "3120", "0123");
+
+/// Three legal orders.
+const LEGAL: &[Nodes] = &[FIRST, ("0123", "3210", "0213"), ("3210", "3120", "0123")];
+
+// The lines of a pass.
+fn push_pass(lines: &mut String, pass: u32, nodes: &str) -> Result<(), OutOfMemory> {
+    for node in nodes.chars() {
+        writeln!(lines, "{pass} {node}")?;
+    }
+    Ok(())
+}
+
+// The lines of the passes up to the last.
+fn order(alloc: Global, (early, up, down): Nodes, last: u32) -> Result<String, OutOfMemory> {
+    let mut lines = String::new(alloc);
+    for pass in 1..=last {
+        let nodes = match pass {
+            1..=6 => early,
+            9 | 11 => down,
+            _ => up,
+        };
+        push_pass(&mut lines, pass, nodes)?;
+    }
+    Ok(lines)
+}
+
+// The tree and an order file.
+fn store_with(alloc: Global, order: &str) -> Result<MemStore, OutOfMemory> {
+    let mut tree = tree_of(alloc, TREE)?;
+    put(alloc, "order.txt", order.as_bytes(), &mut tree)?;
+    store_of(alloc, tree)
+}
+
+// Whether the order is refused with this line, and OUT isn't written.
+fn refuses_order<R: Threads + Sync>(
+    rt: &R,
+    alloc: Global,
+    order: &str,
+    line: &str,
+) -> Result<bool, OutOfMemory> {
+    let mut store = store_with(alloc, order)?;
+    let ended = end_of(rt, alloc, REPLAY, &mut store)?;
+    Ok(ended.tells(1, line) && store.held("build.ninja").is_none())
+}
+
+/// First lines that no order has, and how a fault shows them.
+const BAD_LINES: &[(&str, &str)] = &[
+    ("1 9\n", ": 1 9"),
+    ("01 0\n", ": 01 0"),
+    (" 1 0\n", ":  1 0"),
+    ("1 0\r\n", ": 1 0?"),
+    ("\n", ""),
+    ("14 0\n", ": 14 0"),
+];
+
+// The first line of these that isn't refused so.
+fn other_line<R: Threads + Sync>(
+    rt: &R,
+    alloc: Global,
+    cases: &[(&'static str, &str)],
+) -> Result<Option<&'static str>, OutOfMemory> {
+    for (order, shown) in cases {
+        let told = format!(in alloc; "order.txt:1:1: error 35: not ready{shown}\n")?;
+        if !refuses_order(rt, alloc, order, told.as_str())? {
+            return Ok(Some(*order));
+        }
+    }
+    Ok(None)
+}
+
+#[test]
+fn bad_first_lines(rt: HostRuntime) -> Result<(), Fail> {
+    assert_eq!(rt; other_line(&rt, rt.alloc(), BAD_LINES)?, None);
+    Ok(())
+}
+
+// What is written for some words over a store, or nothing where the status isn't 0.
+fn written<R: Threads + Sync>(
+    rt: &R,
+    alloc: Global,
+    words: &str,
+    store: &mut MemStore,
+) -> Result<Vec<u8>, OutOfMemory> {
+    match end_of(rt, alloc, words, store)?.status {
+        0 => Ok(store.held("build.ninja").unwrap_or_default().to_vec(alloc)?),
+        _ => Ok(Vec::new(alloc)),
+    }
+}
+
+// What a build without an order writes.
+fn built<R: Threads + Sync>(rt: &R, alloc: Global) -> Result<Vec<u8>, OutOfMemory> {
+    let mut store = store_of(alloc, tree_of(alloc, TREE)?)?;
+    written(rt, alloc, BUILD, &mut store)
+}
+
+// What a replay along an order writes.
+fn replayed<R: Threads + Sync>(
+    rt: &R,
+    alloc: Global,
+    nodes: Nodes,
+) -> Result<Vec<u8>, OutOfMemory> {
+    let lines = order(alloc, nodes, 13)?;
+    let mut store = store_with(alloc, lines.as_str())?;
+    written(rt, alloc, REPLAY, &mut store)
+}
+
+// The nodes of the first order along which something else is written.
+fn other_order<R: Threads + Sync>(
+    rt: &R,
+    alloc: Global,
+    text: &[u8],
+) -> Result<Option<Nodes>, OutOfMemory> {
+    for nodes in LEGAL {
+        if replayed(rt, alloc, *nodes)?.as_slice() != text {
+            return Ok(Some(*nodes));
+        }
+    }
+    Ok(None)
+}
+
+#[test]
+fn diamond(rt: HostRuntime) -> Result<(), Fail> {
+    let built = built(&rt, rt.alloc())?;
+    assert!(rt; !built.is_empty());
+    let other = other_order(&rt, rt.alloc(), built.as_slice())?;
+    assert!(rt; other.is_none());
+    Ok(())
+}
+
+/// The last of the passes whose lines come first, the lines behind them, and the line of the fault.
+const ILLEGAL: &[(u32, &str, &str)] = &[
+    (6, "7 0\n", "order.txt:25:1: error 35: not ready: 7 0\n"),
+    (6, "", "order.txt:25:1: error 36: order ends early\n"),
+    (0, "1 0\n1 0\n", "order.txt:2:1: error 35: not ready: 1 0\n"),
+    (13, "13 0\n", "order.txt:53:1: error 35: not ready: 13 0\n"),
+];
+
+// The first line of a fault of these that isn't told so.
+fn untold<R: Threads + Sync>(
+    rt: &R,
+    alloc: Global,
+    cases: &[(u32, &str, &'static str)],
+) -> Result<Option<&'static str>, OutOfMemory> {
+    for (last, behind, told) in cases {
+        let mut lines = order(alloc, FIRST, *last)?;
+        lines.push_str(behind)?;
+        if !refuses_order(rt, alloc, lines.as_str(), told)? {
+            return Ok(Some(*told));
+        }
+    }
+    Ok(None)
+}
+
+#[test]
+fn illegal_orders(rt: HostRuntime) -> Result<(), Fail> {
+    assert_eq!(rt; untold(&rt, rt.alloc(), ILLEGAL)?, None);
+    Ok(())
+}
