@@ -14,12 +14,16 @@ use crate::halves::joined;
 use crate::opened::{evaluate_files, evaluate_in, finish};
 use crate::parsed::Parsed;
 use bp_faults::{OutOfMemory, Path};
-use bp_values::{RawModule, Scope};
+use bp_values::{RawModule, Scope, Seed};
 use std::alloc::Global;
+use std::hash::{DefaultHasher, Hasher};
 use std::thread::{Threads, join};
 
 /// Files with fewer bytes in all are evaluated by one worker.
 const FEW_BYTES: usize = 65_536;
+
+/// A name is copied in about the time in which so many bytes of files are evaluated.
+const BYTES_OF_A_NAME: usize = 16;
 
 /// The bytes of files in all.
 fn size(files: &[Parsed]) -> usize {
@@ -85,6 +89,13 @@ fn workers_for(bytes: usize, all: usize, workers: u32) -> u32
     some.clamp(1, workers as usize - 1) as u32
 }
 
+/// Whether the files in front of a cut are evaluated in more time than the names of their base are copied in.
+fn is_worth_a_copy(base: &Scope, files: &[Parsed], at: usize) -> bool
+    requires { at ≤ length files.now }
+{
+    base.names().saturating_mul(BYTES_OF_A_NAME) < size(&files[..at])
+}
+
 /// Files cut at a place: those in front, and those behind it.
 fn in_two(mut files: Vec<Parsed>, at: usize) -> Result<(Vec<Parsed>, Vec<Parsed>), OutOfMemory>
     requires whole { at ≤ length files.items }
@@ -124,7 +135,8 @@ fn evaluate_below<R: Threads + Sync>(
 }
 
 /// Files evaluated by so many workers, as `evaluate_in` does it. They are cut in two where a branch begins, so that no
-/// file behind the cut inherits from one in front. Each part begins with its own copy of the base.
+/// file behind the cut inherits from one in front. Each part begins with its own copy of the base. Where the base has
+/// so many names that a copy takes longer than the files in front, one worker evaluates them all.
 #[cycle(evaluating)]
 fn evaluate_branches<R: Threads + Sync>(
     rt: &R,
@@ -140,7 +152,7 @@ fn evaluate_branches<R: Threads + Sync>(
 {
     let bytes = size(files.as_slice());
     let at = cut(files.as_slice(), bytes / 2);
-    if at == 0 {
+    if at == 0 || !is_worth_a_copy(&base, files.as_slice(), at) {
         return evaluate_in(alloc, base, files);
     }
     let (front, back) = in_two(files, at)?;
@@ -161,6 +173,24 @@ fn evaluate_branches<R: Threads + Sync>(
     joined(front, back)
 }
 
+/// The seed by which names are found: it is made of the text of all files.
+fn seed_of(files: &[Parsed]) -> Seed {
+    let mut hasher = DefaultHasher::new();
+    for file in files {
+        hasher.write_u64(file.sum);
+    }
+    Seed { hasher }
+}
+
+/// How many definitions files have in all: they set at most so many names.
+fn definitions(files: &[Parsed]) -> usize {
+    let mut count: usize = 0;
+    for file in files {
+        count = count.saturating_add(file.tree.defs.len());
+    }
+    count
+}
+
 /// The modules of all files, which stand in file order, evaluated by so many workers as `evaluate_all` does it.
 pub fn evaluate_by<R: Threads + Sync>(
     rt: &R,
@@ -171,6 +201,7 @@ pub fn evaluate_by<R: Threads + Sync>(
     requires { IsStrictlySortedBy directory_cmp (directories_of files.items) }
     ensures { Answers (λ modules. map placed_raw modules.items) result (all_evaluated [] (map placed_of files.items)) }
 {
-    let none = Scope::empty(alloc)?;
+    let seed = seed_of(files.as_slice());
+    let none = Scope::seeded(alloc, seed, definitions(files.as_slice()))?;
     evaluate_below(rt, alloc, none, files, workers)
 }

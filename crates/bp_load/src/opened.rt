@@ -153,7 +153,7 @@ pub fn evaluate_in(
 {
     let evaluation = evaluate_files(alloc, base, files)?;
     let Evaluation { scope, modules, .. } = evaluation;
-    // The scope has a node for each variable. To free millions of them one by one takes a third of all
+    // The scope has two texts for each variable. To free millions of them one by one takes a third of all
     // the time of such a tree, so they are left to the end of the process.
     mem::forget(scope);
     Ok(modules)

@@ -13,14 +13,17 @@ use bp_faults::{OutOfMemory, Path, Text};
 use bp_lexer::tokens;
 use bp_parser::{FileTree, parse};
 use std::alloc::Global;
+use std::hash::{DefaultHasher, Hasher};
 
-/// A file as it is parsed: its directory, by components and as a path, its tree, and how many bytes it has.
+/// A file as it is parsed: its directory, by components and as a path, its tree, how many bytes it has, and a number
+/// that is made of them all.
 #[derive(Drop)]
 pub struct Parsed {
     pub directory: Directory,
     pub dir: Path,
     pub tree: FileTree,
     pub bytes: usize,
+    pub sum: u64,
 }
 
 /// The directory of a file, as a path.
@@ -57,6 +60,13 @@ fn tree_of_bytes(alloc: Global, bytes: &[u8], number: u32) -> Result<FileTree, L
     }
 }
 
+/// A number that is made of all bytes of a file.
+fn sum_of(bytes: &[u8]) -> u64 {
+    let mut hasher = DefaultHasher::new();
+    hasher.write(bytes);
+    hasher.finish()
+}
+
 /// A file, parsed.
 fn parse_file(alloc: Global, file: &(Path, Vec<u8>), number: u32) -> Result<Parsed, LoadError>
     requires { length file.now.1.items ≤ 2 ^ 20 }
@@ -68,6 +78,7 @@ fn parse_file(alloc: Global, file: &(Path, Vec<u8>), number: u32) -> Result<Pars
         dir: dir_of(alloc, &file.0)?,
         tree,
         bytes: file.1.len(),
+        sum: sum_of(file.1.as_slice()),
     })
 }
 

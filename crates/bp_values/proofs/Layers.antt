@@ -7,10 +7,10 @@ use Rattle.std.specs.Arc.{arc_value}
 use Rattle.std.proofs.Math.Seq.{drop-cons}
 use Rattle.std.proofs.lemmas.List.Concat.{flat_map-append}
 use Rattle.bp_values.specs.declared.layer.Layer.{Layer}
-use Rattle.bp_values.specs.declared.name_tree.Spot.{Spot}
+use Rattle.bp_values.specs.declared.spots.Spot.{Spot}
 use Rattle.bp_values.specs.declared.value.Value.{Value}
 use Rattle.bp_values.specs.NamePlaces.{place_in}
-use Rattle.bp_values.specs.NameTree.{spot_for}
+use Rattle.bp_values.specs.Spots.{spot_for}
 use Rattle.bp_values.specs.Values.{Meaning}
 use Rattle.bp_values.specs.Layers.{Pairs, layer_pairs, pairs_in, value_in, spot_at, one_behind, spot_in_layers, spot_behind}
 use Rattle.bp_values.proofs.NamePlaces.{value_with_place, no_value_without, place_pushed, spot_of_place}

@@ -8,7 +8,7 @@ use Rattle.std.specs.List.{flat_map}
 use Rattle.std.specs.declared.sync.Arc.{Arc}
 use Rattle.bp_values.specs.declared.value.Value.{Value}
 use Rattle.bp_values.specs.declared.layer.Layer.{Layer}
-use Rattle.bp_values.specs.declared.name_tree.Spot.{Spot}
+use Rattle.bp_values.specs.declared.spots.Spot.{Spot}
 use Rattle.bp_values.specs.NamePlaces.{place_in}
 use Rattle.bp_values.specs.Values.{Meaning, meaning}
 

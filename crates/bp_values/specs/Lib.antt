@@ -1,7 +1,7 @@
 pub mod Values
 pub mod Depths
 pub mod Sums
-pub mod NameTree
+pub mod Spots
 pub mod NamePlaces
 pub mod PlaceTable
 pub mod Places

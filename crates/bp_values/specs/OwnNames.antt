@@ -4,8 +4,8 @@ use Rattle.std.specs.declared.sync.Arc.{Arc}
 use Rattle.bp_values.specs.declared.layer.Layer.{Layer}
 use Rattle.bp_values.specs.declared.own_names.OwnNames.{OwnNames}
 use Rattle.bp_values.specs.Layers.{Finds, spot_behind}
-use Rattle.bp_values.specs.NameTree.{found}
+use Rattle.bp_values.specs.Spots.{found}
 
--- The tree finds the spot of each name that a file sees: one that it inherits, or one of its own behind them.
+-- The table finds the spot of each name that a file sees: one that it inherits, or one of its own behind them.
 abbrev pub HasSpots : {Z : Type 0} → List (Arc Layer Z) → OwnNames → Type 0
 HasSpots inherited own = Finds (found own.spots) (spot_behind inherited own.layer.values.items)

@@ -15,15 +15,17 @@ mod layer;
 mod map_places;
 mod map_sum;
 mod marks;
-mod name_tree;
 mod own_names;
 mod place_table;
 mod scope;
+mod seed;
+mod spots;
 mod sums;
 mod value;
 
 pub use bp_faults::Refusal as EvalError;
 pub use file::{RawModule, evaluate, evaluate_from};
 pub use scope::Scope;
+pub use seed::Seed;
 pub use sums::sum;
 pub use value::{Entry, Value};

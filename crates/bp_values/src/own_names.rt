@@ -5,7 +5,7 @@ ghost use Rattle.bp_values.specs.OwnNames.{HasSpots};
 
 use crate::Value;
 use crate::layer::Layer;
-use crate::name_tree::{NameTree, Spot};
+use crate::spots::{Spot, Spots};
 use bp_faults::{OutOfMemory, Text};
 use std::alloc::Global;
 use std::sync::Arc;
@@ -15,7 +15,7 @@ use std::sync::Arc;
 #[derive(Drop)]
 pub struct OwnNames {
     pub layer: Layer,
-    pub spots: NameTree,
+    pub spots: Spots,
 }
 
 impl OwnNames {
@@ -36,7 +36,7 @@ impl OwnNames {
             layer: inherited.len(),
             place: self.layer.len(),
         };
-        self.spots.insert(alloc, name.copy(alloc)?, spot)?;
+        self.spots.insert(name.copy(alloc)?, spot)?;
         self.layer.push(name.copy(alloc)?, value)?;
         Ok(())
     }

@@ -4,14 +4,16 @@ ghost use Rattle.bp_values.specs.Values.{meaning};
 ghost use Rattle.bp_values.specs.NamePlaces.{place_in};
 ghost use Rattle.bp_values.specs.Layers.{value_in, pairs_in, layer_pairs, spot_in_layers, spot_behind, Finds};
 ghost use Rattle.bp_values.specs.OwnNames.{HasSpots};
-ghost use Rattle.bp_values.specs.NameTree.{found};
+ghost use Rattle.bp_values.specs.Spots.{found};
 
 use crate::Value;
 use crate::layer::Layer;
-use crate::name_tree::NameTree;
 use crate::own_names::OwnNames;
+use crate::seed::Seed;
+use crate::spots::Spots;
 use bp_faults::{OutOfMemory, Text};
 use std::alloc::Global;
+use std::hash::DefaultHasher;
 use std::sync::Arc;
 
 /// Names and their values, in the order in which the names were first set. Contracts see the list
@@ -22,7 +24,7 @@ pub struct Scope {
     layers: Vec<Arc<Layer>>,
     // Each name with its layer and its place there, so that no look-up goes through the layers. It may
     // hold names of layers that were dropped, so what is found counts only where the name stands there.
-    spots: NameTree,
+    spots: Spots,
     ghost spotted: { Finds (found spots) (spot_in_layers layers.items) } by { Prim.hlevel props },
 }
 
@@ -37,12 +39,22 @@ pub struct Names<'a> {
 impl Scope {
     ghost use Rattle.bp_values.specs.Scopes.{pairs_of, height_of, outer_pairs, HasOuter};
 
+    /// A scope without names.
     pub fn empty(alloc: Global) -> Result<Scope, OutOfMemory>
+        ensures { IfOk result (λ scope. pairs_of scope ≡ []) }
+    {
+        let hasher = DefaultHasher::new();
+        Scope::seeded(alloc, Seed { hasher }, 0)
+    }
+
+    /// A scope without names, where those that are set will be found by a seed. It has room for so many names at once,
+    /// so that their table needn't grow.
+    pub fn seeded(alloc: Global, seed: Seed, room: usize) -> Result<Scope, OutOfMemory>
         ensures { IfOk result (λ scope. pairs_of scope ≡ []) }
     {
         Ok(Scope {
             layers: Vec::new(alloc),
-            spots: NameTree::Empty,
+            spots: Spots::with_room(alloc, seed, room)?,
         })
     }
 
@@ -50,7 +62,7 @@ impl Scope {
     pub fn get(&self, name: &Text) -> Option<&Value>
         ensures { option_map (λ v. meaning v.now) result ≡ value_in (pairs_of self.now) name.now }
     {
-        match self.spots.spot_of(name.as_str()) {
+        match self.spots.spot_of(name) {
             Some(spot) if spot.layer < self.layers.len() => {
                 self.layers[spot.layer].value_of(spot.place, name)
             }
@@ -65,13 +77,18 @@ impl Scope {
         self.layers.len()
     }
 
-    /// The same scope.
+    /// How many names it can find the layer of, also those of layers that were dropped.
+    pub fn names(&self) -> usize {
+        self.spots.len()
+    }
+
+    /// The same scope. The values are shared, and the names are copied.
     pub fn share(&self, alloc: Global) -> Result<Scope, OutOfMemory>
         ensures { IfOk result (λ scope. pairs_of scope ≡ pairs_of self.now) }
     {
         Ok(Scope {
             layers: self.shared(alloc)?,
-            spots: self.spots.share()?,
+            spots: self.spots.copy(alloc)?,
         })
     }
 
@@ -136,7 +153,7 @@ impl<'a> Names<'a> {
         ensures { option_map (λ v. meaning v.now) result ≡ value_in (visible self.now) name.now }
     {
         let (inherited, own) = (self.inherited, self.own);
-        match own.spots.spot_of(name.as_str()) {
+        match own.spots.spot_of(name) {
             Some(spot) if spot.layer < inherited.len() => {
                 inherited[spot.layer].value_of(spot.place, name)
             }
@@ -149,7 +166,7 @@ impl<'a> Names<'a> {
     pub fn inherits(&self, name: &Text) -> bool
         ensures { result ≡ is_some (value_in (pairs_in self.now.inherited.now) name.now) }
     {
-        match self.own.spots.spot_of(name.as_str()) {
+        match self.own.spots.spot_of(name) {
             Some(spot) if spot.layer < self.inherited.len() => {
                 self.inherited[spot.layer].has(spot.place, name)
             }
@@ -162,7 +179,7 @@ impl<'a> Names<'a> {
         requires { value_in (pairs_in self.now.inherited.now) name.now ≡ None }
         ensures { result ≡ place_in self.now.own.now.layer.values.items name.now }
     {
-        match self.own.spots.spot_of(name.as_str()) {
+        match self.own.spots.spot_of(name) {
             Some(spot) if self.own.layer.has(spot.place, name) => Some(spot.place),
             _ => None,
         }

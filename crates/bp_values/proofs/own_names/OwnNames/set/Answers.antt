@@ -1,6 +1,6 @@
 use Rattle.std.proofs.Common.{rules, ◌≡◌, ◌++◌, ◌∷◌, [], length, ap, sym, ◌∙◌}
 use Rattle.std.specs.Option.{option_or}
-use Rattle.bp_values.specs.NameTree.{found, spot_for}
+use Rattle.bp_values.specs.Spots.{found, spot_for}
 use Rattle.bp_values.specs.Layers.{spot_at, spot_behind}
 use Rattle.bp_values.proofs.Seen.{spotted_set}
 use Rattle.bp_values.proofs.own_names.OwnNames.set.Goals as goal

@@ -2,7 +2,7 @@ use Rattle.std.proofs.Common.{rules, ◌≡◌, ◌<◌, ◌≤◌, Some, length
 use Rattle.std.specs.Arc.{arc_value}
 use Rattle.bp_values.specs.Values.{meaning}
 use Rattle.bp_values.specs.NamePlaces.{place_in}
-use Rattle.bp_values.specs.NameTree.{found}
+use Rattle.bp_values.specs.Spots.{found}
 use Rattle.bp_values.specs.Layers.{layer_pairs, value_in}
 use Rattle.bp_values.proofs.Seen.{seen_above, seen_own, seen_nowhere}
 use Rattle.bp_values.proofs.scope.Names.get.Goals as goal
@@ -13,7 +13,7 @@ returns-in-Some c =
     let own = c.args.self.now.own.now in
     let name = c.args.name.now in
     let spot = c.in-Some.spot in
-    let is : found own.spots name ≡ Some spot = ap (found own.spots) (sym c.as_str.ensures) ∙ sym c.spot_of.ensures ∙ c.in-Some.is in
+    let is : found own.spots name ≡ Some spot = sym c.spot_of.ensures ∙ c.in-Some.is in
     let within : spot.layer < length layers = search rules in
     let layer : c.deref.result.now ≡ arc_value (get_or layers spot.layer c.index-inherited-spot.result) = c.deref.ensures ∙ ap arc_value c.index-inherited-spot.is in
     seen_above layers own.layer.values.items name (found own.spots name) (c.args.self.now.spotted name) spot c.index-inherited-spot.result (option_map (λ v. meaning v.now) c.value_of.result) is within
@@ -26,7 +26,7 @@ returns-in-Some-2 c =
     let own = c.args.self.now.own.now in
     let name = c.args.name.now in
     let spot = c.in-Some.spot in
-    let is : found own.spots name ≡ Some spot = ap (found own.spots) (sym c.as_str.ensures) ∙ sym c.spot_of.ensures ∙ c.in-Some.is in
+    let is : found own.spots name ≡ Some spot = sym c.spot_of.ensures ∙ c.in-Some.is in
     let behind : length layers ≤ spot.layer = search rules in
     seen_own layers own.layer.values.items name (found own.spots name) (c.args.self.now.spotted name) spot (option_map (λ v. meaning v.now) c.value_of-in-Some-2.result) is behind
     c.value_of-in-Some-2.ensures.there c.value_of-in-Some-2.ensures.nowhere
@@ -37,4 +37,4 @@ returns-in-None c =
     let own = c.args.self.now.own.now in
     let name = c.args.name.now in
     seen_nowhere layers own.layer.values.items name (found own.spots name) (c.args.self.now.spotted name)
-    (ap (found own.spots) (sym c.as_str.ensures) ∙ sym c.spot_of.ensures ∙ c.in-None.is)
+    (sym c.spot_of.ensures ∙ c.in-None.is)

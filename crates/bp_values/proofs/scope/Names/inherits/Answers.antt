@@ -1,7 +1,7 @@
 use Rattle.std.proofs.Common.{rules, ◌≡◌, ◌<◌, ◌≤◌, Some, None, length, get_or, ap, sym, ◌∙◌}
 use Rattle.std.specs.Arc.{arc_value}
 use Rattle.bp_values.specs.NamePlaces.{place_in}
-use Rattle.bp_values.specs.NameTree.{found}
+use Rattle.bp_values.specs.Spots.{found}
 use Rattle.bp_values.proofs.Seen.{inherits_above, inherits_none, inherits_nowhere}
 use Rattle.bp_values.proofs.scope.Names.inherits.Goals as goal
 
@@ -11,7 +11,7 @@ returns-in-Some c =
     let own = c.args.self.now.own.now in
     let name = c.args.name.now in
     let spot = c.in-Some.spot in
-    let is : found own.spots name ≡ Some spot = ap (found own.spots) (sym c.as_str.ensures) ∙ sym c.spot_of.ensures ∙ c.in-Some.is in
+    let is : found own.spots name ≡ Some spot = sym c.spot_of.ensures ∙ c.in-Some.is in
     let within : spot.layer < length layers = search rules in
     let layer : c.deref.result.now ≡ arc_value (get_or layers spot.layer c.index-self-spot.result) = c.deref.ensures in
     inherits_above layers own.layer.values.items name (found own.spots name) (c.args.self.now.spotted name) spot c.index-self-spot.result c.has.result is within
@@ -23,7 +23,7 @@ returns-in_default c =
     let own = c.args.self.now.own.now in
     let name = c.args.name.now in
     let spot = c.in-Some.spot in
-    let is : found own.spots name ≡ Some spot = ap (found own.spots) (sym c.as_str.ensures) ∙ sym c.spot_of.ensures ∙ c.in-Some.is in
+    let is : found own.spots name ≡ Some spot = sym c.spot_of.ensures ∙ c.in-Some.is in
     let behind : length c.args.self.now.inherited.now ≤ spot.layer = search rules in
     inherits_none c.args.self.now.inherited.now own.layer.values.items name (found own.spots name) (c.args.self.now.spotted name) spot is behind
 
@@ -33,4 +33,4 @@ returns-in_default-2 c =
     let name = c.args.name.now in
     let none : c.spot_of.result ≡ None = search rules in
     inherits_nowhere c.args.self.now.inherited.now own.layer.values.items name (found own.spots name) (c.args.self.now.spotted name)
-    (ap (found own.spots) (sym c.as_str.ensures) ∙ sym c.spot_of.ensures ∙ none)
+    (sym c.spot_of.ensures ∙ none)
