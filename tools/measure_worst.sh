@@ -8,7 +8,7 @@ set -eu
 top=$(cd "$(dirname "$0")/.." && pwd)
 program=${1:-$top/bpgen}
 [ $# -eq 0 ] || shift
-cases=${*:-references maps shared_keys extensions nested_keys assignments inheritors heirs random_heirs long_paths link_lines chain cycle wide modules empty_lines
+cases=${*:-references maps shared_keys extensions nested_keys assignments inheritors heirs random_heirs random_references long_paths link_lines chain cycle wide modules empty_lines
     components tokens doubling groups sources edges dots one_line order names key_modules key_variables}
 runs=${RUNS:-3}
 if [ ! -x "$program" ]; then
@@ -167,6 +167,35 @@ tree_of() {
                             name = name letter(int(number / 63) % 63) letter(number % 63)
                         } while (name == "true")
                         print name "=1" > path "Android.bp"
+                    }
+                    close(path "Android.bp")
+                    path = path "d/"
+                }
+            }' ;;
+        random_references)
+            echo "9.1 million references in random order, in 70 files below 30 that set 87,000 variables of four letters each"
+            awk 'function letter(place) { return substr(letters, place + 1, 1) }
+            function name_of(number) {
+                number = number * 7654321 % 13252491
+                name = letter(int(number / 250047)) letter(int(number / 3969) % 63)
+                name = name letter(int(number / 63) % 63) letter(number % 63)
+                return name == "true" ? "true_" : name
+            }
+            BEGIN {
+                letters = "abcdefghijklmnopqrstuvwxyzABCDEFGHIJKLMNOPQRSTUVWXYZ_0123456789"
+                srand(5)
+                path = ""
+                for (file = 0; file < 100; file++) {
+                    print path "Android.bp" > "list"
+                    if (file > 0) system("mkdir -p " path)
+                    if (file < 30) {
+                        for (n = 0; n < 87000; n++) print name_of(file * 87000 + n) "=\"\"" > path "Android.bp"
+                    } else {
+                        for (n = 0; n < 2; n++) {
+                            printf "list%d_%d=[", file, n > path "Android.bp"
+                            for (m = 0; m < 65000; m++) printf "%s,", name_of(int(rand() * 2610000)) > path "Android.bp"
+                            print "]" > path "Android.bp"
+                        }
                     }
                     close(path "Android.bp")
                     path = path "d/"
