@@ -1,7 +1,7 @@
 -- What is noted of an expression are the names in it.
 use Rattle.std.specs.Prelude.{OnOk}
-use Rattle.bp_names.specs.Meaning.{knows}
-use Rattle.std.proofs.Common.{◌≡◌, ℕ, Bool, true, false, ◌||◌, List, Result, Ok, Err, refl, ap, ◌∙◌}
+use Rattle.std.proofs.Common.{◌≡◌, ℕ, Bool, true, false, ◌||◌, List, Result, Ok, Err, refl, ap, sym, ◌∙◌}
+use Rattle.std.proofs.lemmas.Bool.{false≢true}
 use Rattle.bp_parser.specs.Trees as tree
 use Rattle.bp_parser.specs.Trees.{Tree, Trees, no_tree, tree_and, Terms, no_term, term_and, Entries, no_entry, entry_and}
 use Rattle.bp_values.specs.References.{is_in, is_in_items, is_in_terms, is_in_entries}
@@ -39,7 +39,22 @@ mutual
       ap (λ x. noted_entries x name more) (noted_is value b name) ∙ entries_noted more (b || is_in name value) name ∙ or_more b (is_in name value) (is_in_entries name more)
 
 -- the names of the first term are noted, and then those of the others
-pub noted_sum : {T E : Type 0} (r : Result T E) (old mid now : List (List ℕ)) (first : Tree) (terms : Terms) → ((q : List ℕ) → knows mid q ≡ noted (knows old q) q first)
-    → OnOk r ((q : List ℕ) → knows now q ≡ noted_terms (knows mid q) q terms) → OnOk r ((q : List ℕ) → knows now q ≡ noted_terms (noted (knows old q) q first) q terms)
+pub noted_sum : {T E : Type 0} (r : Result T E) (old mid now : List ℕ → Bool) (first : Tree) (terms : Terms) → ((q : List ℕ) → mid q ≡ noted (old q) q first)
+    → OnOk r ((q : List ℕ) → now q ≡ noted_terms (mid q) q terms) → OnOk r ((q : List ℕ) → now q ≡ noted_terms (noted (old q) q first) q terms)
 noted_sum (Ok x) old mid now first terms begun done = λ q. done q ∙ ap (λ b. noted_terms b q terms) (begun q)
 noted_sum (Err e) old mid now first terms begun done = tt
+
+-- where a name was noted before, nothing that an expression refers to changes that
+pub all_noted : (t : Tree) (b : Bool) (name : List ℕ) → b ≡ true → b ≡ noted b name t
+all_noted t b name is = by b is ∙ sym (noted_is t b name)
+  where
+    by : (c : Bool) → c ≡ true → c ≡ (c || is_in name t)
+    by true is = refl
+    by false is = absurd (false≢true is)
+
+pub all_entries_noted : (es : Entries) (b : Bool) (name : List ℕ) → b ≡ true → b ≡ noted_entries b name es
+all_entries_noted es b name is = by b is ∙ sym (entries_noted es b name)
+  where
+    by : (c : Bool) → c ≡ true → c ≡ (c || is_in_entries name es)
+    by true is = refl
+    by false is = absurd (false≢true is)

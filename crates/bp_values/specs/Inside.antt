@@ -1,12 +1,13 @@
 -- In what words the functions inside the crate say what they keep. No public contract speaks of it.
-use Rattle.std.specs.Prelude.{◌≡◌, ℕ, Bool, not, ◌&&◌, ◌||◌, is_some, List, [], ◌∷◌, ◌++◌, map, filter, suc, Option, None, Some, option_map, if◌then◌else◌}
+use Rattle.std.specs.Prelude.{◌≡◌, ℕ, Bool, true, not, cond, ◌&&◌, ◌||◌, is_some, List, [], ◌∷◌, ◌++◌, map, filter, suc, Option, None, Some, option_map, if◌then◌else◌}
 use Rattle.std.specs.Str.{bytes_eq}
 use Rattle.bp_names.specs.Meaning.{knows, number_of}
 use Rattle.bp_parser.specs.Trees as tree
-use Rattle.bp_parser.specs.Trees.{Tree, Trees, no_tree, tree_and, Terms, no_term, term_and, Entries, no_entry, entry_and}
+use Rattle.bp_parser.specs.Trees.{Tree, Trees, no_tree, tree_and, Terms, no_term, term_and, Entries, no_entry, entry_and, Definition, Assigns, Extends, Declares}
 use Rattle.bp_values.specs.References.{is_atom}
 use Rattle.bp_values.specs.declared.file.State.{State}
 use Rattle.bp_values.specs.declared.scope.Names.{Names}
+use Rattle.bp_values.specs.declared.marks.Marks.{Marks}
 use Rattle.bp_values.specs.declared.map_sum.MapSum.{MapSum}
 use Rattle.bp_values.specs.Values.{Meaning, Field, field_of, body}
 use Rattle.bp_values.specs.Scopes.{Pairs, pairs_in, layer_pairs, value_in}
@@ -19,10 +20,21 @@ use Rattle.bp_values.specs.Meaning.{Known, raw_of}
 abbrev pub visible : Names → Pairs
 visible names = pairs_in names.inherited.now ++ layer_pairs names.own.now.layer
 
--- What a file knows that inherits those pairs.
+-- A name is noted where the file has referred to it, and also where the file never extends it.
+abbrev pub is_noted : Marks → List ℕ → Bool
+is_noted marks name = not (knows marks.extended name) || knows marks.met name
+
+-- A name is extended by one of these definitions, or was before.
+abbrev pub is_extended_or : Bool → List ℕ → List Definition → Bool
+is_extended_or b name [] = b
+is_extended_or b name (Assigns other at e ∷ ds) = is_extended_or b name ds
+is_extended_or b name (Extends other at e ∷ ds) = is_extended_or (cond (bytes_eq other name) true b) name ds
+is_extended_or b name (Declares kind at m ∷ ds) = is_extended_or b name ds
+
+-- What a file knows that inherits those pairs. The names that it never extends count as used.
 abbrev pub known_of : Pairs → State → Known
 known_of inherited s = record
-    { scope = inherited ++ layer_pairs s.own.layer; is_used = knows s.used; modules = map raw_of s.modules.items }
+    { scope = inherited ++ layer_pairs s.own.layer; is_used = is_noted s.used; modules = map raw_of s.modules.items }
 
 -- The places that are kept are those of the names of the file's variables.
 abbrev pub KeepsPlaces : State → Type 0

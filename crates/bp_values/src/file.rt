@@ -11,12 +11,11 @@ use crate::expression::{entries_of, value_of};
 use crate::kept_places::KeptPlaces;
 use crate::layer::Layer;
 use crate::map_sum::add_to;
-use crate::marks::{mark, mark_entries};
+use crate::marks::{Marks, mark, mark_entries};
 use crate::own_names::OwnNames;
 use crate::scope::Names;
 use crate::{Entry, EvalError, Scope, Value};
 use bp_faults::{Fault, FaultKind, Place, Text};
-use bp_names::NameSet;
 use bp_parser::{Def, Expr, FileTree, MapExpr};
 use std::alloc::Global;
 use std::sync::Arc;
@@ -29,14 +28,14 @@ pub struct RawModule {
     pub entries: Vec<Entry>,
 }
 
-/// What a file has after some definitions, beside what it inherits: the names that it set, those to
-/// which it referred, and its modules.
+/// What a file has after some definitions, beside what it inherits: the names that it set, what it has
+/// noted of those to which it referred, and its modules.
 #[derive(Drop)]
 pub struct State<'a> {
     own: OwnNames,
     // Those of the names of maps that were extended, so that the next `+=` looks its keys up.
     kept: KeptPlaces<'a>,
-    used: NameSet<'a>,
+    used: Marks<'a>,
     modules: Vec<RawModule>,
 }
 
@@ -90,7 +89,7 @@ fn extend<'a>(
     };
     match names.own_place(name) {
         Some(place) => {
-            if state.used.knows(name.as_str()) {
+            if state.used.has(name.as_str()) {
                 return Err(EvalError::Bad(Fault::on(
                     alloc,
                     FaultKind::AfterUse,
@@ -215,7 +214,7 @@ pub fn evaluate(
 }
 
 /// As `evaluate`, where the inherited scope is handed over: the names of the file are put into it, and
-/// of what no copy of it shares nothing is copied. Its layers stay the outer ones of the final scope.
+/// nothing is copied. Its layers stay the outer ones of the final scope.
 pub fn evaluate_from(
     alloc: Global,
     tree: &FileTree,
@@ -226,10 +225,11 @@ pub fn evaluate_from(
     ensures height { IfOk result (λ r. height_of inherited ≤ height_of r.1) }
 {
     let (layers, own) = inherited.open(alloc);
+    let used = Marks::of(alloc, tree.defs.as_slice())?;
     let mut state = State {
         own,
         kept: KeptPlaces::new(alloc),
-        used: NameSet::new(alloc),
+        used,
         modules: Vec::new(alloc),
     };
     define_all(alloc, layers.as_slice(), &mut state, tree.defs.as_slice())?;

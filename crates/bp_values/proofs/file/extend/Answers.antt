@@ -9,9 +9,8 @@ use Rattle.bp_values.specs.Sums.{sum}
 use Rattle.bp_values.specs.Scopes.{pairs_in, layer_pairs}
 use Rattle.bp_values.specs.Expressions.{val}
 use Rattle.bp_values.specs.NamePlaces.{place_in}
-use Rattle.bp_values.specs.Inside.{known_of}
+use Rattle.bp_values.specs.Inside.{known_of, is_noted}
 use Rattle.bp_values.specs.Meaning.{with_other, known_with}
-use Rattle.bp_names.specs.Meaning.{knows}
 use Rattle.bp_values.proofs.Noted.{noted_is}
 use Rattle.bp_values.proofs.NamePlaces.{place_within, value_of_place, no_value_without}
 use Rattle.bp_values.proofs.Layers.{spot_kept}
@@ -31,13 +30,13 @@ returns-in_err-new-in-Some-clause-known c =
     let there : place_in c.args.state.now.own.layer.values.items name ≡ Some c.in-Some.place = sym c.own_place.ensures ∙ c.in-Some.is in
     let unused : now.is_used name ≡ false = search rules in
     let whole =
-    is_extended inherited own now.is_used (knows c.mark.new.used) now.modules name c.args.at e (meaning c.replace-old.result) (meaning c.in_ok-other-in-Some.other)
+    is_extended inherited own now.is_used (is_noted c.mark.new.used) now.modules name c.args.at e (meaning c.replace-old.result) (meaning c.in_ok-other-in-Some.other)
     c.requires.own (c.replace-old.ensures.old name there) unused c.in_ok-other-in-Some.ensures (λ q. c.in_ok-mark-in-Some.ensures q ∙ noted_is e (now.is_used q) q) in
     let refused : Refuses c.in_err-new-in-Some.field-0.0 (sum c.args.at (meaning c.replace-old.result) (meaning c.in_ok-other-in-Some.other)) = search rules in
     let is : c.from_residual-in_err-new-in-Some.result ≡ Err c.in_err-new-in-Some.field-0.0 = search rules in
     leaves (known_of inherited) (record { own = record { layer = c.replace-old.new.self; spots = c.args.state.now.own.spots }; kept = c.keep.new.self; used = c.mark.new.used; modules = c.args.state.now.modules })
     c.from_residual-in_err-new-in-Some.result c.in_err-new-in-Some.field-0.0 _ (sum c.args.at (meaning c.replace-old.result) (meaning c.in_ok-other-in-Some.other))
-    (λ v. Ok (known inherited (with_other own name v) (knows c.mark.new.used) now.modules)) whole refused is
+    (λ v. Ok (known inherited (with_other own name v) (is_noted c.mark.new.used) now.modules)) whole refused is
 
 pub returns-in_ok-keep-in-Some-clause-known : goal.returns-in_ok-keep-in-Some-clause-known
 returns-in_ok-keep-in-Some-clause-known c =
@@ -50,11 +49,11 @@ returns-in_ok-keep-in-Some-clause-known c =
     let there : place_in c.args.state.now.own.layer.values.items name ≡ Some c.in-Some.place = sym c.own_place.ensures ∙ c.in-Some.is in
     let unused : now.is_used name ≡ false = search rules in
     let whole =
-    is_extended inherited own now.is_used (knows c.mark.new.used) now.modules name c.args.at e (meaning c.replace-old.result) (meaning c.in_ok-other-in-Some.other)
+    is_extended inherited own now.is_used (is_noted c.mark.new.used) now.modules name c.args.at e (meaning c.replace-old.result) (meaning c.in_ok-other-in-Some.other)
     c.requires.own (c.replace-old.ensures.old name there) unused c.in_ok-other-in-Some.ensures (λ q. c.in_ok-mark-in-Some.ensures q ∙ noted_is e (now.is_used q) q) in
     let put = c.replace.ensures.pairs name (c.replace-old.ensures.places name ∙ there) ∙ ap (λ l. with_other l name v) (c.replace-old.ensures.pairs name there) ∙ other_again name _ v own in
-    whole ∙ ap (λ r. then_do r (λ v. Ok (known inherited (with_other own name v) (knows c.mark.new.used) now.modules))) c.in_ok-new-in-Some.ensures.value
-    ∙ ap (λ pairs. Ok (known inherited pairs (knows c.mark.new.used) now.modules)) (sym put)
+    whole ∙ ap (λ r. then_do r (λ v. Ok (known inherited (with_other own name v) (is_noted c.mark.new.used) now.modules))) c.in_ok-new-in-Some.ensures.value
+    ∙ ap (λ pairs. Ok (known inherited pairs (is_noted c.mark.new.used) now.modules)) (sym put)
 
 pub replace-old-requires : goal.replace-old-requires
 replace-old-requires c =
@@ -64,8 +63,8 @@ pub replace-requires : goal.replace-requires
 replace-requires c =
     place_within c.replace-old.new.self.values.items c.args.name.now c.in-Some.place (c.replace-old.ensures.places c.args.name.now ∙ sym c.own_place.ensures ∙ c.in-Some.is)
 
-pub returns-then-knows-clause-known : goal.returns-then-knows-clause-known
-returns-then-knows-clause-known c =
+pub returns-then-has-clause-known : goal.returns-then-has-clause-known
+returns-then-has-clause-known c =
     let inherited = pairs_in c.args.inherited.now in
     let now = known_of inherited c.args.state.now in
     let own = c.args.state.now.own.layer.values.items in

@@ -1,4 +1,4 @@
-use Rattle.std.proofs.Common.{rules, ◌≡◌, Some, None, true, false, ap, sym, ◌∙◌}
+use Rattle.std.proofs.Common.{rules, ◌≡◌, Some, None, true, false, sym, ◌∙◌}
 use Rattle.bp_values.specs.Spots.{found}
 use Rattle.bp_values.proofs.Seen.{own_there, own_elsewhere, own_nowhere}
 use Rattle.bp_values.proofs.scope.Names.own_place.Goals as goal

@@ -1,4 +1,4 @@
-use Rattle.std.proofs.Common.{rules, ◌≡◌, ℕ, cond, List, ◌∷◌, Some, ap, sym, ◌∙◌}
+use Rattle.std.proofs.Common.{◌≡◌, cond, ◌∷◌, Some, ap, sym, ◌∙◌}
 use Rattle.std.specs.HashMap.{get}
 use Rattle.std.specs.Map.Iter.{deref_pair}
 use Rattle.std.specs.Str.{bytes_eq}
