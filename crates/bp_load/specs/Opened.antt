@@ -2,7 +2,7 @@
 use Rattle.std.specs.Prelude.{◌≡◌, ◌≤◌, ℕ, List, [], ◌∷◌, ◌++◌, map, reverse, Option, Some, None, Result, Ok, if◌then◌else◌}
 use Rattle.bp_faults.specs.declared.fault.Fault.{Fault}
 use Rattle.bp_faults.specs.Answers.{then_do}
-use Rattle.bp_values.specs.Scopes.{Pairs, height_of, outer_pairs}
+use Rattle.bp_values.specs.Scopes.{Pairs, count_of, outer_pairs}
 use Rattle.bp_values.specs.Meaning.{Raw, evaluated}
 use Rattle.bp_values.specs.declared.scope.Scope.{Scope}
 use Rattle.bp_load.specs.declared.opened.Open.{Open}
@@ -25,9 +25,9 @@ evaluated_in base finished (file ∷ files) =
     (λ values. then_do (evaluated_in base (finished ++ (file.directory, values.1) ∷ []) files)
     (λ modules. Ok (in_directory file.dir values.0 ++ modules)))
 
--- An open directory, with the final scope of its file: outer layers of that scope.
+-- An open directory, with the final scope of its file: an outer part of that scope.
 abbrev pub open_in : Scope → Open → Finished
-open_in scope o = (o.directory, outer_pairs o.layers scope)
+open_in scope o = (o.directory, outer_pairs o.names scope)
 
 -- The open directories, innermost first, and the modules so far.
 pub record Turn : Type 0 where
@@ -43,25 +43,25 @@ abbrev pub closed : List (List ℕ) → List Finished → List Finished
 closed directory [] = []
 closed directory (o ∷ more) = if is_above o.0 directory then o ∷ more else closed directory more
 
--- The same of directories with their layers.
+-- The same of directories with their numbers of names.
 abbrev pub stay_open : List (List ℕ) → List Open → List Open
 stay_open directory [] = []
 stay_open directory (o ∷ more) = if is_above o.directory directory then o ∷ more else stay_open directory more
 
--- How many layers the innermost directory's scope has, or the base where none is open.
-abbrev pub layers_in : ℕ → List Open → ℕ
-layers_in base [] = base
-layers_in base (o ∷ more) = o.layers
+-- How many names the innermost directory's scope has, or the base where none is open.
+abbrev pub names_in : ℕ → List Open → ℕ
+names_in base [] = base
+names_in base (o ∷ more) = o.names
 
--- Innermost first: the first directory has at most so many layers, each other at most as many as the one inside it, and
+-- Innermost first: the first directory has at most so many names, each other at most as many as the one inside it, and
 -- the base at most as many as the last.
 abbrev pub AreNested : ℕ → ℕ → List Open → Type 0
-AreNested base height [] = base ≤ height
-AreNested base height (o ∷ more) = (o.layers ≤ height) × AreNested base o.layers more
+AreNested base count [] = base ≤ count
+AreNested base count (o ∷ more) = (o.names ≤ count) × AreNested base o.names more
 
--- The scopes of the open directories, and the base with those pairs, are outer layers of the scope.
+-- The scopes of the open directories, and the base with those pairs, are outer parts of the scope.
 abbrev pub IsBelow : Pairs → Evaluation → Type 0
-IsBelow base e = AreNested e.base (height_of e.scope) (reverse e.opened.items) × (outer_pairs e.base e.scope ≡ base)
+IsBelow base e = AreNested e.base (count_of e.scope) (reverse e.opened.items) × (outer_pairs e.base e.scope ≡ base)
 
 -- The innermost open directory.
 abbrev pub innermost : List Finished → Option Finished

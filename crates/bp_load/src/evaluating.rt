@@ -22,8 +22,8 @@ use std::thread::{Threads, join};
 /// Files with fewer bytes in all are evaluated by one worker.
 const FEW_BYTES: usize = 65_536;
 
-/// A name is copied in about the time in which so many bytes of files are evaluated.
-const BYTES_OF_A_NAME: usize = 16;
+/// A text of a scope is copied in about the time in which so many bytes of files are evaluated.
+const BYTES_OF_A_TEXT: usize = 16;
 
 /// The bytes of files in all.
 fn size(files: &[Parsed]) -> usize {
@@ -89,11 +89,11 @@ fn workers_for(bytes: usize, all: usize, workers: u32) -> u32
     some.clamp(1, workers as usize - 1) as u32
 }
 
-/// Whether the files in front of a cut are evaluated in more time than the names of their base are copied in.
+/// Whether the files in front of a cut are evaluated in more time than their base is copied in.
 fn is_worth_a_copy(base: &Scope, files: &[Parsed], at: usize) -> bool
     requires { at ≤ length files.now }
 {
-    base.names().saturating_mul(BYTES_OF_A_NAME) < size(&files[..at])
+    base.weight().saturating_mul(BYTES_OF_A_TEXT) < size(&files[..at])
 }
 
 /// Files cut at a place: those in front, and those behind it.
@@ -135,8 +135,8 @@ fn evaluate_below<R: Threads + Sync>(
 }
 
 /// Files evaluated by so many workers, as `evaluate_in` does it. They are cut in two where a branch begins, so that no
-/// file behind the cut inherits from one in front. Each part begins with its own copy of the base. Where the base has
-/// so many names that a copy takes longer than the files in front, one worker evaluates them all.
+/// file behind the cut inherits from one in front. Each part begins with its own copy of the base. Where the base is
+/// so large that a copy takes longer than the files in front, one worker evaluates them all.
 #[cycle(evaluating)]
 fn evaluate_branches<R: Threads + Sync>(
     rt: &R,
@@ -158,7 +158,7 @@ fn evaluate_branches<R: Threads + Sync>(
     let (front, back) = in_two(files, at)?;
     let some = workers_for(size(front.as_slice()), bytes, workers);
     let others = workers - some;
-    let shared = base.share(alloc)?;
+    let copy = base.copy(alloc)?;
     let evaluate_front = move || -> Result<Vec<(Path, RawModule)>, LoadError>
         requires { IsSync R.row × IsStrictlySortedBy directory_cmp (directories_of front.items) }
         ensures { Answers (λ modules. map placed_raw modules.items) result
@@ -167,8 +167,8 @@ fn evaluate_branches<R: Threads + Sync>(
     let evaluate_back = move || -> Result<Vec<(Path, RawModule)>, LoadError>
         requires { IsSync R.row × IsStrictlySortedBy directory_cmp (directories_of back.items) }
         ensures { Answers (λ modules. map placed_raw modules.items) result
-            (evaluated_in (pairs_of shared) [] (map placed_of back.items)) }
-    { evaluate_below(rt, alloc, shared, back, others) };
+            (evaluated_in (pairs_of copy) [] (map placed_of back.items)) }
+    { evaluate_below(rt, alloc, copy, back, others) };
     let (front, back) = join(rt, evaluate_front, evaluate_back);
     joined(front, back)
 }

@@ -6,7 +6,7 @@ ghost use Rattle.bp_values.specs.Meaning.{raw_of};
 ghost use Rattle.bp_load.specs.Directories.{directory_cmp};
 ghost use Rattle.bp_load.specs.Trees.{placed_of};
 ghost use Rattle.bp_load.specs.Inherited.{in_directory, placed_raw, all_evaluated};
-ghost use Rattle.bp_load.specs.Opened.{turn_of, no_turn, stay_open, layers_in, IsBelow, innermost, scope_in, turned, all_turned, evaluated_in};
+ghost use Rattle.bp_load.specs.Opened.{turn_of, no_turn, stay_open, names_in, IsBelow, innermost, scope_in, turned, all_turned, evaluated_in};
 
 use crate::LoadError;
 use crate::directory::Directory;
@@ -16,11 +16,11 @@ use bp_values::{RawModule, Scope, evaluate_from};
 use std::alloc::Global;
 use std::mem;
 
-/// A directory that is above the last file, or the file's own, and how many layers the final scope of its file has.
+/// A directory that is above the last file, or the file's own, and how many names the final scope of its file has.
 #[derive(Drop)]
 pub struct Open {
     directory: Directory,
-    layers: usize,
+    names: usize,
 }
 
 /// What is kept from file to file.
@@ -28,9 +28,9 @@ pub struct Open {
 pub struct Evaluation {
     // The open directories, outermost first.
     opened: Vec<Open>,
-    // The final scope of the last file, or the base. The scopes of the open directories are outer layers of it.
+    // The final scope of the last file, or the base. The scopes of the open directories are outer parts of it.
     scope: Scope,
-    // How many layers the base has.
+    // How many names the base has.
     base: usize,
     // The modules so far.
     modules: Vec<(Path, RawModule)>,
@@ -48,12 +48,12 @@ fn close(opened: &mut Vec<Open>, directory: &Directory)
     }
 }
 
-/// How many layers the scope of the innermost directory has, or the base where none is open.
-fn layers(opened: &[Open], base: usize) -> usize
-    ensures { result ≡ layers_in base (reverse opened.now) }
+/// How many names the scope of the innermost directory has, or the base where none is open.
+fn outer_names(opened: &[Open], base: usize) -> usize
+    ensures { result ≡ names_in base (reverse opened.now) }
 {
     match opened.last() {
-        Some(last) => last.layers,
+        Some(last) => last.names,
         None => base,
     }
 }
@@ -70,7 +70,7 @@ pub fn finish(evaluation: Evaluation) -> (Scope, Vec<(Path, RawModule)>)
         base,
         modules,
     } = evaluation;
-    (scope.outer(layers(opened.as_slice(), base)), modules)
+    (scope.outer(outer_names(opened.as_slice(), base)), modules)
 }
 
 /// Puts modules behind others, in their directory.
@@ -106,12 +106,12 @@ fn evaluate_file(
         mut modules,
     } = evaluation;
     close(&mut opened, &file.directory);
-    let inherited = scope.outer(layers(opened.as_slice(), base));
+    let inherited = scope.outer(outer_names(opened.as_slice(), base));
     let (more, scope) = evaluate_from(alloc, &file.tree, inherited)?;
     put_modules(alloc, &mut modules, &file.dir, more)?;
     let Parsed { directory, .. } = file;
-    let layers = scope.height();
-    opened.push(Open { directory, layers })?;
+    let names = scope.len();
+    opened.push(Open { directory, names })?;
     Ok(Evaluation {
         opened,
         scope,
@@ -131,7 +131,7 @@ pub fn evaluate_files(
 {
     let mut evaluation = Evaluation {
         opened: Vec::new(alloc),
-        base: base.height(),
+        base: base.len(),
         scope: base,
         modules: Vec::new(alloc),
     };

@@ -1,24 +1,19 @@
 -- In what words the functions inside the crate say what they keep. No public contract speaks of it.
-use Rattle.std.specs.Prelude.{◌≡◌, ℕ, Bool, true, not, cond, ◌&&◌, ◌||◌, is_some, List, [], ◌∷◌, ◌++◌, map, filter, suc, Option, None, Some, option_map, if◌then◌else◌}
+use Rattle.std.specs.Prelude.{◌≡◌, ◌≤◌, ℕ, Bool, true, not, cond, ◌&&◌, ◌||◌, is_some, List, [], ◌∷◌, map, filter, suc, Option, None, Some, option_map, if◌then◌else◌}
 use Rattle.std.specs.Str.{bytes_eq}
 use Rattle.bp_names.specs.Meaning.{knows, number_of}
 use Rattle.bp_parser.specs.Trees as tree
 use Rattle.bp_parser.specs.Trees.{Tree, Trees, no_tree, tree_and, Terms, no_term, term_and, Entries, no_entry, entry_and, Definition, Assigns, Extends, Declares}
 use Rattle.bp_values.specs.References.{is_atom}
 use Rattle.bp_values.specs.declared.file.State.{State}
-use Rattle.bp_values.specs.declared.scope.Names.{Names}
 use Rattle.bp_values.specs.declared.marks.Marks.{Marks}
 use Rattle.bp_values.specs.declared.map_sum.MapSum.{MapSum}
 use Rattle.bp_values.specs.Values.{Meaning, Field, field_of, body}
-use Rattle.bp_values.specs.Scopes.{Pairs, pairs_in, layer_pairs, value_in}
+use Rattle.bp_values.specs.Scopes.{Pairs, pairs_of, outer_pairs, count_of, value_in}
 use Rattle.bp_values.specs.Sums.{has_name}
 use Rattle.bp_values.specs.MapPlaces.{PlacesOf}
 use Rattle.bp_values.specs.KeptPlaces.{kept_for}
 use Rattle.bp_values.specs.Meaning.{Known, raw_of}
-
--- What a file inherits, and its own behind.
-abbrev pub visible : Names → Pairs
-visible names = pairs_in names.inherited.now ++ layer_pairs names.own.now.layer
 
 -- A name is noted where the file has referred to it, and also where the file never extends it.
 abbrev pub is_noted : Marks → List ℕ → Bool
@@ -31,14 +26,20 @@ is_extended_or b name (Assigns other at e ∷ ds) = is_extended_or b name ds
 is_extended_or b name (Extends other at e ∷ ds) = is_extended_or (cond (bytes_eq other name) true b) name ds
 is_extended_or b name (Declares kind at m ∷ ds) = is_extended_or b name ds
 
--- What a file knows that inherits those pairs. The names that it never extends count as used.
-abbrev pub known_of : Pairs → State → Known
-known_of inherited s = record
-    { scope = inherited ++ layer_pairs s.own.layer; is_used = is_noted s.used; modules = map raw_of s.modules.items }
+-- What a file knows. The names that it never extends count as used.
+abbrev pub known_of : State → Known
+known_of s = record { scope = pairs_of s.scope; is_used = is_noted s.used; modules = map raw_of s.modules.items }
 
--- The places that are kept are those of the names of the file's variables.
-abbrev pub KeepsPlaces : State → Type 0
-KeepsPlaces s = (name : List ℕ) → PlacesOf (kept_for s.kept name) (value_in (layer_pairs s.own.layer) name)
+-- What a file inherits.
+abbrev pub inherited_by : State → Pairs
+inherited_by s = outer_pairs s.inherited s.scope
+
+-- What holds before and behind each definition.
+pub record IsConsistent (s : State) : Type 0 where
+  -- The scope has the names that are inherited.
+  pub within : s.inherited ≤ count_of s.scope
+  -- The places that are kept are those of the names of the file's variables.
+  pub places : (name : List ℕ) → PlacesOf (kept_for s.kept name) (value_in (pairs_of s.scope) name)
 
 -- The place of the first entry of that name.
 abbrev pub place_of : List ℕ → List Field → Option ℕ

@@ -1,15 +1,11 @@
 pub mod Values
 pub mod Depths
 pub mod Sums
-pub mod Spots
-pub mod NamePlaces
 pub mod PlaceTable
 pub mod Places
 pub mod MapPlaces
 pub mod KeptPlaces
-pub mod Layers
 pub mod Scopes
-pub mod OwnNames
 pub mod Expressions
 pub mod References
 pub mod Meaning

@@ -3,16 +3,15 @@ ghost use Rattle.bp_parser.specs.Trees.{tree_of, map_of, entry_of, term_of, tree
 ghost use Rattle.bp_values.specs.Values.{meaning, field_of, Items, body};
 ghost use Rattle.bp_faults.specs.Answers.{Answers, then_do};
 ghost use Rattle.bp_values.specs.Sums.{limited, sum as sum_of};
-ghost use Rattle.bp_values.specs.Scopes.{value_in};
-ghost use Rattle.bp_values.specs.Inside.{visible, sum_so_far, HasPlaces};
+ghost use Rattle.bp_values.specs.Scopes.{pairs_of, value_in};
+ghost use Rattle.bp_values.specs.Inside.{sum_so_far, HasPlaces};
 ghost use Rattle.bp_values.specs.Expressions.{val, val_items, val_terms, val_entries, val_map, item_of, first_place as place_of, known as known_as};
 
 use crate::depth::within_depth;
 use crate::map_sum::MapSum;
-use crate::scope::Names;
 use crate::sums::{add, add_copy, too_many};
 use crate::value::{copy_value, make_entry, map_value};
-use crate::{Entry, EvalError, Value};
+use crate::{Entry, EvalError, Scope, Value};
 use bp_faults::{Fault, FaultKind, Item, Place, Text};
 use bp_parser::{EntryExpr, Expr, MapExpr};
 use std::alloc::Global;
@@ -35,11 +34,11 @@ fn first_place(expr: &Expr) -> Place
 /// The value of a name, which the scope keeps.
 fn named<'a>(
     alloc: Global,
-    scope: &Names<'a>,
+    scope: &'a Scope,
     at: Place,
     name: &Text,
 ) -> Result<&'a Value, EvalError>
-    ensures { Answers (λ v. meaning v.now) result (known_as at name.now (value_in (visible scope.now) name.now)) }
+    ensures { Answers (λ v. meaning v.now) result (known_as at name.now (value_in (pairs_of scope.now) name.now)) }
 {
     match scope.get(name) {
         Some(value) => Ok(value),
@@ -53,8 +52,8 @@ fn named<'a>(
 }
 
 /// A copy of the value of a name.
-fn read(alloc: Global, scope: &Names<'_>, at: Place, name: &Text) -> Result<Value, EvalError>
-    ensures { Answers meaning result (known_as at name.now (value_in (visible scope.now) name.now)) }
+fn read(alloc: Global, scope: &Scope, at: Place, name: &Text) -> Result<Value, EvalError>
+    ensures { Answers meaning result (known_as at name.now (value_in (pairs_of scope.now) name.now)) }
 {
     let value = named(alloc, scope, at, name)?;
     Ok(copy_value(alloc, value)?)
@@ -77,8 +76,8 @@ fn item(alloc: Global, at: Place, value: Value) -> Result<Item, EvalError>
 
 /// The value of an expression.
 #[cycle(expressions)]
-pub fn value_of(alloc: Global, scope: &Names<'_>, expr: &Expr) -> Result<Value, EvalError>
-    ensures { Answers meaning result (val (visible scope.now) (tree_of expr.now)) }
+pub fn value_of(alloc: Global, scope: &Scope, expr: &Expr) -> Result<Value, EvalError>
+    ensures { Answers meaning result (val (pairs_of scope.now) (tree_of expr.now)) }
 {
     match expr {
         Expr::Bool(_, b) => Ok(Value::Bool(*b)),
@@ -118,9 +117,9 @@ fn list_value(alloc: Global, at: Place, items: Vec<Item>) -> Result<Value, EvalE
 
 /// The items in turn.
 #[cycle(expressions)]
-fn items_of(alloc: Global, scope: &Names<'_>, items: &[Expr]) -> Result<Vec<Item>, EvalError>
+fn items_of(alloc: Global, scope: &Scope, items: &[Expr]) -> Result<Vec<Item>, EvalError>
     ensures { Answers (λ v. v.items) result
-        (val_items (visible scope.now) (trees_then (map tree_of items.now) no_tree)) }
+        (val_items (pairs_of scope.now) (trees_then (map tree_of items.now) no_tree)) }
 {
     let mut list = Vec::with_capacity(alloc, items.len())?;
     'items: for expr in items {
@@ -130,9 +129,9 @@ fn items_of(alloc: Global, scope: &Names<'_>, items: &[Expr]) -> Result<Vec<Item
 }
 
 #[cycle(expressions)]
-fn item_value(alloc: Global, scope: &Names<'_>, expr: &Expr) -> Result<Item, EvalError>
+fn item_value(alloc: Global, scope: &Scope, expr: &Expr) -> Result<Item, EvalError>
     ensures { Answers (λ i. i) result
-        (then_do (val (visible scope.now) (tree_of expr.now)) (item_of (place_of (tree_of expr.now)))) }
+        (then_do (val (pairs_of scope.now) (tree_of expr.now)) (item_of (place_of (tree_of expr.now)))) }
 {
     let value = value_of(alloc, scope, expr)?;
     item(alloc, first_place(expr), value)
@@ -142,12 +141,12 @@ fn item_value(alloc: Global, scope: &Names<'_>, expr: &Expr) -> Result<Item, Eva
 #[cycle(expressions)]
 fn add_terms(
     alloc: Global,
-    scope: &Names<'_>,
+    scope: &Scope,
     terms: &[(Place, Expr)],
     first: Value,
 ) -> Result<Value, EvalError>
     ensures { Answers meaning result
-        (val_terms (visible scope.now) (meaning first) (terms_then (map term_of terms.now) no_term)) }
+        (val_terms (pairs_of scope.now) (meaning first) (terms_then (map term_of terms.now) no_term)) }
 {
     let mut total = first;
     'terms: for (at, term) in terms {
@@ -159,13 +158,13 @@ fn add_terms(
 #[cycle(expressions)]
 fn add_term(
     alloc: Global,
-    scope: &Names<'_>,
+    scope: &Scope,
     term: &Expr,
     at: Place,
     total: Value,
 ) -> Result<Value, EvalError>
     ensures { Answers meaning result
-        (then_do (val (visible scope.now) (tree_of term.now)) (sum_of at (meaning total))) }
+        (then_do (val (pairs_of scope.now) (tree_of term.now)) (sum_of at (meaning total))) }
 {
     if let Expr::Name(place, name) = term {
         let other = named(alloc, scope, *place, name)?;
@@ -179,11 +178,11 @@ fn add_term(
 #[cycle(expressions)]
 fn add_maps(
     alloc: Global,
-    scope: &Names<'_>,
+    scope: &Scope,
     terms: &[(Place, Expr)],
     first: Vec<Entry>,
 ) -> Result<Value, EvalError>
-    ensures { Answers meaning result (val_terms (visible scope.now)
+    ensures { Answers meaning result (val_terms (pairs_of scope.now)
         (body (map field_of first.items)) (terms_then (map term_of terms.now) no_term)) }
 {
     let mut total = MapSum::of(first);
@@ -196,14 +195,14 @@ fn add_maps(
 #[cycle(expressions)]
 fn add_map(
     alloc: Global,
-    scope: &Names<'_>,
+    scope: &Scope,
     term: &Expr,
     at: Place,
     total: MapSum,
 ) -> Result<MapSum, EvalError>
     requires { HasPlaces total }
     ensures total { Answers sum_so_far result
-        (then_do (val (visible scope.now) (tree_of term.now)) (sum_of at (sum_so_far total))) }
+        (then_do (val (pairs_of scope.now) (tree_of term.now)) (sum_of at (sum_so_far total))) }
     ensures places { IfOk result HasPlaces }
 {
     let other = value_of(alloc, scope, term)?;
@@ -212,26 +211,18 @@ fn add_map(
 
 /// The entries of a map literal.
 #[cycle(expressions)]
-pub fn entries_of(
-    alloc: Global,
-    scope: &Names<'_>,
-    literal: &MapExpr,
-) -> Result<Vec<Entry>, EvalError>
+pub fn entries_of(alloc: Global, scope: &Scope, literal: &MapExpr) -> Result<Vec<Entry>, EvalError>
     ensures { Answers (λ es. map field_of es.items) result
-        (val_map (visible scope.now) (map_of literal.now).at (map_of literal.now).entries) }
+        (val_map (pairs_of scope.now) (map_of literal.now).at (map_of literal.now).entries) }
 {
     let entries = all_entries(alloc, scope, literal.entries.as_slice())?;
     within_depth(alloc, literal.at, entries)
 }
 
 #[cycle(expressions)]
-fn all_entries(
-    alloc: Global,
-    scope: &Names<'_>,
-    entries: &[EntryExpr],
-) -> Result<Vec<Entry>, EvalError>
+fn all_entries(alloc: Global, scope: &Scope, entries: &[EntryExpr]) -> Result<Vec<Entry>, EvalError>
     ensures { Answers (λ es. map field_of es.items) result
-        (val_entries (visible scope.now) (entries_then (map entry_of entries.now) no_entry)) }
+        (val_entries (pairs_of scope.now) (entries_then (map entry_of entries.now) no_entry)) }
 {
     let mut list = Vec::with_capacity(alloc, entries.len())?;
     'entries: for entry in entries {

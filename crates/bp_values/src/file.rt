@@ -1,24 +1,18 @@
-ghost use Rattle.std.specs.Prelude.{◌≡◌, ◌≤◌, map, IfOk, OnOk, [], None, Ok};
-ghost use Rattle.bp_parser.specs.Trees.{tree_of, map_of, definition_of, Assigns, Extends, Declares};
-ghost use Rattle.bp_values.specs.Values.{meaning};
-ghost use Rattle.bp_faults.specs.Answers.{Answers, Refuses, Leaves};
-ghost use Rattle.bp_values.specs.Scopes.{pairs_of, pairs_in, value_in, height_of, HasOuter};
-ghost use Rattle.bp_values.specs.OwnNames.{HasSpots};
-ghost use Rattle.bp_values.specs.Inside.{known_of, KeepsPlaces};
+ghost use Rattle.std.specs.Prelude.{◌≡◌, ◌≤◌, map, IfOk, OnOk, None};
+ghost use Rattle.bp_parser.specs.Trees.{tree_of, map_of, definition_of};
+ghost use Rattle.bp_faults.specs.Answers.{Answers, Leaves};
+ghost use Rattle.bp_values.specs.Scopes.{pairs_of, outer_pairs, value_in, count_of, HasOuter};
+ghost use Rattle.bp_values.specs.Inside.{known_of, inherited_by, IsConsistent};
 ghost use Rattle.bp_values.specs.Meaning.{raw_of, after_assignment, after_extension, after_module, after_definition, after_definitions, evaluated};
 
 use crate::expression::{entries_of, value_of};
 use crate::kept_places::KeptPlaces;
-use crate::layer::Layer;
 use crate::map_sum::add_to;
 use crate::marks::{Marks, mark, mark_entries};
-use crate::own_names::OwnNames;
-use crate::scope::Names;
 use crate::{Entry, EvalError, Scope, Value};
 use bp_faults::{Fault, FaultKind, Place, Text};
 use bp_parser::{Def, Expr, FileTree, MapExpr};
 use std::alloc::Global;
-use std::sync::Arc;
 
 /// A module as it is written, with its values.
 #[derive(Drop)]
@@ -28,11 +22,13 @@ pub struct RawModule {
     pub entries: Vec<Entry>,
 }
 
-/// What a file has after some definitions, beside what it inherits: the names that it set, what it has
-/// noted of those to which it referred, and its modules.
+/// What a file has after some definitions: its scope, what it has noted of the names to which it
+/// referred, and its modules.
 #[derive(Drop)]
 pub struct State<'a> {
-    own: OwnNames,
+    scope: Scope,
+    // How many names of the scope are inherited. They are the first.
+    inherited: usize,
     // Those of the names of maps that were extended, so that the next `+=` looks its keys up.
     kept: KeptPlaces<'a>,
     used: Marks<'a>,
@@ -42,100 +38,77 @@ pub struct State<'a> {
 /// `name = value`
 fn assign<'a>(
     alloc: Global,
-    inherited: &[Arc<Layer>],
     state: &mut State<'a>,
     name: &Text,
     at: Place,
     value: &'a Expr,
 ) -> Result<(), EvalError>
-    requires spots { HasSpots inherited.now state.old.own }
-    requires places { KeepsPlaces state.old }
-    ensures known { Leaves (known_of (pairs_in inherited.now)) state.new result (after_assignment (known_of (pairs_in inherited.now) state.old) name.now at (tree_of value.now) (value_in (known_of (pairs_in inherited.now) state.old).scope name.now)) }
-    ensures spots { OnOk result (HasSpots inherited.now state.new.own) }
-    ensures places { OnOk result (KeepsPlaces state.new) }
+    requires consistent { IsConsistent state.old }
+    ensures known { Leaves known_of state.new result (after_assignment (known_of state.old) name.now at
+        (tree_of value.now) (value_in (known_of state.old).scope name.now)) }
+    ensures inherited { OnOk result (inherited_by state.new ≡ inherited_by state.old) }
+    ensures consistent { OnOk result (IsConsistent state.new) }
 {
-    let names = Names {
-        inherited,
-        own: &state.own,
-    };
-    if names.get(name).is_some() {
+    if state.scope.get(name).is_some() {
         return Err(EvalError::Bad(Fault::on(alloc, FaultKind::VariableSet, at, name.copy(alloc)?)));
     }
-    let new = value_of(alloc, &names, value)?;
+    let new = value_of(alloc, &state.scope, value)?;
     mark(&mut state.used, value)?;
-    state.own.set(alloc, inherited, name, new)?;
+    state.scope.set(alloc, name, new)?;
     Ok(())
 }
 
-/// `name += value`, where the name isn't inherited.
+/// `name += term`, where the name isn't inherited.
 fn extend<'a>(
     alloc: Global,
-    inherited: &[Arc<Layer>],
     state: &mut State<'a>,
     name: &'a Text,
     at: Place,
-    value: &'a Expr,
+    term: &'a Expr,
 ) -> Result<(), EvalError>
-    requires own { value_in (pairs_in inherited.now) name.now ≡ None }
-    requires spots { HasSpots inherited.now state.old.own }
-    requires places { KeepsPlaces state.old }
-    ensures known { Leaves (known_of (pairs_in inherited.now)) state.new result (after_extension (known_of (pairs_in inherited.now) state.old) name.now at (tree_of value.now) (value_in (known_of (pairs_in inherited.now) state.old).scope name.now)) }
-    ensures spots { OnOk result (HasSpots inherited.now state.new.own) }
-    ensures places { OnOk result (KeepsPlaces state.new) }
+    requires own { value_in (inherited_by state.old) name.now ≡ None }
+    requires consistent { IsConsistent state.old }
+    ensures known { Leaves known_of state.new result (after_extension (known_of state.old) name.now at
+        (tree_of term.now) (value_in (known_of state.old).scope name.now)) }
+    ensures inherited { OnOk result (inherited_by state.new ≡ inherited_by state.old) }
+    ensures consistent { OnOk result (IsConsistent state.new) }
 {
-    let names = Names {
-        inherited,
-        own: &state.own,
-    };
-    match names.own_place(name) {
-        Some(place) => {
-            if state.used.has(name.as_str()) {
-                return Err(EvalError::Bad(Fault::on(
-                    alloc,
-                    FaultKind::AfterUse,
-                    at,
-                    name.copy(alloc)?,
-                )));
-            }
-            let other = value_of(alloc, &names, value)?;
-            mark(&mut state.used, value)?;
-            let old = state.own.layer.replace(place, Value::Bool(false));
-            let variable = name.as_str();
-            let places = state.kept.keep(variable, None)?;
-            let (new, places) = add_to(alloc, old, places, other, at)?;
-            state.kept.keep(variable, places)?;
-            state.own.layer.replace(place, new);
-            Ok(())
-        }
-        None => Err(EvalError::Bad(Fault::on(
+    if state.scope.get(name).is_none() {
+        return Err(EvalError::Bad(Fault::on(
             alloc,
             FaultKind::UnknownVariable,
             at,
             name.copy(alloc)?,
-        ))),
+        )));
     }
+    if state.used.has(name.as_str()) {
+        return Err(EvalError::Bad(Fault::on(alloc, FaultKind::AfterUse, at, name.copy(alloc)?)));
+    }
+    let other = value_of(alloc, &state.scope, term)?;
+    mark(&mut state.used, term)?;
+    let variable = name.as_str();
+    let old = state.scope.replace(alloc, name, Value::Bool(false))?;
+    let places = state.kept.keep(variable, None)?;
+    let (new, places) = add_to(alloc, old, places, other, at)?;
+    state.kept.keep(variable, places)?;
+    state.scope.replace(alloc, name, new)?;
+    Ok(())
 }
 
 /// `kind { .. }`
 fn declare<'a>(
     alloc: Global,
-    inherited: &[Arc<Layer>],
     state: &mut State<'a>,
     kind: &Text,
     at: Place,
     body: &'a MapExpr,
 ) -> Result<(), EvalError>
-    requires spots { HasSpots inherited.now state.old.own }
-    requires places { KeepsPlaces state.old }
-    ensures known { Leaves (known_of (pairs_in inherited.now)) state.new result (after_module (known_of (pairs_in inherited.now) state.old) kind.now at (map_of body.now)) }
-    ensures spots { OnOk result (HasSpots inherited.now state.new.own) }
-    ensures places { OnOk result (KeepsPlaces state.new) }
+    requires consistent { IsConsistent state.old }
+    ensures known { Leaves known_of state.new result (after_module (known_of state.old) kind.now at (map_of body.now)) }
+    ensures inherited { OnOk result (inherited_by state.new ≡ inherited_by state.old) }
+    ensures consistent { OnOk result (IsConsistent state.new) }
 {
-    let names = Names {
-        inherited,
-        own: &state.own,
-    };
-    let entries = entries_of(alloc, &names, body)?;
+    let entries = entries_of(alloc, &state.scope, body)?;
     mark_entries(&mut state.used, body.entries.as_slice())?;
     state.modules.push(RawModule {
         kind: kind.copy(alloc)?,
@@ -146,26 +119,17 @@ fn declare<'a>(
 }
 
 /// One definition.
-fn define<'a>(
-    alloc: Global,
-    inherited: &[Arc<Layer>],
-    state: &mut State<'a>,
-    def: &'a Def,
-) -> Result<(), EvalError>
-    requires spots { HasSpots inherited.now state.old.own }
-    requires places { KeepsPlaces state.old }
-    ensures known { Leaves (known_of (pairs_in inherited.now)) state.new result (after_definition (pairs_in inherited.now) (known_of (pairs_in inherited.now) state.old) (definition_of def.now)) }
-    ensures spots { OnOk result (HasSpots inherited.now state.new.own) }
-    ensures places { OnOk result (KeepsPlaces state.new) }
+fn define<'a>(alloc: Global, state: &mut State<'a>, def: &'a Def) -> Result<(), EvalError>
+    requires consistent { IsConsistent state.old }
+    ensures known { Leaves known_of state.new result
+        (after_definition (inherited_by state.old) (known_of state.old) (definition_of def.now)) }
+    ensures inherited { OnOk result (inherited_by state.new ≡ inherited_by state.old) }
+    ensures consistent { OnOk result (IsConsistent state.new) }
 {
     match def {
-        Def::Assign { name, at, value } => assign(alloc, inherited, state, name, *at, value),
+        Def::Assign { name, at, value } => assign(alloc, state, name, *at, value),
         Def::Extend { name, at, value } => {
-            let names = Names {
-                inherited,
-                own: &state.own,
-            };
-            if names.inherits(name) {
+            if state.scope.has_outer(name, state.inherited) {
                 return Err(EvalError::Bad(Fault::on(
                     alloc,
                     FaultKind::NotLocal,
@@ -173,27 +137,22 @@ fn define<'a>(
                     name.copy(alloc)?,
                 )));
             }
-            extend(alloc, inherited, state, name, *at, value)
+            extend(alloc, state, name, *at, value)
         }
-        Def::Module { kind, at, body } => declare(alloc, inherited, state, kind, *at, body),
+        Def::Module { kind, at, body } => declare(alloc, state, kind, *at, body),
     }
 }
 
 /// The definitions in turn.
-fn define_all<'a>(
-    alloc: Global,
-    inherited: &[Arc<Layer>],
-    state: &mut State<'a>,
-    defs: &'a [Def],
-) -> Result<(), EvalError>
-    requires spots { HasSpots inherited.now state.old.own }
-    requires places { KeepsPlaces state.old }
-    ensures known { Leaves (known_of (pairs_in inherited.now)) state.new result (after_definitions (pairs_in inherited.now) (known_of (pairs_in inherited.now) state.old) (map definition_of defs.now)) }
-    ensures spots { OnOk result (HasSpots inherited.now state.new.own) }
-    ensures places { OnOk result (KeepsPlaces state.new) }
+fn define_all<'a>(alloc: Global, state: &mut State<'a>, defs: &'a [Def]) -> Result<(), EvalError>
+    requires consistent { IsConsistent state.old }
+    ensures known { Leaves known_of state.new result
+        (after_definitions (inherited_by state.old) (known_of state.old) (map definition_of defs.now)) }
+    ensures inherited { OnOk result (inherited_by state.new ≡ inherited_by state.old) }
+    ensures consistent { OnOk result (IsConsistent state.new) }
 {
     'defs: for def in defs {
-        define(alloc, inherited, state, def)?;
+        define(alloc, state, def)?;
     }
     Ok(())
 }
@@ -208,31 +167,33 @@ pub fn evaluate(
     tree: &FileTree,
     inherited: &Scope,
 ) -> Result<(Vec<RawModule>, Scope), EvalError>
-    ensures { Answers (λ r. (map raw_of r.0.items, pairs_of r.1)) result (evaluated (pairs_of inherited.now) (map definition_of tree.now.defs.items)) }
+    ensures { Answers (λ r. (map raw_of r.0.items, pairs_of r.1)) result
+        (evaluated (pairs_of inherited.now) (map definition_of tree.now.defs.items)) }
 {
-    evaluate_from(alloc, tree, inherited.share(alloc)?)
+    evaluate_from(alloc, tree, inherited.copy(alloc)?)
 }
 
 /// As `evaluate`, where the inherited scope is handed over: the names of the file are put into it, and
-/// nothing is copied. Its layers stay the outer ones of the final scope.
+/// nothing is copied. The names that it inherits stay the outer ones of the final scope.
 pub fn evaluate_from(
     alloc: Global,
     tree: &FileTree,
     inherited: Scope,
 ) -> Result<(Vec<RawModule>, Scope), EvalError>
-    ensures values { Answers (λ r. (map raw_of r.0.items, pairs_of r.1)) result (evaluated (pairs_of inherited) (map definition_of tree.now.defs.items)) }
-    ensures outer { IfOk result (λ r. HasOuter (height_of inherited) inherited r.1) }
-    ensures height { IfOk result (λ r. height_of inherited ≤ height_of r.1) }
+    ensures values { Answers (λ r. (map raw_of r.0.items, pairs_of r.1)) result
+        (evaluated (pairs_of inherited) (map definition_of tree.now.defs.items)) }
+    ensures outer { IfOk result (λ r. HasOuter (count_of inherited) inherited r.1) }
+    ensures count { IfOk result (λ r. count_of inherited ≤ count_of r.1) }
 {
-    let (layers, own) = inherited.open(alloc);
     let used = Marks::of(alloc, tree.defs.as_slice())?;
     let mut state = State {
-        own,
+        inherited: inherited.len(),
+        scope: inherited,
         kept: KeptPlaces::new(alloc),
         used,
         modules: Vec::new(alloc),
     };
-    define_all(alloc, layers.as_slice(), &mut state, tree.defs.as_slice())?;
-    let State { own, modules, .. } = state;
-    Ok((modules, Scope::close(alloc, layers, own)?))
+    define_all(alloc, &mut state, tree.defs.as_slice())?;
+    let State { scope, modules, .. } = state;
+    Ok((modules, scope))
 }

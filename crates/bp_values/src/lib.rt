@@ -11,15 +11,12 @@ mod expression;
 mod file;
 mod kept_places;
 pub mod laws;
-mod layer;
 mod map_places;
 mod map_sum;
 mod marks;
-mod own_names;
 mod place_table;
 mod scope;
 mod seed;
-mod spots;
 mod sums;
 mod value;
 

@@ -1,44 +1,24 @@
-ghost use Rattle.std.specs.Prelude.{◌≡◌, ◌++◌, ◌≤◌, ℕ, List, [], length, take, option_map, is_some, IfOk, None};
-ghost use Rattle.std.proofs.Props.{props};
+ghost use Rattle.std.specs.Prelude.{◌≡◌, ◌≤◌, ◌<◌, ℕ, [], length, option_map, is_some, IfOk, OnOk, None, Some, IsSome};
 ghost use Rattle.bp_values.specs.Values.{meaning};
-ghost use Rattle.bp_values.specs.NamePlaces.{place_in};
-ghost use Rattle.bp_values.specs.Layers.{value_in, pairs_in, layer_pairs, spot_in_layers, spot_behind, Finds};
-ghost use Rattle.bp_values.specs.OwnNames.{HasSpots};
-ghost use Rattle.bp_values.specs.Spots.{found};
+ghost use Rattle.bp_values.specs.Meaning.{with_new, with_other};
+ghost use Rattle.bp_values.specs.Scopes.{pairs_of, value_in, count_of, outer_pairs, HasOuter};
 
 use crate::Value;
-use crate::layer::Layer;
-use crate::own_names::OwnNames;
 use crate::seed::Seed;
-use crate::spots::Spots;
+use crate::value::{copy_value, weight};
 use bp_faults::{OutOfMemory, Text};
+use indexmap::IndexMap;
 use std::alloc::Global;
 use std::hash::DefaultHasher;
-use std::sync::Arc;
 
-/// Names and their values, in the order in which the names were first set. Contracts see the list
-/// of its pairs: those that a file inherits, and its own behind.
+/// Names and their values, in the order in which the names were first set: those that a file inherits, and its own
+/// behind them. Contracts see the list of its pairs.
 #[derive(Drop)]
 pub struct Scope {
-    // Those of the files that set names, the outermost first. Copies of the scope share them.
-    layers: Vec<Arc<Layer>>,
-    // Each name with its layer and its place there, so that no look-up goes through the layers. It may
-    // hold names of layers that were dropped, so what is found counts only where the name stands there.
-    spots: Spots,
-    ghost spotted: { Finds (found spots) (spot_in_layers layers.items) } by { Prim.hlevel props },
-}
-
-/// The names that a file sees while it is evaluated: those that it inherits, and its own so far.
-#[derive(Drop)]
-pub struct Names<'a> {
-    pub inherited: &'a [Arc<Layer>],
-    pub own: &'a OwnNames,
-    ghost spotted: { HasSpots inherited.now own.now } by { Prim.hlevel props },
+    values: IndexMap<Text, Value, Seed>,
 }
 
 impl Scope {
-    ghost use Rattle.bp_values.specs.Scopes.{pairs_of, height_of, outer_pairs, HasOuter};
-
     /// A scope without names.
     pub fn empty(alloc: Global) -> Result<Scope, OutOfMemory>
         ensures { IfOk result (λ scope. pairs_of scope ≡ []) }
@@ -53,8 +33,7 @@ impl Scope {
         ensures { IfOk result (λ scope. pairs_of scope ≡ []) }
     {
         Ok(Scope {
-            layers: Vec::new(alloc),
-            spots: Spots::with_room(alloc, seed, room)?,
+            values: IndexMap::with_capacity_and_hasher(alloc, room, seed)?,
         })
     }
 
@@ -62,126 +41,85 @@ impl Scope {
     pub fn get(&self, name: &Text) -> Option<&Value>
         ensures { option_map (λ v. meaning v.now) result ≡ value_in (pairs_of self.now) name.now }
     {
-        match self.spots.spot_of(name) {
-            Some(spot) if spot.layer < self.layers.len() => {
-                self.layers[spot.layer].value_of(spot.place, name)
-            }
-            _ => None,
-        }
+        self.values.get(name)
     }
 
-    /// How many layers it has, one of each file that sets names.
-    pub fn height(&self) -> usize
-        ensures { result ≡ height_of self.now }
+    /// How many names it has.
+    pub fn len(&self) -> usize
+        ensures { result ≡ count_of self.now }
     {
-        self.layers.len()
+        self.values.len()
     }
 
-    /// How many names it can find the layer of, also those of layers that were dropped.
-    pub fn names(&self) -> usize {
-        self.spots.len()
+    /// About how many texts, items and entries are copied with it.
+    pub fn weight(&self) -> usize {
+        let mut sum: usize = 0;
+        for value in self.values.values() {
+            sum = sum.saturating_add(1).saturating_add(weight(value));
+        }
+        sum
     }
 
-    /// The same scope. The values are shared, and the names are copied.
-    pub fn share(&self, alloc: Global) -> Result<Scope, OutOfMemory>
+    /// A copy, in which names are found by the same seed.
+    pub fn copy(&self, alloc: Global) -> Result<Scope, OutOfMemory>
         ensures { IfOk result (λ scope. pairs_of scope ≡ pairs_of self.now) }
     {
-        Ok(Scope {
-            layers: self.shared(alloc)?,
-            spots: self.spots.copy(alloc)?,
-        })
+        let mut copy = Scope::seeded(alloc, *self.values.hasher(), self.values.len())?;
+        for (name, value) in self.values.iter() {
+            copy.set(alloc, name, copy_value(alloc, value)?)?;
+        }
+        Ok(copy)
     }
 
-    /// The scope of the outermost layers, so many of them.
+    /// The scope of the names that were set first, so many of them.
     pub fn outer(self, count: usize) -> Scope
         ensures pairs { pairs_of result ≡ outer_pairs count self }
         ensures outer { HasOuter count self result }
-        ensures height { count ≤ height_of self → height_of result ≡ count }
+        ensures count { count ≤ count_of self → count_of result ≡ count }
     {
-        let Scope { mut layers, spots } = self;
-        layers.truncate(count);
-        Scope { layers, spots }
+        let Scope { mut values } = self;
+        values.truncate(count);
+        Scope { values }
     }
 
-    /// Its layers, and the names of a file that inherits them and has set none.
-    pub(crate) fn open(self, alloc: Global) -> (Vec<Arc<Layer>>, OwnNames)
-        ensures layers { result.0.items ≡ self.layers.items }
-        ensures pairs { layer_pairs result.1.layer ≡ [] }
-        ensures spots { HasSpots result.0.items result.1 }
+    /// Whether a name is one of those that were set first, so many of them.
+    pub(crate) fn has_outer(&self, name: &Text, count: usize) -> bool
+        ensures { result ≡ is_some (value_in (outer_pairs count self.now) name.now) }
     {
-        let Scope { layers, spots } = self;
-        let layer = Layer::new(alloc);
-        (layers, OwnNames { layer, spots })
+        match self.values.get_index_of(name) {
+            Some(place) => place < count,
+            None => false,
+        }
     }
 
-    /// The scope of a file that inherits those layers and sets those names.
-    pub(crate) fn close(
+    /// Sets a name that has no value.
+    pub(crate) fn set(
+        &mut self,
         alloc: Global,
-        mut layers: Vec<Arc<Layer>>,
-        own: OwnNames,
-    ) -> Result<Scope, OutOfMemory>
-        requires { HasSpots layers.items own }
-        ensures pairs { IfOk result (λ scope. pairs_of scope ≡ pairs_in layers.items ++ layer_pairs own.layer) }
-        ensures outer { IfOk result (λ scope. (n : ℕ) → n ≤ length layers.items → outer_pairs n scope ≡ pairs_in (take n layers.items)) }
-        ensures height { IfOk result (λ scope. length layers.items ≤ height_of scope) }
+        name: &Text,
+        value: Value,
+    ) -> Result<(), OutOfMemory>
+        requires { value_in (pairs_of self.old) name.now ≡ None }
+        ensures { OnOk result (pairs_of self.new ≡ with_new (pairs_of self.old) name.now (meaning value)) }
     {
-        let OwnNames { layer, spots } = own;
-        if !layer.is_empty() {
-            layers.push(Arc::new(alloc, layer)?)?;
-        }
-        Ok(Scope { layers, spots })
+        self.values.insert(name.copy(alloc)?, value)?;
+        Ok(())
     }
 
-    /// The layers once more.
-    fn shared(&self, alloc: Global) -> Result<Vec<Arc<Layer>>, OutOfMemory>
-        ensures pairs { IfOk result (λ layers. pairs_in layers.items ≡ pairs_of self.now) }
-        ensures spots { IfOk result (λ layers. (name : List ℕ) → spot_in_layers layers.items name ≡ spot_in_layers self.now.layers.items name) }
+    /// Gives a name that has a value another one. The old one is handed back.
+    pub(crate) fn replace(
+        &mut self,
+        alloc: Global,
+        name: &Text,
+        value: Value,
+    ) -> Result<Value, OutOfMemory>
+        requires { IsSome (value_in (pairs_of self.old) name.now) }
+        ensures pairs { OnOk result (pairs_of self.new ≡ with_other (pairs_of self.old) name.now (meaning value)) }
+        ensures old { IfOk result (λ old. Some (meaning old) ≡ value_in (pairs_of self.old) name.now) }
     {
-        let mut shared = Vec::with_capacity(alloc, self.layers.len())?;
-        'layers: for layer in self.layers.iter() {
-            shared.push(layer.clone()?)?;
-        }
-        Ok(shared)
-    }
-}
-
-impl<'a> Names<'a> {
-    ghost use Rattle.bp_values.specs.Inside.{visible};
-
-    /// The value of a name.
-    pub fn get(&self, name: &Text) -> Option<&'a Value>
-        ensures { option_map (λ v. meaning v.now) result ≡ value_in (visible self.now) name.now }
-    {
-        let (inherited, own) = (self.inherited, self.own);
-        match own.spots.spot_of(name) {
-            Some(spot) if spot.layer < inherited.len() => {
-                inherited[spot.layer].value_of(spot.place, name)
-            }
-            Some(spot) => own.layer.value_of(spot.place, name),
-            None => None,
-        }
-    }
-
-    /// Whether the file inherits a name.
-    pub fn inherits(&self, name: &Text) -> bool
-        ensures { result ≡ is_some (value_in (pairs_in self.now.inherited.now) name.now) }
-    {
-        match self.own.spots.spot_of(name) {
-            Some(spot) if spot.layer < self.inherited.len() => {
-                self.inherited[spot.layer].has(spot.place, name)
-            }
-            _ => false,
-        }
-    }
-
-    /// The place of a name that isn't inherited.
-    pub fn own_place(&self, name: &Text) -> Option<usize>
-        requires { value_in (pairs_in self.now.inherited.now) name.now ≡ None }
-        ensures { result ≡ place_in self.now.own.now.layer.values.items name.now }
-    {
-        match self.own.spots.spot_of(name) {
-            Some(spot) if self.own.layer.has(spot.place, name) => Some(spot.place),
-            _ => None,
+        match self.values.insert(name.copy(alloc)?, value)? {
+            Some(old) => Ok(old),
+            None => Ok(Value::Bool(false)),
         }
     }
 }

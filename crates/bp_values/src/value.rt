@@ -71,6 +71,25 @@ pub fn copy_entry(alloc: Global, entry: &Entry) -> Result<Entry, OutOfMemory>
     })
 }
 
+/// About how many texts, items and entries are copied with a value.
+#[cycle(weights)]
+pub fn weight(value: &Value) -> usize {
+    match value {
+        Value::Strs(items) => items.len(),
+        Value::Map(entries) => weight_of_all(entries.as_slice()),
+        _ => 1,
+    }
+}
+
+#[cycle(weights)]
+fn weight_of_all(entries: &[Entry]) -> usize {
+    let mut sum: usize = 0;
+    for entry in entries {
+        sum = sum.saturating_add(1).saturating_add(weight(&entry.value));
+    }
+    sum
+}
+
 /// The map of these entries.
 pub fn map_value(entries: Vec<Entry>) -> Value
     ensures { meaning result ≡ body (map field_of entries.items) }

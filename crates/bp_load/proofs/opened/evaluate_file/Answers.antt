@@ -3,11 +3,11 @@ use Rattle.std.specs.Prelude.{reverse, Ok}
 use Rattle.std.proofs.lemmas.Result.{err_from_is_err_and}
 use Rattle.bp_faults.specs.Answers.{then_do}
 use Rattle.bp_faults.proofs.Refusals.{answered}
-use Rattle.bp_values.specs.Scopes.{pairs_of, height_of, HasOuter}
+use Rattle.bp_values.specs.Scopes.{pairs_of, count_of, HasOuter}
 use Rattle.bp_values.specs.Meaning.{evaluated}
 use Rattle.bp_load.specs.declared.opened.Open.{Open}
 use Rattle.bp_load.specs.Trees.{placed_of}
-use Rattle.bp_load.specs.Opened.{turn_of, turned, stay_open, layers_in, scope_in, innermost, closed}
+use Rattle.bp_load.specs.Opened.{turn_of, turned, stay_open, names_in, scope_in, innermost, closed}
 use Rattle.bp_load.proofs.Turns.{with_file}
 use Rattle.bp_load.proofs.Nested.{inherits, within, outer_after, reverse_push, opened_more, nested_more, base_more, turned_by}
 use Rattle.bp_load.proofs.opened.evaluate_file.Goals as goal
@@ -20,8 +20,8 @@ returns-in_err-more-clause-turn c base is =
     let os = reverse e.opened.items in
     let stay = reverse c.close.new.opened.items in
     let closes : stay ≡ stay_open d os = c.close.ensures in
-    let n = c.layers.result in
-    let count : n ≡ layers_in e.base stay = c.layers.ensures ∙ ap (λ l. layers_in e.base (reverse l)) c.as_slice.ensures.value in
+    let n = c.outer_names.result in
+    let count : n ≡ names_in e.base stay = c.outer_names.ensures ∙ ap (λ l. names_in e.base (reverse l)) c.as_slice.ensures.value in
     let file = placed_of c.args.file in
     let inherited = c.outer-inherited.result in
     let scope : pairs_of inherited ≡ scope_in base (innermost (closed d (turn_of e).opened)) = c.outer-inherited.ensures.pairs ∙ inherits s e.base n base os stay d closes is.0 is.1 count in
@@ -38,22 +38,22 @@ returns-clause-turn c base is =
     let os = reverse e.opened.items in
     let stay = reverse c.close.new.opened.items in
     let closes : stay ≡ stay_open d os = c.close.ensures in
-    let n = c.layers.result in
-    let count : n ≡ layers_in e.base stay = c.layers.ensures ∙ ap (λ l. layers_in e.base (reverse l)) c.as_slice.ensures.value in
+    let n = c.outer_names.result in
+    let count : n ≡ names_in e.base stay = c.outer_names.ensures ∙ ap (λ l. names_in e.base (reverse l)) c.as_slice.ensures.value in
     let file = placed_of c.args.file in
     let inherited = c.outer-inherited.result in
     let scope : pairs_of inherited ≡ scope_in base (innermost (closed d (turn_of e).opened)) = c.outer-inherited.ensures.pairs ∙ inherits s e.base n base os stay d closes is.0 is.1 count in
     let new = c.in_ok-more.scope in
-    let o : Open = record { directory = c.args.file.directory; layers = c.height-layers.result } in
-    let height : height_of inherited ≡ n = c.outer-inherited.ensures.height (within s e.base n base os stay d closes is.0 is.1 count) in
-    let outer : HasOuter n s new = outer_after s inherited new n c.outer-inherited.ensures.outer height c.in_ok-more.ensures.outer in
-    let grown : n ≤ height_of new = omega (arith, height, c.in_ok-more.ensures.height) in
+    let o : Open = record { directory = c.args.file.directory; names = c.len-names.result } in
+    let as_many : count_of inherited ≡ n = c.outer-inherited.ensures.count (within s e.base n base os stay d closes is.0 is.1 count) in
+    let outer : HasOuter n s new = outer_after s inherited new n c.outer-inherited.ensures.outer as_many c.in_ok-more.ensures.outer in
+    let grown : n ≤ count_of new = omega (arith, as_many, c.in_ok-more.ensures.count) in
     let pushed : reverse c.push.new.self.items ≡ o ∷ stay = ap reverse c.in_ok-push.ensures.items ∙ reverse_push c.close.new.opened.items o in
-    let layers : c.height-layers.result ≡ height_of new = c.height-layers.ensures in
+    let names : c.len-names.result ≡ count_of new = c.len-names.ensures in
     turned_by base (pairs_of inherited) (turn_of e) file scope
     ∙ ap (λ r. then_do r (λ values. Ok (with_file (turn_of e) (closed d (turn_of e).opened) file values))) c.in_ok-more.ensures.values
     ∙ (λ i. Ok (record {
-      opened = sym (opened_more s e.base n base os stay d closes is.0 is.1 count new o c.push.new.self.items pushed layers outer grown) i;
+      opened = sym (opened_more s e.base n base os stay d closes is.0 is.1 count new o c.push.new.self.items pushed names outer grown) i;
       modules = sym c.in_ok-put_modules.ensures i;
     }))
 
@@ -65,16 +65,16 @@ returns-clause-below c base is =
     let os = reverse e.opened.items in
     let stay = reverse c.close.new.opened.items in
     let closes : stay ≡ stay_open d os = c.close.ensures in
-    let n = c.layers.result in
-    let count : n ≡ layers_in e.base stay = c.layers.ensures ∙ ap (λ l. layers_in e.base (reverse l)) c.as_slice.ensures.value in
+    let n = c.outer_names.result in
+    let count : n ≡ names_in e.base stay = c.outer_names.ensures ∙ ap (λ l. names_in e.base (reverse l)) c.as_slice.ensures.value in
     let inherited = c.outer-inherited.result in
     let new = c.in_ok-more.scope in
-    let o : Open = record { directory = c.args.file.directory; layers = c.height-layers.result } in
-    let height : height_of inherited ≡ n = c.outer-inherited.ensures.height (within s e.base n base os stay d closes is.0 is.1 count) in
-    let outer : HasOuter n s new = outer_after s inherited new n c.outer-inherited.ensures.outer height c.in_ok-more.ensures.outer in
-    let grown : n ≤ height_of new = omega (arith, height, c.in_ok-more.ensures.height) in
+    let o : Open = record { directory = c.args.file.directory; names = c.len-names.result } in
+    let as_many : count_of inherited ≡ n = c.outer-inherited.ensures.count (within s e.base n base os stay d closes is.0 is.1 count) in
+    let outer : HasOuter n s new = outer_after s inherited new n c.outer-inherited.ensures.outer as_many c.in_ok-more.ensures.outer in
+    let grown : n ≤ count_of new = omega (arith, as_many, c.in_ok-more.ensures.count) in
     let pushed : reverse c.push.new.self.items ≡ o ∷ stay = ap reverse c.in_ok-push.ensures.items ∙ reverse_push c.close.new.opened.items o in
-    let layers : c.height-layers.result ≡ height_of new = c.height-layers.ensures in (
-      nested_more s e.base n base os stay d closes is.0 is.1 count new o c.push.new.self.items pushed layers outer grown,
-      base_more s e.base n base os stay d closes is.0 is.1 count new o c.push.new.self.items pushed layers outer grown,
+    let names : c.len-names.result ≡ count_of new = c.len-names.ensures in (
+      nested_more s e.base n base os stay d closes is.0 is.1 count new o c.push.new.self.items pushed names outer grown,
+      base_more s e.base n base os stay d closes is.0 is.1 count new o c.push.new.self.items pushed names outer grown,
     )

@@ -1,10 +1,13 @@
-use Rattle.std.proofs.Common.{rules, ◌≡◌, take, ap, ◌∙◌}
-use Rattle.bp_values.specs.Layers.{spot_in_layers}
-use Rattle.bp_values.proofs.Layers.{spot_in_outer}
+use Rattle.std.proofs.Common.{map, take, sym, ap, ◌∙◌}
+use Rattle.std.proofs.lemmas.List.{take-map}
+use Rattle.bp_values.specs.Scopes.{pair_of, pairs_of}
+use Rattle.bp_values.proofs.Scopes.{outer_again}
 use Rattle.bp_values.proofs.scope.Scope.outer.Goals as goal
 
-pub invariant_of-result : goal.invariant_of-result
-invariant_of-result c =
-    let layers = c.args.self.layers.items in
-    let is_first : take c.args.count layers ≡ c.truncate.new.self.items = search rules in
-    record { spotted = λ name s is. c.args.self.spotted name s (spot_in_outer layers c.args.count name s (ap (λ l. spot_in_layers l name) is_first ∙ is)) }
+pub returns-clause-pairs : goal.returns-clause-pairs
+returns-clause-pairs c = ap (map pair_of) c.truncate.ensures.entries ∙ sym (take-map pair_of c.args.count c.args.self.values.entries)
+
+pub returns-clause-outer : goal.returns-clause-outer
+returns-clause-outer c n few =
+    ap (take n) (ap (map pair_of) c.truncate.ensures.entries ∙ sym (take-map pair_of c.args.count c.args.self.values.entries))
+    ∙ outer_again n c.args.count (pairs_of c.args.self) few
