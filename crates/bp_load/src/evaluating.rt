@@ -22,9 +22,6 @@ use std::thread::{Threads, join};
 /// Files with fewer bytes in all are evaluated by one worker.
 const FEW_BYTES: usize = 65_536;
 
-/// A text of a scope is copied in about the time in which so many bytes of files are evaluated.
-const BYTES_OF_A_TEXT: usize = 16;
-
 /// The bytes of files in all.
 fn size(files: &[Parsed]) -> usize {
     let mut bytes: usize = 0;
@@ -93,7 +90,7 @@ fn workers_for(bytes: usize, all: usize, workers: u32) -> u32
 fn is_worth_a_copy(base: &Scope, files: &[Parsed], at: usize) -> bool
     requires { at ≤ length files.now }
 {
-    base.weight().saturating_mul(BYTES_OF_A_TEXT) < size(&files[..at])
+    base.weight() < size(&files[..at])
 }
 
 /// Files cut at a place: those in front, and those behind it.

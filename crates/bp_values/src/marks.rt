@@ -19,7 +19,8 @@ pub struct Marks<'a> {
 impl<'a> Marks<'a> {
     /// The marks before the first of a file's definitions.
     pub fn of(alloc: Global, defs: &'a [Def]) -> Result<Marks<'a>, OutOfMemory>
-        ensures { IfOk result (λ marks. (q : List ℕ) → is_noted marks q ≡ not (is_extended_or false q (map definition_of defs.now))) }
+        ensures { IfOk result (λ marks. (q : List ℕ)
+            → is_noted marks q ≡ not (is_extended_or false q (map definition_of defs.now))) }
     {
         let mut extended = NameSet::new(alloc);
         'defs: for def in defs {

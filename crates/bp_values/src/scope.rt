@@ -5,7 +5,7 @@ ghost use Rattle.bp_values.specs.Scopes.{pairs_of, value_in, count_of, outer_pai
 
 use crate::Value;
 use crate::seed::Seed;
-use crate::value::{copy_value, weight};
+use crate::value::{copy_value, weight_of, weight_of_text};
 use bp_faults::{OutOfMemory, Text};
 use indexmap::IndexMap;
 use std::alloc::Global;
@@ -51,11 +51,13 @@ impl Scope {
         self.values.len()
     }
 
-    /// About how many texts, items and entries are copied with it.
+    /// A copy is made in about the time in which so many bytes of files are evaluated.
     pub fn weight(&self) -> usize {
         let mut sum: usize = 0;
-        for value in self.values.values() {
-            sum = sum.saturating_add(1).saturating_add(weight(value));
+        for (name, value) in self.values.iter() {
+            sum = sum
+                .saturating_add(weight_of_text(name))
+                .saturating_add(weight_of(value));
         }
         sum
     }

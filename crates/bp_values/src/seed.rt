@@ -2,8 +2,8 @@ use std::hash::{BuildHasher, DefaultHasher};
 
 /// The hasher that names are written to, so that they are found in a table.
 ///
-/// It has read the whole text of all files. So nobody can choose names that collide in the table: a name
-/// that is changed changes the seed too. No answer depends on it.
+/// A caller has it read the text of all files. So whoever changes a name to make it collide with another
+/// changes the seed too. No answer depends on it.
 #[derive(Clone, Copy)]
 pub struct Seed {
     pub hasher: DefaultHasher,

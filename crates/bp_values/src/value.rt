@@ -71,21 +71,40 @@ pub fn copy_entry(alloc: Global, entry: &Entry) -> Result<Entry, OutOfMemory>
     })
 }
 
-/// About how many texts, items and entries are copied with a value.
+/// A text is copied in about the time in which so many bytes of files are evaluated, beside its own.
+const BYTES_OF_A_TEXT: usize = 16;
+
+/// A text is copied in about the time in which so many bytes of files are evaluated.
+pub fn weight_of_text(text: &Text) -> usize {
+    text.as_str().len().saturating_add(BYTES_OF_A_TEXT)
+}
+
+/// A value is copied in about the time in which so many bytes of files are evaluated.
 #[cycle(weights)]
-pub fn weight(value: &Value) -> usize {
+pub fn weight_of(value: &Value) -> usize {
     match value {
-        Value::Strs(items) => items.len(),
-        Value::Map(entries) => weight_of_all(entries.as_slice()),
-        _ => 1,
+        Value::Str(text) => weight_of_text(text),
+        Value::Strs(items) => weight_of_items(items.as_slice()),
+        Value::Map(entries) => weight_of_entries(entries.as_slice()),
+        _ => 0,
     }
 }
 
+fn weight_of_items(items: &[Item]) -> usize {
+    let mut sum: usize = 0;
+    for item in items {
+        sum = sum.saturating_add(weight_of_text(&item.text));
+    }
+    sum
+}
+
 #[cycle(weights)]
-fn weight_of_all(entries: &[Entry]) -> usize {
+fn weight_of_entries(entries: &[Entry]) -> usize {
     let mut sum: usize = 0;
     for entry in entries {
-        sum = sum.saturating_add(1).saturating_add(weight(&entry.value));
+        sum = sum
+            .saturating_add(weight_of_text(&entry.name))
+            .saturating_add(weight_of(&entry.value));
     }
     sum
 }
