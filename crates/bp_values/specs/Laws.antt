@@ -23,7 +23,7 @@ IsSameOutcome (Ok v) (Ok w) = (v.0 ≡ w.0) × HasSameValues v.1 w.1
 IsSameOutcome (Err f) (Err g) = f ≡ g
 IsSameOutcome _ _ = ⊥
 
--- What a file means depends on the values that the names have above it, and not on their order or their layers.
+-- What a file means depends on the values that the names have above it, and not on their order.
 abbrev pub ValuesDecide : Type 0
 ValuesDecide = (a b : Pairs) (ds : List Definition)
     → HasSameValues a b → IsSameOutcome (evaluated a ds) (evaluated b ds)
