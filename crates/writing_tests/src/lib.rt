@@ -5,3 +5,9 @@
 mod actions;
 #[cfg(test)]
 mod ninja;
+#[cfg(test)]
+mod nodes;
+#[cfg(test)]
+mod plain_text;
+#[cfg(test)]
+mod rows;
