@@ -57,4 +57,4 @@ evaluate_branches-returns g t c =
     subst (Answers show c.joined.result)
     (sym (evaluated_halves c.args.files.items front back c.cut-at.result c.in_ok-front.ensures.front c.in_ok-front.ensures.back base c.requires.order begins))
     (both_answered show raws_joined (evaluated_in base [] (map placed_of front)) (evaluated_in base [] (map placed_of back)) c.join-front.result.0 c.join-front.result.1 c.joined.result
-    c.join-front.ensures.first (subst (λ b. Answers show c.join-front.result.1 (evaluated_in b [] (map placed_of back))) c.in_ok-shared.ensures c.join-front.ensures.second) c.joined.ensures)
+    c.join-front.ensures.first (subst (λ b. Answers show c.join-front.result.1 (evaluated_in b [] (map placed_of back))) c.in_ok-copy.ensures c.join-front.ensures.second) c.joined.ensures)
