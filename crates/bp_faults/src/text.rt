@@ -1,21 +1,45 @@
-ghost use Rattle.std.specs.Prelude.{◌≡◌, List, ℕ, IfOk, OnOk, OnErr, ◌++◌, string_bytes};
+ghost use Rattle.std.specs.Prelude.{◌≡◌, List, ℕ, IfOk, OnOk, OnErr, [], ◌++◌, string_bytes};
+ghost use Rattle.bp_faults.specs.Texts.{bytes_of};
 
 use crate::OutOfMemory;
+use arrayvec::ArrayString;
 use std::alloc::Global;
 use std::cmp::Ordering;
 use std::hash::{Hash, Hasher};
 use std::marker::Model;
 
+/// The most bytes that a short text has.
+const SHORT: usize = 16;
+
+/// Where the bytes of a text are: those of a short one in the value itself.
+#[derive(Debug, Drop)]
+enum Form {
+    Short(Global, ArrayString<SHORT>),
+    Long(String),
+}
+
 /// A text in UTF-8. Contracts see it as the list of its bytes.
+///
+/// One that is made of at most 16 bytes takes no memory beside its own.
 #[derive(Debug, Drop)]
 pub struct Text {
-    text: String,
+    form: Form,
 }
 
 impl Model for Text {
     ghost Value = { List ℕ };
 
-    ghost view = { λ t. string_bytes t.text };
+    ghost view = { λ t. bytes_of t.form };
+}
+
+/// Two texts in one string.
+fn joined(alloc: Global, first: &str, second: &str) -> Result<String, OutOfMemory>
+    ensures { IfOk result (λ both. string_bytes both ≡ first.now ++ second.now) }
+{
+    let mut both = String::with_capacity(alloc, first.len().saturating_add(second.len()))?;
+    both.push_str(first)?;
+    both.push_str(second)?;
+    Ok(both)
 }
 
 impl Text {
@@ -23,22 +47,42 @@ impl Text {
     pub fn new(text: String) -> Text
         ensures { result ≡ string_bytes text }
     {
-        Text { text }
+        Text {
+            form: Form::Long(text),
+        }
+    }
+
+    /// An empty text, to which so many bytes can be put without any further memory.
+    pub fn with_room(alloc: Global, room: usize) -> Result<Text, OutOfMemory>
+        ensures { IfOk result (λ text. text ≡ []) }
+    {
+        let form = if room <= SHORT {
+            Form::Short(alloc, ArrayString::new())
+        } else {
+            Form::Long(String::with_capacity(alloc, room)?)
+        };
+        Ok(Text { form })
     }
 
     /// The text as a slice.
     pub fn as_str(&self) -> &str
         ensures { result.now ≡ self.now }
     {
-        self.text.as_str()
+        match &self.form {
+            Form::Short(_, text) => text.as_str(),
+            Form::Long(text) => text.as_str(),
+        }
     }
 
     /// The text of a slice.
     pub fn from_str(alloc: Global, text: &str) -> Result<Text, OutOfMemory>
         ensures { IfOk result (λ copy. copy ≡ text.now) }
     {
-        let text = String::from_str(alloc, text)?;
-        Ok(Text { text })
+        let form = match ArrayString::from(text) {
+            Ok(short) => Form::Short(alloc, short),
+            Err(_) => Form::Long(String::from_str(alloc, text)?),
+        };
+        Ok(Text { form })
     }
 
     /// Puts a slice at the end.
@@ -46,7 +90,19 @@ impl Text {
         ensures ok { OnOk result (self.new ≡ self.old ++ more.now) }
         ensures err { OnErr result (self.new ≡ self.old) }
     {
-        self.text.push_str(more)?;
+        let long = match &mut self.form {
+            Form::Short(alloc, text) => {
+                if text.try_push_str(more).is_ok() {
+                    return Ok(());
+                }
+                joined(*alloc, text.as_str(), more)?
+            }
+            Form::Long(text) => {
+                text.push_str(more)?;
+                return Ok(());
+            }
+        };
+        self.form = Form::Long(long);
         Ok(())
     }
 
@@ -54,7 +110,7 @@ impl Text {
     pub fn copy(&self, alloc: Global) -> Result<Text, OutOfMemory>
         ensures { IfOk result (λ copy. copy ≡ self.now) }
     {
-        Text::from_str(alloc, self.text.as_str())
+        Text::from_str(alloc, self.as_str())
     }
 }
 
@@ -68,7 +124,7 @@ impl PartialEq for Text {
     ghost laws = { partial_equiv_from_equiv nat_list_eq_equiv };
 
     fn eq(&self, other: &Text) -> bool {
-        self.text.as_str() == other.text.as_str()
+        self.as_str() == other.as_str()
     }
 }
 
@@ -106,7 +162,7 @@ impl Ord for Text {
     ghost matches_eq = { texts_ties };
 
     fn cmp(&self, other: &Text) -> Ordering {
-        self.text.as_str().cmp(other.text.as_str())
+        self.as_str().cmp(other.as_str())
     }
 }
 
@@ -120,6 +176,6 @@ impl Hash for Text {
     ghost respects_eq = { Prim.search (hashing, rules) };
 
     fn hash<H: Hasher>(&self, state: &mut H) {
-        self.text.as_str().hash(state);
+        self.as_str().hash(state);
     }
 }
