@@ -52,6 +52,17 @@ impl Text {
         }
     }
 
+    /// The text of a string. The memory of a short one is given back.
+    pub fn compact(alloc: Global, text: String) -> Text
+        ensures { result ≡ string_bytes text }
+    {
+        let form = match ArrayString::from(text.as_str()) {
+            Ok(short) => Form::Short(alloc, short),
+            Err(_) => Form::Long(text),
+        };
+        Text { form }
+    }
+
     /// An empty text, to which so many bytes can be put without any further memory.
     pub fn with_room(alloc: Global, room: usize) -> Result<Text, OutOfMemory>
         ensures { IfOk result (λ text. text ≡ []) }

@@ -16,7 +16,10 @@ pub fn value_of(alloc: Global, text: &str, token: &Token) -> Result<Text, OutOfM
     let start = token.start as usize;
     let end = token.end as usize;
     match token.kind {
-        TokenKind::Quoted => Ok(Text::new(unescaped(alloc, &text[start + 1..end - 1])?)),
+        TokenKind::Quoted => {
+            let inner = unescaped(alloc, &text[start + 1..end - 1])?;
+            Ok(Text::compact(alloc, inner))
+        }
         TokenKind::Raw => Text::from_str(alloc, &text[start + 1..end - 1]),
         _ => Text::from_str(alloc, &text[start..end]),
     }

@@ -80,7 +80,7 @@ fn with_room(alloc: Global, dir: &Text, item: &str) -> Result<Text, OutOfMemory>
     ensures { IfOk result (λ copy. copy ≡ dir.now) }
 {
     let dir = dir.as_str();
-    let mut copy = Text::new(String::with_capacity(alloc, dir.len() + 1 + item.len())?);
+    let mut copy = Text::with_room(alloc, dir.len() + 1 + item.len())?;
     copy.push_str(dir)?;
     Ok(copy)
 }
