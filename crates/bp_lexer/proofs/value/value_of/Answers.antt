@@ -24,10 +24,10 @@ range-requires-in_default c = record {
   end_boundary = after_token _ c.args.text.now c.args.token.now c.utf8.text c.requires;
 }
 
-pub returns-in_ok-unescaped-in-Quoted : goal.returns-in_ok-unescaped-in-Quoted
-returns-in_ok-unescaped-in-Quoted c =
+pub returns-in_ok-inner-in-Quoted : goal.returns-in_ok-inner-in-Quoted
+returns-in_ok-inner-in-Quoted c =
     let same = c.range.ensures.value ∙ inner_is _ c.args.text.now c.args.token.now c.requires in
-    c.new.ensures ∙ c.in_ok-unescaped-in-Quoted.ensures ∙ ap (λ l. encode_utf8_all (unescaped false (chars l))) same ∙ ap (λ k. string_of k (word_of c.args.text.now c.args.token.now)) (sym c.in-Quoted.is)
+    c.compact.ensures ∙ c.in_ok-inner-in-Quoted.ensures ∙ ap (λ l. encode_utf8_all (unescaped false (chars l))) same ∙ ap (λ k. string_of k (word_of c.args.text.now c.args.token.now)) (sym c.in-Quoted.is)
 
 pub returns-in-Raw : goal.returns-in-Raw
 returns-in-Raw c =
