@@ -21,9 +21,15 @@ enum Form {
 /// A text in UTF-8. Contracts see it as the list of its bytes.
 ///
 /// One that is made of at most 16 bytes takes no memory beside its own.
-#[derive(Debug, Drop)]
+#[derive(Debug)]
 pub struct Text {
     form: Form,
+}
+
+impl Drop for Text {
+    fn drop(self) {
+        let Self { form: _form } = self;
+    }
 }
 
 impl Model for Text {
