@@ -149,8 +149,8 @@ pub fn visit_all<R: Threads + Sync, V: Visit<Out: Send + Sync> + Sync, G: Gate +
         outs: &outs_by_source,
     };
     let made = visit_each(rt, &under_way, &mut seat, &order, workers)?;
-    let outs = outcome(&under_way, &order, &made)?;
     let ticketed = by_ticket(alloc, plan.count, &made)?;
+    let outs = outcome(&under_way, &order, made)?;
     let order = copy_of(alloc, &ticketed)?;
     let receipt = board.close(seat, plan, ticketed);
     Ok(PassRun {
