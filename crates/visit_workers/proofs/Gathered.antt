@@ -6,7 +6,7 @@ use Rattle.std.proofs.Math.Decide.{dec_lt}
 use mathlib.Core.Logic.{dite}
 use Rattle.pass_core.specs.declared.plan.Plan.{Plan}
 use Rattle.pass_core.specs.declared.plan.PlanEdge.{PlanEdge}
-use Rattle.pass_core.specs.Plans.{IsPlan, StandByTarget, in_edges, predecessors}
+use Rattle.pass_core.specs.Plans.{IsPlan, StandByTarget, in_edges}
 use Rattle.pass_core.specs.InEdges.{edges_below, AreStarts}
 use Rattle.pass_core.specs.Laws.{InEdgesAreTogether, PlacesOfEdgesRise, PlacesTellTargets}
 use Rattle.ready_counters.specs.Edges.{from_of, to_of}

@@ -1,5 +1,5 @@
 -- What was made, as more is made and taken in.
-use Rattle.std.proofs.Common.{◌≡◌, ◌+◌, ◌<◌, ◌≤◌, ◌++◌, ℕ, List, [], ◌∷◌, map, refl, ap, arith, ◌∙◌, sym, subst, Result, Some}
+use Rattle.std.proofs.Common.{◌≡◌, ◌<◌, ◌≤◌, ◌++◌, ℕ, List, [], ◌∷◌, refl, ap, arith, ◌∙◌, sym, subst, Result, Some}
 use Rattle.std.specs.List.{AllByRecursion}
 use Rattle.std.specs.Prelude.{slice_get}
 use Rattle.std.proofs.lemmas.List.{map-append}
@@ -12,7 +12,6 @@ use Rattle.ready_counters.specs.Views.{times, together, tickets_for, number_for,
 use Rattle.visit_workers.proofs.Counting.{tickets_append, number_append, with_append}
 use Rattle.visit_workers.specs.declared.made.Made.{Made}
 use Rattle.visit_workers.specs.Making.{pairs, IsRight, IsMadeBy, IsWorking}
-use Rattle.visit_workers.specs.Settled.{IsSettled}
 use Rattle.ready_counters.specs.Views.{lighter, one, all_of_it}
 use Rattle.visit_workers.proofs.Settling.{settled_both, settled_lighter, settled_one, settled_first}
 

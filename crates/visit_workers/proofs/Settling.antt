@@ -7,7 +7,7 @@ use native.Mathlib.Decide.{ℕ_discrete}
 use Rattle.pass_core.specs.declared.plan.PlanEdge.{PlanEdge}
 use Rattle.ready_counters.specs.declared.view.View.{View}
 use Rattle.ready_counters.specs.Edges.{left_from, left_of, lacks, from_of, to_of}
-use Rattle.ready_counters.specs.Views.{whole, one, all_of_it, together, lighter, times, tickets_for}
+use Rattle.ready_counters.specs.Views.{one, all_of_it, together, lighter, times, tickets_for}
 use Rattle.ready_counters.specs.Views.{with_claim, with_fetch, with_ticket, with_subtract}
 use Rattle.ready_counters.specs.Views.{with_filled}
 use Rattle.visit_workers.proofs.Counting.{times_append, tickets_append, times_here, times_else, ticket_here, ticket_else}

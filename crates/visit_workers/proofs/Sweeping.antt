@@ -15,9 +15,8 @@ use Rattle.pass_core.specs.Orders.{IsLegal, numbers}
 use Rattle.bp_faults.proofs.Lists.{same_at}
 use Rattle.ready_counters.specs.declared.view.View.{View}
 use Rattle.ready_counters.specs.declared.claim.Claim.TheVariants.{Claimed, NotReady, Gone}
-use Rattle.ready_counters.specs.Edges.{left_of, from_of, to_of}
+use Rattle.ready_counters.specs.Edges.{from_of, to_of}
 use Rattle.ready_counters.specs.Views.{whole, times}
-use Rattle.ready_counters.specs.Views.{with_claim}
 use Rattle.ready_counters.specs.Answers.{AnswersClaim}
 use Rattle.visit_workers.proofs.Counting.{times_here}
 use Rattle.visit_workers.proofs.Counting.{times_grow}

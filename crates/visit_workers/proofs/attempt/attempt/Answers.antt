@@ -1,10 +1,10 @@
-use Rattle.std.proofs.Common.{◌≡◌, ◌∙◌, ◌∷◌, refl, sym, subst}
+use Rattle.std.proofs.Common.{◌∙◌, ◌∷◌, refl, sym, subst}
 use Rattle.pass_core.specs.declared.plan.Plan.{Plan}
 use Rattle.ready_counters.specs.declared.claim.Claim.{Claim}
 use Rattle.ready_counters.specs.Answers.{AnswersClaim}
 use Rattle.std.proofs.Common.{ap}
 use Rattle.pass_core.specs.Results.{node_result}
-use Rattle.ready_counters.specs.Seen.{view_of, IsSeatOf}
+use Rattle.ready_counters.specs.Seen.{view_of}
 use Rattle.visit_workers.specs.Making.{IsMadeBy}
 use Rattle.visit_workers.proofs.Sweeping.{reaches_waiting}
 use Rattle.visit_workers.proofs.Making.{made_more}

@@ -1,12 +1,11 @@
-use Rattle.std.proofs.Common.{◌≡◌, ◌<◌, ◌≤◌, ◌+◌, ◌∙◌, ℕ, ap, sym, subst, arith, length}
+use Rattle.std.proofs.Common.{◌≡◌, ◌<◌, ◌≤◌, ◌+◌, ℕ, subst, arith, length}
 use Rattle.std.specs.Prelude.{slice_index}
 use Rattle.pass_core.specs.declared.plan.Plan.{Plan}
 use Rattle.pass_core.specs.declared.plan.PlanEdge.{PlanEdge}
 use Rattle.ready_counters.specs.declared.view.View.{View}
 use Rattle.ready_counters.specs.Edges.{to_of}
 use Rattle.ready_counters.specs.Views.{times}
-use Rattle.ready_counters.specs.Views.{with_claim, with_ticket}
-use Rattle.ready_counters.specs.Seen.{view_of, IsSeatOf}
+use Rattle.ready_counters.specs.Seen.{view_of}
 use Rattle.visit_workers.specs.Links.{numbers_from}
 use Rattle.visit_workers.specs.Settled.{IsGathering, IsSpreading}
 use Rattle.visit_workers.proofs.Gathered.{range}

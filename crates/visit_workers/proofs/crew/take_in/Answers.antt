@@ -1,5 +1,5 @@
-use Rattle.std.proofs.Common.{◌≡◌, ◌∙◌, ap, sym, subst, false}
-use Rattle.ready_counters.specs.Seen.{view_of, IsSeatOf}
+use Rattle.std.proofs.Common.{◌∙◌, ap, sym, subst}
+use Rattle.ready_counters.specs.Seen.{view_of}
 use Rattle.visit_workers.specs.Making.{IsWorking}
 use Rattle.visit_workers.proofs.Making.{working_both}
 use Rattle.visit_workers.proofs.crew.take_in.Goals as goal

@@ -1,4 +1,4 @@
-use Rattle.std.proofs.Common.{◌≡◌, ◌∙◌, ap, sym, subst, map, length, Some, None, Ok, Err}
+use Rattle.std.proofs.Common.{◌∙◌, ap, sym, subst, map, length, Ok, Err}
 use Rattle.std.specs.Arc.{arc_value}
 use Rattle.std.proofs.lemmas.List.{length-map}
 use Rattle.pass_core.specs.Results.{outs_of}

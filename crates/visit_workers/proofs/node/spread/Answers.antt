@@ -1,5 +1,4 @@
-use Rattle.std.proofs.Common.{◌≡◌, ◌<◌, ◌+◌, ◌++◌, ◌∙◌, List, ℕ, [], ◌∷◌, length, ap, sym, subst, arith, rules}
-use Rattle.std.specs.Prelude.{slice_index}
+use Rattle.std.proofs.Common.{◌<◌, ◌++◌, ◌∙◌, [], ◌∷◌, length, ap, sym, subst, arith, rules}
 use Rattle.std.proofs.lemmas.List.{append-nil, append_assoc, get_or_read}
 use Rattle.ready_counters.specs.Seen.{view_of}
 use Rattle.visit_workers.specs.Links.{IsChain}

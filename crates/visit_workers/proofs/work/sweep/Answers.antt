@@ -1,8 +1,6 @@
-use Rattle.std.proofs.Common.{◌≡◌, ◌<◌, ◌≤◌, ◌∙◌, sym, subst, arith, length, get_or}
-use Rattle.std.proofs.lemmas.List.{length-map}
-use Rattle.bp_faults.specs.declared.ids.NodeId.{NodeId}
+use Rattle.std.proofs.Common.{◌<◌, ◌∙◌, sym, subst, arith}
 use Rattle.pass_core.specs.Orders.{numbers}
-use Rattle.ready_counters.specs.Seen.{view_of, IsSeatOf}
+use Rattle.ready_counters.specs.Seen.{view_of}
 use Rattle.visit_workers.specs.Settled.{Reaches}
 use Rattle.visit_workers.proofs.Sweeping.{swept_all, swept_more, entry_inside, number_at, many_numbers}
 use Rattle.visit_workers.proofs.work.sweep.Goals as goal
