@@ -1,11 +1,13 @@
 -- What stands between two tokens in the layout.
-use Rattle.std.specs.Prelude.{ℕ, ◌-◌, ◌*◌, Bool, false, not, ◌&&◌, ◌||◌, if◌then◌else◌, List, [], ◌∷◌, codes, replicate, Option, Some, None}
+use Rattle.std.specs.Prelude.{ℕ, ◌-◌, ◌*◌, Bool, false, not, ◌&&◌, ◌||◌, if◌then◌else◌, List, [], ◌∷◌, codes, replicate}
+use Rattle.std.specs.Prelude.{Option, Some, None}
 use Rattle.bp_lexer.specs.declared.token.TokenKind.{TokenKind}
 use Rattle.bp_parser.specs.Words.{is_comment}
 use Rattle.bp_format.specs.declared.gap.Gap.{Gap}
 use Rattle.bp_format.specs.declared.gap.Gap.TheVariants.{Nothing, Space, EmptyLine, Line}
 use Rattle.bp_format.specs.declared.gap.Seam.{Seam}
-use Rattle.bp_format.specs.Kinds.{is_line_comment, is_ident, opens_list, closes_list, opens_map, closes_map, opens_call, closes_call, is_comma, is_colon}
+use Rattle.bp_format.specs.Kinds.{is_line_comment, is_ident, opens_list, closes_list, opens_map, closes_map, opens_call}
+use Rattle.bp_format.specs.Kinds.{closes_call, is_comma, is_colon}
 
 -- The bytes of a gap. A line begins with four spaces for each open brace or bracket.
 abbrev pub gap_text : Gap → List ℕ

@@ -1,5 +1,6 @@
 -- How texts are written as strings, and a list of them.
-use Rattle.std.specs.Prelude.{ℕ, if◌then◌else◌, ◌==◌, List, [], ◌∷◌, ◌++◌, codes, chars, encode_utf8_all, Option, Some, None}
+use Rattle.std.specs.Prelude.{ℕ, if◌then◌else◌, ◌==◌, List, [], ◌∷◌, ◌++◌, codes, chars, encode_utf8_all, Option, Some}
+use Rattle.std.specs.Prelude.{None}
 
 -- The letter that stands for a character behind a backslash, where it has an escape.
 abbrev pub escape_letter : ℕ → Option ℕ

@@ -2,7 +2,8 @@
 use Rattle.std.specs.Prelude.{ℕ, Bool, if◌then◌else◌, is_some, List, [], ◌∷◌, codes, Option, Some, None}
 use Rattle.std.specs.Str.{bytes_eq}
 use Rattle.bp_faults.specs.declared.place.Place.{Place}
-use Rattle.bp_parser.specs.Trees.{Tree, Leaf, Items, Str, Trees, no_tree, tree_and, Entries, no_entry, entry_and, Definition, Assigns, Extends, Declares}
+use Rattle.bp_parser.specs.Trees.{Tree, Leaf, Items, Str, Trees, no_tree, tree_and, Entries, no_entry, entry_and}
+use Rattle.bp_parser.specs.Trees.{Definition, Assigns, Extends, Declares}
 use Rattle.bp_format.specs.WithoutPlaces.{origin}
 use Rattle.bp_format.specs.Editing.{Wanted}
 use Rattle.bp_format.specs.Spots.{lookup, string_place}

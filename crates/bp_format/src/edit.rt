@@ -1,4 +1,5 @@
-ghost use Rattle.std.specs.Prelude.{◌≡◌, ◌≤◌, ◌^◌, ◌++◌, ℕ, Some, IfOk, OnOk, length, take, drop, map, string_bytes, IsCharBoundary};
+ghost use Rattle.std.specs.Prelude.{◌≡◌, ◌≤◌, ◌^◌, ◌++◌, ℕ, Some, IfOk, OnOk, length, take, drop, map, string_bytes};
+ghost use Rattle.std.specs.Prelude.{IsCharBoundary};
 ghost use Rattle.bp_faults.specs.Answers.{Tells};
 ghost use Rattle.bp_lexer.specs.declared.token.TokenKind.TheVariants.{Ident};
 ghost use Rattle.bp_lexer.specs.Forms.{IsForm};

@@ -1,6 +1,7 @@
 ghost use Rattle.std.specs.Prelude.{◌≡◌};
 ghost use Rattle.bp_parser.specs.Words.{is_comment};
-ghost use Rattle.bp_format.specs.Kinds.{is_line_comment, is_ident, opens_list, closes_list, opens_map, closes_map, opens_call, closes_call, is_comma, is_colon, wants_value};
+ghost use Rattle.bp_format.specs.Kinds.{is_line_comment, is_ident, opens_list, closes_list, opens_map, closes_map};
+ghost use Rattle.bp_format.specs.Kinds.{opens_call, closes_call, is_comma, is_colon, wants_value};
 
 use bp_lexer::{Punct, TokenKind};
 

@@ -1,4 +1,5 @@
-ghost use Rattle.std.specs.Prelude.{MatchOption, ◌≡◌, ◌<◌, ◌≤◌, ◌+◌, ◌^◌, [], IfOk, OnOk, length, drop, slice_index_or, string_bytes, ◌++◌, replicate, ◌*◌, Some, None, ℕ, List};
+ghost use Rattle.std.specs.Prelude.{MatchOption, ◌≡◌, ◌<◌, ◌≤◌, ◌+◌, ◌^◌, [], IfOk, OnOk, length, drop, slice_index_or};
+ghost use Rattle.std.specs.Prelude.{string_bytes, ◌++◌, replicate, ◌*◌, Some, None, ℕ, List};
 ghost use Rattle.bp_lexer.specs.declared.token.Token.{Token};
 ghost use Rattle.bp_lexer.specs.Meaning.{IsToken, IsTokenList};
 ghost use Rattle.bp_format.specs.Gaps.{gap_text};

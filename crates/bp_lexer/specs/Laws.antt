@@ -1,5 +1,6 @@
 -- What holds of all texts.
-use Rattle.std.specs.Prelude.{◌≡◌, ◌⊎◌, ℕ, false, List, ◌++◌, Result, ◌+◌, ◌<◌, ◌≤◌, length, take, slice_index, All, IsUtf8, IsCharBoundary, chars}
+use Rattle.std.specs.Prelude.{◌≡◌, ◌⊎◌, ℕ, false, List, ◌++◌, Result, ◌+◌, ◌<◌, ◌≤◌, length, take, slice_index, All}
+use Rattle.std.specs.Prelude.{IsUtf8, IsCharBoundary, chars}
 use Rattle.std.specs.Str.Parse.{IsNumeral, without_leading_sign}
 use Rattle.bp_faults.specs.declared.fault.Fault.{Fault}
 use Rattle.bp_lexer.specs.declared.token.Token.{Token}

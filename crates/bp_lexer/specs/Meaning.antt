@@ -1,7 +1,8 @@
 -- The meaning of a text: its token list, or its first fault. And that of a token: its string.
 -- The tokens are those of Android.bp files as Soong has them, in this project's profile; docs/LANGUAGE.md says them in
 -- words.
-use Rattle.std.specs.Prelude.{◌≡◌, ℕ, ◌-◌, ◌<◌, ◌≤◌, true, false, List, [], ◌∷◌, length, drop, take, slice_index, Result, Ok, Err, encode_utf8_all, chars}
+use Rattle.std.specs.Prelude.{◌≡◌, ℕ, ◌-◌, ◌<◌, ◌≤◌, true, false, List, [], ◌∷◌, length, drop, take, slice_index}
+use Rattle.std.specs.Prelude.{Result, Ok, Err, encode_utf8_all, chars}
 use Rattle.bp_faults.specs.declared.fault.Fault.{Fault}
 use Rattle.bp_lexer.specs.declared.flaw.Flaw.{Flaw}
 use Rattle.bp_lexer.specs.declared.token.Token.{Token}

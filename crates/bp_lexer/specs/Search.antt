@@ -1,5 +1,6 @@
 -- What the searches inside the lexer find. No public contract speaks of it.
-use Rattle.std.specs.Prelude.{◌≡◌, ◌+◌, ◌==◌, if◌then◌else◌, ℕ, true, false, List, take, Option, Some, None, Result, Ok, Err}
+use Rattle.std.specs.Prelude.{◌≡◌, ◌+◌, ◌==◌, if◌then◌else◌, ℕ, true, false, List, take, Option, Some, None, Result, Ok}
+use Rattle.std.specs.Prelude.{Err}
 use Rattle.bp_lexer.specs.declared.flaw.Flaw.{Flaw}
 use Rattle.bp_lexer.specs.declared.flaw.Flaw.TheVariants.{OpenString, BadEscape}
 use Rattle.bp_lexer.specs.declared.token.TokenKind.{TokenKind}

@@ -1,5 +1,6 @@
 -- Strings: what may stand between the quotes, and what it stands for. 34 is the quote, 92 the backslash.
-use Rattle.std.specs.Prelude.{◌≡◌, ℕ, ◌+◌, ◌<◌, Bool, true, false, not, ◌&&◌, ◌==◌, if◌then◌else◌, List, [], ◌∷◌, length, take, slice_index, Option, Some, None, is_some, unwrap_or}
+use Rattle.std.specs.Prelude.{◌≡◌, ℕ, ◌+◌, ◌<◌, Bool, true, false, not, ◌&&◌, ◌==◌, if◌then◌else◌, List, [], ◌∷◌}
+use Rattle.std.specs.Prelude.{length, take, slice_index, Option, Some, None, is_some, unwrap_or}
 use Rattle.bp_lexer.specs.Classes.{in_line}
 
 -- The nine escapes: what a backslash and this character stand for. They are `\a` `\b` `\f` `\n` `\r` `\t` `\v` `\\` and

@@ -1,7 +1,9 @@
 //! What makes the meaning of a text believable: each law is the contract of a function that does nothing.
 
-ghost use Rattle.bp_lexer.specs.Laws.{OneTokenList, SomeListOrFault, NotListAndFault, OneFault, OneMeaning, ColumnsCountCharacters};
-ghost use Rattle.bp_lexer.specs.Laws.{FormsHaveBytes, FormsStandApart, TokensStandWithin, PlacesRise, ListsHaveTokens, IntegersAreNumerals};
+ghost use Rattle.bp_lexer.specs.Laws.{OneTokenList, SomeListOrFault, NotListAndFault, OneFault, OneMeaning};
+ghost use Rattle.bp_lexer.specs.Laws.{ColumnsCountCharacters};
+ghost use Rattle.bp_lexer.specs.Laws.{FormsHaveBytes, FormsStandApart, TokensStandWithin, PlacesRise, ListsHaveTokens};
+ghost use Rattle.bp_lexer.specs.Laws.{IntegersAreNumerals};
 
 /// A text has at most one token list.
 pub fn one_token_list()

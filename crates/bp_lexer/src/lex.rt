@@ -1,4 +1,5 @@
-ghost use Rattle.std.specs.Prelude.{◌≡◌, ◌<◌, ◌≤◌, ◌^◌, ◌↔◌, length, drop, take, IfOk, IsTrue, IsCharBoundary, string_bytes};
+ghost use Rattle.std.specs.Prelude.{◌≡◌, ◌<◌, ◌≤◌, ◌^◌, ◌↔◌, length, drop, take, IfOk, IsTrue, IsCharBoundary};
+ghost use Rattle.std.specs.Prelude.{string_bytes};
 ghost use Rattle.bp_faults.specs.Answers.{Tells};
 ghost use Rattle.bp_lexer.specs.declared.class.Class.TheVariants.{White};
 ghost use Rattle.bp_lexer.specs.declared.token.TokenKind.TheVariants.{Int};

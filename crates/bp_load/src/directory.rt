@@ -84,7 +84,8 @@ impl PartialOrd for Directory {
 impl Ord for Directory {
     ghost use Rattle.bp_load.specs.Directories.{directory_cmp};
     ghost use Rattle.std.specs.Ordering.{nat_cmp};
-    ghost use Rattle.std.specs.Cmp.Lexicographic.{slice_cmp, nat_list_cmp_total, lists_total, lists_agrees, lists_ties, texts_ties};
+    ghost use Rattle.std.specs.Cmp.Lexicographic.{slice_cmp, nat_list_cmp_total, lists_total, lists_agrees, lists_ties};
+    ghost use Rattle.std.specs.Cmp.Lexicographic.{texts_ties};
     ghost use Rattle.std.proofs.Common.{refl};
 
     ghost cmp = { directory_cmp };

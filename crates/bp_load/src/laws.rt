@@ -1,6 +1,7 @@
 //! What makes the definitions of loading believable: each law is the contract of a function that does nothing.
 
-ghost use Rattle.bp_load.specs.Laws.{SomeList, OneList, ListsWhatMayBe, AncestorsStandFirst, SomeRaw, OneRaw, SomeLoad, OneLoad};
+ghost use Rattle.bp_load.specs.Laws.{SomeList, OneList, ListsWhatMayBe, AncestorsStandFirst, SomeRaw, OneRaw, SomeLoad};
+ghost use Rattle.bp_load.specs.Laws.{OneLoad};
 
 /// A list file means its paths or a first fault, and that alone.
 pub fn one_list()

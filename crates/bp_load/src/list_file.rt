@@ -1,4 +1,5 @@
-ghost use Rattle.std.specs.Prelude.{◌≡◌, ◌≤◌, ◌<◌, ◌^◌, ◌==◌, not, length, codes, IfOk, OnOk, Some, None, if◌then◌else◌};
+ghost use Rattle.std.specs.Prelude.{◌≡◌, ◌≤◌, ◌<◌, ◌^◌, ◌==◌, not, length, codes, IfOk, OnOk, Some, None};
+ghost use Rattle.std.specs.Prelude.{if◌then◌else◌};
 ghost use Rattle.std.specs.BTreeMap.{IsOrdered, values};
 ghost use Rattle.std.specs.List.{list_all, list_any};
 ghost use Rattle.std.specs.Str.{bytes_eq};
@@ -9,7 +10,8 @@ ghost use Rattle.bp_faults.specs.Faults.{fault_on};
 ghost use Rattle.bp_faults.specs.declared.kind.FaultKind.TheVariants.{BadList as BadListAs};
 ghost use Rattle.property_tables.specs.Paths.{parts};
 ghost use Rattle.bp_load.specs.Directories.{directory_cmp};
-ghost use Rattle.bp_load.specs.ListFile.{is_blank as blank, undotted as without_dots, file_name, is_listed, line_place, LinesMean, ListMeans};
+ghost use Rattle.bp_load.specs.ListFile.{is_blank as blank, undotted as without_dots, file_name, is_listed, line_place};
+ghost use Rattle.bp_load.specs.ListFile.{LinesMean, ListMeans};
 ghost use Rattle.bp_load.specs.Listing.{with_line, with_path, counted};
 
 use crate::LoadError;

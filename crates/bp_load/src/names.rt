@@ -12,12 +12,12 @@ use bp_names::laws::sets_grow_with_lists;
 use bp_props::Module;
 use std::alloc::Global;
 
-fn name_place(module: &Module) -> Place
-    ensures { result ≡ place_of_name module.now.at module.now.props.name }
+fn name_place(typed: &Module) -> Place
+    ensures { result ≡ place_of_name typed.now.at typed.now.props.name }
 {
-    match &module.props.name {
+    match &typed.props.name {
         Some(name) => name.at,
-        None => module.at,
+        None => typed.at,
     }
 }
 
@@ -32,18 +32,18 @@ fn test_name<'a>(
     alloc: Global,
     known: &mut NameSet<'a>,
     count: usize,
-    module: &'a Module,
+    typed: &'a Module,
 ) -> Result<(), LoadError>
-    ensures tested { Answers (λ done. done) result (tested count (knows known.old module.now.name) module.now) }
-    ensures learned { OnOk result (Learns known.old module.now.name known.new) }
+    ensures tested { Answers (λ done. done) result (tested count (knows known.old typed.now.name) typed.now) }
+    ensures learned { OnOk result (Learns known.old typed.now.name known.new) }
 {
     if count >= MOST_MODULES {
-        let fault = fault_of(alloc, FaultKind::TooMany, module.at, "modules")?;
+        let fault = fault_of(alloc, FaultKind::TooMany, typed.at, "modules")?;
         return Err(LoadError::Bad(fault));
     }
-    if !known.learn(module.name.as_str())? {
-        let name = module.name.as_str();
-        let fault = fault_of(alloc, FaultKind::DuplicateName, name_place(module), name)?;
+    if !known.learn(typed.name.as_str())? {
+        let name = typed.name.as_str();
+        let fault = fault_of(alloc, FaultKind::DuplicateName, name_place(typed), name)?;
         return Err(LoadError::Bad(fault));
     }
     Ok(())

@@ -6,7 +6,8 @@ ghost use Rattle.bp_values.specs.Meaning.{raw_of};
 ghost use Rattle.bp_load.specs.Directories.{directory_cmp};
 ghost use Rattle.bp_load.specs.Trees.{placed_of};
 ghost use Rattle.bp_load.specs.Inherited.{in_directory, placed_raw, all_evaluated};
-ghost use Rattle.bp_load.specs.Opened.{turn_of, no_turn, stay_open, names_in, IsBelow, innermost, scope_in, turned, all_turned, evaluated_in};
+ghost use Rattle.bp_load.specs.Opened.{turn_of, no_turn, stay_open, names_in, IsBelow, innermost, scope_in, turned};
+ghost use Rattle.bp_load.specs.Opened.{all_turned, evaluated_in};
 
 use crate::LoadError;
 use crate::directory::Directory;

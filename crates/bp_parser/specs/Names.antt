@@ -1,7 +1,8 @@
 -- The names of the maps of a tree, and that those of one map differ.
 use Rattle.std.specs.Prelude.{◌≢◌, ℕ, ⊤, List, [], ◌∷◌}
 use Rattle.std.specs.List.{All, AllPairs}
-use Rattle.bp_parser.specs.Trees.{Tree, Leaf, Items, Body, Sum, Trees, no_tree, tree_and, Terms, no_term, term_and, Entries, no_entry, entry_and, Definition, Assigns, Extends, Declares, File}
+use Rattle.bp_parser.specs.Trees.{Tree, Leaf, Items, Body, Sum, Trees, no_tree, tree_and, Terms, no_term, term_and}
+use Rattle.bp_parser.specs.Trees.{Entries, no_entry, entry_and, Definition, Assigns, Extends, Declares, File}
 
 -- The names of a map's entries, in their order.
 abbrev pub names_of : Entries → List (List ℕ)

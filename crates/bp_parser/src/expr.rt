@@ -2,7 +2,8 @@ ghost use Rattle.std.specs.Prelude.{◌≡◌, ◌+◌, ◌<◌, ◌≤◌, [], 
 ghost use Rattle.bp_lexer.specs.Meaning.{IsToken, word_of};
 ghost use Rattle.bp_parser.specs.declared.flaw.Flaw.TheVariants.{TooNested};
 ghost use Rattle.bp_parser.specs.declared.stop.Stop.TheVariants.{Bad};
-ghost use Rattle.bp_parser.specs.Trees.{Body, Sum, tree_of, term_of, entry_of, map_of, trees_then, terms_then, no_tree, no_term};
+ghost use Rattle.bp_parser.specs.Trees.{Body, Sum, tree_of, term_of, entry_of, map_of, trees_then, terms_then, no_tree};
+ghost use Rattle.bp_parser.specs.Trees.{no_term};
 ghost use Rattle.bp_parser.specs.Words.{all_words};
 ghost use Rattle.bp_parser.specs.Grammar.{IsPrim, Spells, SpellsTerms, SpellsItems};
 ghost use Rattle.bp_parser.specs.Machine.{an_expr, more_terms, items, entries, GoesOn, StopsWith};

@@ -1,6 +1,7 @@
 //! What makes the meaning of words believable: each law is the contract of a function that does nothing.
 
-ghost use Rattle.bp_parser.specs.Laws.{OneTree, SomeTreeOrFault, NotTreeAndFault, OneFault, OneMeaning, TreesHaveDistinctNames};
+ghost use Rattle.bp_parser.specs.Laws.{OneTree, SomeTreeOrFault, NotTreeAndFault, OneFault, OneMeaning};
+ghost use Rattle.bp_parser.specs.Laws.{TreesHaveDistinctNames};
 ghost use Rattle.bp_parser.specs.Laws.{SpelledDefinitionsAreTrees};
 
 /// The words of a file have at most one tree.

@@ -1,4 +1,5 @@
-ghost use Rattle.std.specs.Prelude.{◌≡◌, ℕ, ◌+◌, ◌<◌, ◌≤◌, List, not, length, drop, IfOk, IfErr, OnOk, IfSome, IfNone, IsTrue, IsFalse, filter};
+ghost use Rattle.std.specs.Prelude.{◌≡◌, ℕ, ◌+◌, ◌<◌, ◌≤◌, List, not, length, drop, IfOk, IfErr, OnOk, IfSome, IfNone};
+ghost use Rattle.std.specs.Prelude.{IsTrue, IsFalse, filter};
 ghost use Rattle.bp_lexer.specs.declared.token.TokenKind.TheVariants.{Ident};
 ghost use Rattle.bp_parser.specs.Words.{all_words, is_comment, without_comments};
 ghost use Rattle.bp_parser.specs.Machine.{StartsNot};

@@ -1,4 +1,5 @@
-ghost use Rattle.std.specs.Prelude.{◌≡◌, ℕ, ◌+◌, ◌≤◌, ◌<◌, [], length, Some, IfOk, IsOk, IsErrOf, IfSome, IsSome, IsNone, IsSomeAnd, IsTrue, ◌↔◌};
+ghost use Rattle.std.specs.Prelude.{◌≡◌, ℕ, ◌+◌, ◌≤◌, ◌<◌, [], length, Some, IfOk, IsOk, IsErrOf, IfSome, IsSome};
+ghost use Rattle.std.specs.Prelude.{IsNone, IsSomeAnd, IsTrue, ◌↔◌};
 ghost use Rattle.std.specs.Option.{option_copied, option_map};
 ghost use Rattle.bp_ports.specs.MemStore.{calls_of};
 

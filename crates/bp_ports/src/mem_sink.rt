@@ -1,4 +1,5 @@
-ghost use Rattle.std.specs.Prelude.{◌≡◌, ℕ, ◌+◌, ◌≤◌, ◌<◌, List, ◌++◌, Some, IfOk, OnErr, IsErr, length, vec_len, vec_capacity, ◌↔◌, ◌⊎◌};
+ghost use Rattle.std.specs.Prelude.{◌≡◌, ℕ, ◌+◌, ◌≤◌, ◌<◌, List, ◌++◌, Some, IfOk, OnErr, IsErr, length, vec_len};
+ghost use Rattle.std.specs.Prelude.{vec_capacity, ◌↔◌, ◌⊎◌};
 
 use crate::calls::Calls;
 use crate::{Failed, Sink};

@@ -1,6 +1,7 @@
 //! What holds of all configurations and files: each law is the contract of a function that does nothing.
 
-ghost use Rattle.bp_run.specs.Laws.{OneJob, OneReplay, OneRewrite, SomeListed, SomeJob, SomeReplay, SomeRewrite, HeadIsText};
+ghost use Rattle.bp_run.specs.Laws.{OneJob, OneReplay, OneRewrite, SomeListed, SomeJob, SomeReplay, SomeRewrite};
+ghost use Rattle.bp_run.specs.Laws.{HeadIsText};
 
 use bp_format::laws::{one_edit, one_format};
 use bp_load::laws::{one_list, one_load};

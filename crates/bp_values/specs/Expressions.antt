@@ -8,7 +8,8 @@ use Rattle.bp_faults.specs.declared.kind.FaultKind.TheVariants.{UnknownVariable,
 use Rattle.bp_faults.specs.Answers.{then_do}
 use Rattle.bp_faults.specs.Faults.{fault_on}
 use Rattle.bp_parser.specs.Trees as tree
-use Rattle.bp_parser.specs.Trees.{Tree, Atom, Trees, Terms, Entries, no_tree, tree_and, no_term, term_and, no_entry, entry_and}
+use Rattle.bp_parser.specs.Trees.{Tree, Atom, Trees, Terms, Entries, no_tree, tree_and, no_term, term_and, no_entry}
+use Rattle.bp_parser.specs.Trees.{entry_and}
 use Rattle.bp_values.specs.Values.{Meaning, Truth, Number, Str, Items, Field, body}
 use Rattle.bp_values.specs.Depths.{nested}
 use Rattle.bp_values.specs.Scopes.{Pairs, value_in}

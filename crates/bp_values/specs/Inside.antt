@@ -1,9 +1,11 @@
 -- In what words the functions inside the crate say what they keep. No public contract speaks of it.
-use Rattle.std.specs.Prelude.{◌≡◌, ◌≤◌, ℕ, Bool, true, not, cond, ◌&&◌, ◌||◌, is_some, List, [], ◌∷◌, map, filter, suc, Option, None, Some, option_map, if◌then◌else◌}
+use Rattle.std.specs.Prelude.{◌≡◌, ◌≤◌, ℕ, Bool, true, not, cond, ◌&&◌, ◌||◌, is_some, List, [], ◌∷◌, map, filter, suc}
+use Rattle.std.specs.Prelude.{Option, None, Some, option_map, if◌then◌else◌}
 use Rattle.std.specs.Str.{bytes_eq}
 use Rattle.bp_names.specs.Meaning.{knows, number_of}
 use Rattle.bp_parser.specs.Trees as tree
-use Rattle.bp_parser.specs.Trees.{Tree, Trees, no_tree, tree_and, Terms, no_term, term_and, Entries, no_entry, entry_and, Definition, Assigns, Extends, Declares}
+use Rattle.bp_parser.specs.Trees.{Tree, Trees, no_tree, tree_and, Terms, no_term, term_and, Entries, no_entry}
+use Rattle.bp_parser.specs.Trees.{entry_and, Definition, Assigns, Extends, Declares}
 use Rattle.bp_values.specs.References.{is_atom}
 use Rattle.bp_values.specs.declared.file.State.{State}
 use Rattle.bp_values.specs.declared.marks.Marks.{Marks}

@@ -1,5 +1,6 @@
 -- The places of the names of a map, and sums at those places. No public contract speaks of it.
-use Rattle.std.specs.Prelude.{◌≡◌, ℕ, zero, suc, ◌==◌, ⊤, Bool, false, not, is_some, List, [], ◌∷◌, map, filter, Option, None, Some, option_map, Result, Ok, if◌then◌else◌}
+use Rattle.std.specs.Prelude.{◌≡◌, ℕ, zero, suc, ◌==◌, ⊤, Bool, false, not, is_some, List, [], ◌∷◌, map, filter, Option}
+use Rattle.std.specs.Prelude.{None, Some, option_map, Result, Ok, if◌then◌else◌}
 use Rattle.std.specs.Ordering.{nat_cmp}
 use Rattle.std.specs.Str.{bytes_eq}
 use Rattle.std.specs.BTreeMap.{BTreeMap, get}

@@ -1,6 +1,7 @@
 -- The sum of two values, by their types.
 -- Source: Soong reference, "Android.bp file format", operators.
-use Rattle.std.specs.Prelude.{ℕ, ℤ, ◌+ℤ◌, ◌^◌, ◌-◌, Bool, not, List, [], ◌∷◌, ◌++◌, length, filter, codes, Option, None, Some, Result, Ok, Err, if◌then◌else◌, nat_le, int_le, ◌&&◌, pos, negsuc}
+use Rattle.std.specs.Prelude.{ℕ, ℤ, ◌+ℤ◌, ◌^◌, ◌-◌, Bool, not, List, [], ◌∷◌, ◌++◌, length, filter, codes, Option, None}
+use Rattle.std.specs.Prelude.{Some, Result, Ok, Err, if◌then◌else◌, nat_le, int_le, ◌&&◌, pos, negsuc}
 use Rattle.std.specs.Str.{bytes_eq}
 use Rattle.std.specs.List.{list_any}
 use Rattle.bp_faults.specs.declared.place.Place.{Place}
@@ -9,7 +10,8 @@ use Rattle.bp_faults.specs.declared.fault.Fault.{Fault}
 use Rattle.bp_faults.specs.declared.kind.FaultKind.TheVariants.{BadSum, TooMany}
 use Rattle.bp_faults.specs.Answers.{then_do}
 use Rattle.bp_faults.specs.Faults.{fault_on}
-use Rattle.bp_values.specs.Values.{Meaning, Truth, Number, Str, Items, Body, Fields, no_field, field_and, Field, fields_of, body}
+use Rattle.bp_values.specs.Values.{Meaning, Truth, Number, Str, Items, Body, Fields, no_field, field_and, Field}
+use Rattle.bp_values.specs.Values.{fields_of, body}
 
 -- The word for a value's type.
 abbrev pub word : Meaning → List ℕ

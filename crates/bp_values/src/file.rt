@@ -3,7 +3,8 @@ ghost use Rattle.bp_parser.specs.Trees.{tree_of, map_of, definition_of};
 ghost use Rattle.bp_faults.specs.Answers.{Answers, Leaves};
 ghost use Rattle.bp_values.specs.Scopes.{pairs_of, outer_pairs, value_in, count_of, HasOuter};
 ghost use Rattle.bp_values.specs.Inside.{known_of, inherited_by, IsConsistent};
-ghost use Rattle.bp_values.specs.Meaning.{raw_of, after_assignment, after_extension, after_module, after_definition, after_definitions, evaluated};
+ghost use Rattle.bp_values.specs.Meaning.{raw_of, after_assignment, after_extension, after_module, after_definition};
+ghost use Rattle.bp_values.specs.Meaning.{after_definitions, evaluated};
 
 use crate::expression::{entries_of, value_of};
 use crate::kept_places::KeptPlaces;

@@ -1,9 +1,11 @@
-ghost use Rattle.std.specs.Prelude.{◌≡◌, ◌++◌, ◌≤◌, ◌<◌, ℕ, List, map, length, take, is_some, None, Some, IfOk, IfSome, OnOk, if◌then◌else◌, option_map};
+ghost use Rattle.std.specs.Prelude.{◌≡◌, ◌++◌, ◌≤◌, ◌<◌, ℕ, List, map, length, take, is_some, None, Some, IfOk, IfSome};
+ghost use Rattle.std.specs.Prelude.{OnOk, if◌then◌else◌, option_map};
 ghost use Rattle.std.specs.Option.{option_or};
 ghost use Rattle.bp_values.specs.Values.{meaning, field_of, body};
 ghost use Rattle.bp_values.specs.Sums.{sum as sum_of};
 ghost use Rattle.bp_values.specs.PlaceTable.{found_place};
-ghost use Rattle.bp_values.specs.Places.{IsPlaced, Places, names_in, value_for, unplaced, is_place, value_at_place, sum_place};
+ghost use Rattle.bp_values.specs.Places.{IsPlaced, Places, names_in, value_for, unplaced, is_place, value_at_place};
+ghost use Rattle.bp_values.specs.Places.{sum_place};
 ghost use Rattle.bp_values.specs.MapPlaces.{PlacesOf, AreKnown};
 ghost use Rattle.bp_values.specs.Inside.{sum_so_far, HasPlaces};
 ghost use Rattle.bp_faults.specs.Answers.{Answers, Leaves};

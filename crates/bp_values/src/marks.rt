@@ -1,6 +1,7 @@
 ghost use Rattle.std.specs.Prelude.{◌≡◌, ℕ, List, Bool, true, false, not, ◌||◌, map, IfOk, OnOk, IsTrue};
 ghost use Rattle.std.specs.Str.{bytes_eq};
-ghost use Rattle.bp_parser.specs.Trees.{tree_of, entry_of, definition_of, trees_then, terms_then, entries_then, no_tree, no_term, no_entry, term_of};
+ghost use Rattle.bp_parser.specs.Trees.{tree_of, entry_of, definition_of, trees_then, terms_then, entries_then};
+ghost use Rattle.bp_parser.specs.Trees.{no_tree, no_term, no_entry, term_of};
 ghost use Rattle.bp_values.specs.Inside.{is_noted, is_extended_or, noted, noted_items, noted_terms, noted_entries};
 
 use bp_faults::{OutOfMemory, Place};

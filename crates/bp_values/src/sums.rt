@@ -1,10 +1,14 @@
-ghost use Rattle.std.specs.Prelude.{◌≡◌, ℤ, ◌+ℤ◌, List, ℕ, map, IfOk, length, position, [], ◌∷◌, OnOk, unwrap_or, option_map, ◌++◌, Some, None, if◌then◌else◌, ◌||◌, ◌&&◌, is_some};
+ghost use Rattle.std.specs.Prelude.{◌≡◌, ℤ, ◌+ℤ◌, List, ℕ, map, IfOk, length, position, [], ◌∷◌, OnOk, unwrap_or};
+ghost use Rattle.std.specs.Prelude.{option_map, ◌++◌, Some, None, if◌then◌else◌, ◌||◌, ◌&&◌, is_some};
 ghost use Rattle.std.specs.Str.{bytes_eq};
 ghost use Rattle.bp_names.specs.Meaning.{knows, number_of};
-ghost use Rattle.bp_values.specs.Values.{meaning, field_of, fields_then, no_field, Field, fields_of, Truth, Number, Str, Items, Body, body};
+ghost use Rattle.bp_values.specs.Values.{meaning, field_of, fields_then, no_field, Field, fields_of, Truth, Number};
+ghost use Rattle.bp_values.specs.Values.{Str, Items, Body, body};
 ghost use Rattle.bp_faults.specs.Answers.{Answers};
 ghost use Rattle.bp_faults.specs.Faults.{fault_on};
-ghost use Rattle.bp_values.specs.Sums.{sum as sum_of, sum_fields, sum_number, sum_text, sum_item, sum_texts, sum_items, sum_numbers, cannot_add as cannot_be_added, word as word_of, fits, met, value_at};
+ghost use Rattle.bp_values.specs.Sums.{sum as sum_of, sum_fields, sum_number, sum_text, sum_item, sum_texts, sum_items};
+ghost use Rattle.bp_values.specs.Sums.{sum_numbers, cannot_add as cannot_be_added, word as word_of, fits, met};
+ghost use Rattle.bp_values.specs.Sums.{value_at};
 ghost use Rattle.bp_values.specs.Inside.{IsIndex, HasMet, not_among};
 
 use crate::value::{copy_entry, copy_value, make_entry, map_value};

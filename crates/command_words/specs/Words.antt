@@ -16,7 +16,8 @@ use Rattle.command_words.specs.declared.configuration.Configuration.TheVariants 
 use Rattle.command_words.specs.Once.{has_none_twice}
 use Rattle.command_words.specs.Plain.{plain_words}
 use Rattle.command_words.specs.Options.{command_named, options_of, is_required, is_same, is_spelling}
-use Rattle.command_words.specs.Values.{is_value, number_in, targets_of, mutator_number, with_first, is_identifier, items_of}
+use Rattle.command_words.specs.Values.{is_value, number_in, targets_of, mutator_number, with_first, is_identifier}
+use Rattle.command_words.specs.Values.{items_of}
 
 -- The option of a command that the word spells.
 abbrev pub option_of : CommandName → List ℕ → Option OptionName

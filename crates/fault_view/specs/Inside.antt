@@ -1,5 +1,6 @@
 -- What the steps come to of reading a line, of looking for names, and of printing.
-use Rattle.std.specs.Prelude.{◌≡◌, ◌<◌, ◌^◌, ℕ, min, Bool, ◌&&◌, nat_lt, nat_le, List, [], ◌∷◌, ◌++◌, Option, Some, None}
+use Rattle.std.specs.Prelude.{◌≡◌, ◌<◌, ◌^◌, ℕ, min, Bool, ◌&&◌, nat_lt, nat_le, List, [], ◌∷◌, ◌++◌, Option, Some}
+use Rattle.std.specs.Prelude.{None}
 use Rattle.std.specs.Fmt.{decimal}
 use Rattle.bp_ports.specs.Files.{Files, WhereTold}
 use Rattle.fault_view.specs.declared.cut.Parts.{Parts}

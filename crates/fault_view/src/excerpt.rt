@@ -1,6 +1,8 @@
-ghost use Rattle.std.specs.Prelude.{◌≡◌, ◌++◌, IfOk, OnOk, string_bytes, option_map, replicate, take, chars, length, slice_get, ◌==◌};
+ghost use Rattle.std.specs.Prelude.{◌≡◌, ◌++◌, IfOk, OnOk, string_bytes, option_map, replicate, take, chars, length};
+ghost use Rattle.std.specs.Prelude.{slice_get, ◌==◌};
 ghost use Rattle.std.specs.List.{slice_split, flat_map};
-ghost use Rattle.fault_view.specs.Excerpts.{shown_here, width, under, caret_line, shown_line, as_text, line_at, has_column, quoted, excerpt_of};
+ghost use Rattle.fault_view.specs.Excerpts.{shown_here, width, under, caret_line, shown_line, as_text, line_at};
+ghost use Rattle.fault_view.specs.Excerpts.{has_column, quoted, excerpt_of};
 
 use bp_faults::{OutOfMemory, is_control};
 use std::alloc::{AllocError, Global};

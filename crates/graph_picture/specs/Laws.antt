@@ -1,5 +1,6 @@
 -- What holds of every picture: all that is kept stands in it, and stands there once.
-use Rattle.std.specs.Prelude.{◌≡◌, ◌≢◌, ◌<◌, ◌^◌, ◌↔◌, ℕ, Bool, List, map, length, Contains, AllPairs, IsPermutation, Option, None}
+use Rattle.std.specs.Prelude.{◌≡◌, ◌≢◌, ◌<◌, ◌^◌, ◌↔◌, ℕ, Bool, List, map, length, Contains, AllPairs, IsPermutation}
+use Rattle.std.specs.Prelude.{Option, None}
 use Rattle.std.specs.List.{AllByRecursion, flat_map}
 use Rattle.std.specs.List.Sorted.{IsStrictlyIncreasing}
 use Rattle.module_graph.specs.declared.graph.Node.{Node}

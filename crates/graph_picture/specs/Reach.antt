@@ -1,5 +1,6 @@
 -- Which variants a focus keeps: those that lie on walks from or to the variants of a module.
-use Rattle.std.specs.Prelude.{◌≡◌, ◌<◌, ◌≤◌, ◌⊎◌, ◌↔◌, ℕ, zero, suc, Bool, true, false, List, length, Contains, Option, Some, None, ⊤}
+use Rattle.std.specs.Prelude.{◌≡◌, ◌<◌, ◌≤◌, ◌⊎◌, ◌↔◌, ℕ, zero, suc, Bool, true, false, List, length, Contains, Option}
+use Rattle.std.specs.Prelude.{Some, None, ⊤}
 use Rattle.std.specs.Prelude.{slice_get, slice_index_or}
 use Rattle.graph_picture.specs.declared.focus.Focus.{Focus}
 use Rattle.graph_picture.specs.declared.variant.Arrow.{Arrow}

@@ -7,7 +7,8 @@ use Rattle.graph_picture.specs.declared.variant.Arrow.{Arrow}
 use Rattle.graph_picture.specs.declared.variant.Variant.{Variant}
 use Rattle.graph_picture.specs.declared.read.ReadError.{ReadError}
 use Rattle.graph_picture.specs.declared.read.ReadError.TheVariants.{BadLine, OutOfMemory}
-use Rattle.graph_picture.specs.Lines.{HasNo, IsVariant, IsGraph, LeadInside, variant_line, arrow_line, lines_of, text_of}
+use Rattle.graph_picture.specs.Lines.{HasNo, IsVariant, IsGraph, LeadInside, variant_line, arrow_line, lines_of}
+use Rattle.graph_picture.specs.Lines.{text_of}
 
 -- Behind the lines of some variants this line is neither that of the next variant, nor that of one more edge.
 pub record IsStray (variants : List Variant) (line : List ℕ) : Type 0 where

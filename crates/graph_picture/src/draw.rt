@@ -1,7 +1,8 @@
 ghost use Rattle.std.specs.Prelude.{◌≡◌, ◌<◌, ◌^◌, ◌++◌, ◌∷◌, [], map, length, slice_get, IfOk, OnOk};
 ghost use Rattle.std.specs.Fmt.{decimal};
 ghost use Rattle.std.specs.List.{filter, flat_map};
-ghost use Rattle.graph_picture.specs.Drawing.{arrow_drawn, box_drawn, cluster_drawn, drawn, escaped, is_inside, marked, quoted, shown_arrows, variation_of};
+ghost use Rattle.graph_picture.specs.Drawing.{arrow_drawn, box_drawn, cluster_drawn, drawn, escaped, is_inside, marked};
+ghost use Rattle.graph_picture.specs.Drawing.{quoted, shown_arrows, variation_of};
 ghost use Rattle.graph_picture.specs.Reach.{mark_at};
 ghost use Rattle.module_graph.specs.Numbered.{by_number};
 

@@ -1,7 +1,8 @@
 ghost use Rattle.std.specs.Prelude.{◌≡◌, IfOk, Some, map, length, if◌then◌else◌};
 ghost use Rattle.std.specs.Arc.{arc_value};
 ghost use Rattle.mutator_rules.specs.Conditions.{places_in};
-ghost use Rattle.info_mutators.specs.SdkLevel.{is_level_handed, lesser, least, handed_levels, own_level_or, level_meant};
+ghost use Rattle.info_mutators.specs.SdkLevel.{is_level_handed, lesser, least, handed_levels, own_level_or};
+ghost use Rattle.info_mutators.specs.SdkLevel.{level_meant};
 
 use bp_faults::{NodeId, OutOfMemory, Payload};
 use bp_props::{Given, Module};

@@ -34,7 +34,11 @@ impl<V: Visit> Model for Core<V> {
 
     ghost Value = { CoreView V V.Out };
 
-    ghost view = { λ c. record { plan = c.plan; visitor = c.visitor; state = state_of c.counters.items c.claimed.items c.filled.items c.subtracted.items c.fetched.items } };
+    ghost view = { λ c. record {
+      plan = c.plan;
+      visitor = c.visitor;
+      state = state_of c.counters.items c.claimed.items c.filled.items c.subtracted.items c.fetched.items;
+    } };
 
     ghost invariant = { λ c. IsCore (V.meaning c.visitor) (V.takes c.visitor) c.plan c.starts.items
         (state_of c.counters.items c.claimed.items c.filled.items c.subtracted.items c.fetched.items)

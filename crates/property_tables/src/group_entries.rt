@@ -1,7 +1,8 @@
 ghost use Rattle.std.specs.Prelude.{◌≡◌, map, OnOk};
 ghost use Rattle.bp_faults.specs.Answers.{Answers, Leaves};
 ghost use Rattle.bp_values.specs.Values.{field_of, fields_then, no_field};
-ghost use Rattle.property_tables.specs.Entries.{each_entry, group_with_fit, groups_with_group, group_entry as group_entry_as};
+ghost use Rattle.property_tables.specs.Entries.{each_entry, group_with_fit, groups_with_group};
+ghost use Rattle.property_tables.specs.Entries.{group_entry as group_entry_as};
 ghost use Rattle.property_tables.specs.Entries.{group_typed, groups_entry as groups_entry_as};
 
 use crate::entry_values::entries;

@@ -5,7 +5,8 @@ ghost use Rattle.bp_faults.specs.Answers.{Answers, Leaves};
 ghost use Rattle.bp_values.specs.Values.{field_of, fields_then, no_field};
 ghost use Rattle.bp_props.specs.Records.{props_empty};
 ghost use Rattle.property_tables.specs.Entries.{each_entry, props_with_fit, sanitize_entry as sanitize_entry_as};
-ghost use Rattle.property_tables.specs.Entries.{groups_typed, inner_typed, entry_typed, module_entry as module_entry_as};
+ghost use Rattle.property_tables.specs.Entries.{groups_typed, inner_typed, entry_typed};
+ghost use Rattle.property_tables.specs.Entries.{module_entry as module_entry_as};
 
 use crate::entry_values::entries;
 use crate::fields::set_props;

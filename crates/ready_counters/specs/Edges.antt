@@ -1,5 +1,6 @@
 -- The ends of edges, and how many of the edges into a node aren't done.
-use Rattle.std.specs.Prelude.{◌≡◌, ◌<◌, ◌≤◌, ◌+◌, ◌==◌, ℕ, zero, suc, List, [], ◌∷◌, map, length, slice_index, if◌then◌else◌, Result}
+use Rattle.std.specs.Prelude.{◌≡◌, ◌<◌, ◌≤◌, ◌+◌, ◌==◌, ℕ, zero, suc, List, [], ◌∷◌, map, length, slice_index}
+use Rattle.std.specs.Prelude.{if◌then◌else◌, Result}
 use Rattle.bp_faults.specs.declared.fault.Fault.{Fault}
 use Rattle.pass_core.specs.declared.plan.Plan.{Plan}
 use Rattle.pass_core.specs.declared.plan.PlanEdge.{PlanEdge}

@@ -9,7 +9,8 @@ use Rattle.pass_core.specs.declared.published.Published.{Published}
 use Rattle.pass_core.specs.Results.{NodeResult}
 use Rattle.pass_core.specs.Shown.{shown}
 use Rattle.ready_counters.specs.declared.view.View.{View}
-use Rattle.ready_counters.specs.Views.{whole, times, tickets_for, tickets_with, with_claim, with_open, with_fill, with_subtract, with_fetch, with_ticket}
+use Rattle.ready_counters.specs.Views.{whole, times, tickets_for, tickets_with, with_claim, with_open, with_fill}
+use Rattle.ready_counters.specs.Views.{with_subtract, with_fetch, with_ticket}
 use Rattle.ready_counters.specs.Edges.{from_of, to_of, left_of}
 use Rattle.ready_counters.specs.Meaning.{taken, HasWord}
 

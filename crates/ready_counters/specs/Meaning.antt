@@ -13,7 +13,8 @@ use Rattle.pass_core.specs.Results.{NodeResult}
 use Rattle.pass_core.specs.Shown.{shown}
 use Rattle.ready_counters.specs.declared.view.View.{View}
 use Rattle.ready_counters.specs.Views.{whole, nothing, times, tickets_for}
-use Rattle.ready_counters.specs.Sums.{sum_below, weights, claims, opens, fills, subtractions, fetches, draws, drawn_numbers, uses}
+use Rattle.ready_counters.specs.Sums.{sum_below, weights, claims, opens, fills, subtractions, fetches, draws}
+use Rattle.ready_counters.specs.Sums.{drawn_numbers, uses}
 use Rattle.ready_counters.specs.Edges.{from_of, to_of, result_at, left_from}
 
 -- The word of a node that is claimed: 2^64 - 1.

@@ -1,5 +1,6 @@
 -- The core state that a board shows, the kinds of step on a board, and the core step of each.
-use Rattle.std.specs.Prelude.{◌≡◌, ◌≢◌, ◌<◌, ◌≤◌, ◌+◌, ◌-◌, ◌==◌, ◌++◌, ◌||◌, ℕ, zero, suc, Bool, true, false, List, [], ◌∷◌, map, length, slice_index, slice_set, if◌then◌else◌, Option, Some, None, Result}
+use Rattle.std.specs.Prelude.{◌≡◌, ◌≢◌, ◌<◌, ◌≤◌, ◌+◌, ◌-◌, ◌==◌, ◌++◌, ◌||◌, ℕ, zero, suc, Bool, true, false, List, []}
+use Rattle.std.specs.Prelude.{◌∷◌, map, length, slice_index, slice_set, if◌then◌else◌, Option, Some, None, Result}
 use Rattle.std.specs.List.{range_with_len}
 use mathlib.Core.Option.{some}
 use lib.ListN.{get_elem?}
@@ -11,7 +12,8 @@ use Rattle.pass_core.specs.declared.step.Step.TheVariants.{Claim, Fetch, Fill, S
 use Rattle.pass_core.specs.CoreStates.{CoreState, Allows, after}
 use Rattle.pass_core.specs.Results.{NodeResult}
 use Rattle.ready_counters.specs.declared.view.View.{View}
-use Rattle.ready_counters.specs.Views.{nothing, one, lighter, together, times, with_claim, with_ticket, with_open, with_fill, with_subtract, with_fetch}
+use Rattle.ready_counters.specs.Views.{nothing, one, lighter, together, times, with_claim, with_ticket, with_open}
+use Rattle.ready_counters.specs.Views.{with_fill, with_subtract, with_fetch}
 use Rattle.ready_counters.specs.Sums.{subtractions, fetches}
 use Rattle.ready_counters.specs.Edges.{to_of, result_at}
 use Rattle.ready_counters.specs.Meaning.{taken}

@@ -65,7 +65,8 @@ impl<V: Visit> Board<V> {
     ghost use Rattle.ready_counters.specs.Ends.{IsByTicket, IsDoneBy};
     ghost use Rattle.ready_counters.specs.Inside.{Claims, Draws, Subtracts};
     ghost use Rattle.ready_counters.specs.Seen.{plan_of, visitor_of, view_of, IsSeatOf};
-    ghost use Rattle.ready_counters.specs.Views.{whole, times, tickets_for, tickets_with, all_of_it, lighter, one, together, with_fetch, with_filled, with_subtract, with_ticket};
+    ghost use Rattle.ready_counters.specs.Views.{whole, times, tickets_for, tickets_with, all_of_it, lighter, one};
+    ghost use Rattle.ready_counters.specs.Views.{together, with_fetch, with_filled, with_subtract, with_ticket};
 
     /// A board on which nothing is done, and its whole seat.
     pub fn new(alloc: Global, plan: &Plan, v: &V) -> Result<(Board<V>, Seat<V>), OutOfMemory>

@@ -1,5 +1,6 @@
 ghost use Rattle.std.specs.Prelude.{◌≡◌, ◌<◌, ◌^◌, IfOk, string_bytes};
-ghost use Rattle.synthetic_tree.specs.Modules.{first_in_file, near_dependency, far_dependency, place_in_file, dependencies, names_text, type_text, end_text, module_text};
+ghost use Rattle.synthetic_tree.specs.Modules.{first_in_file, near_dependency, far_dependency, place_in_file};
+ghost use Rattle.synthetic_tree.specs.Modules.{dependencies, names_text, type_text, end_text, module_text};
 
 use std::alloc::{AllocError, Global};
 

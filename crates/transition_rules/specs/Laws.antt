@@ -15,7 +15,8 @@ use Rattle.variant_graphs.specs.Splitting.{splitting, HasFreeAxis}
 use Rattle.transition_rules.specs.Wants.{others_of, wanted}
 use Rattle.mutator_rules.specs.Conditions.{MayRun, places_in}
 use Rattle.mutator_rules.specs.Outcomes.{KindOutcome, Made}
-use Rattle.transition_rules.specs.Passes.{AreWants, wanted_variants, MutateMeans, SplitsDiffer, TransitionMeans, WantsMean}
+use Rattle.transition_rules.specs.Passes.{AreWants, wanted_variants, MutateMeans, SplitsDiffer, TransitionMeans}
+use Rattle.transition_rules.specs.Passes.{WantsMean}
 
 module _ (P : Type 0) where
   -- The variations of a node are its own, and then those that are wanted along the edges that lead to it by the

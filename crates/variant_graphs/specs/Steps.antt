@@ -5,7 +5,8 @@ use Rattle.bp_faults.specs.declared.ids.NodeId.{NodeId}
 use Rattle.mutator_rules.specs.declared.error.KindError.TheVariants.{At, Nodes, Edges, OutOfMemory}
 use Rattle.mutator_rules.specs.Outcomes.{KindOutcome, Made, AnswersKind}
 use Rattle.pass_ways.specs.declared.error.WayError.{WayError}
-use Rattle.pass_ways.specs.declared.error.WayError.TheVariants.{At as AtNode, Refused as RefusedPass, OutOfMemory as Want}
+use Rattle.pass_ways.specs.declared.error.WayError.TheVariants.{At as AtNode, Refused as RefusedPass}
+use Rattle.pass_ways.specs.declared.error.WayError.TheVariants.{OutOfMemory as Want}
 use Rattle.variant_graphs.specs.declared.error.StepError.{StepError}
 use Rattle.variant_graphs.specs.declared.error.StepError.TheVariants.{Refused, Kind}
 
