@@ -80,6 +80,33 @@ pub fn run_mutators<R: Threads + Sync, G: Gate + Sync>(
     Ok(with_own_records(alloc, graph)?)
 }
 
+/// As `graph_after`, where nodes share the records that the mutators left as they are.
+pub fn shared_graph_after<R: Threads + Sync, G: Gate + Sync>(
+    rt: &R,
+    alloc: Global,
+    mods: &[Module],
+    c: &Config,
+    k: u32,
+    workers: u32,
+    gate: &G,
+) -> Result<Graph<Record>, GenError>
+    requires few { length mods.now ≤ 2 ^ 17 }
+    requires targets { TargetsDiffer c.now }
+    requires built { k ≤ built }
+    requires workers { (1 ≤ workers) × (workers ≤ 64) }
+    ensures means { Tells (λ g. g.nodes) (GraphAfter mods.now c.now k) result }
+    ensures valid { IfOk result (λ g. IsValid g.nodes) }
+{
+    let shop = Workshop {
+        mods,
+        config: c,
+        way: Way::Workers { workers, gate },
+    };
+    let mut journal = Vec::new(alloc);
+    let first = first_graph(alloc, mods)?;
+    run_passes(rt, alloc, &shop, &mut journal, 0, passes_of(k), first)
+}
+
 /// The graph after the first k mutators, or the first fault.
 ///
 /// Refusals in the order of the mutators, and for each: its pass, its requests (21, 22, 25, 24), the limits (30), the
@@ -100,15 +127,6 @@ pub fn graph_after<R: Threads + Sync, G: Gate + Sync>(
     ensures means { Tells (λ g. g.nodes) (GraphAfter mods.now c.now k) result }
     ensures valid { IfOk result (λ g. IsValid g.nodes) }
 {
-    let shop = Workshop {
-        mods,
-        config: c,
-        way: Way::Workers { workers, gate },
-    };
-    let mut journal = Vec::new(alloc);
-    let first = first_graph(alloc, mods)?;
-    match run_passes(rt, alloc, &shop, &mut journal, 0, passes_of(k), first) {
-        Ok(last) => Ok(with_own_records(alloc, last)?),
-        Err(refusal) => Err(refusal),
-    }
+    let graph = shared_graph_after(rt, alloc, mods, c, k, workers, gate)?;
+    Ok(with_own_records(alloc, graph)?)
 }

@@ -17,6 +17,7 @@ use build_actions::build_file;
 use mutator_rules::Config;
 use pass_ways::Way;
 use std::alloc::Global;
+use std::mem;
 use std::thread::Threads;
 
 /// What is generated of modules.
@@ -62,10 +63,13 @@ pub fn generate<R: Threads + Sync, G: Gate + Sync>(
     let ran = run_all(rt, alloc, &shop)?;
     let file = build_file(alloc, ran.made)?;
     let text = text_of(rt, alloc, &file, workers)?;
+    let statements = file.statements.as_slice().len() as u32;
+    // To free millions of texts one by one takes a tenth of all the time, so they are left to the end of the process.
+    mem::forget(file);
     Ok(Generated {
         ninja: Seq::new(text),
         journal: Seq::new(ran.journal),
-        statements: file.statements.as_slice().len() as u32,
+        statements,
         sizes: Seq::new(ran.sizes),
     })
 }

@@ -24,7 +24,7 @@ mod text;
 mod workshop;
 
 pub use bp_faults::Refusal as GenError;
-pub use course::graph_after;
+pub use course::{graph_after, shared_graph_after};
 pub use generated::{Generated, generate};
 pub use mutators::mutators_to;
 pub use replayed::{replay, replay_lines};

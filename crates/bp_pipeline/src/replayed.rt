@@ -15,6 +15,7 @@ use mutator_rules::Config;
 use order_text::order_lines;
 use pass_ways::{OrderLine, OrderLines, Way};
 use std::alloc::Global;
+use std::mem;
 use std::thread::Threads;
 
 /// Refuses a line behind those of all passes.
@@ -64,6 +65,8 @@ pub fn replay_lines<R: Threads + Sync>(
     check_end(alloc, &along, ran.journal.len())?;
     let ninja = build_file(alloc, ran.made)?;
     let text = text_of(rt, alloc, &ninja, 1)?;
+    // As in `generate`.
+    mem::forget(ninja);
     Ok(Seq::new(text))
 }
 

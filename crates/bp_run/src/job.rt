@@ -15,13 +15,14 @@ ghost use Rattle.bp_run.specs.declared.words.Configuration.TheVariants.{Synth as
 use crate::load::{load_files, load_listed};
 use crate::{Configuration, Journal, Made, Stop};
 use bp_faults::{NodeId, OutOfMemory, Path, Seq, Target};
-use bp_pipeline::{Generated, generate, graph_after, show_graph};
+use bp_pipeline::{Generated, generate, shared_graph_after, show_graph};
 use bp_ports::{Gate, Store};
 use bp_props::Module;
 use command_words::{Build, Graph, Synth};
 use mutator_rules::Config;
 use order_text::journal_text;
 use std::alloc::Global;
+use std::mem;
 use std::thread::Threads;
 use synthetic_tree::{Summary, summary_text};
 
@@ -88,9 +89,12 @@ fn make_graph<R: Threads + Sync, G: Gate + Sync>(
     ensures asked { IfOk result (λ made. journal_path made.journal ≡ journal_of (GraphCommand words.now)) }
 {
     let config = config_of(alloc, &words.targets)?;
-    let graph = graph_after(rt, alloc, typed, &config, words.after, words.workers, gate)?;
+    let graph = shared_graph_after(rt, alloc, typed, &config, words.after, words.workers, gate)?;
+    let text = show_graph(alloc, typed, &graph)?;
+    // The process ends soon, and frees all records at once.
+    mem::forget(graph);
     Ok(Made {
-        text: Seq::new(show_graph(alloc, typed, &graph)?),
+        text: Seq::new(text),
         journal: None,
     })
 }
@@ -199,7 +203,10 @@ pub fn do_job<R: Threads + Sync, S: Store, G: Gate + Sync>(
     ensures writes { S.write_faults store.new ≡ S.write_faults store.old }
 {
     let typed = load_listed(rt, alloc, paths, store, workers_of(configuration))?;
-    make(rt, alloc, configuration, &typed, gate)
+    let made = make(rt, alloc, configuration, &typed, gate);
+    // The process ends soon, and frees all modules at once.
+    mem::forget(typed);
+    made
 }
 
 /// Does the job over files in memory.
