@@ -1,8 +1,8 @@
 -- Statements that are well formed.
-use Rattle.std.proofs.Common.{◌≡◌, ◌≢◌, ◌<◌, ◌++◌, ◌&&◌, ◌==◌, not, ℕ, Bool, true, false, cond, List, [], ◌∷◌, map, length, get_or, Option, Some, None, refl, sym, ap, ◌∙◌, arith, subst, zero, suc}
-use Rattle.std.specs.Prelude.{codes, IsTrue, Contains}
+use Rattle.std.proofs.Common.{◌≡◌, ◌≢◌, ◌<◌, ◌++◌, ◌&&◌, ℕ, Bool, true, false, cond, List, [], ◌∷◌, get_or, Option, Some, None, refl, sym, ap, ◌∙◌, arith, subst}
+use Rattle.std.specs.Prelude.{codes, Contains}
 use Rattle.std.specs.Option.{option_map}
-use Rattle.std.specs.List.{AllByRecursion, AllPairs, list_all, cons_option, filter_map}
+use Rattle.std.specs.List.{AllByRecursion, list_all, cons_option}
 use Rattle.std.specs.Map.{keys_of, values_of}
 use Rattle.std.specs.Str.{bytes_eq}
 use Rattle.std.proofs.lemmas.Slice.Eq.{bytes_eq-Decides}
@@ -13,13 +13,12 @@ use Rattle.ninja_file.specs.Meaning.{AllDiffer, IsStatement}
 use Rattle.build_actions.specs.declared.compile.Compiler.{Compiler}
 use Rattle.build_actions.specs.declared.sources.Language.{Language}
 use Rattle.build_actions.specs.declared.sources.Language.TheVariants.{C, Cxx, Assembler}
-use Rattle.build_actions.specs.Kept.{new_one, new_ones, kept_first}
+use Rattle.build_actions.specs.Kept.{new_one, new_ones}
 use Rattle.build_actions.specs.Variables.{Variables, variable}
-use Rattle.build_actions.specs.Compiles.{language_of, rule_of, variables_in, compile_step, step_of_file, compile_steps, object_of, objects_in}
+use Rattle.build_actions.specs.Compiles.{language_of, rule_of, variables_in, compile_step, compile_steps, objects_in}
 use Rattle.build_actions.specs.Paths.{object_path}
-use Rattle.build_actions.specs.Products.{archive_step}
 use Rattle.bp_names.specs.Meaning.{knows}
-use Rattle.build_actions.proofs.Differing.{all_append, Apart, pairs_apart}
+use Rattle.build_actions.proofs.Differing.{all_append, pairs_apart}
 use Rattle.build_actions.proofs.Outputs.{Differ}
 use Rattle.build_actions.proofs.Shown.{IsPath, Shown, value_of}
 

@@ -1,14 +1,12 @@
 -- The file of a graph: its rules, its statements and its default.
-use Rattle.std.proofs.Common.{◌≡◌, ◌<◌, ◌+◌, ◌++◌, ℕ, zero, suc, true, false, List, [], ◌∷◌, map, length, get_or, Some, None, Option, refl, sym, ap, ◌∙◌, arith, subst, add-zero, length-append}
-use Rattle.std.specs.Prelude.{codes, IsTrue, Contains}
-use Rattle.std.specs.List.{AllByRecursion, All, flat_map, filter_map, cons_option, list_all}
-use Rattle.std.specs.Map.{keys_of, values_of}
+use Rattle.std.proofs.Common.{◌≡◌, ◌++◌, ℕ, List, [], ◌∷◌, map, length, get_or, Some, None, Option, refl, sym, arith, subst, length-append}
+use Rattle.std.specs.Prelude.{codes, Contains}
+use Rattle.std.specs.List.{AllByRecursion, All, flat_map, cons_option}
 use Rattle.std.proofs.lemmas.List.Elements.{All-from_recursion}
 use Rattle.std.proofs.lemmas.Grind.{flat_map-append}
 use Rattle.ninja_file.specs.declared.file.NinjaRule.{NinjaRule}
 use Rattle.ninja_file.specs.declared.file.Statement.{Statement}
-use Rattle.ninja_file.specs.Names.{is_name, is_rule_key}
-use Rattle.ninja_file.specs.Meaning.{AllDiffer, is_rule_value, IsRule, IsStatement, rule_names, outs_of, IsWellFormed}
+use Rattle.ninja_file.specs.Meaning.{AllDiffer, IsRule, IsStatement, outs_of, IsWellFormed}
 use Rattle.build_actions.specs.declared.actions.Actions.{Actions}
 use Rattle.build_actions.specs.Head.{head_rules, compile_command, dependencies, compile_rule, assemble_rule, archive_rule, link_rule}
 use Rattle.build_actions.specs.File.{all_path, outputs_of, all_step, all_statements, file_of}

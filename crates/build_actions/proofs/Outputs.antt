@@ -1,13 +1,12 @@
 -- The outputs of nodes.
-use Rattle.std.proofs.Common.{◌≡◌, ◌≢◌, ◌<◌, ◌++◌, ◌||◌, not, ℕ, List, [], ◌∷◌, Bool, true, false, cond, length, map, get_or, Option, Some, None, Result, Ok, Err, refl, sym, ap, subst, ◌∙◌, append_assoc}
-use Rattle.std.specs.Prelude.{codes, slice_get}
+use Rattle.std.proofs.Common.{◌≡◌, ◌≢◌, ◌++◌, ◌||◌, not, ℕ, List, [], ◌∷◌, Bool, true, false, cond, map, Option, Some, None, Result, Ok, Err, refl, sym, ap, subst, ◌∙◌}
+use Rattle.std.specs.Prelude.{codes}
 use Rattle.std.specs.Option.{option_map}
 use Rattle.std.specs.List.{AllByRecursion, flat_map, filter_map, cons_option, list_any}
 use Rattle.std.specs.Str.{bytes_eq}
 use Rattle.std.proofs.lemmas.Slice.Eq.{bytes_eq-Decides}
 use Rattle.std.proofs.lemmas.List.{append_cancel_left, append_cancel_right}
 use Rattle.std.proofs.lemmas.List.Folds.{list_any-append}
-use Rattle.std.proofs.lemmas.Grind.{flat_map-append}
 use Rattle.bp_faults.specs.declared.fault.Fault.{Fault}
 use Rattle.bp_faults.specs.declared.place.Item.{Item}
 use Rattle.bp_faults.specs.declared.kind.FaultKind.TheVariants.{DuplicateSource}
@@ -20,8 +19,8 @@ use Rattle.build_actions.specs.declared.sources.SourceKind.TheVariants.{Compiled
 use Rattle.build_actions.specs.declared.sources.Language.{Language}
 use Rattle.build_actions.specs.Sources.{fault_of, source_kind, checked_by, sources_checked}
 use Rattle.build_actions.specs.Paths.{object_path}
-use Rattle.build_actions.specs.Compiles.{language_by, language_of, compile_step, step_of_file, compile_steps, object_of, objects_in}
-use Rattle.build_actions.proofs.Differing.{Apart, apart_append, all_each, all_image}
+use Rattle.build_actions.specs.Compiles.{language_by, language_of, compile_step, compile_steps, objects_in}
+use Rattle.build_actions.proofs.Differing.{Apart, all_each, all_image}
 
 -- the paths of the files that are compiled
 abbrev pub source_of : Item → Option (List ℕ)

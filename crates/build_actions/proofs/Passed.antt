@@ -1,12 +1,10 @@
 -- What a pass over a graph makes.
-use Rattle.std.proofs.Common.{◌≡◌, ◌<◌, ℕ, List, length, map, Ok, subst, sym, ap, ◌∙◌, arith}
+use Rattle.std.proofs.Common.{map, sym, ap, ◌∙◌, arith}
 use Rattle.std.specs.Prelude.{slice_index_or}
 use Rattle.pass_core.specs.Laws.{OutsAreMany, OutsMeetTheirEquation}
 use Rattle.module_graph.specs.declared.direction.Direction.TheVariants.{BottomUp}
-use Rattle.module_graph.specs.declared.graph.Node.{Node}
-use Rattle.module_graph.specs.Graphs.{targets}
 use Rattle.module_graph.specs.Laws.{PredecessorsAreTargets}
-use Rattle.module_graph.specs.Planned.{plan_edges, plan_of}
+use Rattle.module_graph.specs.Planned.{plan_of}
 use Rattle.bp_props.specs.declared.props.Props.{Props}
 use Rattle.build_actions.specs.declared.actions.Actions.{Actions}
 use Rattle.build_actions.specs.Acts.{acts_at}

@@ -1,17 +1,16 @@
 -- Texts that a file for Ninja can hold.
-use Rattle.std.proofs.Common.{◌≡◌, ◌++◌, ◌&&◌, ◌==◌, not, cond, suc, length, ℕ, Bool, true, false, List, [], ◌∷◌, map, refl, sym, ap, ◌∙◌, arith, subst}
-use Rattle.std.specs.Prelude.{codes, IsTrue, nat_lt}
-use Rattle.std.specs.List.{AllByRecursion, join_by, flat_map, list_all}
+use Rattle.std.proofs.Common.{◌≡◌, ◌++◌, ◌&&◌, ◌==◌, not, cond, suc, length, ℕ, Bool, true, false, List, [], ◌∷◌, map, refl, ap, arith, subst}
+use Rattle.std.specs.Prelude.{codes}
+use Rattle.std.specs.List.{AllByRecursion, flat_map, list_all}
 use Rattle.std.specs.Fmt.{decimal}
 use Rattle.std.proofs.lemmas.Bool.Decides.{nat_tests}
-use Rattle.bp_faults.specs.declared.target.Target.{Target}
 use Rattle.bp_faults.specs.declared.target.Target.TheVariants as T
 use Rattle.module_graph.specs.declared.variation.Variation.{Variation}
 use Rattle.module_graph.specs.declared.variation.Variation.TheVariants.{Empty, Target as For, Common, Vendor, Recovery, Static, Shared, PerSource, Asan}
-use Rattle.module_graph.specs.Names.{is_plain, variant_name_of}
+use Rattle.module_graph.specs.Names.{is_plain}
 use Rattle.module_graph.specs.Laws.{VariantNamesArePlain}
 use Rattle.ninja_file.specs.Names.{is_shown, is_value, is_path}
-use Rattle.build_actions.specs.Variables.{word_line, target_word, target_by, level_words, include_word, includes_of}
+use Rattle.build_actions.specs.Variables.{word_line, target_word, target_by, level_words, include_word}
 use Rattle.build_actions.specs.Writable.{has_shown_bytes}
 use Rattle.build_actions.proofs.Differing.{all_append}
 

@@ -1,5 +1,5 @@
 -- Outputs of nodes that are told apart by their names.
-use Rattle.std.proofs.Common.{◌≡◌, ◌≢◌, ◌<◌, ◌++◌, ◌⊎◌, inl, inr, ℕ, List, [], ◌∷◌, ◌||◌, ◌==◌, Bool, true, false, length, map, drop, get_or, Option, Some, None, Result, Ok, Err, refl, sym, ap, subst, ◌∙◌, append_assoc, arith, zero, suc}
+use Rattle.std.proofs.Common.{◌≡◌, ◌≢◌, ◌<◌, ◌++◌, ◌⊎◌, inl, inr, ℕ, List, [], ◌∷◌, ◌||◌, ◌==◌, Bool, true, false, length, drop, get_or, Option, Some, None, Ok, refl, sym, ap, subst, ◌∙◌, append_assoc, arith, zero, suc}
 use Rattle.std.specs.Prelude.{codes, slice_get}
 use Rattle.std.specs.Option.{option_map_or}
 use Rattle.std.specs.List.{AllByRecursion, AllPairs, flat_map}
@@ -7,9 +7,7 @@ use Rattle.std.proofs.lemmas.Bool.{cases_order}
 use Rattle.std.proofs.lemmas.List.{append_cancel_left}
 use Rattle.std.proofs.lemmas.Option.{slice_get_within, get_or_from_slice_get}
 use Rattle.std.proofs.lemmas.Grind.{flat_map-append}
-use Rattle.bp_faults.specs.declared.fault.Fault.{Fault}
 use Rattle.bp_faults.specs.declared.place.Item.{Item}
-use Rattle.bp_faults.specs.Answers.{then_do}
 use Rattle.module_graph.specs.declared.graph.Node.{Node}
 use Rattle.std.proofs.lemmas.Bool.Decides.{nat_tests}
 use Rattle.module_graph.specs.Names.{is_plain, variant_name_of}
@@ -30,8 +28,8 @@ use Rattle.build_actions.specs.Paths.{directory_of, object_path, output_path, pr
 use Rattle.build_actions.specs.Files.{files_of}
 use Rattle.build_actions.specs.Compiles.{compiler_of, compile_steps, objects_in}
 use Rattle.build_actions.specs.Products.{product_step}
-use Rattle.build_actions.specs.Acts.{idle, objects_of, statements_of, made_of, acts_by, acts, acts_at}
-use Rattle.build_actions.specs.File.{all_path, all_step, all_statements, file_of}
+use Rattle.build_actions.specs.Acts.{idle, objects_of, made_of, acts_by, acts, acts_at}
+use Rattle.build_actions.specs.File.{all_path, all_step, file_of}
 use Rattle.build_actions.specs.Laws.{has_slash, AreTold, made_below, AreMade}
 use Rattle.build_actions.proofs.Differing.{all_append, Apart, Across, apart_pairs, pairs_apart, all_at, apart_append, apart_flat, all_flat, all_each}
 use Rattle.build_actions.proofs.Separated.{before_it}

@@ -1,13 +1,9 @@
 -- The file of a graph is well formed.
-use Rattle.std.proofs.Common.{◌≡◌, ◌≢◌, ◌<◌, ◌≤◌, ◌++◌, ◌&&◌, ◌==◌, ◌⊎◌, ⊎_elim, not, ℕ, zero, suc, Bool, true, false, cond, List, [], ◌∷◌, map, drop, length, get_or, Option, Some, None, Result, Ok, Err, refl, sym, ap, ◌∙◌, arith, subst}
+use Rattle.std.proofs.Common.{◌≡◌, ◌<◌, ◌++◌, ℕ, zero, suc, Bool, true, false, cond, List, [], ◌∷◌, map, drop, length, get_or, Option, Some, None, Ok, refl, arith, subst}
 use Rattle.std.specs.Prelude.{codes, IsTrue, Contains, slice_get, slice_index_or, filter}
 use Rattle.std.specs.Option.{option_map_or}
-use Rattle.std.specs.List.{AllByRecursion, All, flat_map, filter_map, cons_option, list_all}
-use Rattle.std.proofs.lemmas.List.{length-append}
-use Rattle.std.proofs.lemmas.List.Elements.{All-from_recursion}
+use Rattle.std.specs.List.{AllByRecursion, flat_map, filter_map, cons_option}
 use Rattle.std.proofs.lemmas.Option.{slice_get_within, get_or_from_slice_get}
-use Rattle.std.proofs.lemmas.Grind.{flat_map-append}
-use Rattle.bp_faults.specs.declared.fault.Fault.{Fault}
 use Rattle.bp_faults.specs.declared.ids.NodeId.{NodeId}
 use Rattle.bp_faults.specs.declared.place.Item.{Item}
 use Rattle.bp_faults.proofs.Lists.{all_map, both as each_both}
@@ -19,15 +15,13 @@ use Rattle.module_graph.specs.Laws.{PredecessorsAreTargets, VariantNamesArePlain
 use Rattle.module_graph.specs.Names.{variant_name_of}
 use Rattle.module_graph.specs.Planned.{plan_edges, plan_of}
 use Rattle.pass_core.specs.Laws.{PredecessorsAreNodes, PredecessorsAreLess}
-use Rattle.pass_core.specs.Plans.{IsPlan, HasNoCycle, predecessors}
+use Rattle.pass_core.specs.Plans.{IsPlan, HasNoCycle}
 use Rattle.bp_props.specs.declared.module.Module.{Module}
 use Rattle.bp_props.specs.declared.props.Props.{Props}
 use Rattle.bp_props.specs.declared.source.Source.{Source}
-use Rattle.ninja_file.specs.declared.file.Statement.{Statement}
 use Rattle.ninja_file.specs.Names.{is_path}
 use Rattle.ninja_file.specs.Meaning.{IsStatement}
 use Rattle.build_actions.specs.declared.actions.Actions.{Actions}
-use Rattle.build_actions.specs.declared.compile.Compiler.{Compiler}
 use Rattle.build_actions.specs.declared.path.Role.{Role}
 use Rattle.build_actions.specs.declared.path.Role.TheVariants.{Makes, Gives, Neither}
 use Rattle.build_actions.specs.declared.path.Product.{Product}
@@ -36,17 +30,16 @@ use Rattle.build_actions.specs.declared.sources.Language.{Language}
 use Rattle.build_actions.specs.declared.sources.Language.TheVariants.{C, Cxx, Assembler}
 use Rattle.build_actions.specs.Sources.{sources_checked}
 use Rattle.build_actions.specs.Paths.{directory_of, object_path, output_path, output_of, output_by, output_at, product_of, link_of, suffix_of, role_of}
-use Rattle.build_actions.specs.Files.{results_of, leads_to_files, first_files, source_files, behind, files_over, files_of}
+use Rattle.build_actions.specs.Files.{results_of, leads_to_files, first_files, files_over, files_of}
 use Rattle.build_actions.specs.Variables.{target_of, flags_of, cflags_of, level_words, include_word, includes_of, compile_variables, link_variables}
-use Rattle.build_actions.specs.Compiles.{is_header, headers_of, compiler_of, compile_steps, objects_in, variables_in}
-use Rattle.build_actions.specs.Products.{is_whole, is_data, objects_over, outputs_at, data_output, data_outputs, link_ins, link_step, archive_step, product_step}
-use Rattle.build_actions.specs.Acts.{idle, objects_of, statements_of, made_of, acts_by, acts, acts_at}
-use Rattle.build_actions.specs.File.{outputs_of}
+use Rattle.build_actions.specs.Compiles.{is_header, compiler_of, compile_steps, objects_in, variables_in}
+use Rattle.build_actions.specs.Products.{is_whole, is_data, outputs_at, data_output, link_step, archive_step, product_step}
+use Rattle.build_actions.specs.Acts.{idle, objects_of, made_of, acts_by, acts, acts_at}
 use Rattle.build_actions.specs.Laws.{made_below, AreMade}
 use Rattle.build_actions.specs.Writable.{has_shown_bytes, words_of, AreWritable}
-use Rattle.build_actions.proofs.Differing.{all_append, all_image, all_at, all_each, all_flat}
+use Rattle.build_actions.proofs.Differing.{all_append, all_image, all_at, all_flat}
 use Rattle.build_actions.proofs.Outputs.{then_ok}
-use Rattle.build_actions.proofs.Shown.{IsPath, Shown, Clear, shown_of, clear_if, clear_append, clear_shown, path_clear, path_of, plain_clear, joined_shown, target_shown, level_shown, includes_shown}
+use Rattle.build_actions.proofs.Shown.{IsPath, Shown, Clear, shown_of, clear_if, clear_append, path_clear, path_of, plain_clear, joined_shown, target_shown, level_shown, includes_shown}
 use Rattle.build_actions.proofs.Fitting.{six, AreVariables, apart_texts, two_variables, three_variables, fits, no_variables, rule_at, kept_all, Fits, steps_fit, objects_fit}
 
 -- a file whose path a file for Ninja can hold

@@ -1,5 +1,5 @@
 -- Which variations stand on which axis.
-use Rattle.std.specs.Prelude.{◌≡◌, ◌^◌, ℕ, Bool, true, false, List, [], ◌∷◌, nat_lt, IsTrue}
+use Rattle.std.specs.Prelude.{◌≡◌, Bool, true, false, List, [], ◌∷◌, nat_lt, IsTrue}
 use Rattle.module_graph.specs.declared.variations.Axis.{Axis}
 use Rattle.module_graph.specs.declared.variations.Axis.TheVariants as A
 use Rattle.module_graph.specs.declared.variation.Variation.{Variation}

@@ -1,4 +1,5 @@
-ghost use Rattle.std.specs.Prelude.{◌≡◌, ◌++◌, IfOk, OnOk, map};
+ghost use Rattle.std.specs.Prelude.{◌≡◌, ◌++◌, IfOk, OnOk, codes, map};
+ghost use Rattle.std.specs.Fmt.{decimal};
 ghost use Rattle.build_actions.specs.Variables.{variable, target_word, target_by, target_of, level_words, flags_of};
 ghost use Rattle.build_actions.specs.Variables.{cflags_of, include_word, includes_of, compile_variables};
 ghost use Rattle.build_actions.specs.Variables.{link_variables};
@@ -53,11 +54,17 @@ fn bind(
     Ok(())
 }
 
+fn level_word(alloc: Global, level: u32) -> Result<Text, OutOfMemory>
+    ensures { IfOk result (λ word. word ≡ codes "-DMIN_SDK=" ++ decimal level) }
+{
+    Ok(Text::new(format!(in alloc; "-DMIN_SDK={level}")?))
+}
+
 fn add_level(alloc: Global, words: &mut Vec<Text>, level: u32) -> Result<(), OutOfMemory>
     ensures { OnOk result (words.new.items ≡ words.old.items ++ level_words level) }
 {
     if level != 10_000 {
-        words.push(Text::new(format!(in alloc; "-DMIN_SDK={level}")?))?;
+        words.push(level_word(alloc, level)?)?;
     }
     Ok(())
 }
