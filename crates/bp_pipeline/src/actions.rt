@@ -13,6 +13,7 @@ use crate::course::run_mutators;
 use crate::journal::note;
 use crate::passes::ACTIONS;
 use crate::ran::Ran;
+use crate::records::leave_records;
 use crate::workshop::Workshop;
 use bp_faults::{NodeId, Refusal};
 use bp_ports::Gate;
@@ -22,7 +23,6 @@ use module_graph::laws::{predecessors_are_targets, valid_plans_have_no_cycle};
 use module_graph::{Direction, Graph, plan};
 use pass_ways::{WayError, WayRun, run_by_way};
 use std::alloc::Global;
-use std::mem;
 use std::sync::Arc;
 use std::thread::Threads;
 
@@ -84,9 +84,7 @@ pub fn run_all<R: Threads + Sync, G: Gate + Sync>(
     let mut sizes = Vec::new(alloc);
     let graph = run_mutators(rt, alloc, shop, &mut journal, &mut sizes)?;
     let made = run_actions(rt, alloc, shop, &mut journal, &graph)?;
-    // To free the lists and texts of all records one by one takes a tenth of all the time, so they are left to the end
-    // of the process.
-    mem::forget(graph);
+    leave_records(graph);
     Ok(Ran {
         made,
         journal,

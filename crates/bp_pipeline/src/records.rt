@@ -5,6 +5,7 @@ use bp_props::Props;
 use module_graph::{Graph, Node};
 use module_rules::Record;
 use std::alloc::Global;
+use std::mem;
 
 fn with_own_record(alloc: Global, node: Node<Record>) -> Result<Node<Props>, OutOfMemory>
     ensures { IfOk result (λ own. own ≡ node) }
@@ -29,4 +30,12 @@ pub fn with_own_records(alloc: Global, g: Graph<Record>) -> Result<Graph<Props>,
     Ok(Graph {
         nodes: Seq::new(own),
     })
+}
+
+/// Frees the list of a graph's nodes alone. To free the lists and texts of all records one by one takes a tenth of all
+/// the time, so they are left to the end of the process.
+pub fn leave_records(g: Graph<Props>) {
+    for node in g.nodes.into_vec() {
+        mem::forget(node);
+    }
 }
