@@ -1,9 +1,13 @@
 -- Where the pieces of a list that is made of numbered items stand.
-use Rattle.std.proofs.Common.{◌≡◌, ◌+◌, ◌<◌, ◌++◌, ℕ, zero, suc, List, [], ◌∷◌, length, take, get_or, refl, ap, ◌∙◌, sym, arith, append-nil, append_assoc, add-zero, zero-add}
-use Rattle.std.specs.Prelude.{slice_get}
+use Rattle.std.proofs.Common.{◌≡◌, ◌+◌, ◌-◌, ◌<◌, ◌++◌, ℕ, zero, suc, List, [], ◌∷◌, length, take, drop, get_or, refl}
+use Rattle.std.proofs.Common.{ap, ◌∙◌, sym, arith, append-nil, append_assoc, add-zero, zero-add}
+use Rattle.std.specs.Prelude.{slice_get, slice_range}
 use Rattle.module_graph.specs.Numbered.{by_number}
 use Rattle.variant_graphs.specs.Inside.{repeated, before}
+use Rattle.std.proofs.lemmas.List.{drop_at, drop_more, take-append-drop, take_at}
+use Rattle.std.proofs.lemmas.List.Concat.{flat_map-append}
 use Rattle.std.proofs.lemmas.List.Sums.{sum_by_more}
+use Rattle.std.specs.List.{flat_map}
 
 module _ {X A : Type 0} where
   -- a list of pieces, taken apart at the piece of an item
@@ -17,6 +21,21 @@ module _ {X A : Type 0} where
         ap (λ l. f k x ++ l) (r.1 ∙ ap (λ n. by_number f (k + 1) (take i xs) ++ (f n (get_or xs i d) ++ r.0)) e)
             ∙ sym (append_assoc (f k x) (by_number f (k + 1) (take i xs)) (f (k + suc i) (get_or xs i d) ++ r.0)),
       )
+
+  -- the piece of an item stands between the pieces before it and those behind it
+  pub flat_map_at : (f : X → List A) (xs : List X) (i : ℕ) (d : X) (a b : ℕ) → i < length xs
+      → length (flat_map f (take i xs)) ≡ a → a + length (f (get_or xs i d)) ≡ b
+      → slice_range (flat_map f xs) a b ≡ f (get_or xs i d)
+  flat_map_at f xs i d a b lt begins ends =
+      let front = flat_map f (take i xs) in
+      let here = f (get_or xs i d) in
+      let rest = flat_map f (drop (i + 1) xs) in
+      let whole : flat_map f xs ≡ front ++ (here ++ rest) =
+      ap (flat_map f) (sym (take-append-drop i xs) ∙ ap (λ (l : List X). take i xs ++ l) (drop_more xs i d lt))
+      ∙ flat_map-append f (take i xs) (get_or xs i d ∷ drop (i + 1) xs) in
+      ap (λ (l : List A). take (b - a) (drop a l)) whole
+      ∙ ap (take (b - a)) (drop_at front (here ++ rest) a begins)
+      ∙ take_at here rest (b - a) (omega arith)
 
 module _ {A : Type 0} where
   -- an item of the middle of three lists

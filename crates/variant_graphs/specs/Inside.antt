@@ -1,10 +1,11 @@
 -- The limits of a split by the numbers of variants alone, before any new node is made, and what is known of the new
 -- numbers. No public contract speaks of it.
 use Rattle.std.specs.Prelude.{◌≡◌, ◌≢◌, ◌≤◌, ◌<◌, ◌+◌, ◌++◌, Bool, ℕ, zero, suc, List, [], length, map, take, nat_lt}
-use Rattle.std.specs.Prelude.{Option, Some, None, slice_get, slice_index_or, slice_set, Vec, Result, Ok, Err, ⊤}
+use Rattle.std.specs.Prelude.{Option, Some, None, slice_get, slice_index_or, slice_range, slice_set}
+use Rattle.std.specs.Prelude.{Vec, Result, Ok, Err, ⊤}
 use Rattle.std.specs.Global.{Global}
 use Rattle.std.specs.Option.{option_map}
-use Rattle.std.specs.List.{AllByRecursion, AllPairs, filter, filter_map, range_with_len, sum_by}
+use Rattle.std.specs.List.{AllByRecursion, AllPairs, filter, filter_map, flat_map, range_with_len, sum_by}
 use Rattle.bp_faults.specs.declared.limits.TheConstants.{MOST_EDGES, MOST_NODES}
 use Rattle.bp_faults.specs.declared.place.Place.{Place}
 use Rattle.module_graph.specs.declared.graph.Edge.{Edge}
@@ -25,9 +26,9 @@ total counts = sum_by (λ k. k) counts
 abbrev pub before : List ℕ → ℕ → ℕ
 before counts n = total (take n counts)
 
--- Where the variants of each node begin.
+-- Where the variants of each node begin, and where those of the last end.
 abbrev pub begins : List ℕ → List ℕ
-begins counts = map (before counts) (range_with_len 0 (length counts))
+begins counts = map (before counts) (range_with_len 0 (length counts + 1))
 
 -- A list k times over.
 abbrev pub repeated : {A : Type 0} → ℕ → List A → List A
@@ -68,26 +69,34 @@ module _ {P B : Type 0} (s : Splitting P B) where
   abbrev pub counts_of : List ℕ
   counts_of = map length s.variants
 
-  -- The variations of the variants of each node.
-  abbrev pub variations_of : List (List Variation)
-  variations_of = map (map s.variation) s.variants
-
-  -- It is known where the variants of each node begin, which are few, and their variations, which differ.
+  -- It is known where the variants of each node begin, which are few, and their variations, node by node. Those of one
+  -- node differ.
   pub record IsNumbering (numbering : Numbering) : Type 0 where
     pub begins : numbering.begins.items ≡ begins counts_of
     pub few : total counts_of ≤ MOST_NODES
-    pub variations : numbering.variations.items ≡ variations_of
-    pub differ : AllByRecursion (AllPairs (λ (v w : Variation). v ≢ w)) variations_of
+    pub variations : numbering.variations.items ≡ flat_map (map s.variation) s.variants
+    pub differ : AllByRecursion (AllPairs (λ (b c : B). s.variation b ≢ s.variation c)) s.variants
     pub within : (n : ℕ) (v : Variation) (e : Edge) (place : ℕ) → s.lead n v e ≡ Some place
         → place < length (variants_at s e.to.0)
 
--- The numbers and the variations of a numbering fit a rule: each place to which an edge leads gives a number of a node.
+-- Where the variants of a node begin, by a numbering.
+abbrev pub begun : Numbering → ℕ → ℕ
+begun numbering t = slice_index_or numbering.begins.items t 0
+
+-- The variations of a node's variants, by a numbering.
+abbrev pub theirs : Numbering → ℕ → List Variation
+theirs numbering t = slice_range numbering.variations.items (begun numbering t) (begun numbering (t + 1))
+
+-- The numbers and the variations of a numbering fit a rule: the variations of each node stand in the list and differ,
+-- and each place to which an edge leads gives a number of a node.
 pub record IsFit {P B : Type 0} (rule : SplitRule P B) (numbering : Numbering) : Type 0 where
-  pub many : length numbering.begins.items ≡ length numbering.variations.items
-  pub differ : AllByRecursion (AllPairs (λ (v w : Variation). v ≢ w)) numbering.variations.items
-  pub few : (n : ℕ) (v : Variation) (e : Edge) (place : ℕ) → e.to.0 < length numbering.variations.items
-      → rule.lead n v e (slice_index_or numbering.variations.items e.to.0 []) ≡ Some place
-      → slice_index_or numbering.begins.items e.to.0 0 + place < MOST_NODES
+  pub rises : (t : ℕ) → t + 1 < length numbering.begins.items → begun numbering t ≤ begun numbering (t + 1)
+  pub ends : (t : ℕ) → t + 1 < length numbering.begins.items
+      → begun numbering (t + 1) ≤ length numbering.variations.items
+  pub differ : (t : ℕ) → t + 1 < length numbering.begins.items
+      → AllPairs (λ (v w : Variation). v ≢ w) (theirs numbering t)
+  pub few : (n : ℕ) (v : Variation) (e : Edge) (place : ℕ) → e.to.0 + 1 < length numbering.begins.items
+      → rule.lead n v e (theirs numbering e.to.0) ≡ Some place → begun numbering e.to.0 + place < MOST_NODES
 
 module _ {P B : Type 0} (rule : SplitRule P B) (numbering : Numbering) where
   -- The edge of a variant of node n with variation v, by a numbering.
@@ -95,9 +104,9 @@ module _ {P B : Type 0} (rule : SplitRule P B) (numbering : Numbering) where
   led_by n v e =
       option_map (λ place. record {
         kind = e.kind;
-        to = record { 0 = slice_index_or numbering.begins.items e.to.0 0 + place };
+        to = record { 0 = begun numbering e.to.0 + place };
         at = e.at;
-      }) (rule.lead n v e (slice_index_or numbering.variations.items e.to.0 []))
+      }) (rule.lead n v e (theirs numbering e.to.0))
 
   -- A variant of node n, by a numbering.
   abbrev pub node_by : ℕ → Node P → B → Node P

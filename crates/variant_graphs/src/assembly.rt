@@ -1,4 +1,4 @@
-ghost use Rattle.std.specs.Prelude.{◌≡◌, ◌<◌, ◌++◌, IfOk, OnOk, length, map, slice_set};
+ghost use Rattle.std.specs.Prelude.{◌≡◌, ◌<◌, ◌+◌, ◌++◌, IfOk, OnOk, length, map, slice_set};
 ghost use Rattle.std.specs.List.{AllByRecursion, filter_map};
 ghost use Rattle.module_graph.specs.declared.graph.Edge.{Edge};
 ghost use Rattle.module_graph.specs.Axes.{place_of};
@@ -36,15 +36,17 @@ fn lead_edge<P, S: Splitter<P>>(
 ) -> Option<Edge>
     requires fit { IsFit (S.rule s.now) numbering.now }
     requires may { S.may_lead s.now n.0 edge }
-    requires to { edge.to.0 < length numbering.now.variations.items }
+    requires to { edge.to.0 + 1 < length numbering.now.begins.items }
     ensures { result ≡ led_by (S.rule s.now) numbering.now n.0 v edge }
 {
     let target = edge.to.0 as usize;
-    let theirs = numbering.variations[target].as_slice();
+    let first = numbering.begins[target];
+    let end = numbering.begins[target + 1];
+    let theirs = &numbering.variations[first as usize..end as usize];
     match s.lead(n, v, edge, theirs, place) {
         Some(chosen) => Some(Edge {
             kind: edge.kind,
-            to: NodeId(numbering.begins[target] + chosen as u32),
+            to: NodeId(first + chosen as u32),
             at: edge.at,
         }),
         None => None,
@@ -63,7 +65,7 @@ fn lead_edges<P, S: Splitter<P>>(
 ) -> Result<Vec<Edge>, OutOfMemory>
     requires fit { IsFit (S.rule s.now) numbering.now }
     requires may { AllByRecursion (S.may_lead s.now n.0) edges.now }
-    requires to { AllByRecursion (λ (e : Edge). e.to.0 < length numbering.now.variations.items) edges.now }
+    requires to { AllByRecursion (λ (e : Edge). e.to.0 + 1 < length numbering.now.begins.items) edges.now }
     ensures { IfOk result (λ made. made.items ≡ filter_map (led_by (S.rule s.now) numbering.now n.0 v) edges.now) }
 {
     let mut made = Vec::with_capacity(alloc, edges.len())?;
@@ -87,7 +89,7 @@ fn make_variant<P: Drop, S: Splitter<P>>(
 ) -> Result<Node<P>, OutOfMemory>
     requires fit { IsFit (S.rule s.now) numbering.now }
     requires may { AllByRecursion (S.may_lead s.now n.0) node.now.edges }
-    requires to { AllByRecursion (λ (e : Edge). e.to.0 < length numbering.now.variations.items) node.now.edges }
+    requires to { AllByRecursion (λ (e : Edge). e.to.0 + 1 < length numbering.now.begins.items) node.now.edges }
     ensures { IfOk result (λ made. made ≡ node_by (S.rule s.now) numbering.now n.0 node.now variant) }
 {
     let v = s.variation(&variant);
@@ -113,7 +115,7 @@ fn add_variants<P: Drop, S: Splitter<P>>(
 ) -> Result<(), OutOfMemory>
     requires fit { IsFit (S.rule s.now) numbering.now }
     requires may { AllByRecursion (S.may_lead s.now n.0) node.now.edges }
-    requires to { AllByRecursion (λ (e : Edge). e.to.0 < length numbering.now.variations.items) node.now.edges }
+    requires to { AllByRecursion (λ (e : Edge). e.to.0 + 1 < length numbering.now.begins.items) node.now.edges }
     ensures { OnOk result (made.new.items
         ≡ made.old.items ++ map (node_by (S.rule s.now) numbering.now n.0 node.now) variants) }
 {
@@ -140,7 +142,7 @@ fn make_nodes<P: Drop, S: Splitter<P>>(
     ensures { IfOk result (λ made. made.items ≡ split_nodes (splitting (S.rule s.now) variants.items) g.now.nodes) }
 {
     let nodes = g.nodes.as_slice();
-    let mut made = Vec::new(alloc);
+    let mut made = Vec::with_capacity(alloc, numbering.variations.len())?;
     let mut n = 0;
     for list in variants {
         add_variants(
@@ -176,7 +178,8 @@ pub fn split_graph<P: Drop, S: Splitter<P>>(
     if let Some(place) = edge_beyond(g, &counts) {
         return Err(KindError::Edges(place));
     }
-    let variations = variations_of(alloc, s, &variants)?;
+    let total = begins[counts.len()] as usize;
+    let variations = variations_of(alloc, s, &variants, total)?;
     let numbering = Numbering { begins, variations };
     let nodes = make_nodes(alloc, s, &numbering, g, variants)?;
     Ok(Graph {

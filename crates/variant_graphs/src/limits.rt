@@ -10,19 +10,21 @@ use module_graph::{Edge, Graph};
 use mutator_rules::KindError;
 use std::alloc::Global;
 
-/// Where the variants of each node begin, by how many each has; or the module of the first beyond the limit.
+/// Where the variants of each node begin, by how many each has, and where those of the last end; or the module of the
+/// first beyond the limit.
 pub fn begin<P>(alloc: Global, g: &Graph<P>, counts: &[usize]) -> Result<Vec<u32>, KindError>
     requires { length counts.now ≡ length g.now.nodes }
     ensures { AnswersBegins counts.now g.now.nodes result }
 {
-    let mut begins = Vec::new(alloc);
+    let mut begins = Vec::with_capacity(alloc, counts.len() + 1)?;
     let mut total: usize = 0;
+    begins.push(0)?;
     for (n, count) in counts.iter().enumerate() {
-        begins.push(total as u32)?;
         if *count > MOST_NODES - total {
             return Err(KindError::Nodes(g.nodes.as_slice()[n].module));
         }
         total += *count;
+        begins.push(total as u32)?;
     }
     Ok(begins)
 }

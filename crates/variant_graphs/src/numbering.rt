@@ -1,15 +1,18 @@
-ghost use Rattle.std.specs.Prelude.{◌≡◌, IfOk, length, map};
+ghost use Rattle.std.specs.Prelude.{◌≡◌, ◌++◌, IfOk, OnOk, length, map};
+ghost use Rattle.std.specs.List.{flat_map};
 
 use crate::Splitter;
 use bp_faults::{OutOfMemory, Seq};
 use module_graph::Variation;
 use std::alloc::Global;
 
-/// Where the variants of each node begin among the new nodes, and the variations of each node's variants.
+/// Where the variants of each node begin among the new nodes, and the variations of all variants.
 #[derive(Drop)]
 pub struct Numbering {
+    /// The numbers, and behind them how many variants there are: those of node `t` end where those of `t + 1` begin.
     pub begins: Vec<u32>,
-    pub variations: Vec<Seq<Variation>>,
+    /// In the order of the new nodes.
+    pub variations: Vec<Variation>,
 }
 
 /// How many variants each node has.
@@ -23,32 +26,32 @@ pub fn count_variants<B>(alloc: Global, variants: &[Seq<B>]) -> Result<Vec<usize
     Ok(counts)
 }
 
-/// The variations of a node's variants.
-fn variations_in<P, S: Splitter<P>>(
-    alloc: Global,
+/// Adds the variations of a node's variants.
+fn add_variations<P, S: Splitter<P>>(
     s: &S,
     variants: &[S::Variant],
-) -> Result<Seq<Variation>, OutOfMemory>
-    ensures { IfOk result (λ list. list ≡ map (S.rule s.now).variation variants.now) }
+    variations: &mut Vec<Variation>,
+) -> Result<(), OutOfMemory>
+    ensures { OnOk result (variations.new.items ≡ variations.old.items ++ map (S.rule s.now).variation variants.now) }
 {
-    let mut list = Vec::with_capacity(alloc, variants.len())?;
     for variant in variants {
-        list.push(s.variation(variant))?;
+        variations.push(s.variation(variant))?;
     }
-    Ok(Seq::new(list))
+    Ok(())
 }
 
-/// The variations of the variants of each node.
+/// The variations of all variants, node by node. There is room for `total` from the start.
 pub fn variations_of<P, S: Splitter<P>>(
     alloc: Global,
     s: &S,
     variants: &[Seq<S::Variant>],
-) -> Result<Vec<Seq<Variation>>, OutOfMemory>
-    ensures { IfOk result (λ lists. lists.items ≡ map (map (S.rule s.now).variation) variants.now) }
+    total: usize,
+) -> Result<Vec<Variation>, OutOfMemory>
+    ensures { IfOk result (λ made. made.items ≡ flat_map (map (S.rule s.now).variation) variants.now) }
 {
-    let mut lists = Vec::with_capacity(alloc, variants.len())?;
+    let mut variations = Vec::with_capacity(alloc, total)?;
     for list in variants {
-        lists.push(variations_in(alloc, s, list.as_slice())?)?;
+        add_variations(s, list.as_slice(), &mut variations)?;
     }
-    Ok(lists)
+    Ok(variations)
 }

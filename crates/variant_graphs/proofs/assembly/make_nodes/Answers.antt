@@ -1,4 +1,4 @@
-use Rattle.std.proofs.Common.{◌≡◌, ◌<◌, ap, length, arith, ◌∙◌, get_or, map, take, List, [], ◌∷◌, ◌++◌, sym, subst}
+use Rattle.std.proofs.Common.{◌≡◌, ◌<◌, ◌+◌, ap, length, arith, ◌∙◌, get_or, map, take, List, [], ◌∷◌, ◌++◌, sym, subst}
 use Rattle.std.specs.List.{AllByRecursion}
 use Rattle.std.proofs.lemmas.List.{length-append}
 use Rattle.std.proofs.lemmas.Iterator.Adapters.{YieldsList-from_vec}
@@ -9,7 +9,7 @@ use Rattle.module_graph.specs.declared.graph.Node.{Node}
 use Rattle.variant_graphs.specs.Inside.{node_by}
 use Rattle.variant_graphs.specs.Splitting.{splitting, variants_at, variant_node, split_nodes}
 use Rattle.variant_graphs.proofs.Alls.{by_number_step}
-use Rattle.variant_graphs.proofs.Begun.{fits, listed_length, same_variant}
+use Rattle.variant_graphs.proofs.Begun.{begins_long, fits, same_variant}
 use Rattle.variant_graphs.proofs.Beyond.{ends_of_node}
 use Rattle.variant_graphs.proofs.assembly.make_nodes.Goals as goal
 
@@ -60,9 +60,10 @@ add_variants-requires-clause-to g c =
     let at = c.loop-list.invariant.1 in
     let lt : c.loop-list.n < length c.args.g.now.nodes = omega (arith, turn.0) in
     let node_is : node ≡ get_or nodes n node = c.index-nodes-n.is ∙ ap (λ l. get_or l n node) c.as_slice-nodes.ensures in
-    let listed = listed_length (g.S.Splitter.rule c.args.s.now) c.args.variants.items c.args.numbering.now c.requires.numbering in
-    subst (λ k. AllByRecursion (λ (e : Edge). e.to.0 < k) node.edges) (sym many ∙ sym listed)
-    (ends_of_node nodes c.requires.numbered.ends n node lt node_is)
+    let s = splitting (g.S.Splitter.rule c.args.s.now) c.args.variants.items in
+    let long = begins_long s c.args.numbering.now c.requires.numbering in
+    all_map (λ (e : Edge). e.to.0 < length nodes) (λ (e : Edge). e.to.0 + 1 < length c.args.numbering.now.begins.items)
+    (λ e inside. omega arith) node.edges (ends_of_node nodes c.requires.numbered.ends n node lt node_is)
 
 pub loop-list-preserved : goal.loop-list-preserved
 loop-list-preserved g c =

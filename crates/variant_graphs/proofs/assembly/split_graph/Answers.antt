@@ -1,9 +1,10 @@
-use Rattle.std.proofs.Common.{◌≤◌, ap, subst, List, length, ◌∙◌, map, Err, ℕ, None, Some}
+use Rattle.std.proofs.Common.{◌≤◌, ◌+◌, ap, arith, subst, List, length, ◌∙◌, map, Err, ℕ, None, Some}
+use Rattle.std.specs.List.{flat_map}
+use Rattle.std.proofs.lemmas.List.FromFn.{length-map-range_with_len}
 use Rattle.bp_faults.specs.declared.limits.TheConstants.{MOST_NODES}
-use Rattle.variant_graphs.specs.Inside.{total, begins, counts_of, AnswersBegins, IsEdgeBeyond}
+use Rattle.variant_graphs.specs.Inside.{total, before, begins, counts_of, AnswersBegins, IsEdgeBeyond}
 use Rattle.variant_graphs.specs.Splitting.{splitting}
 use Rattle.variant_graphs.proofs.Assembled.{node_beyond, edge_found, within_limits, handed_on}
-use Rattle.variant_graphs.proofs.Begun.{variations_differ}
 use Rattle.variant_graphs.proofs.assembly.split_graph.Goals as goal
 
 pub returns-in_err-begins : goal.returns-in_err-begins
@@ -28,6 +29,13 @@ returns-in-Some g c =
     (subst (λ (l : List ℕ). IsEdgeBeyond l nodes (Some c.in-Some.place)) (c.deref-3.ensures.value ∙ counts)
     c.in-Some.ensures)
 
+pub index-requires : goal.index-requires
+index-requires g c =
+    let begun = ap length c.in_ok-begins.ensures.0
+    ∙ length-map-range_with_len (before c.deref-2.result.now) 0 (length c.deref-2.result.now + 1) in
+    let counts = ap length c.deref-2.ensures.value in
+    omega arith
+
 pub make_nodes-requires-clause-numbering : goal.make_nodes-requires-clause-numbering
 make_nodes-requires-clause-numbering g c =
     let s = splitting (g.S.Splitter.rule c.args.s.now) c.args.variants.items in
@@ -35,8 +43,8 @@ make_nodes-requires-clause-numbering g c =
     record {
       begins = c.in_ok-begins.ensures.0 ∙ ap begins counts;
       few = subst (λ (l : List ℕ). total l ≤ MOST_NODES) counts c.in_ok-begins.ensures.1;
-      variations = c.in_ok-variations.ensures ∙ ap (map (map s.variation)) c.deref-4.ensures.value;
-      differ = variations_differ s c.requires.splits.differ;
+      variations = c.in_ok-variations.ensures ∙ ap (flat_map (map s.variation)) c.deref-4.ensures.value;
+      differ = c.requires.splits.differ;
       within = c.requires.splits.within;
     }
 

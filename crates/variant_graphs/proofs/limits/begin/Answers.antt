@@ -1,4 +1,4 @@
-use Rattle.std.proofs.Common.{◌≡◌, ◌∙◌, ap, get_or, ◌<◌, length, arith, sym, Some}
+use Rattle.std.proofs.Common.{◌≡◌, ◌∙◌, ap, get_or, ◌<◌, ◌+◌, length, arith, sym, Some}
 use Rattle.std.proofs.lemmas.Grind.{common_steps}
 use Rattle.std.proofs.lemmas.Option.{slice_get-get_or}
 use Rattle.std.specs.Option.{option_map}
@@ -29,7 +29,7 @@ loop-n-preserved g c =
     let lt : n < length c.args.counts.now = omega arith in
     let more = before_more c.args.counts.now n lt in
     let total = c.loop-n.invariant.total in
-    let begins = map-range_with_len_more (before c.args.counts.now) 0 n n (omega arith) in
+    let begins = map-range_with_len_more (before c.args.counts.now) 0 (n + 1) (n + 1) (omega arith) in
     record {
       total = omega arith;
       few = omega arith;
