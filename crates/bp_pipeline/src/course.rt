@@ -127,6 +127,8 @@ pub fn graph_after<R: Threads + Sync, G: Gate + Sync>(
     ensures means { Tells (λ g. g.nodes) (GraphAfter mods.now c.now k) result }
     ensures valid { IfOk result (λ g. IsValid g.nodes) }
 {
-    let graph = shared_graph_after(rt, alloc, mods, c, k, workers, gate)?;
-    Ok(with_own_records(alloc, graph)?)
+    match shared_graph_after(rt, alloc, mods, c, k, workers, gate) {
+        Ok(shared) => Ok(with_own_records(alloc, shared)?),
+        Err(refusal) => Err(refusal),
+    }
 }
