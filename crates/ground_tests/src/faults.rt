@@ -169,6 +169,50 @@ fn the_root_is_the_empty_path(rt: HostRuntime) -> Result<(), Fail> {
     Ok(())
 }
 
+/// A text of so many letters that is put together letter by letter, in a text with room for `room` bytes.
+fn letters(alloc: Global, room: usize, count: u32) -> Result<Text, OutOfMemory> {
+    let mut text = Text::with_room(alloc, room)?;
+    for _letter in 0..count {
+        text.push_str("a")?;
+    }
+    Ok(text)
+}
+
+/// Whether such a text, its copy and one that is made of its string are the same.
+fn is_same_text(alloc: Global, room: usize, count: u32) -> Result<bool, OutOfMemory> {
+    let text = letters(alloc, room, count)?;
+    let string = "a".repeat(alloc, count as usize)?;
+    let copy = copied(alloc, &text)?;
+    Ok(text == Text::compact(alloc, string) && text == copy)
+}
+
+/// Rooms and lengths on both sides of the longest short text.
+const LENGTHS: &[(usize, u32)] = &[
+    (0, 0),
+    (0, 16),
+    (16, 16),
+    (0, 17),
+    (16, 17),
+    (17, 3),
+    (17, 40),
+];
+
+/// The first length of which texts differ.
+fn wrongly_long(alloc: Global) -> Result<Option<u32>, OutOfMemory> {
+    for (room, count) in LENGTHS {
+        if !is_same_text(alloc, *room, *count)? {
+            return Ok(Some(*count));
+        }
+    }
+    Ok(None)
+}
+
+#[test]
+fn short_texts_grow_long(rt: HostRuntime) -> Result<(), Fail> {
+    assert_eq!(rt; wrongly_long(rt.alloc())?, None);
+    Ok(())
+}
+
 /// A sequence of one item.
 fn one_item(alloc: Global, word: &str) -> Result<Seq<Item>, OutOfMemory> {
     let mut seq = Seq::new(Vec::new(alloc));
