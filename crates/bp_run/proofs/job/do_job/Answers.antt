@@ -9,6 +9,6 @@ returns-in_err-typed-clause-gives g c =
 
 pub returns-clause-gives : goal.returns-clause-gives
 returns-clause-gives g c =
-    job_made c.args.paths.now c.args.configuration.now _ c.in_ok-typed.typed.items c.make.result
+    job_made c.args.paths.now c.args.configuration.now _ c.in_ok-typed.typed.items c.make-made.result
     c.in_ok-typed.ensures.gives
-    (subst (λ typed. MakesOf c.args.configuration.now typed c.make.result) c.deref.ensures.value c.make.ensures.makes)
+    (subst (λ typed. MakesOf c.args.configuration.now typed c.make-made.result) c.deref.ensures.value c.make-made.ensures.makes)
