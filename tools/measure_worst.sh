@@ -1,8 +1,9 @@
 #!/bin/sh
 # Measures the program on the worst inputs within its limits: `measure_worst.sh [PROGRAM [CASE ..]]`, by default
 # ./bpgen and all cases. For each it prints a row of docs/PERFORMANCE.md: the case, bytes in and out, the exit status, and
-# the least processor time, the least time by the clock and the greatest memory of RUNS runs (3). It needs GNU time and awk, and is
-# no part of the gate.
+# the least processor time, the least time by the clock and the greatest memory of RUNS runs (3). TARGETS follows -t
+# (android_arm64). The cases `flags`, `many_sources` and `one_list` are run only by name: they take 4 GB and more, so a
+# limit (ulimit -v) should stand. It needs GNU time and awk, and is no part of the gate.
 set -eu
 
 top=$(cd "$(dirname "$0")/.." && pwd)
@@ -265,6 +266,34 @@ tree_of() {
                 printf "s = ["; for (n = 0; n < 65536; n++) printf "\"%d.c\",", n
                 print "]\ncc_test{name:\"t\",test_per_src:true,srcs:s}"
             }' | alone ;;
+        flags)
+            echo "340 libraries with 65,000 flags each"
+            awk 'BEGIN {
+                flags = "\"\""; for (n = 1; n < 65000; n++) flags = flags ",\"\""
+                for (n = 0; n < 340; n++) {
+                    file = "d" int(n / 5) "/Android.bp"
+                    if (n % 5 == 0) { print file > "list"; system("mkdir -p d" int(n / 5)) }
+                    print "cc_library{name:\"m" n "\",srcs:[\"a.c\"],cflags:[" flags "]}" > file
+                }
+            }' ;;
+        many_sources)
+            echo "66 libraries with 58,000 sources each"
+            awk 'BEGIN {
+                for (n = 0; n < 58000; n++) sources = sources sprintf("\"%04x.c\",", n)
+                for (n = 0; n < 66; n++) {
+                    file = "d" n "/Android.bp"
+                    print file > "list"
+                    system("mkdir -p d" n)
+                    print "cc_library_static{name:\"m" n "\",srcs:[" sources "]}" > file
+                    close(file)
+                }
+            }' ;;
+        one_list)
+            echo "10,000 libraries that name one list of 65,536 sources"
+            awk 'BEGIN {
+                printf "s = ["; for (n = 0; n < 65536; n++) printf "\"%d.c\",", n
+                print "]"; for (n = 0; n < 10000; n++) print "cc_library_static{name:\"m" n "\",srcs:s}"
+            }' | alone ;;
         edges)
             echo "a library that names one library 65,536 times in each of four lists"
             awk 'BEGIN {
@@ -319,7 +348,7 @@ for case in $cases; do
     while [ "$n" -lt "$runs" ]; do
         status=0
         /usr/bin/time -q -a -o "$work/times" -f "%U %S %e %M" \
-            "$program" $words -l list -o "$work/out" -t android_arm64 2> /dev/null || status=$?
+            "$program" $words -l list -o "$work/out" -t "${TARGETS:-android_arm64}" 2> /dev/null || status=$?
         n=$((n + 1))
     done
     in=$(find . -type f -exec cat {} + | wc -c)
