@@ -17,10 +17,10 @@ use crate::records::leave_records;
 use crate::workshop::Workshop;
 use bp_faults::{NodeId, Refusal};
 use bp_ports::Gate;
-use bp_props::Props;
 use build_actions::{ActionVisit, Actions};
 use module_graph::laws::{predecessors_are_targets, valid_plans_have_no_cycle};
 use module_graph::{Direction, Graph, plan};
+use module_rules::Record;
 use pass_ways::{WayError, WayRun, run_by_way};
 use std::alloc::Global;
 use std::sync::Arc;
@@ -32,14 +32,14 @@ fn act<R: Threads + Sync, G: Gate + Sync>(
     alloc: Global,
     shop: &Workshop<'_, G>,
     before: &[(u32, NodeId)],
-    graph: &Graph<Props>,
+    graph: &Graph<Record>,
 ) -> Result<WayRun<Actions>, WayError>
     requires may { MayStep shop.now before.now graph.now.nodes }
     ensures { AnswersWay shop.now.way (acts_at shop.now.mods.now graph.now.nodes)
         (plan_of BottomUp graph.now.nodes) ACTIONS before.now result }
 {
-    valid_plans_have_no_cycle::<Props>();
-    predecessors_are_targets::<Props>();
+    valid_plans_have_no_cycle::<Record>();
+    predecessors_are_targets::<Record>();
     let plan = plan(alloc, graph, Direction::BottomUp)?;
     let visit = ActionVisit::new(shop.mods, graph);
     run_by_way(rt, alloc, &shop.way, before, ACTIONS, &plan, &visit)
@@ -51,7 +51,7 @@ fn run_actions<R: Threads + Sync, G: Gate + Sync>(
     alloc: Global,
     shop: &Workshop<'_, G>,
     journal: &mut Vec<(u32, NodeId)>,
-    graph: &Graph<Props>,
+    graph: &Graph<Record>,
 ) -> Result<Vec<Arc<Actions>>, Refusal>
     requires may { MayStep shop.now journal.old.items graph.now.nodes }
     ensures { TellsPass shop.now.way (λ made. map arc_value made.items)

@@ -62,7 +62,7 @@ pub fn run_mutators<R: Threads + Sync, G: Gate + Sync>(
     shop: &Workshop<'_, G>,
     journal: &mut Vec<(u32, NodeId)>,
     sizes: &mut Vec<Sizes>,
-) -> Result<Graph<Props>, Refusal>
+) -> Result<Graph<Record>, Refusal>
     requires may { MayStart shop.now }
     requires unvisited { journal.old.items ≡ [] }
     requires uncounted { sizes.old.items ≡ [] }
@@ -77,7 +77,7 @@ pub fn run_mutators<R: Threads + Sync, G: Gate + Sync>(
         graph = run_passes(rt, alloc, shop, journal, from, to, graph)?;
         sizes.push(sizes_of(&graph))?;
     }
-    Ok(with_own_records(alloc, graph)?)
+    Ok(graph)
 }
 
 /// As `graph_after`, where nodes share the records that the mutators left as they are.

@@ -34,7 +34,7 @@ pub fn with_own_records(alloc: Global, g: Graph<Record>) -> Result<Graph<Props>,
 
 /// Frees the list of a graph's nodes alone. To free the lists and texts of all records one by one takes a tenth of all
 /// the time, so they are left to the end of the process.
-pub fn leave_records(g: Graph<Props>) {
+pub fn leave_records(g: Graph<Record>) {
     for node in g.nodes.into_vec() {
         mem::forget(node);
     }

@@ -10,8 +10,9 @@ use crate::path::{Role, output_in, role_of};
 use crate::product::{objects_over, product_step, whole_of};
 use crate::sources::check_sources;
 use bp_faults::{Item, OutOfMemory, Seq};
-use bp_props::{Module, Props};
+use bp_props::Module;
 use module_graph::{Graph, Node};
+use module_rules::Record;
 use pass_core::VisitError;
 use std::alloc::Global;
 use std::sync::Arc;
@@ -32,9 +33,9 @@ pub fn idle(alloc: Global, files: Vec<Item>) -> Actions
 fn make(
     alloc: Global,
     modules: &[Module],
-    graph: &Graph<Props>,
+    graph: &Graph<Record>,
     module: &Module,
-    node: &Node<Props>,
+    node: &Node<Record>,
     ins: &[Arc<Actions>],
     files: Vec<Item>,
 ) -> Result<Actions, OutOfMemory>
@@ -61,9 +62,9 @@ fn make(
 pub fn act(
     alloc: Global,
     modules: &[Module],
-    graph: &Graph<Props>,
+    graph: &Graph<Record>,
     module: &Module,
-    node: &Node<Props>,
+    node: &Node<Record>,
     ins: &[Arc<Actions>],
 ) -> Result<Actions, VisitError>
     ensures { Answers (λ made. made) result

@@ -10,8 +10,9 @@ use crate::path::{directory_of, object_path};
 use crate::sources::{Language, SourceKind, source_kind};
 use crate::variables::compile_variables;
 use bp_faults::{Item, OutOfMemory, Seq, Text, copy_all};
-use bp_props::{Module, Props};
+use bp_props::Module;
 use module_graph::Node;
+use module_rules::Record;
 use ninja_file::Statement;
 use std::alloc::Global;
 
@@ -70,7 +71,7 @@ fn headers_of(alloc: Global, files: &[Item]) -> Result<Vec<Text>, OutOfMemory>
 pub fn compiler_of(
     alloc: Global,
     module: &Module,
-    node: &Node<Props>,
+    node: &Node<Record>,
     files: &[Item],
 ) -> Result<Compiler, OutOfMemory>
     ensures { IfOk result (λ compiler. compiler ≡ compiler_of «module».now node.now files.now) }
@@ -113,7 +114,7 @@ pub fn copy_variables(
 ) -> Result<Seq<(Text, Text)>, OutOfMemory>
     ensures { IfOk result (λ copies. copies ≡ variables.now) }
 {
-    let mut copies = Vec::new(alloc);
+    let mut copies = Vec::with_capacity(alloc, variables.len())?;
     for (key, value) in variables {
         copies.push((key.copy(alloc)?, value.copy(alloc)?))?;
     }
@@ -152,7 +153,7 @@ fn compile_file(
     }
 }
 
-/// The compile steps of some files: one for each that isn't a header.
+/// The compile steps of some files: one for each that isn't a header. There is room for one statement more.
 pub fn compile_all(
     alloc: Global,
     compiler: &Compiler,
@@ -160,7 +161,7 @@ pub fn compile_all(
 ) -> Result<Vec<Statement>, OutOfMemory>
     ensures { IfOk result (λ statements. statements.items ≡ compile_steps compiler.now files.now) }
 {
-    let mut statements = Vec::new(alloc);
+    let mut statements = Vec::with_capacity(alloc, files.len().saturating_add(1))?;
     for file in files {
         push_some(&mut statements, compile_file(alloc, compiler, file)?)?;
     }

@@ -31,11 +31,20 @@ fn append(statements: &mut Vec<Statement>, more: Vec<Statement>) -> Result<(), O
     Ok(())
 }
 
+// How many statements there are. A count beyond any memory stays where it is.
+fn count_all(made: &[Arc<Actions>]) -> usize {
+    let mut count = 0usize;
+    for node in made {
+        count = count.saturating_add(node.statements.as_slice().len());
+    }
+    count
+}
+
 fn join_all(alloc: Global, made: Vec<Arc<Actions>>) -> Result<Vec<Statement>, OutOfMemory>
     ensures { IfOk result (λ statements. statements.items
         ≡ flat_map (λ (node : Actions). node.statements) (map arc_value made.items)) }
 {
-    let mut statements = Vec::new(alloc);
+    let mut statements = Vec::with_capacity(alloc, count_all(made.as_slice()).saturating_add(1))?;
     for node in made {
         append(&mut statements, take(alloc, node)?)?;
     }

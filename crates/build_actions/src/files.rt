@@ -7,8 +7,9 @@ ghost use Rattle.build_actions.specs.Files.{files_of};
 use crate::Actions;
 use crate::gather::push_result;
 use bp_faults::{Item, NodeId, OutOfMemory, Payload, Text};
-use bp_props::{Module, Props, Source};
+use bp_props::{Module, Source};
 use module_graph::{Axis, Edge, EdgeKind, Graph, Node, Variation};
+use module_rules::Record;
 use std::alloc::Global;
 use std::sync::Arc;
 
@@ -24,13 +25,13 @@ fn is_of_one_source(variation: Variation) -> bool
     matches!(variation, Variation::PerSource(_))
 }
 
-fn has_one_source(node: &Node<Props>) -> bool
+fn has_one_source(node: &Node<Record>) -> bool
     ensures { result ≡ has_one_source node.now }
 {
     is_of_one_source(node.vars.get(Axis::PerSource))
 }
 
-fn is_named(modules: &[Module], graph: &Graph<Props>, n: NodeId, name: &Text) -> bool
+fn is_named(modules: &[Module], graph: &Graph<Record>, n: NodeId, name: &Text) -> bool
     ensures { result ≡ is_named modules.now graph.now.nodes n.0 name.now }
 {
     let Some(node) = graph.nodes.as_slice().get(n.0 as usize) else {
@@ -43,16 +44,16 @@ fn is_named(modules: &[Module], graph: &Graph<Props>, n: NodeId, name: &Text) ->
 }
 
 // Whether a node is of the module that the first source of another asks for.
-fn is_kept(modules: &[Module], graph: &Graph<Props>, node: &Node<Props>, n: NodeId) -> bool
+fn is_kept(modules: &[Module], graph: &Graph<Record>, node: &Node<Record>, n: NodeId) -> bool
     ensures { result ≡ is_kept modules.now graph.now.nodes node.now n.0 }
 {
-    match node.payload.base.srcs.items.as_slice().first() {
+    match node.payload.given().base.srcs.items.as_slice().first() {
         Some(source) => is_named(modules, graph, n, &source.item.text),
         None => false,
     }
 }
 
-fn leads_to_files(modules: &[Module], graph: &Graph<Props>, node: &Node<Props>, edge: &Edge) -> bool
+fn leads_to_files(modules: &[Module], graph: &Graph<Record>, node: &Node<Record>, edge: &Edge) -> bool
     ensures { result ≡ leads_to_files modules.now graph.now.nodes node.now edge.now }
 {
     is_sources(edge.kind) && (!has_one_source(node) || is_kept(modules, graph, node, edge.to))
@@ -62,8 +63,8 @@ fn leads_to_files(modules: &[Module], graph: &Graph<Props>, node: &Node<Props>, 
 fn given(
     alloc: Global,
     modules: &[Module],
-    graph: &Graph<Props>,
-    node: &Node<Props>,
+    graph: &Graph<Record>,
+    node: &Node<Record>,
     edges: &[Edge],
     ins: &[Arc<Actions>],
 ) -> Result<Vec<Arc<Actions>>, OutOfMemory>
@@ -135,7 +136,7 @@ fn files_over(
 ) -> Result<Vec<Item>, OutOfMemory>
     ensures { IfOk result (λ files. files.items ≡ files_over sources.now (map arc_value given.now)) }
 {
-    let mut files = Vec::new(alloc);
+    let mut files = Vec::with_capacity(alloc, sources.len())?;
     let mut left = given;
     for source in sources {
         add_source(alloc, &mut files, source, left)?;
@@ -148,8 +149,8 @@ fn files_over(
 pub fn files_of(
     alloc: Global,
     modules: &[Module],
-    graph: &Graph<Props>,
-    node: &Node<Props>,
+    graph: &Graph<Record>,
+    node: &Node<Record>,
     ins: &[Arc<Actions>],
 ) -> Result<Vec<Item>, OutOfMemory>
     ensures { IfOk result (λ files. files.items
@@ -158,7 +159,7 @@ pub fn files_of(
     let given = given(alloc, modules, graph, node, node.edges.as_slice(), ins)?;
     files_over(
         alloc,
-        node.payload.base.srcs.items.as_slice(),
+        node.payload.given().base.srcs.items.as_slice(),
         given.as_slice(),
     )
 }

@@ -25,7 +25,7 @@ pub fn push_some<T: Drop>(items: &mut Vec<T>, item: Option<T>) -> Result<(), Out
 pub fn one(alloc: Global, text: Text) -> Result<Seq<Text>, OutOfMemory>
     ensures { IfOk result (λ texts. texts ≡ text ∷ []) }
 {
-    let mut texts = Seq::new(Vec::new(alloc));
+    let mut texts = Seq::new(Vec::with_capacity(alloc, 1)?);
     texts.push(text)?;
     Ok(texts)
 }
@@ -62,7 +62,7 @@ pub fn keep_first(alloc: Global, texts: &[&str]) -> Result<Vec<Text>, OutOfMemor
 {
     sets_grow_with_lists();
     let mut seen = NameSet::new(alloc);
-    let mut kept = Vec::new(alloc);
+    let mut kept = Vec::with_capacity(alloc, texts.len())?;
     for text in texts {
         keep(alloc, &mut seen, &mut kept, text)?;
     }

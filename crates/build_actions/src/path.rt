@@ -3,8 +3,9 @@ ghost use Rattle.build_actions.specs.Paths.{directory_of, object_path, link_of, 
 ghost use Rattle.build_actions.specs.Paths.{output_in, output_of, output_at};
 
 use bp_faults::{NodeId, OutOfMemory, Text};
-use bp_props::{Module, ModuleKind, Props};
+use bp_props::{Module, ModuleKind};
 use module_graph::{Axis, Graph, Node, Variation, variant_name};
+use module_rules::Record;
 use std::alloc::Global;
 
 /// What a module is to the build: it makes something, it gives files, or neither.
@@ -45,7 +46,7 @@ fn product_by(link: Variation) -> Product
 }
 
 /// What a node makes, by its link variation.
-pub fn product_of(node: &Node<Props>) -> Product
+pub fn product_of(node: &Node<Record>) -> Product
     ensures { result ≡ product_of (link_of node.now) }
 {
     product_by(node.vars.get(Axis::Link))
@@ -62,7 +63,7 @@ fn suffix_of(product: Product) -> &'static str
 }
 
 /// Where the outputs of a node stand.
-pub fn directory_of(alloc: Global, module: &Module, node: &Node<Props>) -> Result<Text, OutOfMemory>
+pub fn directory_of(alloc: Global, module: &Module, node: &Node<Record>) -> Result<Text, OutOfMemory>
     ensures { IfOk result (λ path. path ≡ directory_of «module».now node.now) }
 {
     let variant = variant_name(alloc, &node.vars)?;
@@ -85,7 +86,7 @@ pub fn output_in(
     alloc: Global,
     directory: &Text,
     module: &Module,
-    node: &Node<Props>,
+    node: &Node<Record>,
 ) -> Result<Text, OutOfMemory>
     ensures { IfOk result (λ path. path ≡ output_in directory.now «module».now node.now) }
 {
@@ -99,7 +100,7 @@ pub fn output_in(
 pub fn output_of(
     alloc: Global,
     module: &Module,
-    node: &Node<Props>,
+    node: &Node<Record>,
 ) -> Result<Option<Text>, OutOfMemory>
     ensures { IfOk result (λ path. path ≡ output_of «module».now node.now) }
 {
@@ -116,7 +117,7 @@ pub fn output_of(
 pub fn output_at(
     alloc: Global,
     modules: &[Module],
-    graph: &Graph<Props>,
+    graph: &Graph<Record>,
     n: NodeId,
 ) -> Result<Option<Text>, OutOfMemory>
     ensures { IfOk result (λ path. path ≡ output_at modules.now graph.now.nodes n.0) }

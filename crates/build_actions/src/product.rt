@@ -13,8 +13,9 @@ use crate::gather::{add_texts, keep_first, one, push_result, push_some};
 use crate::path::{Product, output_at, product_of};
 use crate::variables::link_variables;
 use bp_faults::{NodeId, OutOfMemory, Seq, Text, copy_all};
-use bp_props::{Module, Props};
+use bp_props::Module;
 use module_graph::{Edge, EdgeKind, Graph, Node};
+use module_rules::Record;
 use ninja_file::Statement;
 use std::alloc::Global;
 use std::sync::Arc;
@@ -88,7 +89,7 @@ pub fn objects_over(
 fn add_outputs(
     alloc: Global,
     modules: &[Module],
-    graph: &Graph<Props>,
+    graph: &Graph<Record>,
     numbers: &[NodeId],
     paths: &mut Vec<Text>,
 ) -> Result<(), OutOfMemory>
@@ -103,7 +104,7 @@ fn add_outputs(
 fn data_output(
     alloc: Global,
     modules: &[Module],
-    graph: &Graph<Props>,
+    graph: &Graph<Record>,
     edge: &Edge,
 ) -> Result<Option<Text>, OutOfMemory>
     ensures { IfOk result (λ path. path ≡ data_output modules.now graph.now.nodes edge.now) }
@@ -118,7 +119,7 @@ fn data_output(
 fn listed_data(
     alloc: Global,
     modules: &[Module],
-    graph: &Graph<Props>,
+    graph: &Graph<Record>,
     edges: &[Edge],
 ) -> Result<Vec<Text>, OutOfMemory>
     ensures { IfOk result (λ paths. paths.items ≡ filter_map (data_output modules.now graph.now.nodes) edges.now) }
@@ -134,7 +135,7 @@ fn listed_data(
 fn data_outputs(
     alloc: Global,
     modules: &[Module],
-    graph: &Graph<Props>,
+    graph: &Graph<Record>,
     edges: &[Edge],
 ) -> Result<Vec<Text>, OutOfMemory>
     ensures { IfOk result (λ paths. paths.items ≡ data_outputs modules.now graph.now.nodes edges.now) }
@@ -162,16 +163,16 @@ fn archive(alloc: Global, output: &Text, objects: &[Text]) -> Result<Statement, 
 fn link_ins(
     alloc: Global,
     modules: &[Module],
-    graph: &Graph<Props>,
-    node: &Node<Props>,
+    graph: &Graph<Record>,
+    node: &Node<Record>,
     objects: &[Text],
 ) -> Result<Vec<Text>, OutOfMemory>
     ensures { IfOk result (λ ins. ins.items ≡ link_ins modules.now graph.now.nodes node.now objects.now) }
 {
     let mut ins = copy_all(alloc, objects)?;
-    let line = node.payload.line.as_slice();
+    let line = node.payload.line();
     add_outputs(alloc, modules, graph, line, &mut ins)?;
-    let slibs = node.payload.slibs.as_slice();
+    let slibs = node.payload.slibs();
     add_outputs(alloc, modules, graph, slibs, &mut ins)?;
     Ok(ins)
 }
@@ -179,8 +180,8 @@ fn link_ins(
 fn link(
     alloc: Global,
     modules: &[Module],
-    graph: &Graph<Props>,
-    node: &Node<Props>,
+    graph: &Graph<Record>,
+    node: &Node<Record>,
     rule: &str,
     output: &Text,
     objects: &[Text],
@@ -204,8 +205,8 @@ fn link(
 pub fn product_step(
     alloc: Global,
     modules: &[Module],
-    graph: &Graph<Props>,
-    node: &Node<Props>,
+    graph: &Graph<Record>,
+    node: &Node<Record>,
     output: &Text,
     objects: &[Text],
 ) -> Result<Statement, OutOfMemory>

@@ -7,8 +7,8 @@ ghost use Rattle.build_actions.specs.Variables.{link_variables};
 use crate::line::{add_words, join};
 use crate::sources::Language;
 use bp_faults::{OutOfMemory, Path, Seq, Target, Text};
-use bp_props::Props;
 use module_graph::{Axis, Node, Variation};
+use module_rules::Record;
 use std::alloc::Global;
 
 fn target_word(target: Target) -> &'static str
@@ -33,7 +33,7 @@ fn target_by(variation: Variation) -> &'static str
     }
 }
 
-fn target_of(node: &Node<Props>) -> &'static str
+fn target_of(node: &Node<Record>) -> &'static str
     ensures { result.now ≡ target_of node.now }
 {
     target_by(node.vars.get(Axis::Target))
@@ -69,29 +69,40 @@ fn add_level(alloc: Global, words: &mut Vec<Text>, level: u32) -> Result<(), Out
     Ok(())
 }
 
-fn flags_of(alloc: Global, props: &Props, language: Language) -> Result<Vec<Text>, OutOfMemory>
-    ensures { IfOk result (λ words. words.items ≡ flags_of props.now language) }
+fn add_cflags(alloc: Global, words: &mut Vec<Text>, own: &Record) -> Result<(), OutOfMemory>
+    ensures { OnOk result (words.new.items ≡ words.old.items ++ own.now.base.cflags.items) }
+{
+    let (flags, pic) = own.cflags();
+    add_words(alloc, words, flags)?;
+    if pic {
+        words.push(Text::from_str(alloc, "-fPIC")?)?;
+    }
+    Ok(())
+}
+
+fn flags_of(alloc: Global, own: &Record, language: Language) -> Result<Vec<Text>, OutOfMemory>
+    ensures { IfOk result (λ words. words.items ≡ flags_of own.now language) }
 {
     let mut words = Vec::new(alloc);
     match language {
         Language::C => {
-            add_words(alloc, &mut words, props.base.cflags.items.as_slice())?;
-            add_words(alloc, &mut words, props.base.conlyflags.items.as_slice())?;
+            add_cflags(alloc, &mut words, own)?;
+            add_words(alloc, &mut words, own.given().base.conlyflags.items.as_slice())?;
         }
         Language::Cxx => {
-            add_words(alloc, &mut words, props.base.cflags.items.as_slice())?;
-            add_words(alloc, &mut words, props.base.cppflags.items.as_slice())?;
+            add_cflags(alloc, &mut words, own)?;
+            add_words(alloc, &mut words, own.given().base.cppflags.items.as_slice())?;
         }
-        Language::Assembler => add_words(alloc, &mut words, props.base.asflags.items.as_slice())?,
+        Language::Assembler => add_words(alloc, &mut words, own.given().base.asflags.items.as_slice())?,
     }
     Ok(words)
 }
 
-fn cflags_of(alloc: Global, props: &Props, language: Language) -> Result<Text, OutOfMemory>
-    ensures { IfOk result (λ line. line ≡ cflags_of props.now language) }
+fn cflags_of(alloc: Global, own: &Record, language: Language) -> Result<Text, OutOfMemory>
+    ensures { IfOk result (λ line. line ≡ cflags_of own.now language) }
 {
-    let mut words = flags_of(alloc, props, language)?;
-    add_level(alloc, &mut words, props.level)?;
+    let mut words = flags_of(alloc, own, language)?;
+    add_level(alloc, &mut words, own.level())?;
     join(alloc, words.as_slice())
 }
 
@@ -115,22 +126,22 @@ fn include_words(alloc: Global, paths: &[Path]) -> Result<Vec<Text>, OutOfMemory
     Ok(words)
 }
 
-fn includes_of(alloc: Global, props: &Props) -> Result<Text, OutOfMemory>
-    ensures { IfOk result (λ line. line ≡ includes_of props.now) }
+fn includes_of(alloc: Global, own: &Record) -> Result<Text, OutOfMemory>
+    ensures { IfOk result (λ line. line ≡ includes_of own.now) }
 {
-    let words = include_words(alloc, props.includes.as_slice())?;
+    let words = include_words(alloc, own.includes())?;
     join(alloc, words.as_slice())
 }
 
 /// The variables of the compile steps of a node in a language.
 pub fn compile_variables(
     alloc: Global,
-    node: &Node<Props>,
+    node: &Node<Record>,
     language: Language,
 ) -> Result<Seq<(Text, Text)>, OutOfMemory>
     ensures { IfOk result (λ variables. variables ≡ compile_variables node.now language) }
 {
-    let mut variables = Seq::new(Vec::new(alloc));
+    let mut variables = Seq::new(Vec::with_capacity(alloc, 3)?);
     let target = Text::from_str(alloc, target_of(node))?;
     bind(alloc, &mut variables, "target", target)?;
     let cflags = cflags_of(alloc, &node.payload, language)?;
@@ -141,13 +152,13 @@ pub fn compile_variables(
 }
 
 /// The variables of the link step of a node.
-pub fn link_variables(alloc: Global, node: &Node<Props>) -> Result<Seq<(Text, Text)>, OutOfMemory>
+pub fn link_variables(alloc: Global, node: &Node<Record>) -> Result<Seq<(Text, Text)>, OutOfMemory>
     ensures { IfOk result (λ variables. variables ≡ link_variables node.now) }
 {
-    let mut variables = Seq::new(Vec::new(alloc));
+    let mut variables = Seq::new(Vec::with_capacity(alloc, 2)?);
     let target = Text::from_str(alloc, target_of(node))?;
     bind(alloc, &mut variables, "target", target)?;
-    let ldflags = join(alloc, node.payload.base.ldflags.items.as_slice())?;
+    let ldflags = join(alloc, node.payload.given().base.ldflags.items.as_slice())?;
     bind(alloc, &mut variables, "ldflags", ldflags)?;
     Ok(variables)
 }

@@ -47,7 +47,7 @@ fn ask_defaults(
     ensures { IfOk result (λ asked. asked ≡ defaults_asked item.now node.now) }
 {
     let mut asked = Seq::new(Vec::new(alloc));
-    let list = &node.payload.props().defaults;
+    let list = &node.payload.given().defaults;
     ask(alloc, &mut asked, EdgeKind::Defaults, NO_VARIATIONS, list)?;
     Ok(asked)
 }

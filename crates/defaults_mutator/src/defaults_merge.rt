@@ -52,7 +52,7 @@ fn over_defaults(
     match given {
         None => own.copy(alloc),
         Some(mut made) => {
-            made.over(alloc, own.props())?;
+            own.put_over(alloc, &mut made)?;
             made.restrict(kind);
             Record::new(alloc, made)
         }

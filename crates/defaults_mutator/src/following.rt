@@ -3,7 +3,7 @@ ghost use Rattle.std.specs.Arc.{arc_value};
 ghost use Rattle.defaults_mutator.specs.Inside.{one_record_more};
 ghost use Rattle.defaults_mutator.specs.Merged.{record_along, records_followed, defaults_given};
 
-use bp_faults::{OutOfMemory, Payload};
+use bp_faults::OutOfMemory;
 use bp_props::Props;
 use module_graph::{Edge, EdgeKind};
 use module_rules::{Record, first_record};
@@ -12,7 +12,7 @@ use std::alloc::Global;
 use std::sync::Arc;
 
 /// The record that an edge gives, if it is of kind Defaults.
-fn record_along<'a>(edge: &Edge, made: &'a Split<Record>) -> Option<&'a Props>
+fn record_along<'a>(edge: &Edge, made: &'a Split<Record>) -> Option<&'a Record>
     ensures { option_copied result ≡ record_along (edge.now, made.now) }
 {
     match edge.kind {
@@ -22,13 +22,13 @@ fn record_along<'a>(edge: &Edge, made: &'a Split<Record>) -> Option<&'a Props>
 }
 
 /// Takes one record more.
-fn join(alloc: Global, all: &mut Option<Props>, one: &Props) -> Result<(), OutOfMemory>
+fn join(alloc: Global, all: &mut Option<Props>, one: &Record) -> Result<(), OutOfMemory>
     ensures { OnOk result (all.new ≡ one_record_more all.old one.now) }
 {
     match all {
-        Some(first) => first.follow(alloc, one),
+        Some(first) => one.put_behind(alloc, first),
         None => {
-            *all = Some(one.copy(alloc)?);
+            *all = Some(one.to_props(alloc)?);
             Ok(())
         }
     }

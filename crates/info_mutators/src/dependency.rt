@@ -86,7 +86,7 @@ impl<'a> Dependency<'a> {
         ensures { result.now ≡ self.now.props.exports }
     {
         match first_record(self.made) {
-            Some(props) => props.exports.as_slice(),
+            Some(made) => made.exports(),
             None => &[],
         }
     }
@@ -95,7 +95,7 @@ impl<'a> Dependency<'a> {
         ensures { result.now ≡ self.now.props.line }
     {
         match first_record(self.made) {
-            Some(props) => props.line.as_slice(),
+            Some(made) => made.line(),
             None => &[],
         }
     }
@@ -104,7 +104,7 @@ impl<'a> Dependency<'a> {
         ensures { result.now ≡ self.now.props.slibs }
     {
         match first_record(self.made) {
-            Some(props) => props.slibs.as_slice(),
+            Some(made) => made.slibs(),
             None => &[],
         }
     }

@@ -9,9 +9,9 @@ use crate::paths::{copies, note};
 use bp_faults::{Item, OutOfMemory, Path};
 use bp_names::NameSet;
 use bp_names::laws::sets_grow_with_lists;
-use bp_props::Props;
 use indexmap::IndexSet;
 use module_graph::EdgeKind;
+use module_rules::Record;
 use std::alloc::Global;
 
 /// The names of a list, to be looked up.
@@ -34,13 +34,14 @@ pub struct ExportNames<'a> {
     headers: NameSet<'a>,
 }
 
-fn export_names<'a>(alloc: Global, own: &'a Props) -> Result<ExportNames<'a>, OutOfMemory>
+fn export_names<'a>(alloc: Global, own: &'a Record) -> Result<ExportNames<'a>, OutOfMemory>
     ensures { IfOk result (AreExportNames own.now) }
 {
+    let base = &own.given().base;
     Ok(ExportNames {
-        statics: names_of(alloc, own.base.export_static_lib_headers.items.as_slice())?,
-        shareds: names_of(alloc, own.base.export_shared_lib_headers.items.as_slice())?,
-        headers: names_of(alloc, own.base.export_header_lib_headers.items.as_slice())?,
+        statics: names_of(alloc, base.export_static_lib_headers.items.as_slice())?,
+        shareds: names_of(alloc, base.export_shared_lib_headers.items.as_slice())?,
+        headers: names_of(alloc, base.export_header_lib_headers.items.as_slice())?,
     })
 }
 
@@ -101,14 +102,14 @@ fn note_all_handed_on<'a>(
 /// The directories that a module exports.
 pub fn exports_of(
     alloc: Global,
-    own: &Props,
+    own: &Record,
     dependencies: &[Dependency],
 ) -> Result<Vec<Path>, OutOfMemory>
     ensures { IfOk result (λ list. list.items ≡ exports_of own.now dependencies.now) }
 {
     let names = export_names(alloc, own)?;
     let mut seen = IndexSet::new(alloc);
-    note_all(&mut seen, own.base.export_include_dirs.items.as_slice())?;
+    note_all(&mut seen, own.given().base.export_include_dirs.items.as_slice())?;
     note_all_handed_on(&mut seen, &names, dependencies)?;
     Ok(copies(alloc, seen.as_slice())?)
 }

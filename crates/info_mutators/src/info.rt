@@ -11,10 +11,10 @@ use crate::dependency::Dependency;
 use crate::exports::exports_of;
 use crate::nodes::{link_line_of, slibs_of};
 use crate::paths::includes_of;
-use bp_faults::{Fault, FaultKind, NodeId, OutOfMemory, Payload, Seq};
-use bp_props::{Module, Props};
+use bp_faults::{Fault, FaultKind, NodeId, OutOfMemory, Seq};
+use bp_props::Module;
 use module_graph::{Axis, Edge, Graph, Variations, label};
-use module_rules::{Record, Seen, one_variant};
+use module_rules::{Lists, Record, Seen, one_variant};
 use mutator_rules::{BottomUp, Config, Split};
 use pass_core::VisitError;
 use std::alloc::Global;
@@ -47,9 +47,9 @@ fn dependencies_of<'a>(
 /// The record with the four lists, where they keep their limits.
 fn with_short_lists(
     alloc: Global,
-    own: &Props,
+    own: &Record,
     dependencies: &[Dependency],
-) -> Result<Option<Props>, OutOfMemory>
+) -> Result<Option<Record>, OutOfMemory>
     ensures { IfOk result (λ made. made ≡ with_short_lists own.now dependencies.now) }
 {
     let Some(includes) = includes_of(alloc, own, dependencies)? else {
@@ -61,12 +61,13 @@ fn with_short_lists(
     let Some(slibs) = slibs_of(alloc, dependencies)? else {
         return Ok(None);
     };
-    let mut made = own.copy(alloc)?;
-    made.exports = Seq::new(exports_of(alloc, own, dependencies)?);
-    made.includes = Seq::new(includes);
-    made.line = Seq::new(line);
-    made.slibs = Seq::new(slibs);
-    Ok(Some(made))
+    let lists = Lists {
+        exports: Seq::new(exports_of(alloc, own, dependencies)?),
+        includes: Seq::new(includes),
+        line: Seq::new(line),
+        slibs: Seq::new(slibs),
+    };
+    Ok(Some(own.with_lists(alloc, lists)?))
 }
 
 fn too_long(alloc: Global, item: &Module, vars: &Variations) -> Result<Fault, OutOfMemory>
@@ -121,11 +122,8 @@ impl<'a> BottomUp<Record> for Info<'a> {
         let at = Seen::at(self.mods, g, n);
         let edges = at.node.edges.as_slice();
         let dependencies = dependencies_of(alloc, self.mods, g, edges, ins)?;
-        match with_short_lists(alloc, at.node.payload.props(), &dependencies)? {
-            Some(props) => {
-                let made = Record::new(alloc, props)?;
-                Ok(one_variant(alloc, made, Seq::new(Vec::new(alloc)))?)
-            }
+        match with_short_lists(alloc, &at.node.payload, &dependencies)? {
+            Some(made) => Ok(one_variant(alloc, made, Seq::new(Vec::new(alloc)))?),
             None => Err(VisitError::Bad(too_long(alloc, at.module, &at.node.vars)?)),
         }
     }

@@ -8,8 +8,8 @@ ghost use Rattle.info_mutators.specs.Kept.{if_short};
 use crate::dependency::Dependency;
 use bp_faults::limits::LONGEST_LINE;
 use bp_faults::{OutOfMemory, Path};
-use bp_props::Props;
 use indexmap::IndexSet;
+use module_rules::Record;
 use std::alloc::Global;
 
 /// Notes a path, where it isn't there yet.
@@ -67,12 +67,13 @@ fn note_exported<'a>(
 }
 
 /// Notes a module's own directories.
-fn note_own<'a>(seen: &mut IndexSet<&'a Path>, own: &'a Props) -> Result<(), OutOfMemory>
+fn note_own<'a>(seen: &mut IndexSet<&'a Path>, own: &'a Record) -> Result<(), OutOfMemory>
     ensures { OnOk result (NotesPaths seen.old.keys (own_includes own.now) seen.new.keys) }
 {
-    note_all(seen, own.base.local_include_dirs.items.as_slice())?;
-    note_all(seen, own.base.export_include_dirs.items.as_slice())?;
-    note_all(seen, own.base.include_dirs.items.as_slice())?;
+    let base = &own.given().base;
+    note_all(seen, base.local_include_dirs.items.as_slice())?;
+    note_all(seen, base.export_include_dirs.items.as_slice())?;
+    note_all(seen, base.include_dirs.items.as_slice())?;
     Ok(())
 }
 
@@ -90,7 +91,7 @@ pub fn copies(alloc: Global, paths: &[&Path]) -> Result<Vec<Path>, OutOfMemory>
 /// The directories that a module's sources are compiled with, where they aren't too many.
 pub fn includes_of(
     alloc: Global,
-    own: &Props,
+    own: &Record,
     dependencies: &[Dependency],
 ) -> Result<Option<Vec<Path>>, OutOfMemory>
     ensures { IfOk result

@@ -19,16 +19,16 @@ use std::sync::Arc;
 /// What the compiler and the linker are told.
 const FLAG: &str = "-fsanitize=address";
 
-fn is_never(props: &Props) -> bool
-    ensures { result ≡ is_never props.now }
+fn is_never(own: &Record) -> bool
+    ensures { result ≡ is_never own.now }
 {
-    is_true_or(false, &props.never)
+    is_true_or(false, &own.given().never)
 }
 
-fn is_on(props: &Props) -> bool
-    ensures { result ≡ is_on props.now }
+fn is_on(own: &Record) -> bool
+    ensures { result ≡ is_on own.now }
 {
-    is_true_or(false, &props.address) && !is_never(props)
+    is_true_or(false, &own.given().address) && !is_never(own)
 }
 
 fn is_asan(variation: Variation) -> bool
@@ -37,10 +37,10 @@ fn is_asan(variation: Variation) -> bool
     matches!(variation, Variation::Asan)
 }
 
-fn asan_or(other: Variation, props: &Props) -> Variation
-    ensures { result ≡ asan_or other props.now }
+fn asan_or(other: Variation, own: &Record) -> Variation
+    ensures { result ≡ asan_or other own.now }
 {
-    if is_on(props) { Variation::Asan } else { other }
+    if is_on(own) { Variation::Asan } else { other }
 }
 
 fn add_flag_if(alloc: Global, list: &mut Listed<Text>, needed: bool) -> Result<(), OutOfMemory>
@@ -53,10 +53,10 @@ fn add_flag_if(alloc: Global, list: &mut Listed<Text>, needed: bool) -> Result<(
 }
 
 /// Whether an edge leads to what is put into the node, and has code of the sanitizer in it.
-fn is_sanitized(kind: EdgeKind, props: &Props) -> bool
-    ensures { result ≡ (is_archived kind && props.now.asan) }
+fn is_sanitized(kind: EdgeKind, made: &Record) -> bool
+    ensures { result ≡ (is_archived kind && made.now.asan) }
 {
-    is_archived(kind) && props.asan
+    is_archived(kind) && made.given().asan
 }
 
 /// Whether a Whole or Static dependency has code of the sanitizer in it.
@@ -65,7 +65,7 @@ fn has_sanitized(edges: &[Edge], ins: &[Arc<Record>]) -> bool
     ensures { result ≡ has_sanitized edges.now (map arc_value ins.now) }
 {
     for (place, edge) in edges.iter().enumerate() {
-        if is_sanitized(edge.kind, ins[place].props()) {
+        if is_sanitized(edge.kind, &ins[place]) {
             return true;
         }
     }
@@ -80,10 +80,10 @@ fn with_sanitizer(
 ) -> Result<Record, OutOfMemory>
     ensures { IfOk result (λ made. made ≡ with_sanitizer compiles has own.now) }
 {
-    if !compiles && !has && !own.props().asan {
+    if !compiles && !has && !own.given().asan {
         return own.copy(alloc);
     }
-    let mut made = own.props().copy(alloc)?;
+    let mut made = own.to_props(alloc)?;
     add_flag_if(alloc, &mut made.base.cflags, compiles)?;
     add_flag_if(alloc, &mut made.base.ldflags, has)?;
     made.asan = has;
@@ -130,9 +130,9 @@ impl<'a> Transition<Record> for Sanitize<'a> {
         g: &Graph<Record>,
         n: NodeId,
     ) -> Result<Vec<Variation>, VisitError> {
-        let props = Seen::at(self.mods, g, n).node.payload.props();
-        let mut list = Vec::new(alloc);
-        list.push(asan_or(Variation::Empty, props))?;
+        let own = &Seen::at(self.mods, g, n).node.payload;
+        let mut list = Vec::with_capacity(alloc, 1)?;
+        list.push(asan_or(Variation::Empty, own))?;
         Ok(list)
     }
 
@@ -145,11 +145,11 @@ impl<'a> Transition<Record> for Sanitize<'a> {
     }
 
     fn incoming(&self, g: &Graph<Record>, n: NodeId, w: Variation) -> Variation {
-        let props = Seen::at(self.mods, g, n).node.payload.props();
-        if is_never(props) {
+        let own = &Seen::at(self.mods, g, n).node.payload;
+        if is_never(own) {
             Variation::Empty
         } else {
-            asan_or(w, props)
+            asan_or(w, own)
         }
     }
 
@@ -162,7 +162,7 @@ impl<'a> Transition<Record> for Sanitize<'a> {
     ) -> Result<Record, VisitError> {
         let node = Seen::at(self.mods, g, n).node;
         let compiles = is_asan(node.vars.get(Axis::Sanitize));
-        let has = node.payload.props().asan
+        let has = node.payload.given().asan
             || compiles
             || has_sanitized(node.edges.as_slice(), ins);
         Ok(with_sanitizer(alloc, &node.payload, compiles, has)?)

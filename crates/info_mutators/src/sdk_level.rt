@@ -1,10 +1,10 @@
-ghost use Rattle.std.specs.Prelude.{◌≡◌, IfOk, Some, map, length, if◌then◌else◌};
+ghost use Rattle.std.specs.Prelude.{◌≡◌, Some, map, length, if◌then◌else◌};
 ghost use Rattle.std.specs.Arc.{arc_value};
 ghost use Rattle.mutator_rules.specs.Conditions.{places_in};
 ghost use Rattle.info_mutators.specs.SdkLevel.{is_level_handed, lesser, least, handed_levels, own_level_or};
 ghost use Rattle.info_mutators.specs.SdkLevel.{level_meant};
 
-use bp_faults::{NodeId, OutOfMemory, Payload};
+use bp_faults::NodeId;
 use bp_props::{Given, Module};
 use module_graph::{EdgeKind, Graph};
 use module_rules::{Record, Seen};
@@ -50,7 +50,7 @@ fn least_handed(kinds: &[EdgeKind], ins: &[Arc<Record>]) -> Option<u32>
 {
     let mut least = None;
     for (place, kind) in kinds.iter().enumerate() {
-        least = with_edge(least, *kind, ins[place].props().level);
+        least = with_edge(least, *kind, ins[place].level());
     }
     least
 }
@@ -62,18 +62,6 @@ fn own_level_or(level: u32, set: Option<Given<u32>>) -> u32
         Some(given) => given.value,
         None => level,
     }
-}
-
-/// A record with a level.
-fn at_level(alloc: Global, own: &Record, level: u32) -> Result<Record, OutOfMemory>
-    ensures { IfOk result (λ made. made ≡ record (own.now) { level = level }) }
-{
-    if own.props().level == level {
-        return own.copy(alloc);
-    }
-    let mut made = own.props().copy(alloc)?;
-    made.level = level;
-    Record::new(alloc, made)
 }
 
 /// The rule `sdk`: the level of the SDK that a module is built for. Contracts see it as the list of all modules.
@@ -115,7 +103,7 @@ impl<'a> TopDown<Record> for SdkLevel<'a> {
     ) -> Result<Record, VisitError> {
         let own = &Seen::at(self.mods, g, n).node.payload;
         let handed = least_handed(kinds, ins).unwrap_or(NO_LEVEL);
-        let level = own_level_or(handed, own.props().min_sdk_version);
-        Ok(at_level(alloc, own, level)?)
+        let level = own_level_or(handed, own.given().min_sdk_version);
+        Ok(own.at_level(alloc, level)?)
     }
 }

@@ -1,5 +1,5 @@
 -- How a module is linked.
-use Rattle.std.specs.Prelude.{Bool, true, false, ◌++◌, List, [], ◌∷◌, map, cond, codes}
+use Rattle.std.specs.Prelude.{Bool, true, false, ◌++◌, List, [], ◌∷◌, map, cond}
 use Rattle.bp_props.specs.declared.group_id.GroupId.TheVariants as G
 use Rattle.bp_props.specs.declared.kind.ModuleKind.{ModuleKind}
 use Rattle.bp_props.specs.declared.kind.ModuleKind.TheVariants.{Library, LibraryStatic, LibraryShared}
@@ -8,6 +8,7 @@ use Rattle.bp_props.specs.declared.props.Props.{Props}
 use Rattle.module_graph.specs.declared.graph.Node.{Node}
 use Rattle.module_graph.specs.declared.variation.Variation.{Variation}
 use Rattle.module_graph.specs.declared.variation.Variation.TheVariants.{Empty, Static, Shared}
+use Rattle.module_rules.specs.Found.{with_pic}
 use Rattle.module_rules.specs.Groups.{with_group}
 use Rattle.module_rules.specs.Variants.{if_enabled}
 
@@ -18,12 +19,6 @@ links_of Library p = if_enabled Static (with_group p G.Static) ++ if_enabled Sha
 links_of LibraryStatic p = (Static, p) ∷ []
 links_of LibraryShared p = (Shared, p) ∷ []
 links_of kind p = (Empty, p) ∷ []
-
--- The flag for code that may be loaded at any address stands behind the other `cflags`.
-abbrev pub with_pic : Props → Props
-with_pic p = record p {
-  base = record p.base { cflags = record p.base.cflags { items = p.base.cflags.items ++ codes "-fPIC" ∷ [] } };
-}
 
 -- What is linked static or shared has a link.
 abbrev pub has_link : Variation → Bool

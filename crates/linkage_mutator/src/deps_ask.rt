@@ -7,7 +7,7 @@ ghost use Rattle.mutator_rules.specs.Conditions.{places_in};
 
 use crate::wanting::own_with;
 use bp_faults::{NodeId, OutOfMemory, Payload, Seq};
-use bp_props::{Module, ModuleKind, Props, Source};
+use bp_props::{Module, ModuleKind, Source};
 use module_graph::{EdgeKind, Graph, Node, Variation, Variations};
 use module_rules::{COMMON, Record, Seen, ask, one_variant, request};
 use mutator_rules::{Axis, BottomUp, Config, Request, Split, Wanted};
@@ -44,14 +44,15 @@ impl<'a> DepsAsk<'a> {
 fn libraries_asked(
     alloc: Global,
     vars: &Variations,
-    own: &Props,
+    own: &Record,
 ) -> Result<Seq<Request>, OutOfMemory>
     ensures { IfOk result (λ asked. asked ≡ libraries_asked vars.now own.now) }
 {
     let as_static = own_with(vars, Variation::Static);
     let as_shared = own_with(vars, Variation::Shared);
     let unlinked = own_with(vars, Variation::Empty);
-    let base = &own.base;
+    let given = own.given();
+    let base = &given.base;
     let whole = &base.whole_static_libs;
     let mut asked = Seq::new(Vec::new(alloc));
     let to = &mut asked;
@@ -59,7 +60,7 @@ fn libraries_asked(
     ask(alloc, to, EdgeKind::Static, as_static, &base.static_libs)?;
     ask(alloc, to, EdgeKind::Shared, as_shared, &base.shared_libs)?;
     ask(alloc, to, EdgeKind::Header, unlinked, &base.header_libs)?;
-    ask(alloc, to, EdgeKind::DataBin, unlinked, &own.data_bins)?;
+    ask(alloc, to, EdgeKind::DataBin, unlinked, &given.data_bins)?;
     Ok(asked)
 }
 
@@ -85,7 +86,7 @@ fn deps_of(
     alloc: Global,
     kind: ModuleKind,
     vars: &Variations,
-    own: &Props,
+    own: &Record,
 ) -> Result<Seq<Request>, OutOfMemory>
     ensures { IfOk result (λ asked. asked ≡ deps_of kind vars.now own.now) }
 {
@@ -93,7 +94,7 @@ fn deps_of(
         ModuleKind::Filegroup => Seq::new(Vec::new(alloc)),
         _ => libraries_asked(alloc, vars, own)?,
     };
-    let sources = own.base.srcs.items.as_slice();
+    let sources = own.given().base.srcs.items.as_slice();
     ask_named(alloc, &mut asked, EdgeKind::Sources, COMMON, sources)?;
     Ok(asked)
 }
@@ -105,7 +106,7 @@ fn deps_asked(
 ) -> Result<Seq<Request>, OutOfMemory>
     ensures { IfOk result (λ asked. asked ≡ deps_asked item.now node.now) }
 {
-    deps_of(alloc, item.kind, &node.vars, node.payload.props())
+    deps_of(alloc, item.kind, &node.vars, &node.payload)
 }
 
 impl<'a> BottomUp<Record> for DepsAsk<'a> {

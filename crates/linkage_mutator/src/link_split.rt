@@ -1,12 +1,12 @@
 ghost use Rattle.std.specs.Prelude.{◌≡◌, Some, IfOk, length};
-ghost use Rattle.linkage_mutator.specs.Links.{with_pic, has_link, pic_if_linked, links_of, link_variants};
+ghost use Rattle.linkage_mutator.specs.Links.{has_link, pic_if_linked, links_of, link_variants};
 ghost use Rattle.module_graph.specs.declared.variations.Axis.TheVariants.{Link};
 ghost use Rattle.module_rules.specs.Groups.{with_group};
 ghost use Rattle.module_rules.specs.Rules.{splits};
 ghost use Rattle.module_rules.specs.Shaped.{splits_shaped};
 ghost use Rattle.mutator_rules.specs.Conditions.{places_in};
 
-use bp_faults::{NodeId, OutOfMemory, Payload, Seq, Text};
+use bp_faults::{NodeId, OutOfMemory, Payload, Seq};
 use bp_props::{GroupId, Module, ModuleKind};
 use module_graph::{Graph, Node, Variation};
 use module_rules::{Record, Seen, add_if_enabled, append_group};
@@ -44,7 +44,7 @@ impl<'a> LinkSplit<'a> {
 fn with_group(alloc: Global, own: &Record, id: GroupId) -> Result<Record, OutOfMemory>
     ensures { IfOk result (λ made. made ≡ with_group own.now id) }
 {
-    append_group(alloc, own.copy(alloc)?, own.props(), id)
+    append_group(alloc, own.copy(alloc)?, own, id)
 }
 
 /// The variants as they are linked, without the flag.
@@ -55,7 +55,7 @@ fn links_of(
 ) -> Result<Seq<(Variation, Record)>, OutOfMemory>
     ensures { IfOk result (λ variants. variants ≡ links_of kind own.now) }
 {
-    let mut variants = Seq::new(Vec::new(alloc));
+    let mut variants = Seq::new(Vec::with_capacity(alloc, 2)?);
     match kind {
         ModuleKind::Library => {
             let as_static = with_group(alloc, own, GroupId::Static)?;
@@ -68,15 +68,6 @@ fn links_of(
         _ => variants.push((Variation::Empty, own.copy(alloc)?))?,
     }
     Ok(variants)
-}
-
-fn with_pic(alloc: Global, own: Record) -> Result<Record, OutOfMemory>
-    ensures { IfOk result (λ made. made ≡ with_pic own) }
-{
-    let mut made = own.into_props(alloc)?;
-    let flag = Text::from_str(alloc, "-fPIC")?;
-    made.base.cflags.items.push(flag)?;
-    Record::new(alloc, made)
 }
 
 fn has_link(variation: Variation) -> bool
@@ -93,7 +84,7 @@ fn pic_if_linked(
 {
     let (variation, own) = variant;
     if has_link(variation) {
-        Ok((variation, with_pic(alloc, own)?))
+        Ok((variation, own.with_pic(alloc)?))
     } else {
         Ok((variation, own))
     }
@@ -106,9 +97,9 @@ fn link_variants(
 ) -> Result<Seq<(Variation, Record)>, OutOfMemory>
     ensures { IfOk result (λ variants. variants ≡ link_variants item.now node.now) }
 {
-    let links = links_of(alloc, item.kind, &node.payload)?;
-    let mut variants = Seq::new(Vec::new(alloc));
-    for variant in links.into_vec() {
+    let links = links_of(alloc, item.kind, &node.payload)?.into_vec();
+    let mut variants = Seq::new(Vec::with_capacity(alloc, links.len())?);
+    for variant in links {
         variants.push(pic_if_linked(alloc, variant)?)?;
     }
     Ok(variants)

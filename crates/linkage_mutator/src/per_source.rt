@@ -46,7 +46,7 @@ fn with_source(alloc: Global, bare: &Props, source: &Source) -> Result<Record, O
     ensures { IfOk result (λ made. made ≡ with_sources bare.now (source.now ∷ [])) }
 {
     let mut made = bare.copy(alloc)?;
-    let mut items = Seq::new(Vec::new(alloc));
+    let mut items = Seq::new(Vec::with_capacity(alloc, 1)?);
     items.push(source.copy(alloc)?)?;
     made.base.srcs.items = items;
     Record::new(alloc, made)
@@ -54,14 +54,14 @@ fn with_source(alloc: Global, bare: &Props, source: &Source) -> Result<Record, O
 
 fn by_source(
     alloc: Global,
-    own: &Props,
+    own: &Record,
     sources: &[Source],
 ) -> Result<Seq<(Variation, Record)>, OutOfMemory>
     ensures { IfOk result (λ variants. variants ≡ by_number (variant_of_source own.now) 1 sources.now) }
 {
-    let mut bare = own.copy(alloc)?;
+    let mut bare = own.to_props(alloc)?;
     bare.base.srcs.items = Seq::new(Vec::new(alloc));
-    let mut variants = Seq::new(Vec::new(alloc));
+    let mut variants = Seq::new(Vec::with_capacity(alloc, sources.len())?);
     for (place, source) in sources.iter().enumerate() {
         let variation = Variation::PerSource(place as u64 + 1);
         variants.push((variation, with_source(alloc, &bare, source)?))?;
@@ -78,9 +78,9 @@ fn each_source(
     ensures { IfOk result (λ variants. variants ≡ each_source split own.now sources.now) }
 {
     if split && !sources.is_empty() {
-        return by_source(alloc, own.props(), sources);
+        return by_source(alloc, own, sources);
     }
-    let mut variants = Seq::new(Vec::new(alloc));
+    let mut variants = Seq::new(Vec::with_capacity(alloc, 1)?);
     variants.push((Variation::Empty, own.copy(alloc)?))?;
     Ok(variants)
 }
@@ -101,7 +101,7 @@ fn source_variants(
 ) -> Result<Seq<(Variation, Record)>, OutOfMemory>
     ensures { IfOk result (λ variants. variants ≡ source_variants item.now node.now) }
 {
-    let own = node.payload.props();
+    let own = node.payload.given();
     let split = is_split(item.kind, &own.test_per_src);
     each_source(alloc, split, &node.payload, own.base.srcs.items.as_slice())
 }

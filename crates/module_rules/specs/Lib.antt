@@ -1,5 +1,6 @@
 pub mod Asking
 pub mod Flags
+pub mod Found
 pub mod Groups
 pub mod Laws
 pub mod Results

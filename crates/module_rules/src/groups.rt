@@ -3,22 +3,22 @@ ghost use Rattle.module_rules.specs.Groups.{with_group};
 
 use crate::Record;
 use bp_faults::OutOfMemory;
-use bp_props::{GroupId, Props};
+use bp_props::GroupId;
 use std::alloc::Global;
 
-/// A record with its own group of an id appended, if it has one. `own` has the same groups, such as the properties of
-/// which the record is a copy. Where there is no such group the record stays shared.
+/// A record with its own group of an id appended, if it has one. `own` has the same groups, such as the record of
+/// which it is a copy. Where there is no such group the record stays shared.
 pub fn append_group(
     alloc: Global,
     made: Record,
-    own: &Props,
+    own: &Record,
     id: GroupId,
 ) -> Result<Record, OutOfMemory>
     requires { made.groups ≡ own.now.groups }
     ensures appended { IfOk result (λ new. new ≡ with_group made id) }
     ensures groups { IfOk result (λ new. new.groups ≡ own.now.groups) }
 {
-    let Some(group) = own.group(id) else {
+    let Some(group) = own.given().group(id) else {
         return Ok(made);
     };
     let mut props = made.into_props(alloc)?;

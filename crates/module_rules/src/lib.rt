@@ -6,13 +6,16 @@
 #![tactic(auto)]
 
 mod asking;
+mod found;
 mod groups;
 pub mod laws;
+mod merging;
 mod record;
 mod results;
 mod seen;
 mod variants;
 
+pub use found::Lists;
 pub use asking::{COMMON, NO_VARIATIONS, ask, request};
 pub use groups::append_group;
 pub use record::Record;

@@ -3,7 +3,6 @@ ghost use Rattle.module_rules.specs.Results.{one_variant, first_record};
 
 use crate::Record;
 use bp_faults::{OutOfMemory, Seq};
-use bp_props::Props;
 use module_graph::Variation;
 use mutator_rules::{Request, Split};
 use std::alloc::Global;
@@ -16,17 +15,17 @@ pub fn one_variant(
 ) -> Result<Split<Record>, OutOfMemory>
     ensures { IfOk result (λ made. made ≡ one_variant «record» requests) }
 {
-    let mut variants = Seq::new(Vec::new(alloc));
+    let mut variants = Seq::new(Vec::with_capacity(alloc, 1)?);
     variants.push((Variation::Empty, record))?;
     Ok(Split { variants, requests })
 }
 
 /// The record of a result's first variant.
-pub fn first_record(made: &Split<Record>) -> Option<&Props>
+pub fn first_record(made: &Split<Record>) -> Option<&Record>
     ensures { option_copied result ≡ first_record made.now }
 {
     match made.variants.as_slice() {
         [] => None,
-        [first, ..] => Some(first.1.props()),
+        [first, ..] => Some(&first.1),
     }
 }

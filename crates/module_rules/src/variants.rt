@@ -4,7 +4,7 @@ ghost use Rattle.module_rules.specs.Variants.{if_enabled};
 
 use crate::Record;
 use bp_faults::{OutOfMemory, Seq};
-use bp_props::{Given, Props};
+use bp_props::Given;
 use module_graph::Variation;
 use std::alloc::Global;
 
@@ -19,10 +19,10 @@ pub fn is_true_or(default: bool, flag: &Option<Given<bool>>) -> bool
 }
 
 /// Whether a module is built by its record.
-pub fn is_enabled(own: &Props) -> bool
+pub fn is_enabled(own: &Record) -> bool
     ensures { result ≡ is_enabled own.now }
 {
-    is_true_or(true, &own.base.enabled)
+    is_true_or(true, &own.given().base.enabled)
 }
 
 /// Adds a variant, unless its record isn't enabled.
@@ -33,7 +33,7 @@ pub fn add_if_enabled(
 ) -> Result<(), OutOfMemory>
     ensures { OnOk result (variants.new ≡ variants.old ++ if_enabled variation made) }
 {
-    if is_enabled(made.props()) {
+    if is_enabled(&made) {
         variants.push((variation, made))?;
     }
     Ok(())

@@ -15,7 +15,7 @@ ghost use Rattle.target_mutators.specs.Targets.{row_of, groups_of};
 use crate::groups::{append_groups, with_groups};
 use crate::targets::{Bits, Class, bits_group, class_groups, row_of};
 use bp_faults::{NodeId, OutOfMemory, Payload, Seq, Target};
-use bp_props::{GroupId, Module, ModuleKind, Multi, Props};
+use bp_props::{GroupId, Module, ModuleKind, Multi};
 use module_graph::{Graph, Node, Variation};
 use module_rules::{Record, Seen, add_if_enabled, is_true_or};
 use mutator_rules::{Axis, BottomUp, Config, Split};
@@ -24,12 +24,12 @@ use std::alloc::Global;
 use std::marker::Model;
 use std::sync::Arc;
 
-fn is_supported(class: Class, own: &Props) -> bool
+fn is_supported(class: Class, own: &Record) -> bool
     ensures { result ≡ is_supported class own.now }
 {
     match class {
-        Class::Device => is_true_or(true, &own.device_supported),
-        Class::Host => is_true_or(false, &own.host_supported),
+        Class::Device => is_true_or(true, &own.given().device_supported),
+        Class::Host => is_true_or(false, &own.given().host_supported),
     }
 }
 
@@ -42,10 +42,10 @@ fn default_multilib(kind: ModuleKind) -> Multi
     }
 }
 
-fn multilib_of(kind: ModuleKind, own: &Props) -> Multi
+fn multilib_of(kind: ModuleKind, own: &Record) -> Multi
     ensures { result ≡ multilib_of kind own.now }
 {
-    match own.compile_multilib {
+    match own.given().compile_multilib {
         Some(given) => given.value,
         None => default_multilib(kind),
     }
@@ -89,7 +89,7 @@ fn is_taken(multi: Multi, before: &[Target], target: Target) -> bool
     }
 }
 
-fn is_built(kind: ModuleKind, own: &Props, before: &[Target], target: Target) -> bool
+fn is_built(kind: ModuleKind, own: &Record, before: &[Target], target: Target) -> bool
     ensures { result ≡ is_built kind own.now before.now target }
 {
     is_supported(row_of(target).class, own) && is_taken(multilib_of(kind, own), before, target)
@@ -100,10 +100,9 @@ fn for_target(alloc: Global, target: Target, own: &Record) -> Result<Record, Out
     ensures { IfOk result (λ made. made ≡ with_groups own.now (groups_of target)) }
 {
     let row = row_of(target);
-    let props = own.props();
     let made = with_groups(alloc, own, &[row.arch, bits_group(row.bits)])?;
-    let made = append_groups(alloc, made, props, class_groups(row.class))?;
-    append_groups(alloc, made, props, &[GroupId::Named(target)])
+    let made = append_groups(alloc, made, own, class_groups(row.class))?;
+    append_groups(alloc, made, own, &[GroupId::Named(target)])
 }
 
 fn add_target(
@@ -116,7 +115,7 @@ fn add_target(
 ) -> Result<(), OutOfMemory>
     ensures { OnOk result (variants.new ≡ variants.old ++ target_variant kind own.now before.now target) }
 {
-    if is_built(kind, own.props(), before, target) {
+    if is_built(kind, own, before, target) {
         let made = for_target(alloc, target, own)?;
         add_if_enabled(variants, Variation::Target(target), made)?;
     }
@@ -131,7 +130,7 @@ fn target_variants(
 ) -> Result<Seq<(Variation, Record)>, OutOfMemory>
     ensures { IfOk result (λ variants. variants ≡ target_variants kind own.now [] targets.now) }
 {
-    let mut variants = Seq::new(Vec::new(alloc));
+    let mut variants = Seq::new(Vec::with_capacity(alloc, targets.len())?);
     for (place, target) in targets.iter().enumerate() {
         add_target(alloc, &mut variants, kind, own, &targets[..place], *target)?;
     }
@@ -141,7 +140,7 @@ fn target_variants(
 fn common_variant(alloc: Global, own: &Record) -> Result<Seq<(Variation, Record)>, OutOfMemory>
     ensures { IfOk result (λ variants. variants ≡ if_enabled Common own.now) }
 {
-    let mut variants = Seq::new(Vec::new(alloc));
+    let mut variants = Seq::new(Vec::with_capacity(alloc, 1)?);
     add_if_enabled(&mut variants, Variation::Common, own.copy(alloc)?)?;
     Ok(variants)
 }

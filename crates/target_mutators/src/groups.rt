@@ -2,7 +2,7 @@ ghost use Rattle.std.specs.Prelude.{◌≡◌, IfOk};
 ghost use Rattle.target_mutators.specs.Groups.{with_groups};
 
 use bp_faults::{OutOfMemory, Payload};
-use bp_props::{GroupId, Props};
+use bp_props::GroupId;
 use module_rules::{Record, append_group};
 use std::alloc::Global;
 
@@ -10,7 +10,7 @@ use std::alloc::Global;
 pub fn append_groups(
     alloc: Global,
     made: Record,
-    own: &Props,
+    own: &Record,
     ids: &[GroupId],
 ) -> Result<Record, OutOfMemory>
     requires { made.groups ≡ own.now.groups }
@@ -29,5 +29,5 @@ pub fn with_groups(alloc: Global, own: &Record, ids: &[GroupId]) -> Result<Recor
     ensures appended { IfOk result (λ made. made ≡ with_groups own.now ids.now) }
     ensures groups { IfOk result (λ made. made.groups ≡ own.now.groups) }
 {
-    append_groups(alloc, own.copy(alloc)?, own.props(), ids)
+    append_groups(alloc, own.copy(alloc)?, own, ids)
 }

@@ -11,7 +11,7 @@ use crate::arch_split::is_of_class;
 use crate::groups::with_groups;
 use crate::targets::Class;
 use bp_faults::{NodeId, OutOfMemory, Payload, Seq};
-use bp_props::{GroupId, Module, Props};
+use bp_props::{GroupId, Module};
 use module_graph::{Graph, Node, Variation};
 use module_rules::{Record, Seen, add_if_enabled, is_true_or};
 use mutator_rules::{Axis, BottomUp, Config, Split};
@@ -29,22 +29,22 @@ fn is_for_device(target: Variation) -> bool
     }
 }
 
-fn is_in_vendor(own: &Props) -> bool
+fn is_in_vendor(own: &Record) -> bool
     ensures { result ≡ is_in_vendor own.now }
 {
-    is_true_or(false, &own.vendor) || is_true_or(false, &own.vendor_available)
+    is_true_or(false, &own.given().vendor) || is_true_or(false, &own.given().vendor_available)
 }
 
-fn is_in_recovery(own: &Props) -> bool
+fn is_in_recovery(own: &Record) -> bool
     ensures { result ≡ is_in_recovery own.now }
 {
-    is_true_or(false, &own.recovery) || is_true_or(false, &own.recovery_available)
+    is_true_or(false, &own.given().recovery) || is_true_or(false, &own.given().recovery_available)
 }
 
-fn is_in_system(own: &Props) -> bool
+fn is_in_system(own: &Record) -> bool
     ensures { result ≡ is_in_system own.now }
 {
-    !(is_true_or(false, &own.vendor) || is_true_or(false, &own.recovery))
+    !(is_true_or(false, &own.given().vendor) || is_true_or(false, &own.given().recovery))
 }
 
 /// Adds the module as it is.
@@ -82,14 +82,13 @@ fn add_image(
 fn device_images(alloc: Global, own: &Record) -> Result<Seq<(Variation, Record)>, OutOfMemory>
     ensures { IfOk result (λ variants. variants ≡ device_images own.now) }
 {
-    let mut variants = Seq::new(Vec::new(alloc));
+    let mut variants = Seq::new(Vec::with_capacity(alloc, 1)?);
     let to = &mut variants;
-    let props = own.props();
-    add_own(alloc, to, is_in_system(props), own)?;
+    add_own(alloc, to, is_in_system(own), own)?;
     add_image(
         alloc,
         to,
-        is_in_vendor(props),
+        is_in_vendor(own),
         Variation::Vendor,
         GroupId::Vendor,
         own,
@@ -97,7 +96,7 @@ fn device_images(alloc: Global, own: &Record) -> Result<Seq<(Variation, Record)>
     add_image(
         alloc,
         to,
-        is_in_recovery(props),
+        is_in_recovery(own),
         Variation::Recovery,
         GroupId::Recovery,
         own,
@@ -108,7 +107,7 @@ fn device_images(alloc: Global, own: &Record) -> Result<Seq<(Variation, Record)>
 fn system_alone(alloc: Global, own: &Record) -> Result<Seq<(Variation, Record)>, OutOfMemory>
     ensures { IfOk result (λ variants. variants ≡ (Empty, own.now) ∷ []) }
 {
-    let mut variants = Seq::new(Vec::new(alloc));
+    let mut variants = Seq::new(Vec::with_capacity(alloc, 1)?);
     variants.push((Variation::Empty, own.copy(alloc)?))?;
     Ok(variants)
 }
