@@ -31,8 +31,8 @@ abbrev pub no_lists : Lists
 no_lists = record { exports = []; includes = []; line = []; slibs = [] }
 
 -- What is given of a record: all but `cflags` and what the mutators compute.
-abbrev pub given : Props → Props
-given p = record p {
+abbrev pub given_of : Props → Props
+given_of p = record p {
   base = record p.base { cflags = list_empty };
   level = 10000;
   exports = [];

@@ -7,6 +7,7 @@
 
 mod asking;
 mod found;
+mod graphs;
 mod groups;
 pub mod laws;
 mod merging;
@@ -17,6 +18,7 @@ mod variants;
 
 pub use found::Lists;
 pub use asking::{COMMON, NO_VARIATIONS, ask, request};
+pub use graphs::{with_own_records, with_records};
 pub use groups::append_group;
 pub use record::Record;
 pub use results::{first_record, one_variant};

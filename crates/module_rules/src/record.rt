@@ -3,7 +3,7 @@ ghost use Rattle.std.specs.Borrow.{Bor};
 ghost use Rattle.std.specs.Option.{option_map, option_map_or};
 ghost use Rattle.std.specs.Prelude.{◌≡◌, ◌++◌, true, IfOk, OnOk, Some};
 ghost use Rattle.bp_props.specs.declared.props.Props.{Props};
-ghost use Rattle.module_rules.specs.Found.{found_over, given, lists_of, no_lists, pic_if, with_found_lists, with_pic};
+ghost use Rattle.module_rules.specs.Found.{found_over, given_of, lists_of, no_lists, pic_if, with_found_lists, with_pic};
 
 use crate::Lists;
 use bp_faults::{NodeId, OutOfMemory, Path, Payload, Text};
@@ -123,7 +123,7 @@ impl Record {
 
     /// What is given: the properties but for `cflags` and what the mutators compute, which say nothing here.
     pub fn given(&self) -> &Props
-        ensures { given result.now ≡ given self.now }
+        ensures { given_of result.now ≡ given_of self.now }
     {
         &self.given
     }

@@ -175,7 +175,7 @@ fn lists(alloc: Global, answer: &Result<Split<Record>, VisitError>) -> Result<St
     match answer {
         Ok(made) => {
             for (_, record) in made.variants.as_slice() {
-                add_lists(alloc, &mut text, record.props())?;
+                add_lists(alloc, &mut text, &record.to_props(alloc)?)?;
             }
         }
         Err(VisitError::Bad(fault)) => {
@@ -310,7 +310,7 @@ fn level_with(alloc: Global, other: Props, levels: [u32; 3]) -> Result<u32, OutO
     let config = config(alloc);
     let rule = SdkLevel::new(&world.mods, &config);
     match rule.visit(alloc, &world.graph, NodeId(2), &kinds, &ins) {
-        Ok(record) => Ok(record.props().level),
+        Ok(record) => Ok(record.level()),
         Err(_) => Err(OutOfMemory),
     }
 }
@@ -349,10 +349,13 @@ fn flags_with(alloc: Global, asan: [bool; 4]) -> Result<(usize, usize), OutOfMem
     let config = config(alloc);
     let rule = Sanitize::new(&world.mods, &config);
     match rule.mutate(alloc, &world.graph, NodeId(0), &ins) {
-        Ok(record) => Ok((
-            record.props().base.cflags.items.as_slice().len(),
-            record.props().base.ldflags.items.as_slice().len(),
-        )),
+        Ok(record) => {
+            let props = record.to_props(alloc)?;
+            Ok((
+                props.base.cflags.items.as_slice().len(),
+                props.base.ldflags.items.as_slice().len(),
+            ))
+        }
         Err(_) => Err(OutOfMemory),
     }
 }

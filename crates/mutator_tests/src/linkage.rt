@@ -245,7 +245,7 @@ fn add_record(alloc: Global, out: &mut String, own: &Props) -> Result<(), OutOfM
 fn add_variants(alloc: Global, out: &mut String, made: &Split<Record>) -> Result<(), OutOfMemory> {
     for (variation, record) in made.variants.as_slice() {
         out.push_str(format!(in alloc; "{variation:?} ")?.as_str())?;
-        add_record(alloc, out, record.props())?;
+        add_record(alloc, out, &record.to_props(alloc)?)?;
         out.push_str(";")?;
     }
     Ok(())

@@ -9,6 +9,7 @@ use bp_faults::{ModuleId, NodeId, OutOfMemory, Seq, fault_line};
 use bp_props::{Module, Props};
 use build_actions::{ActionVisit, Actions, build_file, laws};
 use module_graph::{Graph, Node, Variations};
+use module_rules::Record;
 use ninja_file::{NinjaFile, is_well_formed};
 use pass_core::{Visit, VisitError};
 use std::alloc::Global;
@@ -19,7 +20,7 @@ use std::test::Fail;
 /// What was made at the targets of a node's edges.
 fn below(
     alloc: Global,
-    node: &Node<Props>,
+    node: &Node<Record>,
     made: &[Arc<Actions>],
 ) -> Result<Vec<Arc<Actions>>, OutOfMemory> {
     let mut ins = Vec::new(alloc);
@@ -35,7 +36,7 @@ fn below(
 fn visited(
     alloc: Global,
     modules: &[Module],
-    graph: &Graph<Props>,
+    graph: &Graph<Record>,
     n: u32,
     ins: &[Arc<Actions>],
 ) -> Result<Actions, VisitError> {
@@ -62,7 +63,7 @@ fn nothing(alloc: Global) -> Actions {
 fn said(
     alloc: Global,
     modules: &[Module],
-    graph: &Graph<Props>,
+    graph: &Graph<Record>,
     n: u32,
     ins: &[Arc<Actions>],
 ) -> Result<(Actions, String), OutOfMemory> {
@@ -81,7 +82,7 @@ fn make(
     rt: &impl Abort,
     alloc: Global,
     modules: &[Module],
-    graph: &Graph<Props>,
+    graph: &Graph<Record>,
     wanted: Option<&str>,
     made: &mut Vec<Arc<Actions>>,
 ) -> Result<(), OutOfMemory> {
@@ -140,7 +141,7 @@ fn statements_of_worked_examples(rt: HostRuntime) -> Result<(), Fail> {
     check_rows(&rt, rt.alloc(), &ROWS, last)
 }
 
-fn one_node(alloc: Global) -> Result<Graph<Props>, OutOfMemory>
+fn one_node(alloc: Global) -> Result<Graph<Record>, OutOfMemory>
     ensures count { IfOk result (λ g. length g.nodes ≡ 1) }
     ensures targets { IfOk result (λ g. targets g.nodes 0 ≡ []) }
 {
@@ -148,7 +149,7 @@ fn one_node(alloc: Global) -> Result<Graph<Props>, OutOfMemory>
     nodes.push(Node {
         module: ModuleId(0),
         vars: Variations::empty(alloc),
-        payload: Props::empty(alloc),
+        payload: Record::new(alloc, Props::empty(alloc))?,
         edges: Seq::new(Vec::new(alloc)),
     })?;
     let nodes = Seq::new(nodes);

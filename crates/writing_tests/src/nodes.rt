@@ -3,6 +3,7 @@ use crate::rows::{Flags, Has, Row};
 use bp_faults::{Item, ModuleId, NodeId, OutOfMemory, Path, Place, Seq, Target, Text};
 use bp_props::{GroupProps, Module, Props, Source};
 use module_graph::{Axis, Edge, EdgeKind, Graph, Node, Variation, Variations};
+use module_rules::{Record, with_records};
 use std::alloc::Global;
 
 fn place(line: u32) -> Place {
@@ -120,14 +121,13 @@ pub fn modules_of(alloc: Global, rows: &[Row]) -> Result<Vec<Module>, OutOfMemor
     Ok(modules)
 }
 
-pub fn graph_of(alloc: Global, rows: &[Row]) -> Result<Graph<Props>, OutOfMemory> {
+pub fn graph_of(alloc: Global, rows: &[Row]) -> Result<Graph<Record>, OutOfMemory> {
     let mut nodes = Vec::new(alloc);
     let mut number = 0u32;
     for row in rows {
         nodes.push(node(alloc, number, row)?)?;
         number = number.wrapping_add(1);
     }
-    Ok(Graph {
-        nodes: Seq::new(nodes),
-    })
+    let nodes = Seq::new(nodes);
+    with_records(alloc, Graph { nodes })
 }
