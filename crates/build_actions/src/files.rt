@@ -53,7 +53,12 @@ fn is_kept(modules: &[Module], graph: &Graph<Record>, node: &Node<Record>, n: No
     }
 }
 
-fn leads_to_files(modules: &[Module], graph: &Graph<Record>, node: &Node<Record>, edge: &Edge) -> bool
+fn leads_to_files(
+    modules: &[Module],
+    graph: &Graph<Record>,
+    node: &Node<Record>,
+    edge: &Edge,
+) -> bool
     ensures { result ≡ leads_to_files modules.now graph.now.nodes node.now edge.now }
 {
     is_sources(edge.kind) && (!has_one_source(node) || is_kept(modules, graph, node, edge.to))

@@ -63,7 +63,11 @@ fn suffix_of(product: Product) -> &'static str
 }
 
 /// Where the outputs of a node stand.
-pub fn directory_of(alloc: Global, module: &Module, node: &Node<Record>) -> Result<Text, OutOfMemory>
+pub fn directory_of(
+    alloc: Global,
+    module: &Module,
+    node: &Node<Record>,
+) -> Result<Text, OutOfMemory>
     ensures { IfOk result (λ path. path ≡ directory_of «module».now node.now) }
 {
     let variant = variant_name(alloc, &node.vars)?;

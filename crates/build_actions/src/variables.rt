@@ -87,13 +87,25 @@ fn flags_of(alloc: Global, own: &Record, language: Language) -> Result<Vec<Text>
     match language {
         Language::C => {
             add_cflags(alloc, &mut words, own)?;
-            add_words(alloc, &mut words, own.given().base.conlyflags.items.as_slice())?;
+            add_words(
+                alloc,
+                &mut words,
+                own.given().base.conlyflags.items.as_slice(),
+            )?;
         }
         Language::Cxx => {
             add_cflags(alloc, &mut words, own)?;
-            add_words(alloc, &mut words, own.given().base.cppflags.items.as_slice())?;
+            add_words(
+                alloc,
+                &mut words,
+                own.given().base.cppflags.items.as_slice(),
+            )?;
         }
-        Language::Assembler => add_words(alloc, &mut words, own.given().base.asflags.items.as_slice())?,
+        Language::Assembler => add_words(
+            alloc,
+            &mut words,
+            own.given().base.asflags.items.as_slice(),
+        )?,
     }
     Ok(words)
 }

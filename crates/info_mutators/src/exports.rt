@@ -109,7 +109,10 @@ pub fn exports_of(
 {
     let names = export_names(alloc, own)?;
     let mut seen = IndexSet::new(alloc);
-    note_all(&mut seen, own.given().base.export_include_dirs.items.as_slice())?;
+    note_all(
+        &mut seen,
+        own.given().base.export_include_dirs.items.as_slice(),
+    )?;
     note_all_handed_on(&mut seen, &names, dependencies)?;
     Ok(copies(alloc, seen.as_slice())?)
 }

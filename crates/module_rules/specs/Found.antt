@@ -30,7 +30,7 @@ found_over p pic level lists = record p {
 abbrev pub no_lists : Lists
 no_lists = record { exports = []; includes = []; line = []; slibs = [] }
 
--- What is given of a record: all but `cflags` and what the mutators compute.
+-- What is given of a record: all but `cflags`, the level and the four lists.
 abbrev pub given_of : Props → Props
 given_of p = record p {
   base = record p.base { cflags = list_empty };

@@ -16,8 +16,8 @@ mod results;
 mod seen;
 mod variants;
 
-pub use found::Lists;
 pub use asking::{COMMON, NO_VARIATIONS, ask, request};
+pub use found::Lists;
 pub use graphs::{with_own_records, with_records};
 pub use groups::append_group;
 pub use record::Record;

@@ -81,7 +81,11 @@ fn unshared_lists(alloc: Global, lists: Option<Arc<Lists>>) -> Result<Lists, Out
 fn add_pic(alloc: Global, props: &mut Props) -> Result<(), OutOfMemory>
     ensures { OnOk result (props.new ≡ with_pic props.old) }
 {
-    props.base.cflags.items.push(Text::from_str(alloc, "-fPIC")?)?;
+    props
+        .base
+        .cflags
+        .items
+        .push(Text::from_str(alloc, "-fPIC")?)?;
     Ok(())
 }
 
@@ -121,7 +125,7 @@ impl Record {
         }
     }
 
-    /// What is given: the properties but for `cflags` and what the mutators compute, which say nothing here.
+    /// What is given: the properties but for `cflags`, the level and the lists of `info`, which say nothing here.
     pub fn given(&self) -> &Props
         ensures { given_of result.now ≡ given_of self.now }
     {

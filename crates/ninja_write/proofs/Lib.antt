@@ -3,6 +3,7 @@ pub mod Bytes
 pub mod Cuts
 pub mod Grows
 pub mod Guarded
+pub mod Least
 pub mod Lines
 pub mod OneLine
 pub mod PieceReading

@@ -39,7 +39,7 @@ impl<T: Drop> From<AllocFailed<T>> for WriteError {
 }
 
 /// The most bytes that a text may have.
-const LIMIT: usize = 1 << 29;
+pub const LIMIT: usize = 1 << 29;
 
 /// A text that grows up to the limit. Contracts see it as its bytes.
 #[derive(Debug, Drop)]
@@ -114,6 +114,21 @@ pub trait Written {
 
     fn put(&self, output: &mut Output) -> Result<(), WriteError>
         ensures { Puts (text self.now) output.old output.new result };
+
+    /// At least so many bytes are put.
+    fn least(&self) -> usize
+        ensures { result ≤ length (text self.now) };
+}
+
+/// At least so many bytes are put for all.
+pub fn least_of_all<W: Written>(all: &[W]) -> usize
+    ensures { result ≤ length (flat_map W.text all.now) }
+{
+    let mut bytes = 0usize;
+    for one in all {
+        bytes = bytes.saturating_add(one.least());
+    }
+    bytes
 }
 
 /// Puts the text of each, one behind the other.

@@ -8,7 +8,7 @@ ghost use Rattle.ninja_write.specs.Meaning.{statement_lines, default_lines, head
 ghost use Rattle.ninja_write.specs.Meaning.{text_of};
 
 use crate::escaped::put_escaped;
-use crate::output::{Output, WriteError, Written, put_all};
+use crate::output::{LIMIT, Output, WriteError, Written, least_of_all, put_all};
 use crate::part::Part;
 use crate::parts::print_behind;
 use crate::weights::weights;
@@ -30,6 +30,10 @@ impl Written for Piece {
             }
         }
     }
+
+    fn least(&self) -> usize {
+        0
+    }
 }
 
 /// A path, behind a space.
@@ -39,6 +43,10 @@ impl Written for Text {
     fn put(&self, output: &mut Output) -> Result<(), WriteError> {
         output.put(" ")?;
         put_escaped(output, Escape::Path, self.as_str())
+    }
+
+    fn least(&self) -> usize {
+        self.as_str().len()
     }
 }
 
@@ -86,6 +94,10 @@ impl Written for (Text, Seq<Piece>) {
         put_pieces(output, self.1.as_slice())?;
         output.put("\n")
     }
+
+    fn least(&self) -> usize {
+        0
+    }
 }
 
 /// A variable of a statement, as a line.
@@ -98,6 +110,11 @@ impl Written for (Text, Text) {
         output.put(" = ")?;
         put_value(output, self.1.as_str())?;
         output.put("\n")
+    }
+
+    fn least(&self) -> usize {
+        let name = self.0.as_str().len();
+        name.saturating_add(self.1.as_str().len())
     }
 }
 
@@ -121,6 +138,10 @@ impl Written for NinjaRule {
     fn put(&self, output: &mut Output) -> Result<(), WriteError> {
         put_rule_line(output, self)?;
         put_bindings(output, self.bindings.as_slice())
+    }
+
+    fn least(&self) -> usize {
+        0
     }
 }
 
@@ -167,6 +188,13 @@ impl Written for Statement {
         put_build_line(output, self)?;
         put_variables(output, self.vars.as_slice())
     }
+
+    fn least(&self) -> usize {
+        let paths = least_of_all(self.outs.as_slice()).saturating_add(least_of_all(
+            self.ins.as_slice(),
+        ));
+        paths.saturating_add(least_of_all(self.vars.as_slice()))
+    }
 }
 
 #[tactic(auto, unfolding(crate::specs::Meaning::head_line))]
@@ -203,6 +231,20 @@ fn put_file(output: &mut Output, file: &NinjaFile) -> Result<(), WriteError>
     put_defaults(output, file.defaults.as_slice())
 }
 
+// So many statements are measured before they are printed.
+const MANY: usize = 1 << 20;
+
+// Refuses a text that is too large for certain before memory is taken for it, where there are many statements.
+fn check_size(f: &NinjaFile) -> Result<(), WriteError>
+    ensures { IsErrOf result WriteError.TooLarge → 2 ^ 29 < length (text_of f.now) }
+{
+    let statements = f.statements.as_slice();
+    if statements.len() > MANY && least_of_all(statements) > LIMIT {
+        return Err(WriteError::TooLarge);
+    }
+    Ok(())
+}
+
 /// The text of a file. Any file has one; Ninja reads back only that of a well-formed file as it was meant.
 pub fn write(alloc: Global, f: &NinjaFile) -> Result<Vec<u8>, WriteError>
     ensures text { IfOk result (λ text. text.items ≡ text_of f.now) }
@@ -210,6 +252,7 @@ pub fn write(alloc: Global, f: &NinjaFile) -> Result<Vec<u8>, WriteError>
     ensures utf8 { IfOk result (λ text. IsUtf8 text.items) }
     ensures too_large { IsErrOf result WriteError.TooLarge → 2 ^ 29 < length (text_of f.now) }
 {
+    check_size(f)?;
     let mut output = Output::new(alloc);
     put_file(&mut output, f)?;
     Ok(output.into_bytes())
@@ -231,6 +274,7 @@ pub fn write_in<R: Threads + Sync>(
     if workers == 1 {
         return write(alloc, f);
     }
+    check_size(f)?;
     let weights = weights(rt, alloc, f.statements.as_slice(), workers)?;
     let all = Part::new(f.statements.as_slice(), weights.as_slice());
     let mut front = Output::new(alloc);

@@ -1,11 +1,10 @@
 use Rattle.std.proofs.Common.{ap, sym, ◌∙◌, map, cond, Some, None, List}
 use Rattle.std.specs.Arc.{arc_value}
 use Rattle.bp_props.specs.declared.module.Module.{Module}
-use Rattle.bp_props.specs.declared.props.Props.{Props}
 use Rattle.module_rules.specs.Results.{one_variant}
 use Rattle.mutator_rules.specs.declared.request.Request.{Request}
 use Rattle.info_mutators.specs.Dependencies.{dependencies_of}
-use Rattle.info_mutators.specs.Info.{has_short_lists, with_lists, with_short_lists, info_meant}
+use Rattle.info_mutators.specs.Info.{has_short_lists, with_lists, info_meant}
 use Rattle.info_mutators.proofs.Read.{meant_made}
 use Rattle.info_mutators.proofs.info.InfoBottomUpRecord.visit.Goals as goal
 

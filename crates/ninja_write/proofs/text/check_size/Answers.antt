@@ -1,0 +1,14 @@
+use Rattle.std.proofs.Common.{◌≤◌, List, length, subst, arith}
+use Rattle.ninja_file.specs.declared.file.Statement.{Statement}
+use Rattle.ninja_write.specs.Inside.{statements_text}
+use Rattle.ninja_write.proofs.Least.{file_has}
+use Rattle.ninja_write.proofs.text.check_size.Goals as goal
+
+pub returns-then-least_of_all-gt-LIMIT : goal.returns-then-least_of_all-gt-LIMIT
+returns-then-least_of_all-gt-LIMIT c is =
+    omega (
+      arith,
+      c.if-least_of_all-gt-LIMIT.true,
+      file_has c.args.f.now,
+      subst (λ (all : List Statement). c.least_of_all.result ≤ length (statements_text all)) c.as_slice-statements.ensures c.least_of_all.ensures,
+    )
