@@ -83,29 +83,18 @@ fn add_cflags(alloc: Global, words: &mut Vec<Text>, own: &Record) -> Result<(), 
 fn flags_of(alloc: Global, own: &Record, language: Language) -> Result<Vec<Text>, OutOfMemory>
     ensures { IfOk result (λ words. words.items ≡ flags_of own.now language) }
 {
+    let base = &own.given().base;
     let mut words = Vec::new(alloc);
     match language {
         Language::C => {
             add_cflags(alloc, &mut words, own)?;
-            add_words(
-                alloc,
-                &mut words,
-                own.given().base.conlyflags.items.as_slice(),
-            )?;
+            add_words(alloc, &mut words, base.conlyflags.items.as_slice())?;
         }
         Language::Cxx => {
             add_cflags(alloc, &mut words, own)?;
-            add_words(
-                alloc,
-                &mut words,
-                own.given().base.cppflags.items.as_slice(),
-            )?;
+            add_words(alloc, &mut words, base.cppflags.items.as_slice())?;
         }
-        Language::Assembler => add_words(
-            alloc,
-            &mut words,
-            own.given().base.asflags.items.as_slice(),
-        )?,
+        Language::Assembler => add_words(alloc, &mut words, base.asflags.items.as_slice())?,
     }
     Ok(words)
 }
