@@ -2,15 +2,15 @@
 # Measures the program on the worst inputs within its limits: `measure_worst.sh [PROGRAM [CASE ..]]`, by default
 # ./bpgen and all cases. For each it prints a row of docs/PERFORMANCE.md: the case, bytes in and out, the exit status, and
 # the least processor time, the least time by the clock and the greatest memory of RUNS runs (3). TARGETS follows -t
-# (android_arm64). The cases `flags`, `many_sources` and `one_list` are run only by name: they take 4 GB and more, so a
-# limit (ulimit -v) should stand. It needs GNU time and awk, and is no part of the gate.
+# (android_arm64). The cases `group_flags` and `one_list` are run only by name: they take what memory there is, so a limit
+# (ulimit -v) should stand. It needs GNU time and awk, and is no part of the gate.
 set -eu
 
 top=$(cd "$(dirname "$0")/.." && pwd)
 program=${1:-$top/bpgen}
 [ $# -eq 0 ] || shift
 cases=${*:-references maps shared_keys extensions nested_keys assignments inheritors heirs random_heirs random_references long_paths link_lines chain cycle wide modules empty_lines
-    components tokens doubling groups sources edges dots one_line order names key_modules key_variables}
+    components tokens doubling groups sources edges dots one_line order names key_modules key_variables flags many_sources}
 runs=${RUNS:-3}
 if [ ! -x "$program" ]; then
     echo "measure_worst: there is no program $program"
@@ -266,14 +266,19 @@ tree_of() {
                 printf "s = ["; for (n = 0; n < 65536; n++) printf "\"%d.c\",", n
                 print "]\ncc_test{name:\"t\",test_per_src:true,srcs:s}"
             }' | alone ;;
-        flags)
-            echo "340 libraries with 65,000 flags each"
-            awk 'BEGIN {
+        flags | group_flags)
+            groups=
+            if [ "$1" = group_flags ]; then
+                own='{cflags:["-a"]}'
+                groups="arch:{arm64:$own,arm:$own,x86_64:$own,x86:$own},"
+            fi
+            echo "340 libraries with 65,000 flags each${groups:+, and one more by architecture}"
+            awk -v groups="$groups" 'BEGIN {
                 flags = "\"\""; for (n = 1; n < 65000; n++) flags = flags ",\"\""
                 for (n = 0; n < 340; n++) {
                     file = "d" int(n / 5) "/Android.bp"
                     if (n % 5 == 0) { print file > "list"; system("mkdir -p d" int(n / 5)) }
-                    print "cc_library{name:\"m" n "\",srcs:[\"a.c\"],cflags:[" flags "]}" > file
+                    print "cc_library{name:\"m" n "\",srcs:[\"a.c\"]," groups "cflags:[" flags "]}" > file
                 }
             }' ;;
         many_sources)
