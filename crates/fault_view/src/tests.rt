@@ -12,7 +12,8 @@ const TREE: [(&str, &str); 3] = [
     ),
     (
         "lib/Android.bp",
-        "cc_libary {}\nfilegroup { name: `libbase` }\nfilegroup { name: \"lbse\" }\nfilegroup { name: \"libase\" }\nfilegroup { name: \"libbe\" }\nfilegroup { name: \"ibbse\" }",
+        "cc_libary {}\nfilegroup { name: `libbase` }\nfilegroup { name: \"lbse\" }\nfilegroup { name: \"libase\" }\n\
+         filegroup { name: \"libbe\" }\nfilegroup { name: \"ibbse\" }",
     ),
     ("list", "Android.bp\nlib/Android.bp\nnone/Android.bp"),
 ];
@@ -33,17 +34,21 @@ const VIEWS: [(&str, &str, &str); 9] = [
     (
         "Android.bp:4:28: error 21: missing module: libbse\n",
         "",
-        "Android.bp:4:28: error 21: missing module: libbse\n4 | \t/* 漢字é */ static_libs: [\"libbse\"],\n  | \t                            ^\n",
+        "Android.bp:4:28: error 21: missing module: libbse\n\
+         4 | \t/* 漢字é */ static_libs: [\"libbse\"],\n  | \t                            ^\n",
     ),
     (
         "Android.bp:4:28: error 21: missing module: libbse\n",
         "list",
-        "Android.bp:4:28: error 21: missing module: libbse\n4 | \t/* 漢字é */ static_libs: [\"libbse\"],\n  | \t                            ^\nnearest: libbase, libase, libbe\n",
+        "Android.bp:4:28: error 21: missing module: libbse\n\
+         4 | \t/* 漢字é */ static_libs: [\"libbse\"],\n  | \t                            ^\n\
+         nearest: libbase, libase, libbe\n",
     ),
     (
         "lib/Android.bp:1:1: error 15: unknown module type: cc_libary\nnext\n",
         "list",
-        "lib/Android.bp:1:1: error 15: unknown module type: cc_libary\n1 | cc_libary {}\n  | ^\nnearest: cc_library\nnext\n",
+        "lib/Android.bp:1:1: error 15: unknown module type: cc_libary\n1 | cc_libary {}\n  | ^\nnearest: cc_library\n\
+         next\n",
     ),
     (
         "Android.bp:6:1: error 7: unexpected token: end of file\n",
@@ -51,9 +56,11 @@ const VIEWS: [(&str, &str, &str); 9] = [
         "Android.bp:6:1: error 7: unexpected token: end of file\n6 | \n  | ^\n",
     ),
     (
-        "Android.bp:7:1: error 7: unexpected token\nAndroid.bp:6:2: error 7: unexpected token\nAndroid.bp:0:1: error 7: x\n",
+        "Android.bp:7:1: error 7: unexpected token\nAndroid.bp:6:2: error 7: unexpected token\n\
+         Android.bp:0:1: error 7: x\n",
         "",
-        "Android.bp:7:1: error 7: unexpected token\nAndroid.bp:6:2: error 7: unexpected token\nAndroid.bp:0:1: error 7: x\n",
+        "Android.bp:7:1: error 7: unexpected token\nAndroid.bp:6:2: error 7: unexpected token\n\
+         Android.bp:0:1: error 7: x\n",
     ),
     (
         "none/Android.bp:1:1: error 31: no such file\nAndroid.bp:01:1: error 7: x\nAndroid.bp:1:1: error 7: x",
