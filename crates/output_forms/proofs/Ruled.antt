@@ -28,6 +28,7 @@ use Rattle.module_graph.specs.declared.variation.Variation.TheVariants.{Recovery
 use Rattle.module_graph.specs.declared.variations.Axis.{Axis}
 use Rattle.module_graph.specs.declared.variations.Axis.TheVariants as A
 use Rattle.module_graph.specs.Numbered.{by_number}
+use Rattle.module_rules.specs.Found.{with_pic}
 use Rattle.module_rules.specs.Asking.{variation_on}
 use Rattle.module_rules.specs.Flags.{is_enabled}
 use Rattle.module_rules.specs.Groups.{with_group}
@@ -42,7 +43,7 @@ use Rattle.target_mutators.specs.Groups.{with_groups}
 use Rattle.target_mutators.specs.Images.{is_for_device, is_in_system, is_in_vendor, is_in_recovery, image_variant}
 use Rattle.target_mutators.specs.Images.{device_images, image_variants}
 use Rattle.target_mutators.specs.Targets.{groups_of}
-use Rattle.linkage_mutator.specs.Links.{links_of, with_pic, has_link, pic_if_linked, link_variants}
+use Rattle.linkage_mutator.specs.Links.{links_of, has_link, pic_if_linked, link_variants}
 use Rattle.linkage_mutator.specs.Sources.{with_sources, variant_of_source, each_source, is_split, source_variants}
 use Rattle.build_actions.specs.Variants.{stands_on}
 use Rattle.output_forms.specs.Texts.{IsShown, IsWritable, HasTexts, IsSound}
