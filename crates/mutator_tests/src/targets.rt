@@ -163,7 +163,10 @@ fn shown(alloc: Global, made: &Split<Record>) -> Result<String, OutOfMemory> {
     for (variation, record) in made.variants.as_slice() {
         out.push_str(variation_name(alloc, *variation)?.as_str())?;
         out.push_str(":")?;
-        add_flags(&mut out, record.to_props(alloc)?.base.cflags.items.as_slice())?;
+        add_flags(
+            &mut out,
+            record.to_props(alloc)?.base.cflags.items.as_slice(),
+        )?;
         out.push_str("; ")?;
     }
     Ok(out)
