@@ -11,13 +11,14 @@ cd "$work"
 git init -q .
 (cd "$top" && tar -c --exclude=out crates crates.txt) | tar -x
 mkdir -p crates/sizes/src
-echo "sizes: bp_faults bp_props module_graph" >> crates.txt
+echo "sizes: bp_faults bp_props module_graph module_rules" >> crates.txt
 cat > crates/sizes/src/main.rt << 'END'
 #![tactic(auto)]
 
 use bp_faults::{Item, Text};
 use bp_props::{GroupProps, Module, Props};
 use module_graph::{Edge, Node};
+use module_rules::Record;
 use std::io;
 use std::mem::size_of;
 
@@ -27,7 +28,9 @@ fn main(rt: HostRuntime) -> io::Result<()> {
     println!(rt; "| `Props`: a record without groups | {} |", size_of::<Props>())?;
     println!(rt; "| `GroupProps`: each group of a record | {} |", size_of::<GroupProps>())?;
     println!(rt; "| `Module`: a typed module | {} |", size_of::<Module>())?;
-    println!(rt; "| `Node<Props>`: a node of a graph | {} |", size_of::<Node<Props>>())?;
+    println!(rt; "| `Node<Props>`: a node of what `graph_after` gives | {} |", size_of::<Node<Props>>())?;
+    println!(rt; "| `Record`: what a node has of its own | {} |", size_of::<Record>())?;
+    println!(rt; "| `Node<Record>`: a node of the program's graphs | {} |", size_of::<Node<Record>>())?;
     println!(rt; "| `Edge` | {} |", size_of::<Edge>())?;
     Ok(())
 }
