@@ -36,22 +36,22 @@ pub fn stealers(
     Ok(stealers)
 }
 
-/// Deals the nodes without predecessors to the deques in turn, from the last deque on: the caller itself works along
-/// that one, and at once, while the threads of the others have still to start.
+/// Deals the nodes without predecessors to the deques, to each a stretch of node numbers. They are pushed from the
+/// last on, since a deque gives out first what was pushed last: so a worker visits its stretch in rising order.
+///
+/// The caller itself works along the last deque, and at once, while the threads of the others have still to start.
 pub fn deal<V: Visit, G: Gate>(pass: &Pass<V, G>, deques: &mut [Worker<NodeId>])
     requires pass { IsPass (V.takes pass.now.visitor.now) pass.now }
     requires some { 0 < length deques.old }
+    requires few { length deques.old ≤ 64 }
     ensures { length deques.new ≡ length deques.old }
 {
     let many = deques.len();
-    let mut turn = many;
-    for n in 0..pass.plan.count {
-        if pass.starts[n as usize] == pass.starts[n as usize + 1] {
-            if turn == 0 {
-                turn = many;
-            }
-            turn -= 1;
-            let _ = deques[turn].push(NodeId(n));
+    let count = pass.plan.count as usize;
+    for n in (0..count).rev() {
+        if pass.starts[n] == pass.starts[n + 1] {
+            let turn = n * many / count;
+            let _ = deques[turn].push(NodeId(n as u32));
         }
     }
 }

@@ -1,5 +1,5 @@
-use Rattle.std.proofs.Common.{◌≡◌, ◌≤◌, length}
+use Rattle.std.proofs.Common.{◌≡◌, length}
 use Rattle.visit_workers.proofs.dealing.deal.Given as goal
 
 abbrev pub invariant-loop-n : goal.invariant-loop-n
-invariant-loop-n g l = record { turn : l.turn ≤ l.many; same : length l.deques ≡ l.many }
+invariant-loop-n g l = length l.deques ≡ l.many
