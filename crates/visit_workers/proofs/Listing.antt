@@ -13,7 +13,8 @@ use Rattle.pass_core.specs.Plans.{HaveEndsBelow}
 use Rattle.ready_counters.specs.Edges.{from_of}
 use Rattle.ready_counters.specs.Views.{times}
 use Rattle.visit_workers.proofs.Counting.{times_here, times_else, times_append}
-use Rattle.visit_workers.specs.Links.{numbers_from, chain_end, IsChain}
+use Rattle.visit_workers.specs.Links.{numbers_from, chain_end, IsChain, AreOuts}
+use Rattle.visit_workers.specs.declared.links.Outs.{Outs}
 
 module _ (d : PlanEdge) (k n : ℕ) (rest : List ℕ) where
   pub head_else : (x : ℕ) → (x ≡ k → ⊥) → (b : Bool) → (d.from.0 == n) ≡ b
@@ -107,6 +108,13 @@ pub chain_ends : (next : List ℕ) (at : ℕ) (xs : List ℕ) → IsChain next a
     → xs ≡ []
 chain_ends next at [] h is few = refl
 chain_ends next at (x ∷ xs) h is few = let a = h.0 in let b = h.1 in absurd (omega arith)
+
+pub chain_begins : (count : ℕ) (edges : List PlanEdge) (outs : Outs) (n at : ℕ) → AreOuts count edges outs → n < count
+    → at ≡ get_or outs.first.items n at → IsChain outs.next.items at (numbers_from 0 edges n)
+chain_begins count edges outs n at are inside is =
+    let many = are.many in
+    subst (λ x. IsChain outs.next.items x (numbers_from 0 edges n))
+    (sym (get_or_read outs.first.items n at (omega arith) is 0)) (are.each n inside)
 
 pub chain_goes : (next : List ℕ) (at : ℕ) (xs : List ℕ) → IsChain next at xs → (at ≡ chain_end → ⊥)
     → (rest : List ℕ) × (xs ≡ at ∷ rest) × (at < length next) × (at < slice_index next at)

@@ -134,20 +134,6 @@ pub sweep_ticketed : (count : ℕ) (edges : List PlanEdge) (v : View) → IsSett
 sweep_ticketed count edges v h all n l = let a = all n l in let b = h.ticketed n in omega arith
 
 -- gathering goes on by the next edge
-pub gathering_first : (begin : ℕ) (v : View) → IsGathering begin begin v v
-gathering_first begin v =
-    record {
-      weight = refl;
-      claimed = refl;
-      filled = refl;
-      subtracted = refl;
-      tickets = refl;
-      done =
-          λ x l m. absurd (omega arith);
-      before = λ x l. refl;
-      rest = λ x l. refl;
-    }
-
 pub gathering_more : (begin e : ℕ) (old v w : View) → begin ≤ e → w ≡ with_fetch v e → IsGathering begin e old v
     → IsGathering begin (e + 1) old w
 gathering_more begin e old v w l is g = subst (λ (u : View). IsGathering begin (e + 1) old u) (sym is) (record {

@@ -1,17 +1,16 @@
 -- What a worker has made, beside what its seat has done.
 use Rattle.std.specs.Prelude.{◌≡◌, ◌<◌, ℕ, List, map, slice_get, Some, Result, Ok, Err}
 use Rattle.std.specs.List.{AllByRecursion}
-use Rattle.std.specs.Arc.{arc_value}
 use Rattle.bp_faults.specs.declared.fault.Fault.{Fault}
 use Rattle.pass_core.specs.declared.plan.Plan.{Plan}
 use Rattle.pass_core.specs.Results.{NodeResult, IsDone, node_result}
 use Rattle.pass_core.specs.Outcomes.{AnswersPass}
 use Rattle.pass_core.specs.declared.error.PassError.{PassError}
-use Rattle.pass_core.specs.Shown.{shown}
 use Rattle.ready_counters.specs.declared.view.View.{View}
 use Rattle.ready_counters.specs.Views.{tickets_for, number_for, tickets_with}
 use Rattle.visit_workers.specs.declared.made.Made.{Made}
 use Rattle.visit_workers.specs.Settled.{IsSettled}
+use Rattle.visit_workers.specs.Verdicts.{verdict_result}
 
 module _ {O : Type 0} where
   -- The tickets of what was made: each node with its number.
@@ -22,7 +21,7 @@ module _ {O : Type 0} where
   pub record IsRight (count : ℕ) (results : ℕ → NodeResult O) (m : Made O) : Type 0 where
     pub inside : m.node.0 < count
     pub below : m.ticket < count
-    pub value : shown (arc_value m.value) ≡ results m.node.0
+    pub verdict : verdict_result m.verdict ≡ results m.node.0
 
   -- An order has each node that was made once at the number on its ticket.
   abbrev pub StandByTicket : List (Made O) → List ℕ → Type 0

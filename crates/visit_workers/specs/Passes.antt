@@ -14,9 +14,11 @@ use Rattle.ready_counters.specs.declared.view.View.{View}
 use Rattle.ready_counters.specs.Seen.{plan_of, visitor_of, view_of}
 use Rattle.visit_workers.specs.declared.made.Made.{Made}
 use Rattle.visit_workers.specs.declared.pass.Pass.{Pass}
+use Rattle.visit_workers.specs.declared.verdict.Verdict.{Verdict}
 use Rattle.visit_workers.specs.Links.{AreOuts, numbers_from}
 use Rattle.visit_workers.specs.Making.{IsRight, IsWorking}
 use Rattle.visit_workers.specs.Settled.{IsGathering, IsSpreading, outcomes}
+use Rattle.visit_workers.specs.Verdicts.{verdict_results}
 
 -- The plan has no cycle, the visitor takes its nodes, the board is theirs, and the tables of edges are right.
 pub record IsPass {V G O : Type 0} (takes : ℕ → ℕ → Type 0) (pass : Pass V G O) : Type 0 where
@@ -37,9 +39,10 @@ module _ {V G O : Type 0} (mean : ℕ → List O → Result O Fault) (pass : Pas
   abbrev pub AreInsOf : {A : Type 0} → ℕ → List (Arc (Published O) A) → Type 0
   AreInsOf n ins = outcomes ins ≡ map (node_result mean pass.plan.now) (predecessors pass.plan.now.edges n)
 
-  -- The results of all nodes, by their numbers.
-  abbrev pub all_results : List (NodeResult O)
-  all_results = map (node_result mean pass.plan.now) (range_with_len 0 pass.plan.now.count)
+  -- The verdicts say the results of all nodes, by their numbers.
+  abbrev pub AreVerdicts : List (Verdict O) → Type 0
+  AreVerdicts verdicts =
+      verdict_results verdicts ≡ map (node_result mean pass.plan.now) (range_with_len 0 pass.plan.now.count)
 
   -- What was made of a node is right.
   abbrev pub IsMadeRight : Made O → Type 0

@@ -13,7 +13,6 @@ use crossbeam_deque::Worker;
 use pass_core::Visit;
 use pass_core::laws::{in_edges_are_together, places_of_edges_rise, places_tell_targets};
 use ready_counters::{Claim, Seat};
-use std::sync::Arc;
 
 /// Does all that is to do for a node that was just claimed. Its ticket is drawn after its visit.
 fn visit_claimed<V: Visit, G: Gate>(
@@ -38,13 +37,13 @@ fn visit_claimed<V: Visit, G: Gate>(
     places_of_edges_rise();
     places_tell_targets();
     let ins = gather(pass, seat, n)?;
-    let value = Arc::new(pass.alloc, judge(pass, n, &ins)?)?;
+    let verdict = judge(pass, n, &ins)?;
     let ticket = pass.board.ticket(seat, n);
-    spread(pass, seat, n, &value, hints)?;
+    spread(pass, seat, n, &verdict, hints)?;
     Ok(Made {
         node: n,
         ticket,
-        value,
+        verdict,
     })
 }
 

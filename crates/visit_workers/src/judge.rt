@@ -3,11 +3,12 @@ ghost use Rattle.std.specs.Option.{option_map};
 ghost use Rattle.std.specs.Arc.{arc_value};
 ghost use Rattle.pass_core.specs.Plans.{predecessors};
 ghost use Rattle.pass_core.specs.Results.{outs_of};
-ghost use Rattle.pass_core.specs.Shown.{shown};
 ghost use Rattle.visit_workers.specs.Passes.{IsPass, result_of, AreInsOf};
 ghost use Rattle.visit_workers.specs.Settled.{outcomes};
+ghost use Rattle.visit_workers.specs.Verdicts.{verdict_result};
 
 use crate::pass::Pass;
+use crate::verdict::Verdict;
 use bp_faults::{NodeId, OutOfMemory};
 use bp_ports::Gate;
 use pass_core::laws::results_meet_their_equation;
@@ -32,25 +33,25 @@ fn all_done<O: Drop>(
     Ok(Some(outs))
 }
 
-/// The result of a node, of what its predecessors came to. The gate is entered before a visit that is made.
+/// The verdict on a node, by what its predecessors came to. The gate is entered before a visit that is made.
 pub fn judge<V: Visit, G: Gate>(
     pass: &Pass<V, G>,
     n: NodeId,
     ins: &[Arc<Published<V::Out>>],
-) -> Result<Published<V::Out>, OutOfMemory>
+) -> Result<Verdict<V::Out>, OutOfMemory>
     requires pass { IsPass (V.takes pass.now.visitor.now) pass.now }
     requires inside { n.0 < pass.now.plan.now.count }
     requires values { AreInsOf (V.meaning pass.now.visitor.now) pass.now n.0 ins.now }
-    ensures { IfOk result (λ p. shown p ≡ result_of (V.meaning pass.now.visitor.now) pass.now n.0) }
+    ensures { IfOk result (λ found. verdict_result found ≡ result_of (V.meaning pass.now.visitor.now) pass.now n.0) }
 {
     results_meet_their_equation::<V::Out>();
     let Some(outs) = all_done(pass.alloc, ins)? else {
-        return Ok(Published::Poisoned);
+        return Ok(Verdict::Poisoned);
     };
     pass.gate.enter(pass.number, n);
     match pass.visitor.visit(pass.alloc, n, &outs) {
-        Ok(out) => Ok(Published::Done(Arc::new(pass.alloc, out)?)),
-        Err(VisitError::Bad(fault)) => Ok(Published::Bad(fault)),
+        Ok(out) => Ok(Verdict::Done(Arc::new(pass.alloc, out)?)),
+        Err(VisitError::Bad(fault)) => Ok(Verdict::Bad(Box::new(pass.alloc, fault)?)),
         Err(VisitError::OutOfMemory) => Err(OutOfMemory),
     }
 }

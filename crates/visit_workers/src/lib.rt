@@ -16,6 +16,7 @@ mod node;
 mod pass;
 mod pass_run;
 mod task;
+mod verdict;
 mod work;
 
 pub use pass_run::{PassRun, visit_all};

@@ -6,9 +6,11 @@ ghost use Rattle.ready_counters.specs.Seen.{view_of, IsSeatOf};
 ghost use Rattle.ready_counters.specs.Views.{times, tickets_for, with_filled, with_subtract};
 ghost use Rattle.visit_workers.specs.Passes.{IsPass, result_of, AreInsOf, HasGathered, HasSpread};
 ghost use Rattle.visit_workers.specs.Settled.{HasNotFetched, HasNotSpread};
+ghost use Rattle.visit_workers.specs.Verdicts.{verdict_result};
 
 use crate::links::END;
 use crate::pass::Pass;
+use crate::verdict::Verdict;
 use bp_faults::{NodeId, OutOfMemory};
 use bp_ports::Gate;
 use crossbeam_deque::Worker;
@@ -75,12 +77,12 @@ fn spread_to<V: Visit, G: Gate>(
     Ok(())
 }
 
-/// Fills and subtracts all edges out of a node.
+/// Fills and subtracts all edges out of a node. They share one box, which is made only where there are such edges.
 pub fn spread<V: Visit, G: Gate>(
     pass: &Pass<V, G>,
     seat: &mut Seat<V>,
     n: NodeId,
-    value: &Arc<Published<V::Out>>,
+    verdict: &Verdict<V::Out>,
     hints: &mut Worker<NodeId>,
 ) -> Result<(), OutOfMemory>
     requires pass { IsPass (V.takes pass.now.visitor.now) pass.now }
@@ -88,14 +90,18 @@ pub fn spread<V: Visit, G: Gate>(
     requires seat { IsSeatOf pass.now.board.now seat.old }
     requires ticket { 1 ≤ tickets_for n.0 (view_of seat.old).tickets }
     requires fresh { HasNotSpread pass.now.plan.now.edges n.0 (view_of seat.old) }
-    requires value { shown (arc_value value.now) ≡ result_of (V.meaning pass.now.visitor.now) pass.now n.0 }
+    requires verdict { verdict_result verdict.now ≡ result_of (V.meaning pass.now.visitor.now) pass.now n.0 }
     ensures seat { IsSeatOf pass.now.board.now seat.new }
     ensures weight { (view_of seat.new).weight ≡ (view_of seat.old).weight }
     ensures spread { OnOk result (HasSpread pass.now n.0 (view_of seat.old) (view_of seat.new)) }
 {
     let mut e = pass.outs.first[n.0 as usize];
+    if e == END {
+        return Ok(());
+    }
+    let value = verdict.publish(pass.alloc)?;
     while e != END {
-        spread_to(pass, seat, e, n, value, hints)?;
+        spread_to(pass, seat, e, n, &value, hints)?;
         e = pass.outs.next[e as usize];
     }
     Ok(())

@@ -39,7 +39,7 @@ returns-in-Ok g c =
 pub returns-in-Err-Bad : goal.returns-in-Err-Bad
 returns-in-Err-Bad g c =
     let told = rw c.in-Err-Bad.field-0-is at c.in-Err-Bad.ensures in
-    ap Bad c.in-Err-Bad.fault-is
+    ap Bad (c.in_ok-new-in-Err-Bad.ensures.ok ∙ c.in-Err-Bad.fault-is)
     ∙ sym (visited c.results_meet_their_equation.ensures (g.V.Visit.meaning c.args.pass.now.visitor.now)
     c.args.pass.now.plan.now c.requires.pass.is_plan c.requires.pass.free c.args.n.0 c.requires.inside
     c.args.ins.now c.requires.values (map arc_value c.in-Some.outs.items)

@@ -1,11 +1,32 @@
-use Rattle.std.proofs.Common.{◌<◌, ◌++◌, ◌∙◌, [], ◌∷◌, length, ap, sym, subst, arith, rules}
+use Rattle.std.proofs.Common.{◌<◌, ◌++◌, ◌∙◌, [], ◌∷◌, length, ap, refl, sym, subst, arith, rules}
 use Rattle.std.proofs.lemmas.List.{append-nil, append_assoc, get_or_read}
 use Rattle.ready_counters.specs.Seen.{view_of}
-use Rattle.visit_workers.specs.Links.{IsChain}
+use Rattle.visit_workers.specs.Links.{numbers_from, IsChain}
 use Rattle.visit_workers.specs.Settled.{IsSpreading}
-use Rattle.visit_workers.proofs.Listing.{entry_inside, entry_source, entry_fresh, chain_goes, chain_ends}
-use Rattle.visit_workers.proofs.Settling.{spreading_more}
+use Rattle.visit_workers.proofs.Listing.{entry_inside, entry_source, entry_fresh, chain_begins, chain_goes, chain_ends}
+use Rattle.visit_workers.proofs.Settling.{spreading_first, spreading_more}
 use Rattle.visit_workers.proofs.node.spread.Goals as goal
+
+pub returns-then-e-clause-spread : goal.returns-then-e-clause-spread
+returns-then-e-clause-spread g c =
+    let chain = chain_begins c.args.pass.now.plan.now.count c.args.pass.now.plan.now.edges c.args.pass.now.outs.now
+    c.args.n.0 c.index-e.result.now c.requires.pass.outs c.requires.inside c.index-e.ensures in
+    let none = chain_ends c.args.pass.now.outs.now.next.items c.index-e.result.now
+    (numbers_from 0 c.args.pass.now.plan.now.edges c.args.n.0) chain c.if-e.true
+    (let few = c.requires.pass.is_plan.few in let all = c.requires.pass.outs.all in omega arith) in
+    subst (λ done. IsSpreading done (view_of c.args.seat.now) (view_of c.args.seat.now)) (sym none)
+    (spreading_first (view_of c.args.seat.now))
+
+pub loop-e-init : goal.loop-e-init
+loop-e-init g c = (
+  [],
+  numbers_from 0 c.args.pass.now.plan.now.edges c.args.n.0,
+  refl,
+  chain_begins c.args.pass.now.plan.now.count c.args.pass.now.plan.now.edges c.args.pass.now.outs.now c.args.n.0
+      c.index-e.result.now c.requires.pass.outs c.requires.inside c.index-e.ensures,
+  c.requires.seat,
+  spreading_first (view_of c.args.seat.now),
+)
 
 pub index-e-requires-in-loop-e : goal.index-e-requires-in-loop-e
 index-e-requires-in-loop-e g c =
