@@ -7,3 +7,4 @@ pub mod Sweeping
 pub mod Making
 pub mod Placing
 pub mod Finishing
+pub mod Marking

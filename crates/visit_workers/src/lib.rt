@@ -6,6 +6,7 @@
 #![tactic(auto)]
 
 mod attempt;
+mod completeness;
 mod crew;
 mod dealing;
 mod finish;

@@ -1,5 +1,4 @@
 ghost use Rattle.std.specs.Prelude.{◌≡◌, ◌<◌, ◌≤◌, ℕ, IfOk, OnOk};
-ghost use Rattle.pass_core.specs.Orders.{IsLegal, numbers};
 ghost use Rattle.pass_core.specs.Outcomes.{TakesPlan};
 ghost use Rattle.pass_core.specs.Plans.{IsPlan, HasNoCycle};
 ghost use Rattle.ready_counters.specs.Seen.{view_of, IsSeatOf};
@@ -7,6 +6,7 @@ ghost use Rattle.ready_counters.specs.Views.{whole, times, all_of_it};
 ghost use Rattle.visit_workers.specs.Passes.{IsPass, Works};
 ghost use Rattle.visit_workers.specs.Runs.{AnswersRun};
 
+use crate::completeness::is_each_made;
 use crate::crew::{join_all, run_tasks};
 use crate::dealing::{deal, deques, stealers, tasks_of};
 use crate::finish::{by_ticket, outcome};
@@ -79,16 +79,14 @@ fn run_crew<R: Threads + Sync, V: Visit<Out: Send + Sync> + Sync, G: Gate + Sync
     join_all(pass, seat, tasks)
 }
 
-/// Visits all nodes: the workers as many as they come to, and the caller what is left.
+/// Visits all nodes: the workers as many as they come to, and the caller what is left, if anything is.
 fn visit_each<R: Threads + Sync, V: Visit<Out: Send + Sync> + Sync, G: Gate + Sync>(
     rt: &R,
     pass: &Pass<V, G>,
     seat: &mut Seat<V>,
-    order: &[NodeId],
     workers: u32,
 ) -> Result<Vec<Made<V::Out>>, OutOfMemory>
     requires pass { IsPass (V.takes pass.now.visitor.now) pass.now }
-    requires legal { IsLegal pass.now.plan.now (numbers order.now) }
     requires workers { (1 ≤ workers) × (workers ≤ 64) }
     requires seat { IsSeatOf pass.now.board.now seat.old }
     requires first { view_of seat.old ≡ all_of_it }
@@ -98,8 +96,13 @@ fn visit_each<R: Threads + Sync, V: Visit<Out: Send + Sync> + Sync, G: Gate + Sy
     ensures each { OnOk result ((n : ℕ) → n < pass.now.plan.now.count → 1 ≤ times n (view_of seat.new).claimed) }
 {
     let mut made = run_crew(rt, pass, seat, workers)?;
+    if is_each_made(pass.alloc, pass.plan.count, &made)? {
+        return Ok(made);
+    }
+    serial_order_is_legal();
+    let order = serial_order(pass.alloc, pass.plan)?;
     let mut hints = Worker::new_lifo(pass.alloc, 64)?;
-    sweep(pass, seat, order, &mut hints, &mut made)?;
+    sweep(pass, seat, &order, &mut hints, &mut made)?;
     Ok(made)
 }
 
@@ -133,8 +136,6 @@ pub fn visit_all<R: Threads + Sync, V: Visit<Out: Send + Sync> + Sync, G: Gate +
     requires workers { (1 ≤ workers) × (workers ≤ 64) }
     ensures { AnswersRun (V.meaning v.now) plan.now result }
 {
-    serial_order_is_legal();
-    let order = serial_order(alloc, plan)?;
     let starts = starts_of(alloc, plan)?;
     let outs_by_source = outs_of(alloc, plan)?;
     let (board, mut seat) = Board::new(alloc, plan, v)?;
@@ -148,9 +149,9 @@ pub fn visit_all<R: Threads + Sync, V: Visit<Out: Send + Sync> + Sync, G: Gate +
         starts: &starts,
         outs: &outs_by_source,
     };
-    let made = visit_each(rt, &under_way, &mut seat, &order, workers)?;
+    let made = visit_each(rt, &under_way, &mut seat, workers)?;
     let ticketed = by_ticket(alloc, plan.count, &made)?;
-    let outs = outcome(&under_way, &order, made)?;
+    let outs = outcome(&under_way, made)?;
     let order = copy_of(alloc, &ticketed)?;
     let receipt = board.close(seat, plan, ticketed);
     Ok(PassRun {

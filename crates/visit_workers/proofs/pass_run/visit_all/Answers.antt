@@ -14,6 +14,6 @@ close-receipt-requires-clause-order g c =
       many_numbers c.in_ok-ticketed.ticketed.items ∙ c.in_ok-ticketed.ensures.many,
       by_tickets (g.V.Visit.meaning c.args.v.now) c.args.plan.now
           (view_of c.visit_each.new.seat) c.in_ok-made.made.items
-          c.deref-3.result.now c.deref-3.ensures.value c.in_ok-made.ensures.working c.visit_each.new.seat.single
+          c.deref-2.result.now c.deref-2.ensures.value c.in_ok-made.ensures.working c.visit_each.new.seat.single
           c.in_ok-made.ensures.each (numbers c.in_ok-ticketed.ticketed.items) c.in_ok-ticketed.ensures.placed,
     )
