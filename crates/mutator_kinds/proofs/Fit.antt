@@ -1,16 +1,12 @@
 -- Results split a graph, or give its nodes their payloads.
-use Rattle.std.proofs.Common.{◌≡◌, ◌≢◌, ◌∙◌, ◌<◌, ◌≤◌, ap, subst, sym, refl, arith, length, map, get_or, List, [], ◌∷◌, ◌++◌, ◌+◌, ℕ, zero, suc, Option, Some, None, Result, Ok, Err}
-use Rattle.std.specs.Prelude.{unwrap_or, slice_get}
-use Rattle.std.specs.Option.{option_map}
+use Rattle.std.proofs.Common.{◌≡◌, ◌≢◌, ◌∙◌, ◌<◌, ap, subst, sym, refl, arith, length, map, get_or, List, [], ◌∷◌, ◌++◌, ◌+◌, ℕ, Option, Some, None, Result, Ok, Err}
+use Rattle.std.specs.Prelude.{unwrap_or}
 use Rattle.std.specs.List.{AllByRecursion, AllPairs, position}
 use Rattle.std.proofs.lemmas.List.{length-map}
 use Rattle.std.proofs.lemmas.List.Elements.{recursion_from_All}
 use Rattle.std.proofs.lemmas.List.Quantifiers.{position-Some}
 use Rattle.bp_faults.specs.declared.fault.Fault.{Fault}
 use Rattle.bp_faults.specs.declared.ids.NodeId.{NodeId}
-use Rattle.bp_faults.specs.declared.limits.TheConstants.{MOST_EDGES, MOST_NODES}
-use Rattle.bp_faults.specs.declared.place.Place.{Place}
-use Rattle.bp_faults.specs.declared.ids.ModuleId.{ModuleId}
 use Rattle.pass_core.specs.declared.plan.Plan.{Plan}
 use Rattle.pass_core.specs.Laws.{OutsMeetTheirEquation}
 use Rattle.pass_core.specs.Outcomes.{IsOutcome}
@@ -27,8 +23,7 @@ use Rattle.mutator_rules.specs.declared.request.Request.{Request}
 use Rattle.mutator_rules.specs.declared.split.Split.{Split}
 use Rattle.mutator_rules.specs.Shapes.{AreShaped, HasShape}
 use Rattle.variant_graphs.specs.Laws.{HasModulesOf, SplitsStayValid, SplitsKeepModules, OtherAxesStayFree, NewPayloadsStayValid, NewPayloadsKeepModules, NewPayloadsLeaveAxesFree}
-use Rattle.variant_graphs.specs.Limits.{all_edges, IsWithinLimits, IsFirstNodeBeyond, IsFirstEdgeBeyond}
-use Rattle.variant_graphs.specs.Payloads.{with_payloads}
+use Rattle.variant_graphs.specs.Limits.{IsWithinLimits}
 use Rattle.variant_graphs.specs.Splits.{AnswersSplit, IsSplitting}
 use Rattle.module_graph.specs.declared.graph.Graph.{Graph}
 use Rattle.mutator_rules.specs.declared.error.KindError.{KindError}
@@ -37,9 +32,9 @@ use Rattle.mutator_rules.specs.Outcomes.{AnswersKind}
 use Rattle.std.specs.Prelude.{IsErr, IsErrAnd}
 use Rattle.variant_graphs.specs.Splitting.{splitting, StayFree}
 use Rattle.mutator_kinds.specs.BottomUp.{chosen, rule_along, variants_of, first_payloads, asked_of, new_nodes, ResultsMean, DifferFor, IsFreeFor}
-use Rattle.mutator_kinds.specs.Inside.{AnswersLimits, AreFit, VariantsDiffer}
+use Rattle.mutator_kinds.specs.Inside.{AreFit, VariantsDiffer}
 
-chosen_within : (v : Variation) (ws : List Variation) (place : ℕ) → chosen v ws ≡ Some place → place < length ws
+pub chosen_within : (v : Variation) (ws : List Variation) (place : ℕ) → chosen v ws ≡ Some place → place < length ws
 chosen_within v [] place is = cc
 chosen_within v (w ∷ ws) place is = by (position (same v) (w ∷ ws)) refl
   where
@@ -49,7 +44,7 @@ chosen_within v (w ∷ ws) place is = by (position (same v) (w ∷ ws)) refl
         let z : i ≡ place = (let t : Some i ≡ Some place = ap (λ o. Some (unwrap_or o 0)) (sym found) ∙ is in cc) in
         let within = (position-Some (same v) (w ∷ ws) i w found).0 in omega arith
 
-chosen_none : (v : Variation) (ws : List Variation) → chosen v ws ≡ None → length ws ≡ 0
+pub chosen_none : (v : Variation) (ws : List Variation) → chosen v ws ≡ None → length ws ≡ 0
 chosen_none v [] is = refl
 chosen_none v (w ∷ ws) is = cc
 
@@ -109,55 +104,8 @@ module _ {P : Type 0} (mean : List (Node P) → ℕ → List (Split P) → Resul
   pub fit_outs : (along : Option Axis) → AreShaped along mean → DifferFor mean nodes along → AreFit along outs
   fit_outs along shaped differ = record { shaped = all (HasShape along) (λ n ins out lt h. shaped nodes n ins out h); differ = differ_outs along differ }
 
--- new payloads and the limits
-module _ {P : Type 0} where
-  edges_given : (xs : List (Node P)) (ps : List P) → all_edges (with_payloads xs ps) ≡ all_edges xs
-  edges_given [] ps = refl
-  edges_given (x ∷ xs) [] = refl
-  edges_given (x ∷ xs) (p ∷ ps) = ap (λ es. x.edges ++ es) (edges_given xs ps)
-
-  length-kept : (xs : List (Node P)) (ps : List P) → length (with_payloads xs ps) ≡ length xs
-  length-kept [] ps = refl
-  length-kept (x ∷ xs) [] = refl
-  length-kept (x ∷ xs) (p ∷ ps) = ap suc (length-kept xs ps)
-
-  module_kept : (xs : List (Node P)) (ps : List P) (n : ℕ) → option_map (λ (x : Node P). x.«module») (slice_get (with_payloads xs ps) n) ≡ option_map (λ (x : Node P). x.«module») (slice_get xs n)
-  module_kept [] ps n = refl
-  module_kept (x ∷ xs) [] n = refl
-  module_kept (x ∷ xs) (p ∷ ps) zero = refl
-  module_kept (x ∷ xs) (p ∷ ps) (suc n) = module_kept xs ps n
-
-  module _ (xs : List (Node P)) (ps : List P) where
-    pub within_kept : IsWithinLimits xs → IsWithinLimits (with_payloads xs ps)
-    within_kept h = record {
-      few_nodes = subst (λ n. n ≤ MOST_NODES) (sym (length-kept xs ps)) h.few_nodes;
-      few_edges = subst (λ (es : List Edge). length es ≤ MOST_EDGES) (sym (edges_given xs ps)) h.few_edges;
-    }
-
-    pub node_kept : (m : ModuleId) → IsFirstNodeBeyond xs m → IsFirstNodeBeyond (with_payloads xs ps) m
-    node_kept m h = module_kept xs ps MOST_NODES ∙ h
-
-    pub edge_kept : (p : Place) → IsFirstEdgeBeyond xs p → IsFirstEdgeBeyond (with_payloads xs ps) p
-    edge_kept p h = record {
-      few_nodes = subst (λ n. n ≤ MOST_NODES) (sym (length-kept xs ps)) h.few_nodes;
-      beyond = ap (λ (es : List Edge). option_map (λ (e : Edge). e.at) (slice_get es MOST_EDGES)) (edges_given xs ps) ∙ h.beyond;
-    }
-
--- what is beyond the limits
+-- what is beyond the limits after a split
 module _ {P T : Type 0} (view : T → List (Node P) × List (NodeId × Request)) (nodes : List (Node P)) (outs : List (Split P)) where
-  abbrev over : KindError → Result (Unit {0}) KindError
-  over error = Err error
-
-  beyond : (error : KindError) → AnswersLimits nodes (over error) → AnswersKind view (ResultsMean None nodes outs) (Err error)
-  beyond (At n fault) h = absurd h
-  beyond (Nodes m) h = node_kept nodes (first_payloads nodes outs) m h
-  beyond (Edges p) h = edge_kept nodes (first_payloads nodes outs) p h
-  beyond OutOfMemory h = tt
-
-  pub limits_passed : (error : KindError) (r : Result T KindError) → AnswersLimits nodes (over error) → IsErr r → IsErrAnd r (λ e. e ≡ error) → AnswersKind view (ResultsMean None nodes outs) r
-  limits_passed error (Ok x) h err eq = cc
-  limits_passed error (Err e) h err eq = subst (λ x. AnswersKind view (ResultsMean None nodes outs) (Err x)) (sym eq) (beyond error h)
-
   abbrev unmade : KindError → Result (Graph P) KindError
   unmade error = Err error
 

@@ -2,6 +2,7 @@ pub mod Counted
 pub mod Firsts
 pub mod Arriving
 pub mod Fit
+pub mod InPlace
 pub mod Ended
 pub mod May
 pub mod Lasting

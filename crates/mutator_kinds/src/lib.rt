@@ -7,13 +7,13 @@
 
 mod asking;
 mod downward;
+mod in_place;
 pub mod laws;
 mod limits;
 mod owned;
 mod pass_graph;
 mod results;
 mod splitting;
-mod unsplit;
 mod upward;
 
 pub use downward::{run_top_down, run_top_down_by};

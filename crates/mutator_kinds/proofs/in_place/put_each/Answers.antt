@@ -4,13 +4,12 @@ use Rattle.std.proofs.lemmas.List.{length-append}
 use Rattle.std.proofs.lemmas.Iterator.Adapters.{YieldsList-from_vec}
 use Rattle.std.proofs.lemmas.Iterator.Consumers.{YieldsList-turn}
 use Rattle.module_graph.specs.declared.graph.Node.{Node}
-use Rattle.variant_graphs.specs.Payloads.{with_payload}
-use Rattle.mutator_kinds.specs.BottomUp.{first_payload, first_payloads}
-use Rattle.mutator_kinds.proofs.Firsts.{given, firsts_none, length-given, firsts_step, asked_step}
-use Rattle.mutator_kinds.proofs.unsplit.put_each.Goals as goal
+use Rattle.mutator_kinds.specs.Inside.{with_first}
+use Rattle.mutator_kinds.proofs.Firsts.{given, firsts_none, length-with_firsts, firsts_step, asked_step}
+use Rattle.mutator_kinds.proofs.in_place.put_each.Goals as goal
 
 pub loop-out-init : goal.loop-out-init
-loop-out-init g c = (firsts_none c.args.nodes.now.items, c.requires.none, refl)
+loop-out-init g c = (firsts_none c.args.axis c.args.nodes.now.items, c.requires.none, refl)
 
 pub index_mut-requires : goal.index_mut-requires
 index_mut-requires g c =
@@ -22,7 +21,7 @@ index_mut-requires g c =
     let many = c.requires.many in
     let at = c.loop-out.invariant.2 in
     let nodes = ap length c.loop-out.invariant.0
-    ∙ length-given c.args.nodes.now.items (first_payloads c.args.nodes.now.items (map arc_value c.loop-out.yielded)) in
+    ∙ length-with_firsts c.args.axis c.args.nodes.now.items (map arc_value c.loop-out.yielded) in
     subst (λ k. c.loop-out.n < k) (sym c.loop-out.nodes.ok.0) (omega (arith, turn.0))
 
 pub loop-out-preserved : goal.loop-out-preserved
@@ -39,12 +38,12 @@ loop-out-preserved g c =
     let was = c.index_mut.result.now in
     let made = c.in_ok-split.split in (
       ap (set c.loop-out.nodes.items c.loop-out.n)
-          (c.put_first.ensures ∙ ap (λ vs. with_payload was (first_payload was.payload vs)) c.into_vec.ensures
-          ∙ ap (λ (y : Node _). given y made) c.index_mut.ensures.value)
-          ∙ firsts_step arc_value c.args.nodes.now.items c.loop-out.nodes.items c.loop-out.yielded c.loop-out.n c.in-Some.out
-          made was lt c.loop-out.invariant.0 at c.in_ok-split.ensures,
-      asked_step arc_value c.one_more_item.ensures c.loop-out.asked.items c.ask.new.asked.items c.loop-out.yielded (record { 0 = c.loop-out.n })
-          c.in-Some.out made c.into_vec-in-loop-out.result.items c.loop-out.invariant.1 at c.in_ok-split.ensures
+          (c.put_first.ensures ∙ ap (with_first c.args.axis was) c.into_vec.ensures
+          ∙ ap (λ (y : Node _). given c.args.axis y made) c.index_mut.ensures.value)
+          ∙ firsts_step c.args.axis arc_value c.args.nodes.now.items c.loop-out.nodes.items c.loop-out.yielded
+          c.loop-out.n c.in-Some.out made was lt c.loop-out.invariant.0 at c.in_ok-split.ensures,
+      asked_step arc_value c.one_more_item.ensures c.loop-out.asked.items c.ask.new.asked.items c.loop-out.yielded
+          (record { 0 = c.loop-out.n }) c.in-Some.out made c.into_vec-in-loop-out.result.items c.loop-out.invariant.1 at c.in_ok-split.ensures
           c.into_vec-in-loop-out.ensures c.in_ok-ask.ensures,
       omega arith,
     )
