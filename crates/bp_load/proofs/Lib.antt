@@ -20,3 +20,4 @@ pub mod SomeList
 pub mod SomeLoad
 pub mod Sources
 pub mod Sound
+pub mod Knowing

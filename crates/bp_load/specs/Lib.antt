@@ -9,3 +9,4 @@ pub mod Opened
 pub mod Branches
 pub mod Loaded
 pub mod Laws
+pub mod Numbered

@@ -30,8 +30,11 @@ fn find_all<P>(
     requires may { MayRun (places_in (length mods.now)) g.now.nodes }
     ensures { Answers (λ found. found.items) result (found_for mods.now g.now.nodes asked.now) }
 {
+    if asked.is_empty() {
+        return Ok(Vec::new(alloc));
+    }
     let directory = Directory::new(alloc, mods, g)?;
-    let mut found = Vec::new(alloc);
+    let mut found = Vec::with_capacity(alloc, asked.len())?;
     for (_, request) in asked {
         found.push(resolve_by(alloc, &directory, mods, g, request)?)?;
     }
