@@ -39,7 +39,8 @@ pub fn stealers(
 /// Deals the nodes without predecessors to the deques, to each a stretch of node numbers. They are pushed from the
 /// last on, since a deque gives out first what was pushed last: so a worker visits its stretch in rising order.
 ///
-/// The caller itself works along the last deque, and at once, while the threads of the others have still to start.
+/// The first stretch goes to the last deque: the caller itself works along that one, and at once, while the threads of
+/// the others have still to start.
 pub fn deal<V: Visit, G: Gate>(pass: &Pass<V, G>, deques: &mut [Worker<NodeId>])
     requires pass { IsPass (V.takes pass.now.visitor.now) pass.now }
     requires some { 0 < length deques.old }
@@ -50,8 +51,8 @@ pub fn deal<V: Visit, G: Gate>(pass: &Pass<V, G>, deques: &mut [Worker<NodeId>])
     let count = pass.plan.count as usize;
     for n in (0..count).rev() {
         if pass.starts[n] == pass.starts[n + 1] {
-            let turn = n * many / count;
-            let _ = deques[turn].push(NodeId(n as u32));
+            let stretch = n * many / count;
+            let _ = deques[many - 1 - stretch].push(NodeId(n as u32));
         }
     }
 }
