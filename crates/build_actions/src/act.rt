@@ -33,9 +33,9 @@ pub fn idle(alloc: Global, files: Vec<Item>) -> Actions
 fn make(
     alloc: Global,
     modules: &[Module],
-    graph: &Graph<Record>,
+    graph: &Graph<Record<'_>>,
     module: &Module,
-    node: &Node<Record>,
+    node: &Node<Record<'_>>,
     ins: &[Arc<Actions>],
     files: Vec<Item>,
 ) -> Result<Actions, OutOfMemory>
@@ -62,9 +62,9 @@ fn make(
 pub fn act(
     alloc: Global,
     modules: &[Module],
-    graph: &Graph<Record>,
+    graph: &Graph<Record<'_>>,
     module: &Module,
-    node: &Node<Record>,
+    node: &Node<Record<'_>>,
     ins: &[Arc<Actions>],
 ) -> Result<Actions, VisitError>
     ensures { Answers (λ made. made) result

@@ -71,7 +71,7 @@ fn headers_of(alloc: Global, files: &[Item]) -> Result<Vec<Text>, OutOfMemory>
 pub fn compiler_of(
     alloc: Global,
     module: &Module,
-    node: &Node<Record>,
+    node: &Node<Record<'_>>,
     files: &[Item],
 ) -> Result<Compiler, OutOfMemory>
     ensures { IfOk result (λ compiler. compiler ≡ compiler_of «module».now node.now files.now) }

@@ -25,13 +25,13 @@ fn is_of_one_source(variation: Variation) -> bool
     matches!(variation, Variation::PerSource(_))
 }
 
-fn has_one_source(node: &Node<Record>) -> bool
+fn has_one_source(node: &Node<Record<'_>>) -> bool
     ensures { result ≡ has_one_source node.now }
 {
     is_of_one_source(node.vars.get(Axis::PerSource))
 }
 
-fn is_named(modules: &[Module], graph: &Graph<Record>, n: NodeId, name: &Text) -> bool
+fn is_named(modules: &[Module], graph: &Graph<Record<'_>>, n: NodeId, name: &Text) -> bool
     ensures { result ≡ is_named modules.now graph.now.nodes n.0 name.now }
 {
     let Some(node) = graph.nodes.as_slice().get(n.0 as usize) else {
@@ -44,7 +44,12 @@ fn is_named(modules: &[Module], graph: &Graph<Record>, n: NodeId, name: &Text) -
 }
 
 // Whether a node is of the module that the first source of another asks for.
-fn is_kept(modules: &[Module], graph: &Graph<Record>, node: &Node<Record>, n: NodeId) -> bool
+fn is_kept(
+    modules: &[Module],
+    graph: &Graph<Record<'_>>,
+    node: &Node<Record<'_>>,
+    n: NodeId,
+) -> bool
     ensures { result ≡ is_kept modules.now graph.now.nodes node.now n.0 }
 {
     match node.payload.given().base.srcs.items.as_slice().first() {
@@ -55,8 +60,8 @@ fn is_kept(modules: &[Module], graph: &Graph<Record>, node: &Node<Record>, n: No
 
 fn leads_to_files(
     modules: &[Module],
-    graph: &Graph<Record>,
-    node: &Node<Record>,
+    graph: &Graph<Record<'_>>,
+    node: &Node<Record<'_>>,
     edge: &Edge,
 ) -> bool
     ensures { result ≡ leads_to_files modules.now graph.now.nodes node.now edge.now }
@@ -68,8 +73,8 @@ fn leads_to_files(
 fn given(
     alloc: Global,
     modules: &[Module],
-    graph: &Graph<Record>,
-    node: &Node<Record>,
+    graph: &Graph<Record<'_>>,
+    node: &Node<Record<'_>>,
     edges: &[Edge],
     ins: &[Arc<Actions>],
 ) -> Result<Vec<Arc<Actions>>, OutOfMemory>
@@ -154,8 +159,8 @@ fn files_over(
 pub fn files_of(
     alloc: Global,
     modules: &[Module],
-    graph: &Graph<Record>,
-    node: &Node<Record>,
+    graph: &Graph<Record<'_>>,
+    node: &Node<Record<'_>>,
     ins: &[Arc<Actions>],
 ) -> Result<Vec<Item>, OutOfMemory>
     ensures { IfOk result (λ files. files.items

@@ -46,7 +46,7 @@ fn product_by(link: Variation) -> Product
 }
 
 /// What a node makes, by its link variation.
-pub fn product_of(node: &Node<Record>) -> Product
+pub fn product_of(node: &Node<Record<'_>>) -> Product
     ensures { result ≡ product_of (link_of node.now) }
 {
     product_by(node.vars.get(Axis::Link))
@@ -66,7 +66,7 @@ fn suffix_of(product: Product) -> &'static str
 pub fn directory_of(
     alloc: Global,
     module: &Module,
-    node: &Node<Record>,
+    node: &Node<Record<'_>>,
 ) -> Result<Text, OutOfMemory>
     ensures { IfOk result (λ path. path ≡ directory_of «module».now node.now) }
 {
@@ -90,7 +90,7 @@ pub fn output_in(
     alloc: Global,
     directory: &Text,
     module: &Module,
-    node: &Node<Record>,
+    node: &Node<Record<'_>>,
 ) -> Result<Text, OutOfMemory>
     ensures { IfOk result (λ path. path ≡ output_in directory.now «module».now node.now) }
 {
@@ -104,7 +104,7 @@ pub fn output_in(
 pub fn output_of(
     alloc: Global,
     module: &Module,
-    node: &Node<Record>,
+    node: &Node<Record<'_>>,
 ) -> Result<Option<Text>, OutOfMemory>
     ensures { IfOk result (λ path. path ≡ output_of «module».now node.now) }
 {
@@ -121,7 +121,7 @@ pub fn output_of(
 pub fn output_at(
     alloc: Global,
     modules: &[Module],
-    graph: &Graph<Record>,
+    graph: &Graph<Record<'_>>,
     n: NodeId,
 ) -> Result<Option<Text>, OutOfMemory>
     ensures { IfOk result (λ path. path ≡ output_at modules.now graph.now.nodes n.0) }

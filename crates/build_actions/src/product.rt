@@ -89,7 +89,7 @@ pub fn objects_over(
 fn add_outputs(
     alloc: Global,
     modules: &[Module],
-    graph: &Graph<Record>,
+    graph: &Graph<Record<'_>>,
     numbers: &[NodeId],
     paths: &mut Vec<Text>,
 ) -> Result<(), OutOfMemory>
@@ -104,7 +104,7 @@ fn add_outputs(
 fn data_output(
     alloc: Global,
     modules: &[Module],
-    graph: &Graph<Record>,
+    graph: &Graph<Record<'_>>,
     edge: &Edge,
 ) -> Result<Option<Text>, OutOfMemory>
     ensures { IfOk result (λ path. path ≡ data_output modules.now graph.now.nodes edge.now) }
@@ -119,7 +119,7 @@ fn data_output(
 fn listed_data(
     alloc: Global,
     modules: &[Module],
-    graph: &Graph<Record>,
+    graph: &Graph<Record<'_>>,
     edges: &[Edge],
 ) -> Result<Vec<Text>, OutOfMemory>
     ensures { IfOk result (λ paths. paths.items ≡ filter_map (data_output modules.now graph.now.nodes) edges.now) }
@@ -135,7 +135,7 @@ fn listed_data(
 fn data_outputs(
     alloc: Global,
     modules: &[Module],
-    graph: &Graph<Record>,
+    graph: &Graph<Record<'_>>,
     edges: &[Edge],
 ) -> Result<Vec<Text>, OutOfMemory>
     ensures { IfOk result (λ paths. paths.items ≡ data_outputs modules.now graph.now.nodes edges.now) }
@@ -163,8 +163,8 @@ fn archive(alloc: Global, output: &Text, objects: &[Text]) -> Result<Statement, 
 fn link_ins(
     alloc: Global,
     modules: &[Module],
-    graph: &Graph<Record>,
-    node: &Node<Record>,
+    graph: &Graph<Record<'_>>,
+    node: &Node<Record<'_>>,
     objects: &[Text],
 ) -> Result<Vec<Text>, OutOfMemory>
     ensures { IfOk result (λ ins. ins.items ≡ link_ins modules.now graph.now.nodes node.now objects.now) }
@@ -180,8 +180,8 @@ fn link_ins(
 fn link(
     alloc: Global,
     modules: &[Module],
-    graph: &Graph<Record>,
-    node: &Node<Record>,
+    graph: &Graph<Record<'_>>,
+    node: &Node<Record<'_>>,
     rule: &str,
     output: &Text,
     objects: &[Text],
@@ -205,8 +205,8 @@ fn link(
 pub fn product_step(
     alloc: Global,
     modules: &[Module],
-    graph: &Graph<Record>,
-    node: &Node<Record>,
+    graph: &Graph<Record<'_>>,
+    node: &Node<Record<'_>>,
     output: &Text,
     objects: &[Text],
 ) -> Result<Statement, OutOfMemory>

@@ -33,7 +33,7 @@ fn target_by(variation: Variation) -> &'static str
     }
 }
 
-fn target_of(node: &Node<Record>) -> &'static str
+fn target_of(node: &Node<Record<'_>>) -> &'static str
     ensures { result.now ≡ target_of node.now }
 {
     target_by(node.vars.get(Axis::Target))
@@ -69,7 +69,7 @@ fn add_level(alloc: Global, words: &mut Vec<Text>, level: u32) -> Result<(), Out
     Ok(())
 }
 
-fn add_cflags(alloc: Global, words: &mut Vec<Text>, own: &Record) -> Result<(), OutOfMemory>
+fn add_cflags(alloc: Global, words: &mut Vec<Text>, own: &Record<'_>) -> Result<(), OutOfMemory>
     ensures { OnOk result (words.new.items ≡ words.old.items ++ own.now.base.cflags.items) }
 {
     let (flags, pic) = own.cflags();
@@ -80,7 +80,7 @@ fn add_cflags(alloc: Global, words: &mut Vec<Text>, own: &Record) -> Result<(), 
     Ok(())
 }
 
-fn flags_of(alloc: Global, own: &Record, language: Language) -> Result<Vec<Text>, OutOfMemory>
+fn flags_of(alloc: Global, own: &Record<'_>, language: Language) -> Result<Vec<Text>, OutOfMemory>
     ensures { IfOk result (λ words. words.items ≡ flags_of own.now language) }
 {
     let base = &own.given().base;
@@ -99,7 +99,7 @@ fn flags_of(alloc: Global, own: &Record, language: Language) -> Result<Vec<Text>
     Ok(words)
 }
 
-fn cflags_of(alloc: Global, own: &Record, language: Language) -> Result<Text, OutOfMemory>
+fn cflags_of(alloc: Global, own: &Record<'_>, language: Language) -> Result<Text, OutOfMemory>
     ensures { IfOk result (λ line. line ≡ cflags_of own.now language) }
 {
     let mut words = flags_of(alloc, own, language)?;
@@ -127,7 +127,7 @@ fn include_words(alloc: Global, paths: &[Path]) -> Result<Vec<Text>, OutOfMemory
     Ok(words)
 }
 
-fn includes_of(alloc: Global, own: &Record) -> Result<Text, OutOfMemory>
+fn includes_of(alloc: Global, own: &Record<'_>) -> Result<Text, OutOfMemory>
     ensures { IfOk result (λ line. line ≡ includes_of own.now) }
 {
     let words = include_words(alloc, own.includes())?;
@@ -137,7 +137,7 @@ fn includes_of(alloc: Global, own: &Record) -> Result<Text, OutOfMemory>
 /// The variables of the compile steps of a node in a language.
 pub fn compile_variables(
     alloc: Global,
-    node: &Node<Record>,
+    node: &Node<Record<'_>>,
     language: Language,
 ) -> Result<Seq<(Text, Text)>, OutOfMemory>
     ensures { IfOk result (λ variables. variables ≡ compile_variables node.now language) }
@@ -153,7 +153,10 @@ pub fn compile_variables(
 }
 
 /// The variables of the link step of a node.
-pub fn link_variables(alloc: Global, node: &Node<Record>) -> Result<Seq<(Text, Text)>, OutOfMemory>
+pub fn link_variables(
+    alloc: Global,
+    node: &Node<Record<'_>>,
+) -> Result<Seq<(Text, Text)>, OutOfMemory>
     ensures { IfOk result (λ variables. variables ≡ link_variables node.now) }
 {
     let mut variables = Seq::new(Vec::with_capacity(alloc, 2)?);

@@ -42,7 +42,7 @@ impl<'a> DefaultsDeps<'a> {
 fn ask_defaults(
     alloc: Global,
     item: &Module,
-    node: &Node<Record>,
+    node: &Node<Record<'_>>,
 ) -> Result<Seq<Request>, OutOfMemory>
     ensures { IfOk result (λ asked. asked ≡ defaults_asked item.now node.now) }
 {
@@ -52,7 +52,7 @@ fn ask_defaults(
     Ok(asked)
 }
 
-impl<'a> BottomUp<Record> for DefaultsDeps<'a> {
+impl<'a> BottomUp<Record<'a>> for DefaultsDeps<'a> {
     ghost splits_along = { λ rule. None };
 
     ghost meaning = { λ rule. asks defaults_asked rule };
@@ -66,10 +66,10 @@ impl<'a> BottomUp<Record> for DefaultsDeps<'a> {
     fn visit(
         &self,
         alloc: Global,
-        g: &Graph<Record>,
+        g: &Graph<Record<'a>>,
         n: NodeId,
-        _ins: &[Arc<Split<Record>>],
-    ) -> Result<Split<Record>, VisitError> {
+        _ins: &[Arc<Split<Record<'a>>>],
+    ) -> Result<Split<Record<'a>>, VisitError> {
         let at = Seen::at(self.mods, g, n);
         let asked = ask_defaults(alloc, at.module, at.node)?;
         Ok(one_variant(alloc, at.node.payload.copy(alloc)?, asked)?)

@@ -41,12 +41,12 @@ impl<'a> DefaultsMerge<'a> {
 }
 
 /// A module's own record over that of its defaults.
-fn over_defaults(
+fn over_defaults<'m>(
     alloc: Global,
     kind: ModuleKind,
-    own: &Record,
+    own: &Record<'m>,
     given: Option<Props>,
-) -> Result<Record, OutOfMemory>
+) -> Result<Record<'m>, OutOfMemory>
     ensures { IfOk result (λ made. made ≡ over_defaults kind own.now given) }
 {
     match given {
@@ -60,12 +60,12 @@ fn over_defaults(
 }
 
 /// The record of a node with its defaults.
-fn merge(
+fn merge<'m>(
     alloc: Global,
     item: &Module,
-    node: &Node<Record>,
-    ins: &[Arc<Split<Record>>],
-) -> Result<Record, OutOfMemory>
+    node: &Node<Record<'m>>,
+    ins: &[Arc<Split<Record<'m>>>],
+) -> Result<Record<'m>, OutOfMemory>
     requires { length ins.now ≡ length node.now.edges }
     ensures { IfOk result (λ made. made ≡ defaults_merged item.now node.now (map arc_value ins.now)) }
 {
@@ -73,7 +73,7 @@ fn merge(
     over_defaults(alloc, item.kind, &node.payload, given)
 }
 
-impl<'a> BottomUp<Record> for DefaultsMerge<'a> {
+impl<'a> BottomUp<Record<'a>> for DefaultsMerge<'a> {
     ghost splits_along = { λ rule. None };
 
     ghost meaning = { λ rule. renews defaults_merged rule };
@@ -87,10 +87,10 @@ impl<'a> BottomUp<Record> for DefaultsMerge<'a> {
     fn visit(
         &self,
         alloc: Global,
-        g: &Graph<Record>,
+        g: &Graph<Record<'a>>,
         n: NodeId,
-        ins: &[Arc<Split<Record>>],
-    ) -> Result<Split<Record>, VisitError> {
+        ins: &[Arc<Split<Record<'a>>>],
+    ) -> Result<Split<Record<'a>>, VisitError> {
         let at = Seen::at(self.mods, g, n);
         let made = merge(alloc, at.module, at.node, ins)?;
         Ok(one_variant(alloc, made, Seq::new(Vec::new(alloc)))?)

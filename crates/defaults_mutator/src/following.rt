@@ -12,7 +12,7 @@ use std::alloc::Global;
 use std::sync::Arc;
 
 /// The record that an edge gives, if it is of kind Defaults.
-fn record_along<'a>(edge: &Edge, made: &'a Split<Record>) -> Option<&'a Record>
+fn record_along<'a, 'm>(edge: &Edge, made: &'a Split<Record<'m>>) -> Option<&'a Record<'m>>
     ensures { option_copied result ≡ record_along (edge.now, made.now) }
 {
     match edge.kind {
@@ -22,7 +22,7 @@ fn record_along<'a>(edge: &Edge, made: &'a Split<Record>) -> Option<&'a Record>
 }
 
 /// Takes one record more.
-fn join(alloc: Global, all: &mut Option<Props>, one: &Record) -> Result<(), OutOfMemory>
+fn join(alloc: Global, all: &mut Option<Props>, one: &Record<'_>) -> Result<(), OutOfMemory>
     ensures { OnOk result (all.new ≡ one_record_more all.old one.now) }
 {
     match all {
@@ -38,7 +38,7 @@ fn join(alloc: Global, all: &mut Option<Props>, one: &Record) -> Result<(), OutO
 pub fn followed(
     alloc: Global,
     edges: &[Edge],
-    ins: &[Arc<Split<Record>>],
+    ins: &[Arc<Split<Record<'_>>>],
 ) -> Result<Option<Props>, OutOfMemory>
     requires { length ins.now ≡ length edges.now }
     ensures { IfOk result (λ all. all ≡ records_followed (defaults_given edges.now (map arc_value ins.now))) }

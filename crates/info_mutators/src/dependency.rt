@@ -9,14 +9,14 @@ use std::marker::Model;
 
 /// A dependency of a node: its edge's kind, its node, the name of its module, and what was made of it.
 #[derive(Drop)]
-pub struct Dependency<'a> {
+pub struct Dependency<'a, 'm> {
     kind: EdgeKind,
     node: NodeId,
     name: &'a Text,
-    made: &'a Split<Record>,
+    made: &'a Split<Record<'m>>,
 }
 
-impl<'a> Model for Dependency<'a> {
+impl<'a, 'm> Model for Dependency<'a, 'm> {
     ghost use Rattle.info_mutators.specs.Dependencies.{Dependency, record_made};
 
     ghost Value = { Dependency };
@@ -31,13 +31,13 @@ pub fn is_archived(kind: EdgeKind) -> bool
     matches!(kind, EdgeKind::Whole | EdgeKind::Static)
 }
 
-impl<'a> Dependency<'a> {
+impl<'a, 'm> Dependency<'a, 'm> {
     pub fn new(
         kind: EdgeKind,
         node: NodeId,
         name: &'a Text,
-        made: &'a Split<Record>,
-    ) -> Dependency<'a>
+        made: &'a Split<Record<'m>>,
+    ) -> Dependency<'a, 'm>
         ensures { result ≡ record { kind = kind; node = node; name = name.now; props = record_made made.now } }
     {
         Dependency {

@@ -34,7 +34,7 @@ pub struct ExportNames<'a> {
     headers: NameSet<'a>,
 }
 
-fn export_names<'a>(alloc: Global, own: &'a Record) -> Result<ExportNames<'a>, OutOfMemory>
+fn export_names<'a>(alloc: Global, own: &'a Record<'_>) -> Result<ExportNames<'a>, OutOfMemory>
     ensures { IfOk result (AreExportNames own.now) }
 {
     let base = &own.given().base;
@@ -74,7 +74,7 @@ fn note_all<'a>(seen: &mut IndexSet<&'a Path>, paths: &'a [Path]) -> Result<(), 
 fn note_handed_on<'a>(
     seen: &mut IndexSet<&'a Path>,
     names: &ExportNames,
-    dependency: &Dependency<'a>,
+    dependency: &Dependency<'a, '_>,
 ) -> Result<(), OutOfMemory>
     ensures { (own : Props) → AreExportNames own names.now
         → OnOk result (NotesAllPaths seen.old.keys (export_part own dependency.now) seen.new.keys) }
@@ -88,7 +88,7 @@ fn note_handed_on<'a>(
 fn note_all_handed_on<'a>(
     seen: &mut IndexSet<&'a Path>,
     names: &ExportNames,
-    dependencies: &[Dependency<'a>],
+    dependencies: &[Dependency<'a, '_>],
 ) -> Result<(), OutOfMemory>
     ensures { (own : Props) → AreExportNames own names.now
         → OnOk result (NotesAllPaths seen.old.keys (flat_map (export_part own) dependencies.now) seen.new.keys) }
@@ -102,7 +102,7 @@ fn note_all_handed_on<'a>(
 /// The directories that a module exports.
 pub fn exports_of(
     alloc: Global,
-    own: &Record,
+    own: &Record<'_>,
     dependencies: &[Dependency],
 ) -> Result<Vec<Path>, OutOfMemory>
     ensures { IfOk result (λ list. list.items ≡ exports_of own.now dependencies.now) }

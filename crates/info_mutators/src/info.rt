@@ -22,13 +22,13 @@ use std::marker::Model;
 use std::sync::Arc;
 
 /// The dependencies along some edges, given what was made of each.
-fn dependencies_of<'a>(
+fn dependencies_of<'a, 'm>(
     alloc: Global,
     mods: &'a [Module],
-    g: &'a Graph<Record>,
+    g: &'a Graph<Record<'m>>,
     edges: &'a [Edge],
-    made: &'a [Arc<Split<Record>>],
-) -> Result<Vec<Dependency<'a>>, OutOfMemory>
+    made: &'a [Arc<Split<Record<'m>>>],
+) -> Result<Vec<Dependency<'a, 'm>>, OutOfMemory>
     requires may { MayRun (places_in (length mods.now)) g.now.nodes }
     requires ends { AllByRecursion (λ (e : Edge). e.to.0 < length g.now.nodes) edges.now }
     requires each { length made.now ≡ length edges.now }
@@ -45,11 +45,11 @@ fn dependencies_of<'a>(
 }
 
 /// The record with the four lists, where they keep their limits.
-fn with_short_lists(
+fn with_short_lists<'m>(
     alloc: Global,
-    own: &Record,
+    own: &Record<'m>,
     dependencies: &[Dependency],
-) -> Result<Option<Record>, OutOfMemory>
+) -> Result<Option<Record<'m>>, OutOfMemory>
     ensures { IfOk result (λ made. made ≡ with_short_lists own.now dependencies.now) }
 {
     let Some(includes) = includes_of(alloc, own, dependencies)? else {
@@ -101,7 +101,7 @@ impl<'a> Info<'a> {
     }
 }
 
-impl<'a> BottomUp<Record> for Info<'a> {
+impl<'a> BottomUp<Record<'a>> for Info<'a> {
     ghost splits_along = { λ rule. None };
 
     ghost meaning = { λ rule. info_meant rule };
@@ -115,10 +115,10 @@ impl<'a> BottomUp<Record> for Info<'a> {
     fn visit(
         &self,
         alloc: Global,
-        g: &Graph<Record>,
+        g: &Graph<Record<'a>>,
         n: NodeId,
-        ins: &[Arc<Split<Record>>],
-    ) -> Result<Split<Record>, VisitError> {
+        ins: &[Arc<Split<Record<'a>>>],
+    ) -> Result<Split<Record<'a>>, VisitError> {
         let at = Seen::at(self.mods, g, n);
         let edges = at.node.edges.as_slice();
         let dependencies = dependencies_of(alloc, self.mods, g, edges, ins)?;

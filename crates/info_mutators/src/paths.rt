@@ -43,7 +43,7 @@ fn note_all<'a>(seen: &mut IndexSet<&'a Path>, paths: &'a [Path]) -> Result<(), 
 /// Notes what a dependency exports, where it is a library.
 fn note_exports<'a>(
     seen: &mut IndexSet<&'a Path>,
-    dependency: &Dependency<'a>,
+    dependency: &Dependency<'a, '_>,
 ) -> Result<(), OutOfMemory>
     ensures { OnOk result (NotesPaths seen.old.keys (include_part dependency.now) seen.new.keys) }
 {
@@ -56,7 +56,7 @@ fn note_exports<'a>(
 /// Notes what the libraries export.
 fn note_exported<'a>(
     seen: &mut IndexSet<&'a Path>,
-    dependencies: &[Dependency<'a>],
+    dependencies: &[Dependency<'a, '_>],
 ) -> Result<(), OutOfMemory>
     ensures { OnOk result (NotesPaths seen.old.keys (flat_map include_part dependencies.now) seen.new.keys) }
 {
@@ -67,7 +67,7 @@ fn note_exported<'a>(
 }
 
 /// Notes a module's own directories.
-fn note_own<'a>(seen: &mut IndexSet<&'a Path>, own: &'a Record) -> Result<(), OutOfMemory>
+fn note_own<'a>(seen: &mut IndexSet<&'a Path>, own: &'a Record<'_>) -> Result<(), OutOfMemory>
     ensures { OnOk result (NotesPaths seen.old.keys (own_includes own.now) seen.new.keys) }
 {
     let base = &own.given().base;
@@ -91,7 +91,7 @@ pub fn copies(alloc: Global, paths: &[&Path]) -> Result<Vec<Path>, OutOfMemory>
 /// The directories that a module's sources are compiled with, where they aren't too many.
 pub fn includes_of(
     alloc: Global,
-    own: &Record,
+    own: &Record<'_>,
     dependencies: &[Dependency],
 ) -> Result<Option<Vec<Path>>, OutOfMemory>
     ensures { IfOk result

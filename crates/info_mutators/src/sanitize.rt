@@ -19,13 +19,13 @@ use std::sync::Arc;
 /// What the compiler and the linker are told.
 const FLAG: &str = "-fsanitize=address";
 
-fn is_never(own: &Record) -> bool
+fn is_never(own: &Record<'_>) -> bool
     ensures { result ≡ is_never own.now }
 {
     is_true_or(false, &own.given().never)
 }
 
-fn is_on(own: &Record) -> bool
+fn is_on(own: &Record<'_>) -> bool
     ensures { result ≡ is_on own.now }
 {
     is_true_or(false, &own.given().address) && !is_never(own)
@@ -37,7 +37,7 @@ fn is_asan(variation: Variation) -> bool
     matches!(variation, Variation::Asan)
 }
 
-fn asan_or(other: Variation, own: &Record) -> Variation
+fn asan_or(other: Variation, own: &Record<'_>) -> Variation
     ensures { result ≡ asan_or other own.now }
 {
     if is_on(own) { Variation::Asan } else { other }
@@ -53,14 +53,14 @@ fn add_flag_if(alloc: Global, list: &mut Listed<Text>, needed: bool) -> Result<(
 }
 
 /// Whether an edge leads to what is put into the node, and has code of the sanitizer in it.
-fn is_sanitized(kind: EdgeKind, made: &Record) -> bool
+fn is_sanitized(kind: EdgeKind, made: &Record<'_>) -> bool
     ensures { result ≡ (is_archived kind && made.now.asan) }
 {
     is_archived(kind) && made.given().asan
 }
 
 /// Whether a Whole or Static dependency has code of the sanitizer in it.
-fn has_sanitized(edges: &[Edge], ins: &[Arc<Record>]) -> bool
+fn has_sanitized(edges: &[Edge], ins: &[Arc<Record<'_>>]) -> bool
     requires { length ins.now ≡ length edges.now }
     ensures { result ≡ has_sanitized edges.now (map arc_value ins.now) }
 {
@@ -72,12 +72,12 @@ fn has_sanitized(edges: &[Edge], ins: &[Arc<Record>]) -> bool
     false
 }
 
-fn with_sanitizer(
+fn with_sanitizer<'m>(
     alloc: Global,
-    own: &Record,
+    own: &Record<'m>,
     compiles: bool,
     has: bool,
-) -> Result<Record, OutOfMemory>
+) -> Result<Record<'m>, OutOfMemory>
     ensures { IfOk result (λ made. made ≡ with_sanitizer compiles has own.now) }
 {
     if !compiles && !has && !own.given().asan {
@@ -115,7 +115,7 @@ impl<'a> Sanitize<'a> {
     }
 }
 
-impl<'a> Transition<Record> for Sanitize<'a> {
+impl<'a> Transition<Record<'a>> for Sanitize<'a> {
     ghost meaning = { λ rule. sanitize_meant };
 
     ghost accepts = { λ rule. places_in (length rule) };
@@ -127,7 +127,7 @@ impl<'a> Transition<Record> for Sanitize<'a> {
     fn split(
         &self,
         alloc: Global,
-        g: &Graph<Record>,
+        g: &Graph<Record<'a>>,
         n: NodeId,
     ) -> Result<Vec<Variation>, VisitError> {
         let own = &Seen::at(self.mods, g, n).node.payload;
@@ -136,7 +136,13 @@ impl<'a> Transition<Record> for Sanitize<'a> {
         Ok(list)
     }
 
-    fn outgoing(&self, _g: &Graph<Record>, _n: NodeId, kind: EdgeKind, v: Variation) -> Variation {
+    fn outgoing(
+        &self,
+        _g: &Graph<Record<'a>>,
+        _n: NodeId,
+        kind: EdgeKind,
+        v: Variation,
+    ) -> Variation {
         if is_archived(kind) {
             v
         } else {
@@ -144,7 +150,7 @@ impl<'a> Transition<Record> for Sanitize<'a> {
         }
     }
 
-    fn incoming(&self, g: &Graph<Record>, n: NodeId, w: Variation) -> Variation {
+    fn incoming(&self, g: &Graph<Record<'a>>, n: NodeId, w: Variation) -> Variation {
         let own = &Seen::at(self.mods, g, n).node.payload;
         if is_never(own) {
             Variation::Empty
@@ -156,10 +162,10 @@ impl<'a> Transition<Record> for Sanitize<'a> {
     fn mutate(
         &self,
         alloc: Global,
-        g: &Graph<Record>,
+        g: &Graph<Record<'a>>,
         n: NodeId,
-        ins: &[Arc<Record>],
-    ) -> Result<Record, VisitError> {
+        ins: &[Arc<Record<'a>>],
+    ) -> Result<Record<'a>, VisitError> {
         let node = Seen::at(self.mods, g, n).node;
         let compiles = is_asan(node.vars.get(Axis::Sanitize));
         let has = node.payload.given().asan

@@ -44,7 +44,7 @@ fn with_edge(least: Option<u32>, kind: EdgeKind, level: u32) -> Option<u32>
 }
 
 /// The least level that is handed to a node.
-fn least_handed(kinds: &[EdgeKind], ins: &[Arc<Record>]) -> Option<u32>
+fn least_handed(kinds: &[EdgeKind], ins: &[Arc<Record<'_>>]) -> Option<u32>
     requires { length ins.now ≡ length kinds.now }
     ensures { result ≡ least (handed_levels kinds.now (map arc_value ins.now)) }
 {
@@ -88,7 +88,7 @@ impl<'a> SdkLevel<'a> {
     }
 }
 
-impl<'a> TopDown<Record> for SdkLevel<'a> {
+impl<'a> TopDown<Record<'a>> for SdkLevel<'a> {
     ghost meaning = { λ rule. level_meant };
 
     ghost accepts = { λ rule. places_in (length rule) };
@@ -96,11 +96,11 @@ impl<'a> TopDown<Record> for SdkLevel<'a> {
     fn visit(
         &self,
         alloc: Global,
-        g: &Graph<Record>,
+        g: &Graph<Record<'a>>,
         n: NodeId,
         kinds: &[EdgeKind],
-        ins: &[Arc<Record>],
-    ) -> Result<Record, VisitError> {
+        ins: &[Arc<Record<'a>>],
+    ) -> Result<Record<'a>, VisitError> {
         let own = &Seen::at(self.mods, g, n).node.payload;
         let handed = least_handed(kinds, ins).unwrap_or(NO_LEVEL);
         let level = own_level_or(handed, own.given().min_sdk_version);

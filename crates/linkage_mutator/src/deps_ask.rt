@@ -44,7 +44,7 @@ impl<'a> DepsAsk<'a> {
 fn libraries_asked(
     alloc: Global,
     vars: &Variations,
-    own: &Record,
+    own: &Record<'_>,
 ) -> Result<Seq<Request>, OutOfMemory>
     ensures { IfOk result (λ asked. asked ≡ libraries_asked vars.now own.now) }
 {
@@ -86,7 +86,7 @@ fn deps_of(
     alloc: Global,
     kind: ModuleKind,
     vars: &Variations,
-    own: &Record,
+    own: &Record<'_>,
 ) -> Result<Seq<Request>, OutOfMemory>
     ensures { IfOk result (λ asked. asked ≡ deps_of kind vars.now own.now) }
 {
@@ -102,14 +102,14 @@ fn deps_of(
 fn deps_asked(
     alloc: Global,
     item: &Module,
-    node: &Node<Record>,
+    node: &Node<Record<'_>>,
 ) -> Result<Seq<Request>, OutOfMemory>
     ensures { IfOk result (λ asked. asked ≡ deps_asked item.now node.now) }
 {
     deps_of(alloc, item.kind, &node.vars, &node.payload)
 }
 
-impl<'a> BottomUp<Record> for DepsAsk<'a> {
+impl<'a> BottomUp<Record<'a>> for DepsAsk<'a> {
     ghost splits_along = { λ rule. None };
 
     ghost meaning = { λ rule. asks deps_asked rule };
@@ -123,10 +123,10 @@ impl<'a> BottomUp<Record> for DepsAsk<'a> {
     fn visit(
         &self,
         alloc: Global,
-        g: &Graph<Record>,
+        g: &Graph<Record<'a>>,
         n: NodeId,
-        _ins: &[Arc<Split<Record>>],
-    ) -> Result<Split<Record>, VisitError> {
+        _ins: &[Arc<Split<Record<'a>>>],
+    ) -> Result<Split<Record<'a>>, VisitError> {
         let at = Seen::at(self.mods, g, n);
         let asked = deps_asked(alloc, at.module, at.node)?;
         Ok(one_variant(alloc, at.node.payload.copy(alloc)?, asked)?)

@@ -41,18 +41,18 @@ impl<'a> LinkSplit<'a> {
 }
 
 /// A record with its group of an id appended.
-fn with_group(alloc: Global, own: &Record, id: GroupId) -> Result<Record, OutOfMemory>
+fn with_group<'m>(alloc: Global, own: &Record<'m>, id: GroupId) -> Result<Record<'m>, OutOfMemory>
     ensures { IfOk result (λ made. made ≡ with_group own.now id) }
 {
     append_group(alloc, own.copy(alloc)?, own, id)
 }
 
 /// The variants as they are linked, without the flag.
-fn links_of(
+fn links_of<'m>(
     alloc: Global,
     kind: ModuleKind,
-    own: &Record,
-) -> Result<Seq<(Variation, Record)>, OutOfMemory>
+    own: &Record<'m>,
+) -> Result<Seq<(Variation, Record<'m>)>, OutOfMemory>
     ensures { IfOk result (λ variants. variants ≡ links_of kind own.now) }
 {
     let mut variants = Seq::new(Vec::with_capacity(alloc, 2)?);
@@ -76,11 +76,11 @@ fn has_link(variation: Variation) -> bool
     matches!(variation, Variation::Static | Variation::Shared)
 }
 
-fn pic_if_linked(
+fn pic_if_linked<'m>(
     alloc: Global,
-    variant: (Variation, Record),
-) -> Result<(Variation, Record), OutOfMemory>
-    ensures { IfOk result (λ made. made ≡ pic_if_linked variant) }
+    variant: (Variation, Record<'m>),
+) -> Result<(Variation, Record<'m>), OutOfMemory>
+    ensures { IfOk result (λ made. made ≡ pic_if_linked variant.entry) }
 {
     let (variation, own) = variant;
     if has_link(variation) {
@@ -90,11 +90,11 @@ fn pic_if_linked(
     }
 }
 
-fn link_variants(
+fn link_variants<'m>(
     alloc: Global,
     item: &Module,
-    node: &Node<Record>,
-) -> Result<Seq<(Variation, Record)>, OutOfMemory>
+    node: &Node<Record<'m>>,
+) -> Result<Seq<(Variation, Record<'m>)>, OutOfMemory>
     ensures { IfOk result (λ variants. variants ≡ link_variants item.now node.now) }
 {
     let links = links_of(alloc, item.kind, &node.payload)?.into_vec();
@@ -105,7 +105,7 @@ fn link_variants(
     Ok(variants)
 }
 
-impl<'a> BottomUp<Record> for LinkSplit<'a> {
+impl<'a> BottomUp<Record<'a>> for LinkSplit<'a> {
     ghost splits_along = { λ rule. Some Link };
 
     ghost meaning = { λ rule. splits link_variants rule };
@@ -119,10 +119,10 @@ impl<'a> BottomUp<Record> for LinkSplit<'a> {
     fn visit(
         &self,
         alloc: Global,
-        g: &Graph<Record>,
+        g: &Graph<Record<'a>>,
         n: NodeId,
-        _ins: &[Arc<Split<Record>>],
-    ) -> Result<Split<Record>, VisitError> {
+        _ins: &[Arc<Split<Record<'a>>>],
+    ) -> Result<Split<Record<'a>>, VisitError> {
         let at = Seen::at(self.mods, g, n);
         Ok(Split {
             variants: link_variants(alloc, at.module, at.node)?,

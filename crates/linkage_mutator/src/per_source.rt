@@ -42,7 +42,7 @@ impl<'a> PerSource<'a> {
 }
 
 /// A copy of a record with one source alone. The record has none, so that no other source is copied.
-fn with_source(alloc: Global, bare: &Props, source: &Source) -> Result<Record, OutOfMemory>
+fn with_source<'m>(alloc: Global, bare: &Props, source: &Source) -> Result<Record<'m>, OutOfMemory>
     ensures { IfOk result (λ made. made ≡ with_sources bare.now (source.now ∷ [])) }
 {
     let mut made = bare.copy(alloc)?;
@@ -52,11 +52,11 @@ fn with_source(alloc: Global, bare: &Props, source: &Source) -> Result<Record, O
     Record::new(alloc, made)
 }
 
-fn by_source(
+fn by_source<'m>(
     alloc: Global,
-    own: &Record,
+    own: &Record<'m>,
     sources: &[Source],
-) -> Result<Seq<(Variation, Record)>, OutOfMemory>
+) -> Result<Seq<(Variation, Record<'m>)>, OutOfMemory>
     ensures { IfOk result (λ variants. variants ≡ by_number (variant_of_source own.now) 1 sources.now) }
 {
     let mut bare = own.to_props(alloc)?;
@@ -69,12 +69,12 @@ fn by_source(
     Ok(variants)
 }
 
-fn each_source(
+fn each_source<'m>(
     alloc: Global,
     split: bool,
-    own: &Record,
+    own: &Record<'m>,
     sources: &[Source],
-) -> Result<Seq<(Variation, Record)>, OutOfMemory>
+) -> Result<Seq<(Variation, Record<'m>)>, OutOfMemory>
     ensures { IfOk result (λ variants. variants ≡ each_source split own.now sources.now) }
 {
     if split && !sources.is_empty() {
@@ -94,11 +94,11 @@ fn is_split(kind: ModuleKind, flag: &Option<Given<bool>>) -> bool
     }
 }
 
-fn source_variants(
+fn source_variants<'m>(
     alloc: Global,
     item: &Module,
-    node: &Node<Record>,
-) -> Result<Seq<(Variation, Record)>, OutOfMemory>
+    node: &Node<Record<'m>>,
+) -> Result<Seq<(Variation, Record<'m>)>, OutOfMemory>
     ensures { IfOk result (λ variants. variants ≡ source_variants item.now node.now) }
 {
     let own = node.payload.given();
@@ -106,7 +106,7 @@ fn source_variants(
     each_source(alloc, split, &node.payload, own.base.srcs.items.as_slice())
 }
 
-impl<'a> BottomUp<Record> for PerSource<'a> {
+impl<'a> BottomUp<Record<'a>> for PerSource<'a> {
     ghost splits_along = { λ rule. Some SourceAxis };
 
     ghost meaning = { λ rule. splits source_variants rule };
@@ -120,10 +120,10 @@ impl<'a> BottomUp<Record> for PerSource<'a> {
     fn visit(
         &self,
         alloc: Global,
-        g: &Graph<Record>,
+        g: &Graph<Record<'a>>,
         n: NodeId,
-        _ins: &[Arc<Split<Record>>],
-    ) -> Result<Split<Record>, VisitError> {
+        _ins: &[Arc<Split<Record<'a>>>],
+    ) -> Result<Split<Record<'a>>, VisitError> {
         let at = Seen::at(self.mods, g, n);
         Ok(Split {
             variants: source_variants(alloc, at.module, at.node)?,

@@ -155,7 +155,7 @@ impl<'a, 't> PluginsAsk<'a, 't> {
         &self,
         alloc: Global,
         item: &Module,
-        node: &Node<Record>,
+        node: &Node<Record<'_>>,
     ) -> Result<Seq<Request>, OutOfMemory>
         ensures { IfOk result (λ asked. asked ≡ plugins_asked self.now item.now node.now) }
     {
@@ -168,7 +168,7 @@ impl<'a, 't> PluginsAsk<'a, 't> {
     }
 }
 
-impl<'a, 't> BottomUp<Record> for PluginsAsk<'a, 't> {
+impl<'a, 't> BottomUp<Record<'a>> for PluginsAsk<'a, 't> {
     ghost splits_along = { λ rule. None };
 
     ghost meaning = { λ rule. asks (plugins_asked rule) rule };
@@ -182,10 +182,10 @@ impl<'a, 't> BottomUp<Record> for PluginsAsk<'a, 't> {
     fn visit(
         &self,
         alloc: Global,
-        g: &Graph<Record>,
+        g: &Graph<Record<'a>>,
         n: NodeId,
-        _ins: &[Arc<Split<Record>>],
-    ) -> Result<Split<Record>, VisitError> {
+        _ins: &[Arc<Split<Record<'a>>>],
+    ) -> Result<Split<Record<'a>>, VisitError> {
         let at = Seen::at(self.mods, g, n);
         let asked = self.plugins_asked(alloc, at.module, at.node)?;
         Ok(one_variant(alloc, at.node.payload.copy(alloc)?, asked)?)

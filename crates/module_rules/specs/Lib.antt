@@ -3,6 +3,7 @@ pub mod Flags
 pub mod Found
 pub mod Groups
 pub mod Laws
+pub mod Lent
 pub mod Results
 pub mod Rules
 pub mod Seen

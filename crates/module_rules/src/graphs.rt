@@ -6,7 +6,7 @@ use bp_props::Props;
 use module_graph::{Graph, Node};
 use std::alloc::Global;
 
-fn with_record(alloc: Global, node: Node<Props>) -> Result<Node<Record>, OutOfMemory>
+fn with_record<'m>(alloc: Global, node: Node<Props>) -> Result<Node<Record<'m>>, OutOfMemory>
     ensures { IfOk result (λ made. made ≡ node) }
 {
     Ok(Node {
@@ -18,7 +18,7 @@ fn with_record(alloc: Global, node: Node<Props>) -> Result<Node<Record>, OutOfMe
 }
 
 /// The same graph, with records that other graphs can share.
-pub fn with_records(alloc: Global, g: Graph<Props>) -> Result<Graph<Record>, OutOfMemory>
+pub fn with_records<'m>(alloc: Global, g: Graph<Props>) -> Result<Graph<Record<'m>>, OutOfMemory>
     ensures { IfOk result (λ made. made.nodes ≡ g.nodes) }
 {
     let nodes = g.nodes.into_vec();
@@ -31,8 +31,8 @@ pub fn with_records(alloc: Global, g: Graph<Props>) -> Result<Graph<Record>, Out
     })
 }
 
-fn with_own_record(alloc: Global, node: Node<Record>) -> Result<Node<Props>, OutOfMemory>
-    ensures { IfOk result (λ own. own ≡ node) }
+fn with_own_record(alloc: Global, node: Node<Record<'_>>) -> Result<Node<Props>, OutOfMemory>
+    ensures { IfOk result (λ own. own ≡ node.entry) }
 {
     Ok(Node {
         module: node.module,
@@ -43,8 +43,8 @@ fn with_own_record(alloc: Global, node: Node<Record>) -> Result<Node<Props>, Out
 }
 
 /// The same graph, each node with properties of its own.
-pub fn with_own_records(alloc: Global, g: Graph<Record>) -> Result<Graph<Props>, OutOfMemory>
-    ensures { IfOk result (λ own. own.nodes ≡ g.nodes) }
+pub fn with_own_records(alloc: Global, g: Graph<Record<'_>>) -> Result<Graph<Props>, OutOfMemory>
+    ensures { IfOk result (λ own. own.nodes ≡ g.entry.nodes) }
 {
     let nodes = g.nodes.into_vec();
     let mut own = Vec::with_capacity(alloc, nodes.len())?;

@@ -7,15 +7,15 @@ use bp_props::GroupId;
 use std::alloc::Global;
 
 /// A record with its own group of an id appended, if it has one. `own` has the same groups, such as the record of
-/// which it is a copy. Where there is no such group the record stays shared.
-pub fn append_group(
+/// which it is a copy. Where there is no such group nothing is copied.
+pub fn append_group<'m>(
     alloc: Global,
-    made: Record,
-    own: &Record,
+    made: Record<'m>,
+    own: &Record<'_>,
     id: GroupId,
-) -> Result<Record, OutOfMemory>
+) -> Result<Record<'m>, OutOfMemory>
     requires { made.groups ≡ own.now.groups }
-    ensures appended { IfOk result (λ new. new ≡ with_group made id) }
+    ensures appended { IfOk result (λ new. new ≡ with_group made.entry id) }
     ensures groups { IfOk result (λ new. new.groups ≡ own.now.groups) }
 {
     let Some(group) = own.given().group(id) else {

@@ -7,6 +7,7 @@
 
 mod asking;
 mod found;
+mod given;
 mod graphs;
 mod groups;
 pub mod laws;

@@ -6,7 +6,7 @@ use bp_faults::OutOfMemory;
 use bp_props::Props;
 use std::alloc::Global;
 
-impl Record {
+impl Record<'_> {
     /// Puts this record behind some properties, as `Props::follow` does.
     pub fn put_behind(&self, alloc: Global, first: &mut Props) -> Result<(), OutOfMemory>
         ensures { OnOk result (first.new ≡ props_followed first.old self.now) }

@@ -3,35 +3,39 @@ ghost use Rattle.std.specs.Borrow.{Bor};
 ghost use Rattle.std.specs.Option.{option_map, option_map_or};
 ghost use Rattle.std.specs.Prelude.{◌≡◌, ◌++◌, true, IfOk, OnOk, Some};
 ghost use Rattle.bp_props.specs.declared.props.Props.{Props};
-ghost use Rattle.module_rules.specs.Found.{found_over, given_of, lists_of, no_lists, pic_if, with_found_lists, with_pic};
+ghost use Rattle.module_rules.specs.Found.{found_over, given_of, lists_of, no_lists, pic_if};
+ghost use Rattle.module_rules.specs.Found.{with_found_lists, with_pic};
+ghost use Rattle.module_rules.specs.Lent.{props_of};
 
 use crate::Lists;
+use crate::given::{GivenProps, unshared};
 use bp_faults::{NodeId, OutOfMemory, Path, Payload, Text};
 use bp_props::Props;
 use std::alloc::Global;
 use std::marker::Model;
 use std::sync::Arc;
 
-/// The properties of a node. Nodes share what is given, in the graphs before and after a pass too. What the rules find
-/// out is kept beside it: the flag for code that may be loaded at any address, the level, and the lists of `info`.
-/// Contracts see the properties alone.
+/// The properties of a node. What is given is lent by its module or shared by nodes, in the graphs before and after a
+/// pass too. What the rules find out is kept beside it: the flag for code that may be loaded at any address, the level,
+/// and the lists of `info`. Contracts see the properties alone.
 #[derive(Debug, Drop)]
-pub struct Record {
-    given: Arc<Props>,
+pub struct Record<'m> {
+    given: GivenProps<'m>,
     pic: bool,
     level: u32,
     lists: Option<Arc<Lists>>,
 }
 
-impl Model for Record {
+impl<'m> Model for Record<'m> {
     ghost use Rattle.std.specs.Arc.{arc_value};
     ghost use Rattle.std.specs.Option.{option_map_or};
     ghost use Rattle.bp_props.specs.declared.props.Props.{Props};
     ghost use Rattle.module_rules.specs.Found.{found_over, no_lists};
+    ghost use Rattle.module_rules.specs.Lent.{props_of};
 
     ghost Value = { Props };
 
-    ghost view = { λ r. found_over (arc_value r.given) r.pic r.level (option_map_or arc_value r.lists no_lists) };
+    ghost view = { λ r. found_over (props_of r.given) r.pic r.level (option_map_or arc_value r.lists no_lists) };
 }
 
 // The lists that properties hold, if one of them holds anything.
@@ -57,16 +61,6 @@ fn has_no_lists(props: &Props) -> bool
         && props.includes.as_slice().is_empty()
         && props.line.as_slice().is_empty()
         && props.slibs.as_slice().is_empty()
-}
-
-// A value out of its box: moved where nobody else holds it, else a copy.
-fn unshared<T: Payload + Drop>(alloc: Global, shared: Arc<T>) -> Result<T, OutOfMemory>
-    ensures { IfOk result (λ value. value ≡ arc_value shared) }
-{
-    match Arc::try_unwrap(shared) {
-        Ok(value) => Ok(value),
-        Err(still_shared) => still_shared.copy(alloc),
-    }
 }
 
 fn unshared_lists(alloc: Global, lists: Option<Arc<Lists>>) -> Result<Lists, OutOfMemory>
@@ -98,15 +92,27 @@ fn add_pic_if(alloc: Global, props: &mut Props, pic: bool) -> Result<(), OutOfMe
     Ok(())
 }
 
-impl Record {
-    /// The record of some properties.
-    pub fn new(alloc: Global, props: Props) -> Result<Record, OutOfMemory>
+impl<'m> Record<'m> {
+    /// The record of properties that a module lends.
+    pub fn lent(alloc: Global, props: &'m Props) -> Result<Record<'m>, OutOfMemory>
+        ensures { IfOk result (λ made. made ≡ props.now) }
+    {
+        Ok(Record {
+            given: GivenProps::Lent(props),
+            pic: false,
+            level: props.level,
+            lists: lists_in(alloc, props)?,
+        })
+    }
+
+    /// The record of other properties. Its copies share them.
+    pub fn new(alloc: Global, props: Props) -> Result<Record<'m>, OutOfMemory>
         ensures { IfOk result (λ made. made ≡ props) }
     {
         let level = props.level;
         let lists = lists_in(alloc, &props)?;
         Ok(Record {
-            given: Arc::new(alloc, props)?,
+            given: GivenProps::Shared(Arc::new(alloc, props)?),
             pic: false,
             level,
             lists,
@@ -117,7 +123,7 @@ impl Record {
     pub fn plain(&self) -> Option<&Props>
         ensures { (p : Bor Props) → result ≡ Some p → p.now ≡ self.now }
     {
-        let given: &Props = &self.given;
+        let given = self.given.props();
         if !self.pic && self.level == given.level && self.lists.is_none() && has_no_lists(given) {
             Some(given)
         } else {
@@ -129,14 +135,14 @@ impl Record {
     pub fn given(&self) -> &Props
         ensures { given_of result.now ≡ given_of self.now }
     {
-        &self.given
+        self.given.props()
     }
 
     /// The `cflags`, and whether the flag for code that may be loaded at any address stands behind them.
     pub fn cflags(&self) -> (&[Text], bool)
         ensures { result.0.now ++ pic_if result.1 ≡ self.now.base.cflags.items }
     {
-        (self.given.base.cflags.items.as_slice(), self.pic)
+        (self.given.props().base.cflags.items.as_slice(), self.pic)
     }
 
     pub fn level(&self) -> u32
@@ -183,10 +189,10 @@ impl Record {
 
     /// The properties, to change them: moved where nobody else holds them, else a copy.
     pub fn into_props(self, alloc: Global) -> Result<Props, OutOfMemory>
-        ensures { IfOk result (λ props. props ≡ self) }
+        ensures { IfOk result (λ props. props ≡ self.entry) }
     {
         let found = unshared_lists(alloc, self.lists)?;
-        let mut props = unshared(alloc, self.given)?;
+        let mut props = self.given.into_props(alloc)?;
         add_pic_if(alloc, &mut props, self.pic)?;
         props.level = self.level;
         props.exports = found.exports;
@@ -204,21 +210,19 @@ impl Record {
     }
 
     /// The record with the flag behind its `cflags`.
-    pub fn with_pic(self, alloc: Global) -> Result<Record, OutOfMemory>
-        ensures { IfOk result (λ made. made ≡ with_pic self) }
+    pub fn with_pic(self, alloc: Global) -> Result<Record<'m>, OutOfMemory>
+        ensures { IfOk result (λ made. made ≡ with_pic self.entry) }
     {
         if self.pic {
             let mut props = self.into_props(alloc)?;
             add_pic(alloc, &mut props)?;
             return Record::new(alloc, props);
         }
-        let mut made = self;
-        made.pic = true;
-        Ok(made)
+        Ok(Record { pic: true, ..self })
     }
 
     /// A copy with a level.
-    pub fn at_level(&self, alloc: Global, level: u32) -> Result<Record, OutOfMemory>
+    pub fn at_level(&self, alloc: Global, level: u32) -> Result<Record<'m>, OutOfMemory>
         ensures { IfOk result (λ made. made ≡ record (self.now) { level = level }) }
     {
         let mut made = self.copy(alloc)?;
@@ -227,7 +231,7 @@ impl Record {
     }
 
     /// A copy with the lists of `info`.
-    pub fn with_lists(&self, alloc: Global, lists: Lists) -> Result<Record, OutOfMemory>
+    pub fn with_lists(&self, alloc: Global, lists: Lists) -> Result<Record<'m>, OutOfMemory>
         ensures { IfOk result (λ made. made ≡ with_found_lists self.now lists) }
     {
         let mut made = self.copy(alloc)?;
@@ -245,11 +249,11 @@ fn copy_lists(lists: &Option<Arc<Lists>>) -> Result<Option<Arc<Lists>>, OutOfMem
     }
 }
 
-/// A copy shares what is given and the lists.
-impl Payload for Record {
+/// A copy is lent the same properties or shares them, and shares the lists.
+impl<'m> Payload for Record<'m> {
     fn copy(&self, _alloc: Global) -> Result<Self, OutOfMemory> {
         Ok(Record {
-            given: self.given.clone()?,
+            given: self.given.again()?,
             pic: self.pic,
             level: self.level,
             lists: copy_lists(&self.lists)?,

@@ -8,12 +8,12 @@ use mutator_rules::{Request, Split};
 use std::alloc::Global;
 
 /// A result of one variant.
-pub fn one_variant(
+pub fn one_variant<'m>(
     alloc: Global,
-    record: Record,
+    record: Record<'m>,
     requests: Seq<Request>,
-) -> Result<Split<Record>, OutOfMemory>
-    ensures { IfOk result (λ made. made ≡ one_variant «record» requests) }
+) -> Result<Split<Record<'m>>, OutOfMemory>
+    ensures { IfOk result (λ made. made ≡ one_variant «record».entry requests) }
 {
     let mut variants = Seq::new(Vec::with_capacity(alloc, 1)?);
     variants.push((Variation::Empty, record))?;
@@ -21,7 +21,7 @@ pub fn one_variant(
 }
 
 /// The record of a result's first variant.
-pub fn first_record(made: &Split<Record>) -> Option<&Record>
+pub fn first_record<'a, 'm>(made: &'a Split<Record<'m>>) -> Option<&'a Record<'m>>
     ensures { option_copied result ≡ first_record made.now }
 {
     match made.variants.as_slice() {

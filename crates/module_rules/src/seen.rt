@@ -9,14 +9,14 @@ use module_graph::{Graph, Node};
 
 /// What a rule sees at a node.
 #[derive(Clone, Copy)]
-pub struct Seen<'a> {
+pub struct Seen<'a, 'm> {
     pub module: &'a Module,
-    pub node: &'a Node<Record>,
+    pub node: &'a Node<Record<'m>>,
 }
 
-impl<'a> Seen<'a> {
+impl<'a, 'm> Seen<'a, 'm> {
     /// The module and the node that a rule sees at node `n`.
-    pub fn at(mods: &'a [Module], g: &'a Graph<Record>, n: NodeId) -> Seen<'a>
+    pub fn at(mods: &'a [Module], g: &'a Graph<Record<'m>>, n: NodeId) -> Seen<'a, 'm>
         requires { MayVisit (places_in (length mods.now)) g.now.nodes n.0 }
         ensures { IsSeen mods.now g.now.nodes n.0 result.module.now result.node.now }
     {

@@ -19,19 +19,19 @@ pub fn is_true_or(default: bool, flag: &Option<Given<bool>>) -> bool
 }
 
 /// Whether a module is built by its record.
-pub fn is_enabled(own: &Record) -> bool
+pub fn is_enabled(own: &Record<'_>) -> bool
     ensures { result ≡ is_enabled own.now }
 {
     is_true_or(true, &own.given().base.enabled)
 }
 
 /// Adds a variant, unless its record isn't enabled.
-pub fn add_if_enabled(
-    variants: &mut Seq<(Variation, Record)>,
+pub fn add_if_enabled<'m>(
+    variants: &mut Seq<(Variation, Record<'m>)>,
     variation: Variation,
-    made: Record,
+    made: Record<'m>,
 ) -> Result<(), OutOfMemory>
-    ensures { OnOk result (variants.new ≡ variants.old ++ if_enabled variation made) }
+    ensures { OnOk result (variants.new ≡ variants.old ++ if_enabled variation made.entry) }
 {
     if is_enabled(&made) {
         variants.push((variation, made))?;

@@ -24,7 +24,7 @@ use std::alloc::Global;
 use std::marker::Model;
 use std::sync::Arc;
 
-fn is_supported(class: Class, own: &Record) -> bool
+fn is_supported(class: Class, own: &Record<'_>) -> bool
     ensures { result ≡ is_supported class own.now }
 {
     match class {
@@ -42,7 +42,7 @@ fn default_multilib(kind: ModuleKind) -> Multi
     }
 }
 
-fn multilib_of(kind: ModuleKind, own: &Record) -> Multi
+fn multilib_of(kind: ModuleKind, own: &Record<'_>) -> Multi
     ensures { result ≡ multilib_of kind own.now }
 {
     match own.given().compile_multilib {
@@ -89,14 +89,18 @@ fn is_taken(multi: Multi, before: &[Target], target: Target) -> bool
     }
 }
 
-fn is_built(kind: ModuleKind, own: &Record, before: &[Target], target: Target) -> bool
+fn is_built(kind: ModuleKind, own: &Record<'_>, before: &[Target], target: Target) -> bool
     ensures { result ≡ is_built kind own.now before.now target }
 {
     is_supported(row_of(target).class, own) && is_taken(multilib_of(kind, own), before, target)
 }
 
 /// A record with the groups of a target appended.
-fn for_target(alloc: Global, target: Target, own: &Record) -> Result<Record, OutOfMemory>
+fn for_target<'m>(
+    alloc: Global,
+    target: Target,
+    own: &Record<'m>,
+) -> Result<Record<'m>, OutOfMemory>
     ensures { IfOk result (λ made. made ≡ with_groups own.now (groups_of target)) }
 {
     let row = row_of(target);
@@ -105,11 +109,11 @@ fn for_target(alloc: Global, target: Target, own: &Record) -> Result<Record, Out
     append_groups(alloc, made, own, &[GroupId::Named(target)])
 }
 
-fn add_target(
+fn add_target<'m>(
     alloc: Global,
-    variants: &mut Seq<(Variation, Record)>,
+    variants: &mut Seq<(Variation, Record<'m>)>,
     kind: ModuleKind,
-    own: &Record,
+    own: &Record<'m>,
     before: &[Target],
     target: Target,
 ) -> Result<(), OutOfMemory>
@@ -122,12 +126,12 @@ fn add_target(
     Ok(())
 }
 
-fn target_variants(
+fn target_variants<'m>(
     alloc: Global,
     kind: ModuleKind,
-    own: &Record,
+    own: &Record<'m>,
     targets: &[Target],
-) -> Result<Seq<(Variation, Record)>, OutOfMemory>
+) -> Result<Seq<(Variation, Record<'m>)>, OutOfMemory>
     ensures { IfOk result (λ variants. variants ≡ target_variants kind own.now [] targets.now) }
 {
     let mut variants = Seq::new(Vec::with_capacity(alloc, targets.len())?);
@@ -137,7 +141,10 @@ fn target_variants(
     Ok(variants)
 }
 
-fn common_variant(alloc: Global, own: &Record) -> Result<Seq<(Variation, Record)>, OutOfMemory>
+fn common_variant<'m>(
+    alloc: Global,
+    own: &Record<'m>,
+) -> Result<Seq<(Variation, Record<'m>)>, OutOfMemory>
     ensures { IfOk result (λ variants. variants ≡ if_enabled Common own.now) }
 {
     let mut variants = Seq::new(Vec::with_capacity(alloc, 1)?);
@@ -145,12 +152,12 @@ fn common_variant(alloc: Global, own: &Record) -> Result<Seq<(Variation, Record)
     Ok(variants)
 }
 
-fn arch_variants(
+fn arch_variants<'m>(
     alloc: Global,
     config: &Config,
     item: &Module,
-    node: &Node<Record>,
-) -> Result<Seq<(Variation, Record)>, OutOfMemory>
+    node: &Node<Record<'m>>,
+) -> Result<Seq<(Variation, Record<'m>)>, OutOfMemory>
     ensures { IfOk result (λ variants. variants ≡ arch_variants config.now item.now node.now) }
 {
     let own = &node.payload;
@@ -188,7 +195,7 @@ impl<'a> ArchSplit<'a> {
     }
 }
 
-impl<'a> BottomUp<Record> for ArchSplit<'a> {
+impl<'a> BottomUp<Record<'a>> for ArchSplit<'a> {
     ghost splits_along = { λ rule. Some TargetAxis };
 
     ghost meaning = { λ rule. splits (arch_variants rule.1) rule.0 };
@@ -202,10 +209,10 @@ impl<'a> BottomUp<Record> for ArchSplit<'a> {
     fn visit(
         &self,
         alloc: Global,
-        g: &Graph<Record>,
+        g: &Graph<Record<'a>>,
         n: NodeId,
-        _ins: &[Arc<Split<Record>>],
-    ) -> Result<Split<Record>, VisitError> {
+        _ins: &[Arc<Split<Record<'a>>>],
+    ) -> Result<Split<Record<'a>>, VisitError> {
         let at = Seen::at(self.mods, g, n);
         Ok(Split {
             variants: arch_variants(alloc, self.config, at.module, at.node)?,

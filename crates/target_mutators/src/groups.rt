@@ -7,14 +7,14 @@ use module_rules::{Record, append_group};
 use std::alloc::Global;
 
 /// A record with some of its own groups appended, in order. `own` has the same groups.
-pub fn append_groups(
+pub fn append_groups<'m>(
     alloc: Global,
-    made: Record,
-    own: &Record,
+    made: Record<'m>,
+    own: &Record<'_>,
     ids: &[GroupId],
-) -> Result<Record, OutOfMemory>
+) -> Result<Record<'m>, OutOfMemory>
     requires { made.groups ≡ own.now.groups }
-    ensures appended { IfOk result (λ new. new ≡ with_groups made ids.now) }
+    ensures appended { IfOk result (λ new. new ≡ with_groups made.entry ids.now) }
     ensures groups { IfOk result (λ new. new.groups ≡ own.now.groups) }
 {
     let mut all = made;
@@ -25,7 +25,11 @@ pub fn append_groups(
 }
 
 /// A record with some of its groups appended.
-pub fn with_groups(alloc: Global, own: &Record, ids: &[GroupId]) -> Result<Record, OutOfMemory>
+pub fn with_groups<'m>(
+    alloc: Global,
+    own: &Record<'m>,
+    ids: &[GroupId],
+) -> Result<Record<'m>, OutOfMemory>
     ensures appended { IfOk result (λ made. made ≡ with_groups own.now ids.now) }
     ensures groups { IfOk result (λ made. made.groups ≡ own.now.groups) }
 {

@@ -29,30 +29,30 @@ fn is_for_device(target: Variation) -> bool
     }
 }
 
-fn is_in_vendor(own: &Record) -> bool
+fn is_in_vendor(own: &Record<'_>) -> bool
     ensures { result ≡ is_in_vendor own.now }
 {
     is_true_or(false, &own.given().vendor) || is_true_or(false, &own.given().vendor_available)
 }
 
-fn is_in_recovery(own: &Record) -> bool
+fn is_in_recovery(own: &Record<'_>) -> bool
     ensures { result ≡ is_in_recovery own.now }
 {
     is_true_or(false, &own.given().recovery) || is_true_or(false, &own.given().recovery_available)
 }
 
-fn is_in_system(own: &Record) -> bool
+fn is_in_system(own: &Record<'_>) -> bool
     ensures { result ≡ is_in_system own.now }
 {
     !(is_true_or(false, &own.given().vendor) || is_true_or(false, &own.given().recovery))
 }
 
 /// Adds the module as it is.
-fn add_own(
+fn add_own<'m>(
     alloc: Global,
-    variants: &mut Seq<(Variation, Record)>,
+    variants: &mut Seq<(Variation, Record<'m>)>,
     is_in: bool,
-    own: &Record,
+    own: &Record<'m>,
 ) -> Result<(), OutOfMemory>
     ensures { OnOk result (variants.new ≡ variants.old ++ cond is_in ((Empty, own.now) ∷ []) []) }
 {
@@ -63,13 +63,13 @@ fn add_own(
 }
 
 /// Adds the variant of an image.
-fn add_image(
+fn add_image<'m>(
     alloc: Global,
-    variants: &mut Seq<(Variation, Record)>,
+    variants: &mut Seq<(Variation, Record<'m>)>,
     is_in: bool,
     v: Variation,
     id: GroupId,
-    own: &Record,
+    own: &Record<'m>,
 ) -> Result<(), OutOfMemory>
     ensures { OnOk result (variants.new ≡ variants.old ++ image_variant is_in v id own.now) }
 {
@@ -79,7 +79,10 @@ fn add_image(
     Ok(())
 }
 
-fn device_images(alloc: Global, own: &Record) -> Result<Seq<(Variation, Record)>, OutOfMemory>
+fn device_images<'m>(
+    alloc: Global,
+    own: &Record<'m>,
+) -> Result<Seq<(Variation, Record<'m>)>, OutOfMemory>
     ensures { IfOk result (λ variants. variants ≡ device_images own.now) }
 {
     let mut variants = Seq::new(Vec::with_capacity(alloc, 1)?);
@@ -104,7 +107,10 @@ fn device_images(alloc: Global, own: &Record) -> Result<Seq<(Variation, Record)>
     Ok(variants)
 }
 
-fn system_alone(alloc: Global, own: &Record) -> Result<Seq<(Variation, Record)>, OutOfMemory>
+fn system_alone<'m>(
+    alloc: Global,
+    own: &Record<'m>,
+) -> Result<Seq<(Variation, Record<'m>)>, OutOfMemory>
     ensures { IfOk result (λ variants. variants ≡ (Empty, own.now) ∷ []) }
 {
     let mut variants = Seq::new(Vec::with_capacity(alloc, 1)?);
@@ -112,11 +118,11 @@ fn system_alone(alloc: Global, own: &Record) -> Result<Seq<(Variation, Record)>,
     Ok(variants)
 }
 
-fn image_variants(
+fn image_variants<'m>(
     alloc: Global,
     item: &Module,
-    node: &Node<Record>,
-) -> Result<Seq<(Variation, Record)>, OutOfMemory>
+    node: &Node<Record<'m>>,
+) -> Result<Seq<(Variation, Record<'m>)>, OutOfMemory>
     ensures { IfOk result (λ variants. variants ≡ image_variants item.now node.now) }
 {
     let own = &node.payload;
@@ -152,7 +158,7 @@ impl<'a> ImageSplit<'a> {
     }
 }
 
-impl<'a> BottomUp<Record> for ImageSplit<'a> {
+impl<'a> BottomUp<Record<'a>> for ImageSplit<'a> {
     ghost splits_along = { λ rule. Some Image };
 
     ghost meaning = { λ rule. splits image_variants rule };
@@ -166,10 +172,10 @@ impl<'a> BottomUp<Record> for ImageSplit<'a> {
     fn visit(
         &self,
         alloc: Global,
-        g: &Graph<Record>,
+        g: &Graph<Record<'a>>,
         n: NodeId,
-        _ins: &[Arc<Split<Record>>],
-    ) -> Result<Split<Record>, VisitError> {
+        _ins: &[Arc<Split<Record<'a>>>],
+    ) -> Result<Split<Record<'a>>, VisitError> {
         let at = Seen::at(self.mods, g, n);
         Ok(Split {
             variants: image_variants(alloc, at.module, at.node)?,
