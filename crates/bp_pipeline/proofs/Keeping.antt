@@ -30,7 +30,7 @@ use Rattle.variant_graphs.specs.Payloads.{with_payloads}
 use Rattle.variant_graphs.specs.Splitting.{HasFreeAxis, StayFree}
 use Rattle.bp_pipeline.specs.Inside.{AreFreeAt, split_at}
 use Rattle.bp_pipeline.specs.Limits.{ComesTo, graph_or_fault}
-use Rattle.bp_pipeline.specs.Passes.{Answer, pass_at}
+use Rattle.bp_pipeline.specs.Passes.{AnswerOver, pass_at}
 use Rattle.bp_pipeline.specs.declared.passes.Pass.{Pass}
 use Rattle.bp_pipeline.specs.declared.passes.Pass.TheVariants.{AskDefaults, MergeDefaults, SplitTargets, SplitImages}
 use Rattle.bp_pipeline.specs.declared.passes.Pass.TheVariants.{SplitLinks, AskDependencies, AskPlugins, SplitSources}
@@ -40,8 +40,8 @@ abbrev Asks : ℕ → NodeId × Request → Type 0
 Asks count a = a.0.0 < count
 
 -- The nodes and what they ask for.
-abbrev Asked : Type 0
-Asked = List (Node Props) × List (NodeId × Request)
+abbrev Asked : Type 0 → Type 0
+Asked P = List (Node P) × List (NodeId × Request)
 
 all_joined : (count : ℕ) (xs ys : List (NodeId × Request)) → AllByRecursion (Asks count) xs
     → AllByRecursion (Asks count) ys → AllByRecursion (Asks count) (xs ++ ys)
@@ -53,22 +53,23 @@ all_of_node : (count n : ℕ) → n < count → (requests : List Request)
 all_of_node count n below [] = tt
 all_of_node count n below (r ∷ rs) = (below, all_of_node count n below rs)
 
-all_asked : (count k : ℕ) (outs : List (Split Props)) → k + length outs ≤ count
+all_asked : {P : Type 0} (count k : ℕ) (outs : List (Split P)) → k + length outs ≤ count
     → AllByRecursion (Asks count)
-    (by_number (λ n (made : Split Props). map (λ r. (record { 0 = n }, r)) made.requests) k outs)
+    (by_number (λ n (made : Split P). map (λ r. (record { 0 = n }, r)) made.requests) k outs)
 all_asked count k [] few = tt
 all_asked count k (out ∷ outs) few =
     all_joined count (map (λ r. (record { 0 = k }, r)) out.requests)
-    (by_number (λ n (made : Split Props). map (λ r. (record { 0 = n }, r)) made.requests) (k + 1) outs)
+    (by_number (λ n (made : Split _). map (λ r. (record { 0 = n }, r)) made.requests) (k + 1) outs)
     (all_of_node count k (omega arith) out.requests) (all_asked count (k + 1) outs (omega arith))
 
-length-with_payloads : (nodes : List (Node Props)) (ps : List Props) → length (with_payloads nodes ps) ≡ length nodes
+length-with_payloads : {P : Type 0} (nodes : List (Node P)) (ps : List P) → length (with_payloads nodes ps) ≡ length nodes
 length-with_payloads [] ps = refl
 length-with_payloads (x ∷ xs) [] = refl
 length-with_payloads (x ∷ xs) (p ∷ ps) = ap suc (length-with_payloads xs ps)
 
-module _ (many : OutsAreMany (Split Props)) (mods : List Module) (answer : Answer) (nodes : List (Node Props)) where
-  inside : (made : Asked) → BottomUpMeans answer nodes None (Made made) → AskInside (length made.0) made.1
+module _ {P : Type 0} (many : OutsAreMany (Split P)) (mods : List Module) (answer : AnswerOver P)
+    (nodes : List (Node P)) where
+  inside : (made : Asked P) → BottomUpMeans answer nodes None (Made made) → AskInside (length made.0) made.1
   inside made (outs, splits, results) =
       let count : length outs ≡ length nodes = many (answer nodes) (plan_of BottomUp nodes) outs splits in
       let size : length made.0 ≡ length nodes =
@@ -76,36 +77,36 @@ module _ (many : OutsAreMany (Split Props)) (mods : List Module) (answer : Answe
       subst (AskInside (length made.0)) (sym results.2) (all_asked (length made.0) 0 outs (omega (arith, count, size)))
 
   -- the nodes that ask are nodes
-  pub asked_inside : (made : Asked) → ComesTo mods (BottomUpMeans answer nodes None) (Ok made)
+  pub asked_inside : (made : Asked P) → ComesTo mods (BottomUpMeans answer nodes None) (Ok made)
       → AskInside (length made.0) made.1
   asked_inside made (outcome, means, is) = by outcome means is
     where
-      by : (outcome : KindOutcome Asked) → BottomUpMeans answer nodes None outcome
+      by : (outcome : KindOutcome (Asked P)) → BottomUpMeans answer nodes None outcome
           → graph_or_fault mods outcome ≡ Ok made → AskInside (length made.0) made.1
       by (Made other) means is = let same : other ≡ made = cc in
-          subst (λ (m : Asked). AskInside (length m.0) m.1) same (inside other means)
+          subst (λ (m : Asked P). AskInside (length m.0) m.1) same (inside other means)
       by (FaultAt n fault) means is = absurd (cc)
       by (NodesBeyond m) means is = absurd (cc)
       by (EdgesBeyond at) means is = absurd (cc)
 
 -- nodes that are the same but for their edges have the same free axes
-bare_free : (axis : Axis) (xs ys : List (Node Props)) → map bare xs ≡ map bare ys → HasFreeAxis axis ys
+bare_free : {P : Type 0} (axis : Axis) (xs ys : List (Node P)) → map bare xs ≡ map bare ys → HasFreeAxis axis ys
     → HasFreeAxis axis xs
 bare_free axis [] ys same free = tt
 bare_free axis (x ∷ xs) [] same free = absurd (cc)
 bare_free axis (x ∷ xs) (y ∷ ys) same free =
     let head : bare x ≡ bare y = cc in
-    let vars : x.vars ≡ y.vars = ap (λ (z : Node Props). z.vars) head in
+    let vars : x.vars ≡ y.vars = ap (λ (z : Node _). z.vars) head in
     (ap (λ (vs : List Variation). slice_get vs (place_of axis)) vars ∙ free.0, bare_free axis xs ys (cc) free.1)
 
 -- what edges are added leaves the axes free
-linked_free : (along : Option Axis) (old made new : List (Node Props)) → along ≡ None → StayFree along old made
+linked_free : {P : Type 0} (along : Option Axis) (old made new : List (Node P)) → along ≡ None → StayFree along old made
     → map bare new ≡ map bare made → StayFree None old new
 linked_free along old made new none stay same axis other free =
     bare_free axis new made same (stay axis (λ is. let no : None ≡ Some axis = sym none ∙ is in absurd (cc)) free)
 
-pub applied_free : (along : Option Axis) (old made : List (Node Props)) → along ≡ None → StayFree along old made
-    → (r : Result (Graph Props) Refusal) → IfOk r (λ g. map bare g.nodes ≡ map bare made)
+pub applied_free : {P : Type 0} (along : Option Axis) (old made : List (Node P)) → along ≡ None → StayFree along old made
+    → (r : Result (Graph P) Refusal) → IfOk r (λ g. map bare g.nodes ≡ map bare made)
     → IfOk r (λ g. StayFree None old g.nodes)
 applied_free along old made none stay (Ok g) same = linked_free along old made g.nodes none stay same
 applied_free along old made none stay (Err e) same = tt
@@ -160,11 +161,11 @@ next_free p pass at old free (Ok g) stay =
 next_free p pass at old free (Err e) stay = tt
 
 -- A rule that accepts the modules of a list may be run where places in the list may.
-pub may_places : (Accepts : ℕ → Type 0) (count : ℕ) (nodes : List (Node Props))
+pub may_places : {P : Type 0} (Accepts : ℕ → Type 0) (count : ℕ) (nodes : List (Node P))
     → ((m : ℕ) → Accepts m ↔ places_in count m) → MayRun Accepts nodes → MayRun (places_in count) nodes
 may_places Accepts count nodes same may = record {
   numbered = may.numbered;
   accepted =
-      all_map (λ (x : Node Props). Accepts x.«module».0) (λ (x : Node Props). places_in count x.«module».0)
+      all_map (λ (x : Node _). Accepts x.«module».0) (λ (x : Node _). places_in count x.«module».0)
       (λ x accepted. (same x.«module».0).0 accepted) nodes may.accepted;
 }

@@ -18,7 +18,7 @@ use Rattle.mutator_rules.specs.Conditions.{MayRun, places_in}
 use Rattle.bp_pipeline.specs.Limits.{place_of_module}
 
 -- The graph is valid, and its nodes are variants of modules by their numbers.
-pub record IsUsable (count : ℕ) (nodes : List (Node Props)) : Type 0 where
+pub record IsUsable {P : Type 0} (count : ℕ) (nodes : List (Node P)) : Type 0 where
   pub valid : IsValid nodes
   pub may : MayRun (places_in count) nodes
 

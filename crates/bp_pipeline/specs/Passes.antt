@@ -47,21 +47,29 @@ pass_at (suc (suc (suc (suc (suc (suc (suc (suc (suc (suc zero)))))))))) = HandL
 pass_at (suc (suc (suc (suc (suc (suc (suc (suc (suc (suc (suc p))))))))))) = GatherInfo
 
 -- What a mutator from the bottom up answers at a node, given the results of its edges' targets.
+abbrev pub AnswerOver : Type 0 → Type 0
+AnswerOver P = List (Node P) → ℕ → List (Split P) → Result (Split P) Fault
+
+-- What one of the program answers, over nodes with properties.
 abbrev pub Answer : Type 0
-Answer = List (Node Props) → ℕ → List (Split Props) → Result (Split Props) Fault
+Answer = AnswerOver Props
 
 -- A graph, or a fault.
+abbrev pub OutcomeOver : Type 0 → Type 0
+OutcomeOver P = Result (List (Node P)) Fault
+
+-- A graph of nodes with properties, or a fault.
 abbrev pub Outcome : Type 0
-Outcome = Result (List (Node Props)) Fault
+Outcome = OutcomeOver Props
 
 module _ (mods : List Module) where
   -- A mutator that asks: its pass, then its requests with the limit of edges and the cycle rule.
-  abbrev pub AskMeans : Answer → List (Node Props) → Outcome → Type 0
+  abbrev pub AskMeans : {P : Type 0} → AnswerOver P → List (Node P) → OutcomeOver P → Type 0
   AskMeans answer nodes =
       Then (ComesTo mods (BottomUpMeans answer nodes None)) (λ made. IsApplied mods made.0 made.1)
 
   -- A mutator that asks nothing, and splits along an axis or makes new records: its pass.
-  abbrev pub MakeMeans : Option Axis → Answer → List (Node Props) → Outcome → Type 0
+  abbrev pub MakeMeans : {P : Type 0} → Option Axis → AnswerOver P → List (Node P) → OutcomeOver P → Type 0
   MakeMeans along answer nodes =
       Then (ComesTo mods (BottomUpMeans answer nodes along)) (λ made outcome. Ok made.0 ≡ outcome)
 

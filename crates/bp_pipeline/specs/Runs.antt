@@ -36,7 +36,8 @@ module _ {G : Type 0} where
     pub way : IsPassWay shop.way
 
   -- A pass may be run over a graph, behind some visits.
-  pub record MayStep (shop : Workshop G) (journal : List (ℕ × NodeId)) (nodes : List (Node Props)) : Type 0 where
+  pub record MayStep {P : Type 0} (shop : Workshop G) (journal : List (ℕ × NodeId)) (nodes : List (Node P))
+      : Type 0 where
     pub start : MayStart shop
     pub follows : Follows shop.way journal
     pub usable : IsUsable (length shop.mods.now) nodes

@@ -32,14 +32,14 @@ fn act<R: Threads + Sync, G: Gate + Sync>(
     alloc: Global,
     shop: &Workshop<'_, G>,
     before: &[(u32, NodeId)],
-    graph: &Graph<Record>,
+    graph: &Graph<Record<'_>>,
 ) -> Result<WayRun<Actions>, WayError>
     requires may { MayStep shop.now before.now graph.now.nodes }
     ensures { AnswersWay shop.now.way (acts_at shop.now.mods.now graph.now.nodes)
         (plan_of BottomUp graph.now.nodes) ACTIONS before.now result }
 {
-    valid_plans_have_no_cycle::<Record>();
-    predecessors_are_targets::<Record>();
+    valid_plans_have_no_cycle::<Record<'_>>();
+    predecessors_are_targets::<Record<'_>>();
     let plan = plan(alloc, graph, Direction::BottomUp)?;
     let visit = ActionVisit::new(shop.mods, graph);
     run_by_way(rt, alloc, &shop.way, before, ACTIONS, &plan, &visit)
@@ -51,7 +51,7 @@ fn run_actions<R: Threads + Sync, G: Gate + Sync>(
     alloc: Global,
     shop: &Workshop<'_, G>,
     journal: &mut Vec<(u32, NodeId)>,
-    graph: &Graph<Record>,
+    graph: &Graph<Record<'_>>,
 ) -> Result<Vec<Arc<Actions>>, Refusal>
     requires may { MayStep shop.now journal.old.items graph.now.nodes }
     ensures { TellsPass shop.now.way (λ made. map arc_value made.items)

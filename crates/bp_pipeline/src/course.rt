@@ -27,15 +27,15 @@ use std::alloc::Global;
 use std::thread::Threads;
 
 /// Runs the passes from one to another, behind those before.
-fn run_passes<R: Threads + Sync, G: Gate + Sync>(
+fn run_passes<'m, R: Threads + Sync, G: Gate + Sync>(
     rt: &R,
     alloc: Global,
-    shop: &Workshop<'_, G>,
+    shop: &Workshop<'m, G>,
     journal: &mut Vec<(u32, NodeId)>,
     from: u32,
     to: u32,
-    before: Graph<Record>,
-) -> Result<Graph<Record>, Refusal>
+    before: Graph<Record<'m>>,
+) -> Result<Graph<Record<'m>>, Refusal>
     requires may { MayStep shop.now journal.old.items before.nodes }
     requires begun { IsJournal shop.now.mods.now shop.now.config.now from before.nodes journal.old.items }
     requires visits { All IsVisit journal.old.items }
@@ -55,13 +55,13 @@ fn run_passes<R: Threads + Sync, G: Gate + Sync>(
 }
 
 /// Runs the passes of all mutators, and puts down the size of the graph after each mutator.
-pub fn run_mutators<R: Threads + Sync, G: Gate + Sync>(
+pub fn run_mutators<'m, R: Threads + Sync, G: Gate + Sync>(
     rt: &R,
     alloc: Global,
-    shop: &Workshop<'_, G>,
+    shop: &Workshop<'m, G>,
     journal: &mut Vec<(u32, NodeId)>,
     sizes: &mut Vec<Sizes>,
-) -> Result<Graph<Record>, Refusal>
+) -> Result<Graph<Record<'m>>, Refusal>
     requires may { MayStart shop.now }
     requires unvisited { journal.old.items ≡ [] }
     requires uncounted { sizes.old.items ≡ [] }
@@ -79,16 +79,16 @@ pub fn run_mutators<R: Threads + Sync, G: Gate + Sync>(
     Ok(graph)
 }
 
-/// As `graph_after`, where nodes share the records that the mutators left as they are.
-pub fn shared_graph_after<R: Threads + Sync, G: Gate + Sync>(
+/// As `graph_after`, where what is given of a record is lent by its node's module, or shared by nodes.
+pub fn shared_graph_after<'m, R: Threads + Sync, G: Gate + Sync>(
     rt: &R,
     alloc: Global,
-    mods: &[Module],
-    c: &Config,
+    mods: &'m [Module],
+    c: &'m Config,
     k: u32,
     workers: u32,
-    gate: &G,
-) -> Result<Graph<Record>, GenError>
+    gate: &'m G,
+) -> Result<Graph<Record<'m>>, GenError>
     requires few { length mods.now ≤ 2 ^ 17 }
     requires targets { TargetsDiffer c.now }
     requires built { k ≤ built }

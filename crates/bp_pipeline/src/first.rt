@@ -2,25 +2,29 @@ ghost use Rattle.std.specs.Prelude.{◌≡◌, ◌≤◌, ◌^◌, length, IfOk}
 ghost use Rattle.bp_pipeline.specs.First.{first_nodes, first_node};
 ghost use Rattle.bp_pipeline.specs.Inside.{IsUsable, AreFreeAt};
 
-use bp_faults::{ModuleId, OutOfMemory, Payload, Seq};
+use bp_faults::{ModuleId, OutOfMemory, Seq};
 use bp_props::Module;
 use module_graph::{Graph, Node, Variations};
 use module_rules::Record;
 use std::alloc::Global;
 
-fn first_node(alloc: Global, number: u32, item: &Module) -> Result<Node<Record>, OutOfMemory>
+fn first_node<'m>(
+    alloc: Global,
+    number: u32,
+    item: &'m Module,
+) -> Result<Node<Record<'m>>, OutOfMemory>
     ensures { IfOk result (λ node. node ≡ first_node number item.now) }
 {
     Ok(Node {
         module: ModuleId(number),
         vars: Variations::empty(alloc),
-        payload: Record::new(alloc, item.props.copy(alloc)?)?,
+        payload: Record::lent(alloc, &item.props)?,
         edges: Seq::new(Vec::new(alloc)),
     })
 }
 
-/// The graph with a node for each module, without edges.
-pub fn first_graph(alloc: Global, mods: &[Module]) -> Result<Graph<Record>, OutOfMemory>
+/// The graph with a node for each module, to which it lends its properties, without edges.
+pub fn first_graph<'m>(alloc: Global, mods: &'m [Module]) -> Result<Graph<Record<'m>>, OutOfMemory>
     requires { length mods.now ≤ 2 ^ 17 }
     ensures first { IfOk result (λ g. g.nodes ≡ first_nodes mods.now) }
     ensures usable { IfOk result (λ g. IsUsable (length mods.now) g.nodes) }

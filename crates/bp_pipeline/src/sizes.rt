@@ -13,7 +13,7 @@ pub struct Sizes {
     pub edges: u32,
 }
 
-fn edge_count(nodes: &[Node<Record>]) -> u32
+fn edge_count(nodes: &[Node<Record<'_>>]) -> u32
     requires { length (all_edges nodes.now) < 2 ^ 32 }
     ensures { result ≡ length (all_edges nodes.now) }
 {
@@ -25,7 +25,7 @@ fn edge_count(nodes: &[Node<Record>]) -> u32
 }
 
 /// The size of a graph.
-pub fn sizes_of(g: &Graph<Record>) -> Sizes
+pub fn sizes_of(g: &Graph<Record<'_>>) -> Sizes
     requires { IsNumbered g.now.nodes }
     ensures { result ≡ sizes_of g.now.nodes }
 {

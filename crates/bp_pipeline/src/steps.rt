@@ -20,7 +20,7 @@ use crate::journal::note;
 use crate::limits::refusal_of;
 use crate::passes::{Pass, pass_at};
 use crate::workshop::Workshop;
-use bp_faults::{NodeId, Refusal};
+use bp_faults::{NodeId, Payload, Refusal};
 use bp_ports::Gate;
 use defaults_mutator::{DefaultsDeps, DefaultsMerge};
 use info_mutators::laws::own_variations_differ;
@@ -40,15 +40,20 @@ use target_mutators::{ArchSplit, ImageSplit};
 use transition_rules::{run_mutate_by, run_wants_by};
 
 /// A pass of a rule from the bottom up.
-fn run_rule<R: Threads + Sync, M: BottomUp<Record> + Sync, G: Gate + Sync>(
+fn run_rule<R, P, M, G>(
     rt: &R,
     alloc: Global,
     shop: &Workshop<'_, G>,
     journal: &mut Vec<(u32, NodeId)>,
     pass: u32,
-    graph: Graph<Record>,
+    graph: Graph<P>,
     rule: &M,
-) -> Result<PassGraph<Record>, Refusal>
+) -> Result<PassGraph<P>, Refusal>
+where
+    R: Threads + Sync,
+    P: Payload + Send + Sync + Drop,
+    M: BottomUp<P> + Sync,
+    G: Gate + Sync,
     requires may { MayStep shop.now journal.old.items graph.nodes }
     requires free { IsFreeFor (M.splits_along rule.now) graph.nodes }
     requires differ { DifferFor (M.meaning rule.now) graph.nodes (M.splits_along rule.now) }
@@ -69,15 +74,20 @@ fn run_rule<R: Threads + Sync, M: BottomUp<Record> + Sync, G: Gate + Sync>(
 }
 
 /// A mutator that asks.
-fn ask<R: Threads + Sync, M: BottomUp<Record> + Sync, G: Gate + Sync>(
+fn ask<R, P, M, G>(
     rt: &R,
     alloc: Global,
     shop: &Workshop<'_, G>,
     journal: &mut Vec<(u32, NodeId)>,
     pass: u32,
-    graph: Graph<Record>,
+    graph: Graph<P>,
     rule: &M,
-) -> Result<Graph<Record>, Refusal>
+) -> Result<Graph<P>, Refusal>
+where
+    R: Threads + Sync,
+    P: Payload + Send + Sync + Drop,
+    M: BottomUp<P> + Sync,
+    G: Gate + Sync,
     requires may { MayStep shop.now journal.old.items graph.nodes }
     requires along { M.splits_along rule.now ≡ None }
     requires accepts { (m : ℕ) → M.accepts rule.now m ↔ places_in (length shop.now.mods.now) m }
@@ -88,21 +98,26 @@ fn ask<R: Threads + Sync, M: BottomUp<Record> + Sync, G: Gate + Sync>(
     ensures free { IfOk result (λ g. StayFree None graph.nodes g.nodes) }
 {
     // A law: so each asking node is a node.
-    outs_are_many::<Split<Record>>();
+    outs_are_many::<Split<P>>();
     let made = run_rule(rt, alloc, shop, journal, pass, graph, rule)?;
     apply(alloc, shop.mods, made.graph, made.asked.as_slice())
 }
 
 /// A mutator that asks nothing.
-fn make<R: Threads + Sync, M: BottomUp<Record> + Sync, G: Gate + Sync>(
+fn make<R, P, M, G>(
     rt: &R,
     alloc: Global,
     shop: &Workshop<'_, G>,
     journal: &mut Vec<(u32, NodeId)>,
     pass: u32,
-    graph: Graph<Record>,
+    graph: Graph<P>,
     rule: &M,
-) -> Result<Graph<Record>, Refusal>
+) -> Result<Graph<P>, Refusal>
+where
+    R: Threads + Sync,
+    P: Payload + Send + Sync + Drop,
+    M: BottomUp<P> + Sync,
+    G: Gate + Sync,
     requires may { MayStep shop.now journal.old.items graph.nodes }
     requires free { IsFreeFor (M.splits_along rule.now) graph.nodes }
     requires differ { DifferFor (M.meaning rule.now) graph.nodes (M.splits_along rule.now) }
@@ -117,94 +132,94 @@ fn make<R: Threads + Sync, M: BottomUp<Record> + Sync, G: Gate + Sync>(
     Ok(made.graph)
 }
 
-fn ask_plugins<R: Threads + Sync, G: Gate + Sync>(
+fn ask_plugins<'m, R: Threads + Sync, G: Gate + Sync>(
     rt: &R,
     alloc: Global,
-    shop: &Workshop<'_, G>,
+    shop: &Workshop<'m, G>,
     journal: &mut Vec<(u32, NodeId)>,
     pass: u32,
-    graph: Graph<Record>,
-) -> Result<Graph<Record>, Refusal>
+    graph: Graph<Record<'m>>,
+) -> Result<Graph<Record<'m>>, Refusal>
     requires may { MayStep shop.now journal.old.items graph.nodes }
-    ensures tells { TellsStep shop.now AskPlugins pass graph.nodes journal.old.items journal.new.items result }
+    ensures tells { TellsStep shop.now AskPlugins pass graph.entry.nodes journal.old.items journal.new.items result }
     ensures usable { IfOk result (λ g. IsUsable (length shop.now.mods.now) g.nodes) }
-    ensures free { IfOk result (λ g. StayFree None graph.nodes g.nodes) }
+    ensures free { IfOk result (λ g. StayFree None graph.entry.nodes g.nodes) }
 {
     let names = module_names(alloc, shop.mods)?;
     let rule = PluginsAsk::with_names(shop.mods, shop.config, &names);
     ask(rt, alloc, shop, journal, pass, graph, &rule)
 }
 
-fn split_targets<R: Threads + Sync, G: Gate + Sync>(
+fn split_targets<'m, R: Threads + Sync, G: Gate + Sync>(
     rt: &R,
     alloc: Global,
-    shop: &Workshop<'_, G>,
+    shop: &Workshop<'m, G>,
     journal: &mut Vec<(u32, NodeId)>,
     pass: u32,
-    graph: Graph<Record>,
-) -> Result<Graph<Record>, Refusal>
+    graph: Graph<Record<'m>>,
+) -> Result<Graph<Record<'m>>, Refusal>
     requires may { MayStep shop.now journal.old.items graph.nodes }
     requires free { HasFreeAxis Target graph.nodes }
-    ensures tells { TellsStep shop.now SplitTargets pass graph.nodes journal.old.items journal.new.items result }
+    ensures tells { TellsStep shop.now SplitTargets pass graph.entry.nodes journal.old.items journal.new.items result }
     ensures usable { IfOk result (λ g. IsUsable (length shop.now.mods.now) g.nodes) }
-    ensures free { IfOk result (λ g. StayFree (Some Target) graph.nodes g.nodes) }
+    ensures free { IfOk result (λ g. StayFree (Some Target) graph.entry.nodes g.nodes) }
 {
     target_variants_differ();
     let rule = ArchSplit::new(shop.mods, shop.config);
     make(rt, alloc, shop, journal, pass, graph, &rule)
 }
 
-fn split_images<R: Threads + Sync, G: Gate + Sync>(
+fn split_images<'m, R: Threads + Sync, G: Gate + Sync>(
     rt: &R,
     alloc: Global,
-    shop: &Workshop<'_, G>,
+    shop: &Workshop<'m, G>,
     journal: &mut Vec<(u32, NodeId)>,
     pass: u32,
-    graph: Graph<Record>,
-) -> Result<Graph<Record>, Refusal>
+    graph: Graph<Record<'m>>,
+) -> Result<Graph<Record<'m>>, Refusal>
     requires may { MayStep shop.now journal.old.items graph.nodes }
     requires free { HasFreeAxis Image graph.nodes }
-    ensures tells { TellsStep shop.now SplitImages pass graph.nodes journal.old.items journal.new.items result }
+    ensures tells { TellsStep shop.now SplitImages pass graph.entry.nodes journal.old.items journal.new.items result }
     ensures usable { IfOk result (λ g. IsUsable (length shop.now.mods.now) g.nodes) }
-    ensures free { IfOk result (λ g. StayFree (Some Image) graph.nodes g.nodes) }
+    ensures free { IfOk result (λ g. StayFree (Some Image) graph.entry.nodes g.nodes) }
 {
     image_variants_differ();
     let rule = ImageSplit::new(shop.mods, shop.config);
     make(rt, alloc, shop, journal, pass, graph, &rule)
 }
 
-fn split_links<R: Threads + Sync, G: Gate + Sync>(
+fn split_links<'m, R: Threads + Sync, G: Gate + Sync>(
     rt: &R,
     alloc: Global,
-    shop: &Workshop<'_, G>,
+    shop: &Workshop<'m, G>,
     journal: &mut Vec<(u32, NodeId)>,
     pass: u32,
-    graph: Graph<Record>,
-) -> Result<Graph<Record>, Refusal>
+    graph: Graph<Record<'m>>,
+) -> Result<Graph<Record<'m>>, Refusal>
     requires may { MayStep shop.now journal.old.items graph.nodes }
     requires free { HasFreeAxis Link graph.nodes }
-    ensures tells { TellsStep shop.now SplitLinks pass graph.nodes journal.old.items journal.new.items result }
+    ensures tells { TellsStep shop.now SplitLinks pass graph.entry.nodes journal.old.items journal.new.items result }
     ensures usable { IfOk result (λ g. IsUsable (length shop.now.mods.now) g.nodes) }
-    ensures free { IfOk result (λ g. StayFree (Some Link) graph.nodes g.nodes) }
+    ensures free { IfOk result (λ g. StayFree (Some Link) graph.entry.nodes g.nodes) }
 {
     link_variants_differ();
     let rule = LinkSplit::new(shop.mods, shop.config);
     make(rt, alloc, shop, journal, pass, graph, &rule)
 }
 
-fn split_sources<R: Threads + Sync, G: Gate + Sync>(
+fn split_sources<'m, R: Threads + Sync, G: Gate + Sync>(
     rt: &R,
     alloc: Global,
-    shop: &Workshop<'_, G>,
+    shop: &Workshop<'m, G>,
     journal: &mut Vec<(u32, NodeId)>,
     pass: u32,
-    graph: Graph<Record>,
-) -> Result<Graph<Record>, Refusal>
+    graph: Graph<Record<'m>>,
+) -> Result<Graph<Record<'m>>, Refusal>
     requires may { MayStep shop.now journal.old.items graph.nodes }
     requires free { HasFreeAxis SourceAxis graph.nodes }
-    ensures tells { TellsStep shop.now SplitSources pass graph.nodes journal.old.items journal.new.items result }
+    ensures tells { TellsStep shop.now SplitSources pass graph.entry.nodes journal.old.items journal.new.items result }
     ensures usable { IfOk result (λ g. IsUsable (length shop.now.mods.now) g.nodes) }
-    ensures free { IfOk result (λ g. StayFree (Some SourceAxis) graph.nodes g.nodes) }
+    ensures free { IfOk result (λ g. StayFree (Some SourceAxis) graph.entry.nodes g.nodes) }
 {
     source_variants_differ();
     let rule = PerSource::new(shop.mods, shop.config);
@@ -212,19 +227,20 @@ fn split_sources<R: Threads + Sync, G: Gate + Sync>(
 }
 
 /// The first pass of a mutator with transitions: each node gets the variants that are wanted of it.
-fn split_sanitized<R: Threads + Sync, G: Gate + Sync>(
+fn split_sanitized<'m, R: Threads + Sync, G: Gate + Sync>(
     rt: &R,
     alloc: Global,
-    shop: &Workshop<'_, G>,
+    shop: &Workshop<'m, G>,
     journal: &mut Vec<(u32, NodeId)>,
     pass: u32,
-    graph: Graph<Record>,
-) -> Result<Graph<Record>, Refusal>
+    graph: Graph<Record<'m>>,
+) -> Result<Graph<Record<'m>>, Refusal>
     requires may { MayStep shop.now journal.old.items graph.nodes }
     requires free { HasFreeAxis SanitizeAxis graph.nodes }
-    ensures tells { TellsStep shop.now SplitSanitized pass graph.nodes journal.old.items journal.new.items result }
+    ensures tells { TellsStep shop.now SplitSanitized pass graph.entry.nodes
+        journal.old.items journal.new.items result }
     ensures usable { IfOk result (λ g. IsUsable (length shop.now.mods.now) g.nodes) }
-    ensures free { IfOk result (λ g. StayFree (Some SanitizeAxis) graph.nodes g.nodes) }
+    ensures free { IfOk result (λ g. StayFree (Some SanitizeAxis) graph.entry.nodes g.nodes) }
 {
     own_variations_differ();
     let rule = Sanitize::new(shop.mods, shop.config);
@@ -238,18 +254,18 @@ fn split_sanitized<R: Threads + Sync, G: Gate + Sync>(
 }
 
 /// The second pass of a mutator with transitions: each variant gets its record.
-fn mark_sanitized<R: Threads + Sync, G: Gate + Sync>(
+fn mark_sanitized<'m, R: Threads + Sync, G: Gate + Sync>(
     rt: &R,
     alloc: Global,
-    shop: &Workshop<'_, G>,
+    shop: &Workshop<'m, G>,
     journal: &mut Vec<(u32, NodeId)>,
     pass: u32,
-    graph: Graph<Record>,
-) -> Result<Graph<Record>, Refusal>
+    graph: Graph<Record<'m>>,
+) -> Result<Graph<Record<'m>>, Refusal>
     requires may { MayStep shop.now journal.old.items graph.nodes }
-    ensures tells { TellsStep shop.now MarkSanitized pass graph.nodes journal.old.items journal.new.items result }
+    ensures tells { TellsStep shop.now MarkSanitized pass graph.entry.nodes journal.old.items journal.new.items result }
     ensures usable { IfOk result (λ g. IsUsable (length shop.now.mods.now) g.nodes) }
-    ensures free { IfOk result (λ g. StayFree None graph.nodes g.nodes) }
+    ensures free { IfOk result (λ g. StayFree None graph.entry.nodes g.nodes) }
 {
     let rule = Sanitize::new(shop.mods, shop.config);
     match run_mutate_by(rt, alloc, &shop.way, journal.as_slice(), pass, graph, &rule) {
@@ -261,18 +277,18 @@ fn mark_sanitized<R: Threads + Sync, G: Gate + Sync>(
     }
 }
 
-fn hand_levels<R: Threads + Sync, G: Gate + Sync>(
+fn hand_levels<'m, R: Threads + Sync, G: Gate + Sync>(
     rt: &R,
     alloc: Global,
-    shop: &Workshop<'_, G>,
+    shop: &Workshop<'m, G>,
     journal: &mut Vec<(u32, NodeId)>,
     pass: u32,
-    graph: Graph<Record>,
-) -> Result<Graph<Record>, Refusal>
+    graph: Graph<Record<'m>>,
+) -> Result<Graph<Record<'m>>, Refusal>
     requires may { MayStep shop.now journal.old.items graph.nodes }
-    ensures tells { TellsStep shop.now HandLevels pass graph.nodes journal.old.items journal.new.items result }
+    ensures tells { TellsStep shop.now HandLevels pass graph.entry.nodes journal.old.items journal.new.items result }
     ensures usable { IfOk result (λ g. IsUsable (length shop.now.mods.now) g.nodes) }
-    ensures free { IfOk result (λ g. StayFree None graph.nodes g.nodes) }
+    ensures free { IfOk result (λ g. StayFree None graph.entry.nodes g.nodes) }
 {
     let rule = SdkLevel::new(shop.mods, shop.config);
     match run_top_down_by(rt, alloc, &shop.way, journal.as_slice(), pass, graph, &rule) {
@@ -285,18 +301,18 @@ fn hand_levels<R: Threads + Sync, G: Gate + Sync>(
 }
 
 /// Runs a pass by its number, counted from 0.
-pub fn step<R: Threads + Sync, G: Gate + Sync>(
+pub fn step<'m, R: Threads + Sync, G: Gate + Sync>(
     rt: &R,
     alloc: Global,
-    shop: &Workshop<'_, G>,
+    shop: &Workshop<'m, G>,
     journal: &mut Vec<(u32, NodeId)>,
     number: u32,
-    graph: Graph<Record>,
-) -> Result<Graph<Record>, Refusal>
+    graph: Graph<Record<'m>>,
+) -> Result<Graph<Record<'m>>, Refusal>
     requires may { MayStep shop.now journal.old.items graph.nodes }
     requires free { AreFreeAt number graph.nodes }
     requires last { number < passes }
-    ensures tells { TellsStep shop.now (pass_at number) (number + 1) graph.nodes
+    ensures tells { TellsStep shop.now (pass_at number) (number + 1) graph.entry.nodes
         journal.old.items journal.new.items result }
     ensures usable { IfOk result (λ g. IsUsable (length shop.now.mods.now) g.nodes) }
     ensures free { IfOk result (λ g. AreFreeAt (number + 1) g.nodes) }

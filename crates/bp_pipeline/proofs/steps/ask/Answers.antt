@@ -3,7 +3,6 @@ use Rattle.bp_faults.specs.declared.fault.Fault.{Fault}
 use Rattle.bp_faults.specs.declared.ids.NodeId.{NodeId}
 use Rattle.bp_faults.specs.Answers.{Tells}
 use Rattle.bp_props.specs.declared.module.Module.{Module}
-use Rattle.bp_props.specs.declared.props.Props.{Props}
 use Rattle.module_graph.specs.declared.direction.Direction.TheVariants.{BottomUp}
 use Rattle.module_graph.specs.declared.graph.Graph.{Graph}
 use Rattle.module_graph.specs.declared.graph.Node.{Node}
@@ -14,16 +13,16 @@ use Rattle.mutator_kinds.specs.BottomUp.{BottomUpMeans}
 use Rattle.mutator_rules.specs.declared.request.Request.{Request}
 use Rattle.reverse_deps.specs.Applied.{IsApplied, AskInside}
 use Rattle.bp_pipeline.specs.Limits.{ComesTo}
-use Rattle.bp_pipeline.specs.Passes.{Answer}
+use Rattle.bp_pipeline.specs.Passes.{AnswerOver}
 use Rattle.bp_pipeline.specs.Runs.{TellsPass}
 use Rattle.bp_pipeline.proofs.Keeping.{asked_inside, applied_free}
 use Rattle.bp_pipeline.proofs.Passing.{first_refuses, next_tells}
 use Rattle.bp_pipeline.proofs.steps.ask.Goals as goal
 
-abbrev Asked : Type 0
-Asked = List (Node Props) × List (NodeId × Request)
+abbrev Asked : Type 0 → Type 0
+Asked P = List (Node P) × List (NodeId × Request)
 
-abbrev First : List Module → Answer → List (Node Props) → Option Axis → Result Asked Fault → Type 0
+abbrev First : {P : Type 0} → List Module → AnswerOver P → List (Node P) → Option Axis → Result (Asked P) Fault → Type 0
 First mods answer nodes along outcome = ComesTo mods (BottomUpMeans answer nodes along) outcome
 
 pub returns-in_err-made-clause-tells : goal.returns-in_err-made-clause-tells
@@ -31,15 +30,15 @@ returns-in_err-made-clause-tells g c =
     let mods = c.args.shop.now.mods.now in
     let answer = g.M.BottomUp.meaning c.args.rule.now in
     let nodes = c.args.graph.nodes in
-    let here : TellsPass c.args.shop.now.way {T = PassGraph Props} {V = Asked} (λ made. (made.graph.nodes, made.asked))
+    let here : TellsPass c.args.shop.now.way {T = PassGraph _} {V = Asked _} (λ made. (made.graph.nodes, made.asked))
     (First mods answer nodes None) (plan_of BottomUp nodes) c.args.pass c.args.journal.now.items
     c.run_rule.new.journal.items (Err c.in_err-made.field-0.0) =
-    subst (λ along. TellsPass c.args.shop.now.way {T = PassGraph Props} {V = Asked}
+    subst (λ along. TellsPass c.args.shop.now.way {T = PassGraph _} {V = Asked _}
     (λ made. (made.graph.nodes, made.asked)) (First mods answer nodes along) (plan_of BottomUp nodes) c.args.pass
     c.args.journal.now.items c.run_rule.new.journal.items (Err c.in_err-made.field-0.0))
     c.requires.along c.in_err-made.ensures.tells in
     first_refuses c.args.shop.now.way (plan_of BottomUp nodes) c.args.pass c.args.journal.now.items
-    {T = PassGraph Props} {U = Graph Props} {A = Asked} (λ made. (made.graph.nodes, made.asked)) (λ g. g.nodes)
+    {T = PassGraph _} {U = Graph _} {A = Asked _} (λ made. (made.graph.nodes, made.asked)) (λ g. g.nodes)
     (First mods answer nodes None) (λ made. IsApplied mods made.0 made.1)
     c.run_rule.new.journal.items c.in_err-made.field-0.0 c.from_residual.result c.from_residual.ensures.1
     here
@@ -65,10 +64,10 @@ returns-clause-tells g c =
     subst (λ along. First mods answer nodes along (Ok (made.graph.nodes, made.asked)))
     c.requires.along c.in_ok-made.ensures.tells.1 in
     next_tells c.args.shop.now.way (plan_of BottomUp nodes) c.args.pass c.args.journal.now.items
-    {T = PassGraph Props} {U = Graph Props} {A = Asked} (λ made. (made.graph.nodes, made.asked)) (λ g. g.nodes)
+    {T = PassGraph _} {U = Graph _} {A = Asked _} (λ made. (made.graph.nodes, made.asked)) (λ g. g.nodes)
     (First mods answer nodes None) (λ made. IsApplied mods made.0 made.1)
     c.run_rule.new.journal.items made (c.in_ok-made.ensures.tells.0, here) c.apply.result
-    (subst (λ asked. Tells {T = Graph Props} (λ g. g.nodes) (IsApplied mods made.graph.nodes asked) c.apply.result)
+    (subst (λ asked. Tells {T = Graph _} (λ g. g.nodes) (IsApplied mods made.graph.nodes asked) c.apply.result)
     c.as_slice.ensures c.apply.ensures.means)
 
 pub returns-clause-free : goal.returns-clause-free

@@ -1,6 +1,5 @@
 use Rattle.std.proofs.Common.{List, length, refl}
 use Rattle.bp_faults.specs.declared.ids.NodeId.{NodeId}
-use Rattle.bp_props.specs.declared.props.Props.{Props}
 use Rattle.module_graph.specs.declared.direction.Direction.TheVariants.{BottomUp}
 use Rattle.module_graph.specs.declared.graph.Node.{Node}
 use Rattle.module_graph.specs.Planned.{plan_of}
@@ -14,8 +13,8 @@ use Rattle.bp_pipeline.proofs.steps.run_rule.Goals as goal
 pub returns-in_ok-note-in-Ok-clause-tells : goal.returns-in_ok-note-in-Ok-clause-tells
 returns-in_ok-note-in-Ok-clause-tells g c =
     pass_made c.args.shop.now.way (plan_of BottomUp c.args.graph.nodes) c.args.pass c.as_slice.result.now
-    c.args.journal.now.items c.as_slice.ensures.value {T = PassGraph Props} {U = PassGraph Props}
-    {V = List (Node Props) × List (NodeId × Request)} (λ made. (made.graph.nodes, made.asked))
+    c.args.journal.now.items c.as_slice.ensures.value {T = PassGraph _} {U = PassGraph _}
+    {V = List (Node _) × List (NodeId × Request)} (λ made. (made.graph.nodes, made.asked))
     (λ made. (made.graph.nodes, made.asked)) (λ made. made.order)
     c.args.shop.now.mods.now
     (BottomUpMeans (g.M.BottomUp.meaning c.args.rule.now) c.args.graph.nodes
@@ -34,8 +33,8 @@ returns-in_ok-note-in-Ok-clause-usable g c = record {
 pub returns-in-Err-clause-tells : goal.returns-in-Err-clause-tells
 returns-in-Err-clause-tells g c =
     pass_ended c.args.shop.now.way (plan_of BottomUp c.args.graph.nodes) c.args.pass c.as_slice.result.now
-    c.args.journal.now.items c.as_slice.ensures.value {T = PassGraph Props} {U = PassGraph Props}
-    {V = List (Node Props) × List (NodeId × Request)} (λ made. (made.graph.nodes, made.asked))
+    c.args.journal.now.items c.as_slice.ensures.value {T = PassGraph _} {U = PassGraph _}
+    {V = List (Node _) × List (NodeId × Request)} (λ made. (made.graph.nodes, made.asked))
     (λ made. (made.graph.nodes, made.asked)) (λ made. made.order)
     c.args.shop.now.mods.now
     (BottomUpMeans (g.M.BottomUp.meaning c.args.rule.now) c.args.graph.nodes
