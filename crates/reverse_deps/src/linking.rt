@@ -61,7 +61,7 @@ pub fn links(
     requires { length found.now ≡ length asked.now }
     ensures { IfOk result (λ made. made.items ≡ links asked.now found.now) }
 {
-    let mut made = Vec::new(alloc);
+    let mut made = Vec::with_capacity(alloc, asked.len())?;
     add_links(&mut made, asked, found, false)?;
     add_links(&mut made, asked, found, true)?;
     Ok(made)
