@@ -66,7 +66,7 @@ fn edge(kind: EdgeKind, to: u32) -> Edge
     }
 }
 
-fn node(alloc: Global, module: u32, payload: Record, edges: Vec<Edge>) -> Node<Record>
+fn node<'m>(alloc: Global, module: u32, payload: Record<'m>, edges: Vec<Edge>) -> Node<Record<'m>>
     ensures module { result.«module».0 ≡ «module» }
     ensures edges { result.edges ≡ edges.items }
 {
@@ -80,13 +80,13 @@ fn node(alloc: Global, module: u32, payload: Record, edges: Vec<Edge>) -> Node<R
 
 /// Three modules, and a node of each.
 #[derive(Drop)]
-struct World {
+struct World<'m> {
     mods: Vec<Module>,
-    graph: Graph<Record>,
+    graph: Graph<Record<'m>>,
 }
 
 /// The app's record is given, and that of the module that it depends on in three ways.
-fn small_world(alloc: Global, app: Props, other: Props) -> Result<World, OutOfMemory>
+fn small_world<'m>(alloc: Global, app: Props, other: Props) -> Result<World<'m>, OutOfMemory>
     ensures app { IfOk result (λ w. MayVisit (places_in (length w.mods.items)) w.graph.nodes 0) }
     ensures other { IfOk result (λ w. MayVisit (places_in (length w.mods.items)) w.graph.nodes 2) }
     ensures four { IfOk result (λ w. length (targets w.graph.nodes 0) ≡ 4) }
@@ -125,7 +125,7 @@ fn library(alloc: Global, made: Made) -> Result<Props, OutOfMemory> {
     Ok(record)
 }
 
-fn done(alloc: Global, props: Props) -> Result<Arc<Split<Record>>, OutOfMemory> {
+fn done<'m>(alloc: Global, props: Props) -> Result<Arc<Split<Record<'m>>>, OutOfMemory> {
     let made = one_variant(alloc, Record::new(alloc, props)?, Seq::new(Vec::new(alloc)))?;
     Ok(Arc::new(alloc, made)?)
 }
@@ -170,7 +170,10 @@ fn add_lists(alloc: Global, text: &mut String, props: &Props) -> Result<(), OutO
 }
 
 /// The four lists of the first variant, or the fault's kind and subject.
-fn lists(alloc: Global, answer: &Result<Split<Record>, VisitError>) -> Result<String, OutOfMemory> {
+fn lists(
+    alloc: Global,
+    answer: &Result<Split<Record<'_>>, VisitError>,
+) -> Result<String, OutOfMemory> {
     let mut text = String::new(alloc);
     match answer {
         Ok(made) => {
@@ -195,16 +198,16 @@ fn config(alloc: Global) -> Config {
     }
 }
 
-fn made_library(alloc: Global, made: Made) -> Result<Arc<Split<Record>>, OutOfMemory> {
+fn made_library<'m>(alloc: Global, made: Made) -> Result<Arc<Split<Record<'m>>>, OutOfMemory> {
     done(alloc, library(alloc, made)?)
 }
 
-fn made_empty(alloc: Global) -> Result<Arc<Split<Record>>, OutOfMemory> {
+fn made_empty<'m>(alloc: Global) -> Result<Arc<Split<Record<'m>>>, OutOfMemory> {
     done(alloc, Props::empty(alloc))
 }
 
 /// What a rule made of the four libraries.
-fn four_libraries(alloc: Global) -> Result<Vec<Arc<Split<Record>>>, OutOfMemory>
+fn four_libraries<'m>(alloc: Global) -> Result<Vec<Arc<Split<Record<'m>>>>, OutOfMemory>
     ensures { IfOk result (λ ins. length ins.items ≡ 4) }
 {
     let mut ins = Vec::new(alloc);
@@ -219,7 +222,7 @@ fn four_libraries(alloc: Global) -> Result<Vec<Arc<Split<Record>>>, OutOfMemory>
 fn lists_of_app(
     alloc: Global,
     app: Props,
-    ins: &[Arc<Split<Record>>],
+    ins: &[Arc<Split<Record<'_>>>],
 ) -> Result<String, OutOfMemory>
     requires { length ins.now ≡ 4 }
 {
@@ -259,7 +262,7 @@ fn info_has_no_axis(rt: HostRuntime) {
 }
 
 /// A library with a link line of the numbers from 0 on.
-fn with_line(alloc: Global, entries: u32) -> Result<Arc<Split<Record>>, OutOfMemory> {
+fn with_line<'m>(alloc: Global, entries: u32) -> Result<Arc<Split<Record<'m>>>, OutOfMemory> {
     let mut long = Props::empty(alloc);
     for number in 0..entries {
         long.line.push(NodeId(number))?;
@@ -286,13 +289,13 @@ fn how_long_a_line_may_be(rt: HostRuntime) -> Result<(), Fail> {
     Ok(())
 }
 
-fn leveled(alloc: Global, level: u32) -> Result<Arc<Record>, OutOfMemory> {
+fn leveled<'m>(alloc: Global, level: u32) -> Result<Arc<Record<'m>>, OutOfMemory> {
     let mut props = Props::empty(alloc);
     props.level = level;
     Ok(Arc::new(alloc, Record::new(alloc, props)?)?)
 }
 
-fn three_leveled(alloc: Global, levels: [u32; 3]) -> Result<Vec<Arc<Record>>, OutOfMemory>
+fn three_leveled<'m>(alloc: Global, levels: [u32; 3]) -> Result<Vec<Arc<Record<'m>>>, OutOfMemory>
     ensures { IfOk result (λ ins. length ins.items ≡ 3) }
 {
     let mut ins = Vec::new(alloc);
@@ -325,13 +328,13 @@ fn levels_come_from_dependents(rt: HostRuntime) -> Result<(), Fail> {
     Ok(())
 }
 
-fn sanitized(alloc: Global, asan: bool) -> Result<Arc<Record>, OutOfMemory> {
+fn sanitized<'m>(alloc: Global, asan: bool) -> Result<Arc<Record<'m>>, OutOfMemory> {
     let mut props = Props::empty(alloc);
     props.asan = asan;
     Ok(Arc::new(alloc, Record::new(alloc, props)?)?)
 }
 
-fn four_sanitized(alloc: Global, asan: [bool; 4]) -> Result<Vec<Arc<Record>>, OutOfMemory>
+fn four_sanitized<'m>(alloc: Global, asan: [bool; 4]) -> Result<Vec<Arc<Record<'m>>>, OutOfMemory>
     ensures { IfOk result (λ ins. length ins.items ≡ 4) }
 {
     let mut ins = Vec::new(alloc);
@@ -369,7 +372,7 @@ fn what_is_sanitized(rt: HostRuntime) -> Result<(), Fail> {
 }
 
 /// An app with the sanitizer, and a module that never has it.
-fn sanitized_world(alloc: Global) -> Result<World, OutOfMemory>
+fn sanitized_world<'m>(alloc: Global) -> Result<World<'m>, OutOfMemory>
     ensures app { IfOk result (λ w. MayVisit (places_in (length w.mods.items)) w.graph.nodes 0) }
     ensures other { IfOk result (λ w. MayVisit (places_in (length w.mods.items)) w.graph.nodes 2) }
 {

@@ -203,7 +203,7 @@ fn modules(alloc: Global, kind: ModuleKind) -> Result<Vec<Module>, OutOfMemory>
 }
 
 /// A graph of one node, without edges, for a device's vendor image.
-fn graph(alloc: Global, link: Variation, own: Props) -> Result<Graph<Record>, OutOfMemory>
+fn graph<'m>(alloc: Global, link: Variation, own: Props) -> Result<Graph<Record<'m>>, OutOfMemory>
     ensures may { IfOk result (λ g. MayVisit (places_in 5) g.nodes 0) }
     ensures targets { IfOk result (λ g. targets g.nodes 0 ≡ []) }
 {
@@ -242,7 +242,11 @@ fn add_record(alloc: Global, out: &mut String, own: &Props) -> Result<(), OutOfM
     Ok(())
 }
 
-fn add_variants(alloc: Global, out: &mut String, made: &Split<Record>) -> Result<(), OutOfMemory> {
+fn add_variants(
+    alloc: Global,
+    out: &mut String,
+    made: &Split<Record<'_>>,
+) -> Result<(), OutOfMemory> {
     for (variation, record) in made.variants.as_slice() {
         out.push_str(format!(in alloc; "{variation:?} ")?.as_str())?;
         add_record(alloc, out, &record.to_props(alloc)?)?;
@@ -251,7 +255,11 @@ fn add_variants(alloc: Global, out: &mut String, made: &Split<Record>) -> Result
     Ok(())
 }
 
-fn add_requests(alloc: Global, out: &mut String, made: &Split<Record>) -> Result<(), OutOfMemory> {
+fn add_requests(
+    alloc: Global,
+    out: &mut String,
+    made: &Split<Record<'_>>,
+) -> Result<(), OutOfMemory> {
     for request in made.requests.as_slice() {
         let kind = request.kind;
         let name = request.name.as_str();
@@ -266,10 +274,10 @@ fn add_requests(alloc: Global, out: &mut String, made: &Split<Record>) -> Result
 }
 
 /// What a rule answers at the node.
-fn answer<M: BottomUp<Record>>(
+fn answer<'m, M: BottomUp<Record<'m>>>(
     alloc: Global,
     rule: &M,
-    g: &Graph<Record>,
+    g: &Graph<Record<'m>>,
 ) -> Result<String, OutOfMemory>
     requires may { MayVisit (M.accepts rule.now) g.now.nodes 0 }
     requires targets { targets g.now.nodes 0 ≡ [] }

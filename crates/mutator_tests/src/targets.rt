@@ -113,17 +113,17 @@ fn record(alloc: Global, settings: &[Setting]) -> Result<Props, OutOfMemory> {
 
 /// One module, and its node.
 #[derive(Drop)]
-struct World {
+struct World<'m> {
     mods: Vec<Module>,
-    graph: Graph<Record>,
+    graph: Graph<Record<'m>>,
 }
 
-fn one_module(
+fn one_module<'m>(
     alloc: Global,
     kind: ModuleKind,
     target: Variation,
     record: Props,
-) -> Result<World, OutOfMemory>
+) -> Result<World<'m>, OutOfMemory>
     ensures may { IfOk result (λ w. MayVisit (places_in (length w.mods.items)) w.graph.nodes 0) }
     ensures alone { IfOk result (λ w. targets w.graph.nodes 0 ≡ []) }
 {
@@ -158,7 +158,7 @@ fn add_flags(out: &mut String, flags: &[Text]) -> Result<(), OutOfMemory> {
     Ok(())
 }
 
-fn shown(alloc: Global, made: &Split<Record>) -> Result<String, OutOfMemory> {
+fn shown(alloc: Global, made: &Split<Record<'_>>) -> Result<String, OutOfMemory> {
     let mut out = String::new(alloc);
     for (variation, record) in made.variants.as_slice() {
         out.push_str(variation_name(alloc, *variation)?.as_str())?;
@@ -173,10 +173,10 @@ fn shown(alloc: Global, made: &Split<Record>) -> Result<String, OutOfMemory> {
 }
 
 /// What a rule answers at the node, by its trait.
-fn answer<M: BottomUp<Record>>(
+fn answer<'m, M: BottomUp<Record<'m>>>(
     alloc: Global,
     rule: &M,
-    graph: &Graph<Record>,
+    graph: &Graph<Record<'m>>,
 ) -> Result<String, OutOfMemory>
     requires may { MayVisit (M.accepts rule.now) graph.now.nodes 0 }
     requires alone { targets graph.now.nodes 0 ≡ [] }
