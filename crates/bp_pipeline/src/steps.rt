@@ -22,6 +22,7 @@ use crate::passes::{Pass, pass_at};
 use crate::workshop::Workshop;
 use bp_faults::{NodeId, Payload, Refusal};
 use bp_ports::Gate;
+use bp_props::Module;
 use defaults_mutator::{DefaultsDeps, DefaultsMerge};
 use info_mutators::laws::own_variations_differ;
 use info_mutators::{Info, Sanitize, SdkLevel};
@@ -132,6 +133,12 @@ where
     Ok(made.graph)
 }
 
+/// Whether a module is a plugin of others, so that a table of all names is worth its time.
+fn has_plugins(mods: &[Module]) -> bool {
+    mods.iter()
+        .any(|item| !item.props.plugin_of.items.as_slice().is_empty())
+}
+
 fn ask_plugins<'m, R: Threads + Sync, G: Gate + Sync>(
     rt: &R,
     alloc: Global,
@@ -145,6 +152,10 @@ fn ask_plugins<'m, R: Threads + Sync, G: Gate + Sync>(
     ensures usable { IfOk result (λ g. IsUsable (length shop.now.mods.now) g.nodes) }
     ensures free { IfOk result (λ g. StayFree None graph.entry.nodes g.nodes) }
 {
+    if !has_plugins(shop.mods) {
+        let rule = PluginsAsk::new(shop.mods, shop.config);
+        return ask(rt, alloc, shop, journal, pass, graph, &rule);
+    }
     let names = module_names(alloc, shop.mods)?;
     let rule = PluginsAsk::with_names(shop.mods, shop.config, &names);
     ask(rt, alloc, shop, journal, pass, graph, &rule)

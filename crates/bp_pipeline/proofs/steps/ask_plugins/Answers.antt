@@ -16,5 +16,13 @@ returns-clause-tells g c =
     let nodes = c.args.graph.nodes in
     subst (λ (ms : List Module). TellsPass c.args.shop.now.way {T = Graph Props} {V = List (Node Props)} (λ g. g.nodes)
     (AskMeans c.args.shop.now.mods.now (asks (plugins_asked ms) ms) nodes) (plan_of BottomUp nodes) c.args.pass
+    c.args.journal.now.items c.ask-2.new.journal.items c.ask-2.result)
+    c.with_names-rule.ensures c.ask-2.ensures.tells
+
+pub returns-then-not-has_plugins-clause-tells : goal.returns-then-not-has_plugins-clause-tells
+returns-then-not-has_plugins-clause-tells g c =
+    let nodes = c.args.graph.nodes in
+    subst (λ (ms : List Module). TellsPass c.args.shop.now.way {T = Graph Props} {V = List (Node Props)} (λ g. g.nodes)
+    (AskMeans c.args.shop.now.mods.now (asks (plugins_asked ms) ms) nodes) (plan_of BottomUp nodes) c.args.pass
     c.args.journal.now.items c.ask.new.journal.items c.ask.result)
-    c.with_names-rule.ensures c.ask.ensures.tells
+    c.new-rule.ensures c.ask.ensures.tells
