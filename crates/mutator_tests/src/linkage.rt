@@ -13,6 +13,7 @@ use mutator_rules::{BottomUp, Config, Split};
 use pass_core::VisitError;
 use std::alloc::Global;
 use std::process::Abort;
+use std::sync::Arc;
 use std::test::Fail;
 
 #[derive(Clone, Copy)]
@@ -203,7 +204,7 @@ fn modules(alloc: Global, kind: ModuleKind) -> Result<Vec<Module>, OutOfMemory>
 }
 
 /// A graph of one node, without edges, for a device's vendor image.
-fn graph(alloc: Global, link: Variation, own: Props) -> Result<Graph<Record>, OutOfMemory>
+fn graph<'m>(alloc: Global, link: Variation, own: Props) -> Result<Graph<Record<'m>>, OutOfMemory>
     ensures may { IfOk result (λ g. MayVisit (places_in 5) g.nodes 0) }
     ensures targets { IfOk result (λ g. targets g.nodes 0 ≡ []) }
 {
@@ -242,7 +243,11 @@ fn add_record(alloc: Global, out: &mut String, own: &Props) -> Result<(), OutOfM
     Ok(())
 }
 
-fn add_variants(alloc: Global, out: &mut String, made: &Split<Record>) -> Result<(), OutOfMemory> {
+fn add_variants(
+    alloc: Global,
+    out: &mut String,
+    made: &Split<Record<'_>>,
+) -> Result<(), OutOfMemory> {
     for (variation, record) in made.variants.as_slice() {
         out.push_str(format!(in alloc; "{variation:?} ")?.as_str())?;
         add_record(alloc, out, &record.to_props(alloc)?)?;
@@ -251,7 +256,11 @@ fn add_variants(alloc: Global, out: &mut String, made: &Split<Record>) -> Result
     Ok(())
 }
 
-fn add_requests(alloc: Global, out: &mut String, made: &Split<Record>) -> Result<(), OutOfMemory> {
+fn add_requests(
+    alloc: Global,
+    out: &mut String,
+    made: &Split<Record<'_>>,
+) -> Result<(), OutOfMemory> {
     for request in made.requests.as_slice() {
         let kind = request.kind;
         let name = request.name.as_str();
@@ -266,16 +275,53 @@ fn add_requests(alloc: Global, out: &mut String, made: &Split<Record>) -> Result
 }
 
 /// What a rule answers at the node.
-fn answer<M: BottomUp<Record>>(
+fn answer<P: Drop, M: BottomUp<P>>(
     alloc: Global,
     rule: &M,
-    g: &Graph<Record>,
-) -> Result<String, OutOfMemory>
+    g: &Graph<P>,
+) -> Result<Split<P>, VisitError>
     requires may { MayVisit (M.accepts rule.now) g.now.nodes 0 }
     requires targets { targets g.now.nodes 0 ≡ [] }
 {
+    let ins: Vec<Arc<Split<P>>> = Vec::new(alloc);
+    rule.visit(alloc, g, NodeId(0), &ins)
+}
+
+fn answer_of<'m>(
+    alloc: Global,
+    rule: Rule,
+    mods: &'m [Module],
+    config: &'m Config,
+    g: &Graph<Record<'m>>,
+) -> Result<Split<Record<'m>>, VisitError>
+    requires five { length mods.now ≡ 5 }
+    requires may { MayVisit (places_in 5) g.now.nodes 0 }
+    requires targets { targets g.now.nodes 0 ≡ [] }
+{
+    match rule {
+        Rule::Link => answer(alloc, &LinkSplit::new(mods, config), g),
+        Rule::Deps => answer(alloc, &DepsAsk::new(mods, config), g),
+        Rule::Plugins => answer(alloc, &PluginsAsk::new(mods, config), g),
+        Rule::PluginsByTable => {
+            let names = module_names(alloc, mods)?;
+            answer(alloc, &PluginsAsk::with_names(mods, config, &names), g)
+        }
+        Rule::Sources => answer(alloc, &PerSource::new(mods, config), g),
+    }
+}
+
+fn said_of<'m>(
+    alloc: Global,
+    case: &Case,
+    mods: &'m [Module],
+    config: &'m Config,
+) -> Result<String, OutOfMemory>
+    requires { length mods.now ≡ 5 }
+{
+    let (rule, _, link, enabled, _) = *case;
+    let g: Graph<Record<'m>> = graph(alloc, link, sample(alloc, enabled)?)?;
     let mut out = String::new(alloc);
-    match rule.visit(alloc, g, NodeId(0), &[]) {
+    match answer_of(alloc, rule, mods, config, &g) {
         Ok(made) => {
             add_variants(alloc, &mut out, &made)?;
             add_requests(alloc, &mut out, &made)?;
@@ -287,23 +333,11 @@ fn answer<M: BottomUp<Record>>(
 }
 
 fn said(alloc: Global, case: &Case) -> Result<String, OutOfMemory> {
-    let (rule, kind, link, enabled, _) = *case;
-    let mods = modules(alloc, kind)?;
-    let g = graph(alloc, link, sample(alloc, enabled)?)?;
+    let mods = modules(alloc, case.1)?;
     let config = Config {
         targets: Seq::new(Vec::new(alloc)),
     };
-    let mods = mods.as_slice();
-    match rule {
-        Rule::Link => answer(alloc, &LinkSplit::new(mods, &config), &g),
-        Rule::Deps => answer(alloc, &DepsAsk::new(mods, &config), &g),
-        Rule::Plugins => answer(alloc, &PluginsAsk::new(mods, &config), &g),
-        Rule::PluginsByTable => {
-            let names = module_names(alloc, mods)?;
-            answer(alloc, &PluginsAsk::with_names(mods, &config, &names), &g)
-        }
-        Rule::Sources => answer(alloc, &PerSource::new(mods, &config), &g),
-    }
+    said_of(alloc, case, mods.as_slice(), &config)
 }
 
 fn check_cases(rt: &impl Abort, alloc: Global, cases: &[Case]) -> Result<(), Fail> {
