@@ -78,24 +78,37 @@ fn node<'m>(alloc: Global, module: u32, payload: Record<'m>, edges: Vec<Edge>) -
     }
 }
 
-/// Three modules, and a node of each.
+/// Three modules, and a configuration without targets.
 #[derive(Drop)]
-struct World<'m> {
+struct World {
     mods: Vec<Module>,
-    graph: Graph<Record<'m>>,
+    config: Config,
 }
 
-/// The app's record is given, and that of the module that it depends on in three ways.
-fn small_world<'m>(alloc: Global, app: Props, other: Props) -> Result<World<'m>, OutOfMemory>
-    ensures app { IfOk result (λ w. MayVisit (places_in (length w.mods.items)) w.graph.nodes 0) }
-    ensures other { IfOk result (λ w. MayVisit (places_in (length w.mods.items)) w.graph.nodes 2) }
-    ensures four { IfOk result (λ w. length (targets w.graph.nodes 0) ≡ 4) }
-    ensures kinds { IfOk result (λ w. kinds_into w.graph.nodes 2 ≡ Shared ∷ Header ∷ Whole ∷ []) }
+fn small_world(alloc: Global) -> Result<World, OutOfMemory>
+    ensures { IfOk result (λ w. length w.mods.items ≡ 3) }
 {
     let mut mods = Vec::new(alloc);
     mods.push(module(alloc, "app")?)?;
     mods.push(module(alloc, "b")?)?;
     mods.push(module(alloc, "c")?)?;
+    Ok(World {
+        mods,
+        config: config(alloc),
+    })
+}
+
+/// A node of each of the modules. The app's record is given, and that of the module that it depends on in three ways.
+fn small_graph<'m>(
+    alloc: Global,
+    app: Props,
+    other: Props,
+) -> Result<Graph<Record<'m>>, OutOfMemory>
+    ensures app { IfOk result (λ g. MayVisit (places_in 3) g.nodes 0) }
+    ensures other { IfOk result (λ g. MayVisit (places_in 3) g.nodes 2) }
+    ensures four { IfOk result (λ g. length (targets g.nodes 0) ≡ 4) }
+    ensures kinds { IfOk result (λ g. kinds_into g.nodes 2 ≡ Shared ∷ Header ∷ Whole ∷ []) }
+{
     let mut edges = Vec::new(alloc);
     edges.push(edge(EdgeKind::Static, 1))?;
     edges.push(edge(EdgeKind::Shared, 2))?;
@@ -107,10 +120,9 @@ fn small_world<'m>(alloc: Global, app: Props, other: Props) -> Result<World<'m>,
     nodes.push(node(alloc, 0, app, edges))?;
     nodes.push(node(alloc, 1, library, Vec::new(alloc)))?;
     nodes.push(node(alloc, 2, other, Vec::new(alloc)))?;
-    let graph = Graph {
+    Ok(Graph {
         nodes: Seq::new(nodes),
-    };
-    Ok(World { mods, graph })
+    })
 }
 
 /// What a rule made of a library: the directory that it exports, its link line and its shared libraries.
@@ -219,22 +231,31 @@ fn four_libraries<'m>(alloc: Global) -> Result<Vec<Arc<Split<Record<'m>>>>, OutO
 }
 
 /// The lists of an app, by what a rule made of its four libraries.
-fn lists_of_app(
+fn lists_of_app<'m>(
     alloc: Global,
+    world: &'m World,
     app: Props,
-    ins: &[Arc<Split<Record<'_>>>],
+    ins: &[Arc<Split<Record<'m>>>],
 ) -> Result<String, OutOfMemory>
-    requires { length ins.now ≡ 4 }
+    requires three { length world.now.mods.items ≡ 3 }
+    requires four { length ins.now ≡ 4 }
 {
-    let world = small_world(alloc, app, Props::empty(alloc))?;
-    let config = config(alloc);
-    let rule = Info::new(&world.mods, &config);
-    lists(alloc, &rule.visit(alloc, &world.graph, NodeId(0), ins))
+    let graph: Graph<Record<'m>> = small_graph(alloc, app, Props::empty(alloc))?;
+    let rule = Info::new(&world.mods, &world.config);
+    let answer = rule.visit(alloc, &graph, NodeId(0), ins);
+    lists(alloc, &answer)
+}
+
+fn lists_in<'m>(alloc: Global, world: &'m World) -> Result<String, OutOfMemory>
+    requires { length world.now.mods.items ≡ 3 }
+{
+    let ins: Vec<Arc<Split<Record<'m>>>> = four_libraries(alloc)?;
+    lists_of_app(alloc, world, app(alloc)?, &ins)
 }
 
 fn the_lists(alloc: Global) -> Result<String, OutOfMemory> {
-    let ins = four_libraries(alloc)?;
-    lists_of_app(alloc, app(alloc)?, &ins)
+    let world = small_world(alloc)?;
+    lists_in(alloc, &world)
 }
 
 fn check_lists(rt: &impl Abort, alloc: Global, want: &str) -> Result<(), Fail> {
@@ -271,13 +292,20 @@ fn with_line<'m>(alloc: Global, entries: u32) -> Result<Arc<Split<Record<'m>>>, 
 }
 
 /// A static library with a link line of its own: with the library it has one entry more.
-fn answer_with_line(alloc: Global, entries: u32) -> Result<String, OutOfMemory> {
-    let mut ins = Vec::new(alloc);
+fn line_in<'m>(alloc: Global, world: &'m World, entries: u32) -> Result<String, OutOfMemory>
+    requires { length world.now.mods.items ≡ 3 }
+{
+    let mut ins: Vec<Arc<Split<Record<'m>>>> = Vec::new(alloc);
     ins.push(with_line(alloc, entries)?)?;
     ins.push(made_empty(alloc)?)?;
     ins.push(made_empty(alloc)?)?;
     ins.push(made_empty(alloc)?)?;
-    lists_of_app(alloc, Props::empty(alloc), &ins)
+    lists_of_app(alloc, world, Props::empty(alloc), &ins)
+}
+
+fn answer_with_line(alloc: Global, entries: u32) -> Result<String, OutOfMemory> {
+    let world = small_world(alloc)?;
+    line_in(alloc, &world, entries)
 }
 
 #[test]
@@ -306,16 +334,27 @@ fn three_leveled<'m>(alloc: Global, levels: [u32; 3]) -> Result<Vec<Arc<Record<'
 }
 
 /// The level of the module that the app depends on as a shared, a header and a whole library.
-fn level_with(alloc: Global, other: Props, levels: [u32; 3]) -> Result<u32, OutOfMemory> {
-    let ins = three_leveled(alloc, levels)?;
-    let world = small_world(alloc, Props::empty(alloc), other)?;
+fn level_in<'m>(
+    alloc: Global,
+    world: &'m World,
+    other: Props,
+    levels: [u32; 3],
+) -> Result<u32, OutOfMemory>
+    requires { length world.now.mods.items ≡ 3 }
+{
+    let ins: Vec<Arc<Record<'m>>> = three_leveled(alloc, levels)?;
+    let graph: Graph<Record<'m>> = small_graph(alloc, Props::empty(alloc), other)?;
     let kinds = [EdgeKind::Shared, EdgeKind::Header, EdgeKind::Whole];
-    let config = config(alloc);
-    let rule = SdkLevel::new(&world.mods, &config);
-    match rule.visit(alloc, &world.graph, NodeId(2), &kinds, &ins) {
+    let rule = SdkLevel::new(&world.mods, &world.config);
+    match rule.visit(alloc, &graph, NodeId(2), &kinds, &ins) {
         Ok(record) => Ok(record.level()),
         Err(_) => Err(OutOfMemory),
     }
+}
+
+fn level_with(alloc: Global, other: Props, levels: [u32; 3]) -> Result<u32, OutOfMemory> {
+    let world = small_world(alloc)?;
+    level_in(alloc, &world, other, levels)
 }
 
 #[test]
@@ -346,12 +385,17 @@ fn four_sanitized<'m>(alloc: Global, asan: [bool; 4]) -> Result<Vec<Arc<Record<'
 }
 
 /// How many flags the app is compiled and linked with, where the results of its four dependencies have that field.
-fn flags_with(alloc: Global, asan: [bool; 4]) -> Result<(usize, usize), OutOfMemory> {
-    let ins = four_sanitized(alloc, asan)?;
-    let world = small_world(alloc, Props::empty(alloc), Props::empty(alloc))?;
-    let config = config(alloc);
-    let rule = Sanitize::new(&world.mods, &config);
-    match rule.mutate(alloc, &world.graph, NodeId(0), &ins) {
+fn flags_in<'m>(
+    alloc: Global,
+    world: &'m World,
+    asan: [bool; 4],
+) -> Result<(usize, usize), OutOfMemory>
+    requires { length world.now.mods.items ≡ 3 }
+{
+    let ins: Vec<Arc<Record<'m>>> = four_sanitized(alloc, asan)?;
+    let graph: Graph<Record<'m>> = small_graph(alloc, Props::empty(alloc), Props::empty(alloc))?;
+    let rule = Sanitize::new(&world.mods, &world.config);
+    match rule.mutate(alloc, &graph, NodeId(0), &ins) {
         Ok(record) => {
             let props = record.to_props(alloc)?;
             Ok((
@@ -363,6 +407,11 @@ fn flags_with(alloc: Global, asan: [bool; 4]) -> Result<(usize, usize), OutOfMem
     }
 }
 
+fn flags_with(alloc: Global, asan: [bool; 4]) -> Result<(usize, usize), OutOfMemory> {
+    let world = small_world(alloc)?;
+    flags_in(alloc, &world, asan)
+}
+
 #[test]
 fn what_is_sanitized(rt: HostRuntime) -> Result<(), Fail> {
     let alloc = rt.alloc();
@@ -372,31 +421,40 @@ fn what_is_sanitized(rt: HostRuntime) -> Result<(), Fail> {
 }
 
 /// An app with the sanitizer, and a module that never has it.
-fn sanitized_world<'m>(alloc: Global) -> Result<World<'m>, OutOfMemory>
-    ensures app { IfOk result (λ w. MayVisit (places_in (length w.mods.items)) w.graph.nodes 0) }
-    ensures other { IfOk result (λ w. MayVisit (places_in (length w.mods.items)) w.graph.nodes 2) }
+fn sanitized_graph<'m>(alloc: Global) -> Result<Graph<Record<'m>>, OutOfMemory>
+    ensures app { IfOk result (λ g. MayVisit (places_in 3) g.nodes 0) }
+    ensures other { IfOk result (λ g. MayVisit (places_in 3) g.nodes 2) }
 {
     let mut on = Props::empty(alloc);
     on.address = given(true);
     let mut never = on.copy(alloc)?;
     never.never = given(true);
-    small_world(alloc, on, never)
+    small_graph(alloc, on, never)
 }
 
 /// What the app and the other module take, and what goes out along a whole and along a shared edge.
-fn sanitized_along(
+fn along_in<'m>(
     alloc: Global,
-) -> Result<(Variation, Variation, Variation, Variation), OutOfMemory> {
-    let world = sanitized_world(alloc)?;
-    let config = config(alloc);
-    let rule = Sanitize::new(&world.mods, &config);
-    let graph = &world.graph;
+    world: &'m World,
+) -> Result<(Variation, Variation, Variation, Variation), OutOfMemory>
+    requires { length world.now.mods.items ≡ 3 }
+{
+    let made: Graph<Record<'m>> = sanitized_graph(alloc)?;
+    let rule = Sanitize::new(&world.mods, &world.config);
+    let graph = &made;
     Ok((
         rule.incoming(graph, NodeId(0), Variation::Empty),
         rule.incoming(graph, NodeId(2), Variation::Asan),
         rule.outgoing(graph, NodeId(0), EdgeKind::Whole, Variation::Asan),
         rule.outgoing(graph, NodeId(0), EdgeKind::Shared, Variation::Asan),
     ))
+}
+
+fn sanitized_along(
+    alloc: Global,
+) -> Result<(Variation, Variation, Variation, Variation), OutOfMemory> {
+    let world = small_world(alloc)?;
+    along_in(alloc, &world)
 }
 
 #[test]
@@ -414,15 +472,21 @@ fn sanitized_along_edges(rt: HostRuntime) -> Result<(), Fail> {
 }
 
 /// Whether the rule splits by sanitizer, and the app has that variation alone.
-fn axis_and_own(alloc: Global) -> Result<(bool, bool), OutOfMemory> {
-    let world = sanitized_world(alloc)?;
-    let config = config(alloc);
-    let rule = Sanitize::new(&world.mods, &config);
-    let own = match rule.split(alloc, &world.graph, NodeId(0)) {
+fn axis_and_own_in<'m>(alloc: Global, world: &'m World) -> Result<(bool, bool), OutOfMemory>
+    requires { length world.now.mods.items ≡ 3 }
+{
+    let graph: Graph<Record<'m>> = sanitized_graph(alloc)?;
+    let rule = Sanitize::new(&world.mods, &world.config);
+    let own = match rule.split(alloc, &graph, NodeId(0)) {
         Ok(own) => own.as_slice() == [Variation::Asan].as_slice(),
         Err(_) => false,
     };
     Ok((rule.axis() == Axis::Sanitize, own))
+}
+
+fn axis_and_own(alloc: Global) -> Result<(bool, bool), OutOfMemory> {
+    let world = small_world(alloc)?;
+    axis_and_own_in(alloc, &world)
 }
 
 #[test]

@@ -13,6 +13,7 @@ use mutator_rules::{BottomUp, Config, Split};
 use pass_core::VisitError;
 use std::alloc::Global;
 use std::process::Abort;
+use std::sync::Arc;
 use std::test::Fail;
 
 #[derive(Clone, Copy)]
@@ -274,16 +275,53 @@ fn add_requests(
 }
 
 /// What a rule answers at the node.
-fn answer<'m, M: BottomUp<Record<'m>>>(
+fn answer<P: Drop, M: BottomUp<P>>(
     alloc: Global,
     rule: &M,
-    g: &Graph<Record<'m>>,
-) -> Result<String, OutOfMemory>
+    g: &Graph<P>,
+) -> Result<Split<P>, VisitError>
     requires may { MayVisit (M.accepts rule.now) g.now.nodes 0 }
     requires targets { targets g.now.nodes 0 ≡ [] }
 {
+    let ins: Vec<Arc<Split<P>>> = Vec::new(alloc);
+    rule.visit(alloc, g, NodeId(0), &ins)
+}
+
+fn answer_of<'m>(
+    alloc: Global,
+    rule: Rule,
+    mods: &'m [Module],
+    config: &'m Config,
+    g: &Graph<Record<'m>>,
+) -> Result<Split<Record<'m>>, VisitError>
+    requires five { length mods.now ≡ 5 }
+    requires may { MayVisit (places_in 5) g.now.nodes 0 }
+    requires targets { targets g.now.nodes 0 ≡ [] }
+{
+    match rule {
+        Rule::Link => answer(alloc, &LinkSplit::new(mods, config), g),
+        Rule::Deps => answer(alloc, &DepsAsk::new(mods, config), g),
+        Rule::Plugins => answer(alloc, &PluginsAsk::new(mods, config), g),
+        Rule::PluginsByTable => {
+            let names = module_names(alloc, mods)?;
+            answer(alloc, &PluginsAsk::with_names(mods, config, &names), g)
+        }
+        Rule::Sources => answer(alloc, &PerSource::new(mods, config), g),
+    }
+}
+
+fn said_of<'m>(
+    alloc: Global,
+    case: &Case,
+    mods: &'m [Module],
+    config: &'m Config,
+) -> Result<String, OutOfMemory>
+    requires { length mods.now ≡ 5 }
+{
+    let (rule, _, link, enabled, _) = *case;
+    let g: Graph<Record<'m>> = graph(alloc, link, sample(alloc, enabled)?)?;
     let mut out = String::new(alloc);
-    match rule.visit(alloc, g, NodeId(0), &[]) {
+    match answer_of(alloc, rule, mods, config, &g) {
         Ok(made) => {
             add_variants(alloc, &mut out, &made)?;
             add_requests(alloc, &mut out, &made)?;
@@ -295,23 +333,11 @@ fn answer<'m, M: BottomUp<Record<'m>>>(
 }
 
 fn said(alloc: Global, case: &Case) -> Result<String, OutOfMemory> {
-    let (rule, kind, link, enabled, _) = *case;
-    let mods = modules(alloc, kind)?;
-    let g = graph(alloc, link, sample(alloc, enabled)?)?;
+    let mods = modules(alloc, case.1)?;
     let config = Config {
         targets: Seq::new(Vec::new(alloc)),
     };
-    let mods = mods.as_slice();
-    match rule {
-        Rule::Link => answer(alloc, &LinkSplit::new(mods, &config), &g),
-        Rule::Deps => answer(alloc, &DepsAsk::new(mods, &config), &g),
-        Rule::Plugins => answer(alloc, &PluginsAsk::new(mods, &config), &g),
-        Rule::PluginsByTable => {
-            let names = module_names(alloc, mods)?;
-            answer(alloc, &PluginsAsk::with_names(mods, &config, &names), &g)
-        }
-        Rule::Sources => answer(alloc, &PerSource::new(mods, &config), &g),
-    }
+    said_of(alloc, case, mods.as_slice(), &config)
 }
 
 fn check_cases(rt: &impl Abort, alloc: Global, cases: &[Case]) -> Result<(), Fail> {

@@ -11,6 +11,7 @@ use module_rules::Record;
 use mutator_rules::{BottomUp, Config, Split};
 use std::alloc::Global;
 use std::process::Abort;
+use std::sync::Arc;
 use std::test::Fail;
 use target_mutators::laws::{image_variants_differ, target_variants_differ};
 use target_mutators::{ArchSplit, ImageSplit};
@@ -111,21 +112,9 @@ fn record(alloc: Global, settings: &[Setting]) -> Result<Props, OutOfMemory> {
     Ok(record)
 }
 
-/// One module, and its node.
-#[derive(Drop)]
-struct World<'m> {
-    mods: Vec<Module>,
-    graph: Graph<Record<'m>>,
-}
-
-fn one_module<'m>(
-    alloc: Global,
-    kind: ModuleKind,
-    target: Variation,
-    record: Props,
-) -> Result<World<'m>, OutOfMemory>
-    ensures may { IfOk result (λ w. MayVisit (places_in (length w.mods.items)) w.graph.nodes 0) }
-    ensures alone { IfOk result (λ w. targets w.graph.nodes 0 ≡ []) }
+/// One module.
+fn modules(alloc: Global, kind: ModuleKind) -> Result<Vec<Module>, OutOfMemory>
+    ensures { IfOk result (λ mods. length mods.items ≡ 1) }
 {
     let mut mods = Vec::new(alloc);
     mods.push(Module {
@@ -135,6 +124,18 @@ fn one_module<'m>(
         at: PLACE,
         props: Props::empty(alloc),
     })?;
+    Ok(mods)
+}
+
+/// Its node.
+fn graph<'m>(
+    alloc: Global,
+    target: Variation,
+    record: Props,
+) -> Result<Graph<Record<'m>>, OutOfMemory>
+    ensures may { IfOk result (λ g. MayVisit (places_in 1) g.nodes 0) }
+    ensures alone { IfOk result (λ g. targets g.nodes 0 ≡ []) }
+{
     let mut vars = Variations::empty(alloc);
     vars.set(Axis::Target, target);
     let mut nodes = Vec::new(alloc);
@@ -144,10 +145,9 @@ fn one_module<'m>(
         payload: Record::new(alloc, record)?,
         edges: Seq::new(Vec::new(alloc)),
     })?;
-    let graph = Graph {
+    Ok(Graph {
         nodes: Seq::new(nodes),
-    };
-    Ok(World { mods, graph })
+    })
 }
 
 fn add_flags(out: &mut String, flags: &[Text]) -> Result<(), OutOfMemory> {
@@ -173,16 +173,17 @@ fn shown(alloc: Global, made: &Split<Record<'_>>) -> Result<String, OutOfMemory>
 }
 
 /// What a rule answers at the node, by its trait.
-fn answer<'m, M: BottomUp<Record<'m>>>(
+fn answer<P: Drop, M: BottomUp<P>>(
     alloc: Global,
     rule: &M,
-    graph: &Graph<Record<'m>>,
-) -> Result<String, OutOfMemory>
+    graph: &Graph<P>,
+) -> Result<Split<P>, OutOfMemory>
     requires may { MayVisit (M.accepts rule.now) graph.now.nodes 0 }
     requires alone { targets graph.now.nodes 0 ≡ [] }
 {
-    match rule.visit(alloc, graph, NodeId(0), &[]) {
-        Ok(made) => shown(alloc, &made),
+    let ins: Vec<Arc<Split<P>>> = Vec::new(alloc);
+    match rule.visit(alloc, graph, NodeId(0), &ins) {
+        Ok(made) => Ok(made),
         Err(_) => Err(OutOfMemory),
     }
 }
@@ -288,13 +289,26 @@ const ARCH: [ArchCase; 13] = [
 ];
 
 /// Whether the rule splits by target, and the variants that it makes.
+fn targets_in<'m>(
+    alloc: Global,
+    mods: &'m [Module],
+    config: &'m Config,
+    own: Props,
+) -> Result<(bool, String), OutOfMemory>
+    requires { length mods.now ≡ 1 }
+{
+    let graph: Graph<Record<'m>> = graph(alloc, Variation::Empty, own)?;
+    let rule = ArchSplit::new(mods, config);
+    let is_by_target = rule.axis() == Some(Axis::Target);
+    let made = answer(alloc, &rule, &graph)?;
+    Ok((is_by_target, shown(alloc, &made)?))
+}
+
 fn by_targets(alloc: Global, case: &ArchCase) -> Result<(bool, String), OutOfMemory> {
     let (kind, settings, targets, _) = *case;
     let config = targets_of(alloc, targets)?;
-    let world = one_module(alloc, kind, Variation::Empty, record(alloc, settings)?)?;
-    let rule = ArchSplit::new(&world.mods, &config);
-    let is_by_target = rule.axis() == Some(Axis::Target);
-    Ok((is_by_target, answer(alloc, &rule, &world.graph)?))
+    let mods = modules(alloc, kind)?;
+    targets_in(alloc, mods.as_slice(), &config, record(alloc, settings)?)
 }
 
 fn check_targets(rt: &impl Abort, alloc: Global, cases: &[ArchCase]) -> Result<(), Fail> {
@@ -349,13 +363,28 @@ const IMAGES: [ImageCase; 8] = [
 ];
 
 /// Whether the rule splits by image, and the variants that it makes.
+fn images_in<'m>(
+    alloc: Global,
+    mods: &'m [Module],
+    config: &'m Config,
+    target: Variation,
+    own: Props,
+) -> Result<(bool, String), OutOfMemory>
+    requires { length mods.now ≡ 1 }
+{
+    let graph: Graph<Record<'m>> = graph(alloc, target, own)?;
+    let rule = ImageSplit::new(mods, config);
+    let is_by_image = rule.axis() == Some(Axis::Image);
+    let made = answer(alloc, &rule, &graph)?;
+    Ok((is_by_image, shown(alloc, &made)?))
+}
+
 fn by_images(alloc: Global, case: &ImageCase) -> Result<(bool, String), OutOfMemory> {
     let (target, settings, _) = *case;
     let config = targets_of(alloc, &[ARM64])?;
-    let world = one_module(alloc, ModuleKind::Library, target, record(alloc, settings)?)?;
-    let rule = ImageSplit::new(&world.mods, &config);
-    let is_by_image = rule.axis() == Some(Axis::Image);
-    Ok((is_by_image, answer(alloc, &rule, &world.graph)?))
+    let mods = modules(alloc, ModuleKind::Library)?;
+    let own = record(alloc, settings)?;
+    images_in(alloc, mods.as_slice(), &config, target, own)
 }
 
 fn check_images(rt: &impl Abort, alloc: Global, cases: &[ImageCase]) -> Result<(), Fail> {
