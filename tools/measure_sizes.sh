@@ -29,8 +29,8 @@ fn main(rt: HostRuntime) -> io::Result<()> {
     println!(rt; "| `GroupProps`: each group of a record | {} |", size_of::<GroupProps>())?;
     println!(rt; "| `Module`: a typed module | {} |", size_of::<Module>())?;
     println!(rt; "| `Node<Props>`: a node of what `graph_after` gives | {} |", size_of::<Node<Props>>())?;
-    println!(rt; "| `Record`: what a node has of its own | {} |", size_of::<Record>())?;
-    println!(rt; "| `Node<Record>`: a node of the program's graphs | {} |", size_of::<Node<Record>>())?;
+    println!(rt; "| `Record`: what a node has of its own | {} |", size_of::<Record<'static>>())?;
+    println!(rt; "| `Node<Record>`: a node of the program's graphs | {} |", size_of::<Node<Record<'static>>>())?;
     println!(rt; "| `Edge` | {} |", size_of::<Edge>())?;
     Ok(())
 }
