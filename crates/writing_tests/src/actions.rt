@@ -20,7 +20,7 @@ use std::test::Fail;
 /// What was made at the targets of a node's edges.
 fn below(
     alloc: Global,
-    node: &Node<Record>,
+    node: &Node<Record<'_>>,
     made: &[Arc<Actions>],
 ) -> Result<Vec<Arc<Actions>>, OutOfMemory> {
     let mut ins = Vec::new(alloc);
@@ -36,7 +36,7 @@ fn below(
 fn visited(
     alloc: Global,
     modules: &[Module],
-    graph: &Graph<Record>,
+    graph: &Graph<Record<'_>>,
     n: u32,
     ins: &[Arc<Actions>],
 ) -> Result<Actions, VisitError> {
@@ -63,7 +63,7 @@ fn nothing(alloc: Global) -> Actions {
 fn said(
     alloc: Global,
     modules: &[Module],
-    graph: &Graph<Record>,
+    graph: &Graph<Record<'_>>,
     n: u32,
     ins: &[Arc<Actions>],
 ) -> Result<(Actions, String), OutOfMemory> {
@@ -82,7 +82,7 @@ fn make(
     rt: &impl Abort,
     alloc: Global,
     modules: &[Module],
-    graph: &Graph<Record>,
+    graph: &Graph<Record<'_>>,
     wanted: Option<&str>,
     made: &mut Vec<Arc<Actions>>,
 ) -> Result<(), OutOfMemory> {
@@ -141,7 +141,7 @@ fn statements_of_worked_examples(rt: HostRuntime) -> Result<(), Fail> {
     check_rows(&rt, rt.alloc(), &ROWS, last)
 }
 
-fn one_node(alloc: Global) -> Result<Graph<Record>, OutOfMemory>
+fn one_node<'m>(alloc: Global) -> Result<Graph<Record<'m>>, OutOfMemory>
     ensures count { IfOk result (λ g. length g.nodes ≡ 1) }
     ensures targets { IfOk result (λ g. targets g.nodes 0 ≡ []) }
 {

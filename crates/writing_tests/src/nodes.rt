@@ -121,7 +121,7 @@ pub fn modules_of(alloc: Global, rows: &[Row]) -> Result<Vec<Module>, OutOfMemor
     Ok(modules)
 }
 
-pub fn graph_of(alloc: Global, rows: &[Row]) -> Result<Graph<Record>, OutOfMemory> {
+pub fn graph_of<'m>(alloc: Global, rows: &[Row]) -> Result<Graph<Record<'m>>, OutOfMemory> {
     let mut nodes = Vec::new(alloc);
     let mut number = 0u32;
     for row in rows {
