@@ -11,7 +11,8 @@ the repository, by default the one in which this script is. The rules:
                 .md, may be wider, and files of proofs/ are looked at with --proofs alone
     comment     a definition in specs/ has no comment of its own, or one that isn't a sentence with a full stop
     meanings    one name is defined in specs/ of two crates, in files of which public contracts speak; laws aside
-    bool        a name that begins with is_ or has_ is no Bool in specs/, or no bool in the code
+    bool        a name that begins with is_ or has_ is no Bool in specs/, or no bool in the code, where a call that
+                takes memory may answer that it ran out
     participle  a function's name in specs/ is a bare participle
     means       a relation Is.., Are.. or Has.. to an outcome whose name doesn't end in Means
     laws        laws stand in src/law.rt, or in a module that isn't public
@@ -54,18 +55,25 @@ class Definition:
         self.arguments = parts_of(signature)
 
 
-def parts_of(signature):
-    """The types between the outer arrows of a signature."""
-    text = signature.split(":", 1)[1] if ":" in signature else ""
+def cut_at(mark, text):
+    """The parts of a text between the marks that stand outside brackets."""
     parts, depth, part = [], 0, ""
     for char in text:
         depth += (char in "({[") - (char in ")}]")
-        if char == "→" and depth == 0:
+        if char == mark and depth == 0:
             parts.append(part.strip())
             part = ""
         else:
             part += char
     return parts + [part.strip()]
+
+
+def parts_of(signature):
+    """The types of a definition: those between the outer arrows, behind what stands in brackets before the colon."""
+    before, *rest = cut_at(":", signature)
+    groups = re.findall(r"\(([^()]*(?:\([^()]*\)[^()]*)*)\)", before)
+    named = [cut_at(":", group)[-1] for group in groups]
+    return named + cut_at("→", ":".join(rest))
 
 
 def definitions_of(crate, path, lines):
@@ -171,7 +179,7 @@ def check_code(paths, tell):
             tell(path, 1, "laws", "laws stand in src/laws.rt")
         for number, line in enumerate(lines_of(path), 1):
             named = re.match(r" *(?:pub )?(?:const )?fn ((?:is|has)_\w+)", line)
-            if named and "->" in line and not re.search(r"-> bool\b", line):
+            if named and "->" in line and not re.search(r"-> (?:Result<)?bool\b", line):
                 tell(path, number, "bool", named.group(1))
             if path.endswith("/src/lib.rt") and re.match(r"mod laws?;", line):
                 tell(path, number, "laws", "the module of laws isn't public")
@@ -209,7 +217,8 @@ def check_definitions(found, tell):
         if re.match(r"[a-z]", one.name) and is_participle(one.name):
             tell(one.path, one.line, "participle", one.name)
         outcome = one.arguments[-2] if len(one.arguments) > 1 else ""
-        of_an_outcome = "→" not in outcome and re.match(r"\(?(?:Result|Outcome)\b|\(\w+ : Result\b", outcome)
+        # The word for the cause of any call's answer, whatever its types, is no relation to what an input comes to.
+        of_an_outcome = "→" not in outcome and re.match(r"\(?(?:Result (?![A-Z] [A-Z]$)|Outcome\b)", outcome)
         if re.match(r"(?:Is|Are|Has)[A-Z]", one.name) and of_an_outcome:
             tell(one.path, one.line, "means", one.name)
 

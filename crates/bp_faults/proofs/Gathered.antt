@@ -6,8 +6,7 @@ use Rattle.std.specs.List.{range_with_len}
 use Rattle.std.proofs.Math.Decide.{dec_lt}
 use Rattle.std.proofs.lemmas.Bool.{cases_order}
 use Rattle.bp_faults.specs.declared.fault.Fault.{Fault}
-use Rattle.bp_faults.specs.Phases.{HasOutcome}
-use Rattle.bp_faults.specs.Order.{Precedes, IsFirstFault, Gathers}
+use Rattle.bp_faults.specs.Order.{Precedes, IsFirstByHeight}
 
 ordered : (hm m hn n : ℕ) → Dec (hm < hn) → Dec (hn < hm) → Dec (m < n) → Dec (n < m)
     → ((hm < hn) ⊎ ((hm ≡ hn) × (m < n))) ⊎ (((hn < hm) ⊎ ((hn ≡ hm) × (n < m))) ⊎ (m ≡ n))
@@ -51,28 +50,16 @@ module _ {O : Type 0} where
         subst (λ y. IsOk (step y)) s (all_ok xs (a + 1) n t k (omega arith))
 
     not_both : (values : List O) (fault : Fault) (n : ℕ) → map Ok values ≡ map step (range_with_len 0 count)
-        → IsFirstFault height count step fault n → ⊥
+        → IsFirstByHeight height count step fault n → ⊥
     not_both values fault n all first =
         let s : 0 + n ≡ n = omega arith in
         no_fault (step n) fault first.here (subst (λ y. IsOk (step y)) s (all_ok values 0 count all n first.inside))
-
-    -- What a step makes of numbered items is one list, or one first fault.
-    pub gathers_once : (a b : Result (List O) Fault) → Gathers height count step a → Gathers height count step b → a ≡ b
-    gathers_once (Ok x) (Ok y) g h = ap Ok (values_same x y (g ∙ sym h))
-    gathers_once (Ok x) (Err f) g h = absurd (not_both x f h.0 g h.1)
-    gathers_once (Err e) (Ok y) g h = absurd (not_both y e g.0 h g.1)
-    gathers_once (Err e) (Err f) g h =
-        ⊎_elim (λ before. absurd (no_fault (step g.0) e g.1.here (h.1.first g.0 g.1.inside before)))
-        (λ rest. ⊎_elim (λ behind. absurd (no_fault (step h.0) f h.1.here (g.1.first h.0 h.1.inside behind)))
-        (λ same. same_fault (step g.0) (step h.0) e f (ap step same) g.1.here h.1.here) rest)
-        (ordered (height g.0) g.0 (height h.0) h.0 (dec_lt (height g.0) (height h.0)) (dec_lt (height h.0) (height g.0))
-        (dec_lt g.0 h.0) (dec_lt h.0 g.0))
 
 module _ {O : Type 0} (height : ℕ → ℕ) (step : ℕ → Result O Fault) where
   -- no item below a number has a fault, or one has the first
   abbrev Searched : ℕ → Type 0
   Searched count =
-      ((m : ℕ) → m < count → IsOk (step m)) ⊎ ((fault : Fault) × ((n : ℕ) × IsFirstFault height count step fault n))
+      ((m : ℕ) → m < count → IsOk (step m)) ⊎ ((fault : Fault) × ((n : ℕ) × IsFirstByHeight height count step fault n))
 
   -- an item below the next number is the last or below it
   below_next : (P : ℕ → Type 0) (m k : ℕ) → (m < k → P m) → (m ≡ k → P m) → m < suc k → P m
@@ -85,7 +72,7 @@ module _ {O : Type 0} (height : ℕ → ℕ) (step : ℕ → Result O Fault) whe
 
   -- the last item has the first fault, where those that precede it have none
   last_first : (k : ℕ) (fault : Fault) → step k ≡ Err fault → ((m : ℕ) → m < k → Precedes height m k → IsOk (step m))
-      → IsFirstFault height (suc k) step fault k
+      → IsFirstByHeight height (suc k) step fault k
   last_first k fault here before = record {
     inside = omega arith;
     here = here;
@@ -97,8 +84,8 @@ module _ {O : Type 0} (height : ℕ → ℕ) (step : ℕ → Result O Fault) whe
   }
 
   -- an earlier item keeps the first fault, where the last doesn't precede it
-  still_first : (k : ℕ) (fault : Fault) (n : ℕ) → IsFirstFault height k step fault n
-      → (Precedes height k n → IsOk (step k)) → IsFirstFault height (suc k) step fault n
+  still_first : (k : ℕ) (fault : Fault) (n : ℕ) → IsFirstByHeight height k step fault n
+      → (Precedes height k n → IsOk (step k)) → IsFirstByHeight height (suc k) step fault n
   still_first k fault n first last = record {
     inside = let inside = first.inside in omega (arith, inside);
     here = first.here;
@@ -150,13 +137,3 @@ module _ {O : Type 0} (height : ℕ → ℕ) (step : ℕ → Result O Fault) whe
           → (values : List O) × (map Ok values ≡ map step (range_with_len a (suc n)))
       by (Ok value) is rest = (value ∷ rest.0, λ i. sym is i ∷ rest.1 i)
       by (Err fault) is rest = absurd (true≢false (sym at_a ∙ ap is_ok is))
-
-  -- A step makes a list of numbered items, or there is a first fault.
-  pub gathers_some : (count : ℕ) → HasOutcome (Gathers height count step)
-  gathers_some count = by (searched count)
-    where
-      by : Searched count → HasOutcome (Gathers height count step)
-      by (inl none) =
-          let values = values_of 0 count (λ k lt. subst (λ m. IsOk (step m)) (omega arith) (none k lt)) in
-          (Ok values.0, values.1)
-      by (inr found) = (Err found.0, found.1)

@@ -1,6 +1,6 @@
 -- Facts about lists. Other crates' proofs may import them: this is the one public file of lemmas.
 use Rattle.std.proofs.Common.{◌≡◌, ◌≢◌, ◌<◌, ◌≤◌, ◌+◌, ℕ, true, zero, suc, max, List, [], ◌∷◌, ◌++◌, map, length}
-use Rattle.std.proofs.Common.{get_or, set, take, drop, append_assoc, append-nil, refl, ap, sym, ◌∙◌, arith, subst, Some}
+use Rattle.std.proofs.Common.{get_or, set, take, drop, append_assoc, refl, ap, sym, ◌∙◌, arith, subst, Some}
 use Rattle.std.proofs.Common.{Result, Ok, Err}
 use Rattle.std.specs.Prelude.{slice_get}
 use Rattle.std.specs.List.{AllByRecursion, Contains}
@@ -113,14 +113,6 @@ behind_more done y (Ok more) = ap Ok (sym (append_assoc done (y ∷ []) more))
 behind_more done y (Err error) = refl
 
 module _ {X Y E : Type 0} (step : X → Result Y E) (all : List X) where
-  -- before the first element nothing is done
-  pub in_turn_first : each_in_turn step all ≡ behind [] (each_in_turn step (drop 0 all))
-  in_turn_first = by (each_in_turn step all)
-    where
-      by : (made : Result (List Y) E) → made ≡ behind [] made
-      by (Ok ys) = refl
-      by (Err error) = refl
-
   valued : (i : ℕ) (done : List Y) (x : X) → i < length all → x ≡ get_or all i x
       → each_in_turn step all ≡ behind done (each_in_turn step (drop i all))
       → (made : Result Y E) → step x ≡ made
@@ -139,17 +131,5 @@ module _ {X Y E : Type 0} (step : X → Result Y E) (all : List X) where
       valued i done x within is rest (Ok y) found ∙ behind_more done y (each_in_turn step (drop (i + 1) all))
       ∙ ap (λ ys. behind ys (each_in_turn step (drop (i + 1) all))) (sym grown)
 
-  -- an element's error is that of all
-  pub in_turn_error : (i : ℕ) (done : List Y) (x : X) (error : E) → i < length all → x ≡ get_or all i x
-      → each_in_turn step all ≡ behind done (each_in_turn step (drop i all)) → step x ≡ Err error
-      → each_in_turn step all ≡ Err error
-  in_turn_error i done x error within is rest found = valued i done x within is rest (Err error) found
-
   past : (i : ℕ) → length all ≤ i → drop i all ≡ []
   past i le = drop_all i all le
-
-  -- behind the last element all is done
-  pub in_turn_last : (i : ℕ) (done : List Y) → length all ≤ i
-      → each_in_turn step all ≡ behind done (each_in_turn step (drop i all)) → each_in_turn step all ≡ Ok done
-  in_turn_last i done le rest =
-      rest ∙ ap (λ xs. behind done (each_in_turn step xs)) (past i le) ∙ ap Ok (append-nil done)

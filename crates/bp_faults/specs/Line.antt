@@ -6,16 +6,16 @@ use Rattle.bp_faults.specs.declared.fault.Fault.{Fault}
 use Rattle.bp_faults.specs.declared.place.Place.{Place}
 use Rattle.bp_faults.specs.declared.kind.FaultKind.{FaultKind}
 use Rattle.bp_faults.specs.declared.kind.FaultKind.TheVariants.{Cycle}
-use Rattle.bp_faults.specs.Kinds.{number_of, text_of}
+use Rattle.bp_faults.specs.Kinds.{fault_number, fault_text}
 use Rattle.bp_faults.specs.Characters.{is_control}
 
 -- A control character is printed as a question mark.
-abbrev pub shown : ℕ → ℕ
-shown c = if is_control c then 63 else c
+abbrev pub shown_char : ℕ → ℕ
+shown_char c = if is_control c then 63 else c
 
 -- What is shown of a text is its first 80 characters.
 abbrev pub shown_text : List ℕ → List ℕ
-shown_text bytes = encode_utf8_all (map shown (take 80 (chars bytes)))
+shown_text bytes = encode_utf8_all (map shown_char (take 80 (chars bytes)))
 
 -- Each name follows an arrow.
 abbrev pub after_arrows : List (List ℕ) → List ℕ
@@ -33,9 +33,9 @@ what_of Cycle subject chain = chain_of chain
 what_of kind subject chain = shown_text subject
 
 -- An empty subject is left out, and its colon too.
-abbrev pub tail_of : List ℕ → List ℕ
-tail_of [] = []
-tail_of (c ∷ what) = codes ": " ++ c ∷ what
+abbrev pub subject_tail : List ℕ → List ℕ
+subject_tail [] = []
+subject_tail (c ∷ what) = codes ": " ++ c ∷ what
 
 -- The path of a file by its number; it is empty past the last.
 abbrev pub path_at : List (List ℕ) → ℕ → List ℕ
@@ -45,9 +45,9 @@ path_at files n = slice_index_or files n []
 abbrev pub head_of : List ℕ → Place → FaultKind → List ℕ
 head_of path at kind =
     path ++ (codes ":" ++ (decimal at.line ++ (codes ":" ++ (decimal at.col ++ (codes ": error "
-    ++ (decimal (number_of kind) ++ (codes ": " ++ text_of kind)))))))
+    ++ (decimal (fault_number kind) ++ (codes ": " ++ fault_text kind)))))))
 
 -- The whole line is the head, the tail and LF.
 abbrev pub line_of : Fault → List (List ℕ) → List ℕ
 line_of f files =
-    head_of (path_at files f.at.file) f.at f.kind ++ (tail_of (what_of f.kind f.subject f.chain) ++ codes "\n")
+    head_of (path_at files f.at.file) f.at f.kind ++ (subject_tail (what_of f.kind f.subject f.chain) ++ codes "\n")

@@ -15,7 +15,7 @@ Precedes height m n = (height m < height n) ⊎ ((height m ≡ height n) × (m <
 
 module _ {O : Type 0} where
   -- Item n has that fault, and those that precede it have none.
-  pub record IsFirstFault (height : ℕ → ℕ) (count : ℕ) (step : ℕ → Result O Fault) (fault : Fault) (n : ℕ)
+  pub record IsFirstByHeight (height : ℕ → ℕ) (count : ℕ) (step : ℕ → Result O Fault) (fault : Fault) (n : ℕ)
       : Type 0 where
     pub inside : n < count
     pub here : step n ≡ Err fault
@@ -24,4 +24,4 @@ module _ {O : Type 0} where
   -- What a step makes of all items, in the order of their numbers, or the first fault.
   abbrev pub Gathers : (ℕ → ℕ) → ℕ → (ℕ → Result O Fault) → Result (List O) Fault → Type 0
   Gathers height count step (Ok values) = map Ok values ≡ map step (range_with_len 0 count)
-  Gathers height count step (Err fault) = (n : ℕ) × IsFirstFault height count step fault n
+  Gathers height count step (Err fault) = (n : ℕ) × IsFirstByHeight height count step fault n

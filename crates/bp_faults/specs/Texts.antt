@@ -4,6 +4,6 @@ use Rattle.bp_faults.specs.declared.text.Form.{Form}
 use Rattle.bp_faults.specs.declared.text.Form.TheVariants.{Short, Long}
 
 -- The bytes of a text, wherever they are.
-abbrev pub bytes_of : Form → List ℕ
-bytes_of (Short alloc text) = text.bytes
-bytes_of (Long text) = string_bytes text
+abbrev pub form_bytes : Form → List ℕ
+form_bytes (Short alloc text) = text.bytes
+form_bytes (Long text) = string_bytes text

@@ -46,11 +46,11 @@ pub enum FaultKind {
 }
 
 impl FaultKind {
-    ghost use Rattle.bp_faults.specs.Kinds.{number_of, text_of};
+    ghost use Rattle.bp_faults.specs.Kinds.{fault_number, fault_text};
 
     /// The number of the fault table.
     pub fn number(self) -> u32
-        ensures { result ≡ number_of self }
+        ensures { result ≡ fault_number self }
     {
         match self {
             FaultKind::NotUtf8 => 1,
@@ -98,7 +98,7 @@ impl FaultKind {
 
     /// The text of the fault table.
     pub fn text(self) -> &'static str
-        ensures { result.now ≡ text_of self }
+        ensures { result.now ≡ fault_text self }
     {
         match self {
             FaultKind::NotUtf8 => "not UTF-8",

@@ -1,19 +1,19 @@
 ghost use Rattle.std.specs.Prelude.{◌≡◌, ◌++◌, List, ℕ, IfOk, string_bytes, codes, map, take};
-ghost use Rattle.bp_faults.specs.Line.{line_of, head_of, tail_of, what_of, chain_of, after_arrows, shown, shown_text};
-ghost use Rattle.bp_faults.specs.Line.{path_at};
+ghost use Rattle.bp_faults.specs.Line.{line_of, head_of, subject_tail, what_of, chain_of, after_arrows};
+ghost use Rattle.bp_faults.specs.Line.{shown_char, shown_text, path_at};
 
 use crate::{Fault, FaultKind, OutOfMemory, Place, Text, is_control};
 use std::alloc::{AllocError, Global};
 
 fn shown_char(c: char) -> char
-    ensures { result ≡ shown c }
+    ensures { result ≡ shown_char c }
 {
     if is_control(c) { '?' } else { c }
 }
 
 // The first 80 characters, control characters as question marks.
 fn shown_subject(alloc: Global, text: &str) -> Result<String, AllocError>
-    ensures { IfOk result (λ shown. string_bytes shown ≡ shown_text text.now) }
+    ensures { IfOk result (λ shown_char. string_bytes shown_char ≡ shown_text text.now) }
 {
     text.chars().take(80).map(|c| shown_char(c)).collect(alloc)
 }

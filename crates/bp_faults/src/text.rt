@@ -1,5 +1,5 @@
 ghost use Rattle.std.specs.Prelude.{◌≡◌, List, ℕ, IfOk, OnOk, OnErr, [], ◌++◌, string_bytes};
-ghost use Rattle.bp_faults.specs.Texts.{bytes_of};
+ghost use Rattle.bp_faults.specs.Texts.{form_bytes};
 
 use crate::OutOfMemory;
 use arrayvec::ArrayString;
@@ -20,7 +20,7 @@ enum Form {
 
 /// A text in UTF-8. Contracts see it as the list of its bytes.
 ///
-/// One that is made of at most 16 bytes takes no memory beside its own.
+/// One of at most 16 bytes takes no memory beside its own, unless `new` makes it, which keeps its string.
 #[derive(Debug)]
 pub struct Text {
     form: Form,
@@ -35,7 +35,7 @@ impl Drop for Text {
 impl Model for Text {
     ghost Value = { List ℕ };
 
-    ghost view = { λ t. bytes_of t.form };
+    ghost view = { λ t. form_bytes t.form };
 }
 
 /// Two texts in one string.

@@ -12,7 +12,7 @@ use Rattle.bp_lexer.specs.declared.token.TokenKind.{TokenKind}
 use Rattle.bp_lexer.specs.declared.token.TokenKind.TheVariants.{Ident, Int, Quoted, Raw, Punct as Mark}
 use Rattle.bp_parser.specs.Trees.{Atom, Tree, Leaf, Items, Body, Sum, Trees, no_tree, tree_and, Terms, no_term, term_and, Entries, no_entry, entry_and, Definition, Assigns, Extends, Declares}
 use Rattle.bp_parser.specs.Words.{Word, atom_of}
-use Rattle.bp_parser.specs.Flaws.{opens as opens_bracket, closes as closes_bracket}
+use Rattle.bp_parser.specs.Flaws.{is_opening as opens_bracket, closes as closes_bracket}
 use Rattle.bp_parser.specs.Grammar.{IsWord, IsMark, Spells, SpellsTerms, SpellsItems, SpellsMoreItems, SpellsEntries, SpellsMoreEntries, SpellsDef}
 use Rattle.bp_format.specs.Kinds.{is_ident, wants_value}
 use Rattle.bp_format.specs.Layout.{opens_any, closes_any, nest_behind}

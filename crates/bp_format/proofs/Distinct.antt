@@ -7,7 +7,7 @@ use Rattle.std.proofs.lemmas.Bool.{cases_Bool, cond-true, cond-false, cond_both}
 use Rattle.std.proofs.lemmas.List.Elements.{All-nil, All-cons, Contains-get_or}
 use Rattle.std.proofs.lemmas.List.Kept.{AllPairs-cons}
 use Rattle.std.proofs.lemmas.Slice.Eq.{bytes_eq-Decides}
-use Rattle.bp_parser.specs.Names.{names_of, AreDistinct, HasDistinctNames, ItemsHaveDistinctNames, TermsHaveDistinctNames, ValuesHaveDistinctNames, DefinitionHasDistinctNames}
+use Rattle.bp_parser.specs.Names.{entry_names, AreDistinct, TreeHasDistinctNames, ItemsHaveDistinctNames, TermsHaveDistinctNames, ValuesHaveDistinctNames, DefinitionHasDistinctNames}
 use Rattle.bp_parser.specs.Trees.{Tree, Leaf, Items, Body, Sum, Trees, no_tree, tree_and, Terms, no_term, term_and, Entries, no_entry, entry_and, Definition, Assigns, Extends, Declares}
 use Rattle.bp_format.specs.WithoutPlaces.{tree_without_places, items_without_places, terms_without_places, entries_without_places, definition_without_places, definitions_without_places}
 use Rattle.bp_format.specs.Editing.{Wanted}
@@ -17,7 +17,7 @@ use Rattle.bp_format.proofs.Flaws.{names_bare}
 
 -- whether names differ has nothing to do with places
 mutual
-  to_bare : (x : Tree) → HasDistinctNames x → HasDistinctNames (tree_without_places x)
+  to_bare : (x : Tree) → TreeHasDistinctNames x → TreeHasDistinctNames (tree_without_places x)
   to_bare (Leaf at a) d = d
   to_bare (Items at xs) d = to_bare_items xs d
   to_bare (Body at es) d = (subst AreDistinct (sym (names_bare es)) d.0, to_bare_values es d.1)
@@ -36,7 +36,7 @@ mutual
   to_bare_values (entry_and name at x es) d = (to_bare x d.0, to_bare_values es d.1)
 
 mutual
-  of_bare : (x : Tree) → HasDistinctNames (tree_without_places x) → HasDistinctNames x
+  of_bare : (x : Tree) → TreeHasDistinctNames (tree_without_places x) → TreeHasDistinctNames x
   of_bare (Leaf at a) d = d
   of_bare (Items at xs) d = of_bare_items xs d
   of_bare (Body at es) d = (subst AreDistinct (names_bare es) d.0, of_bare_values es d.1)
@@ -87,15 +87,15 @@ strings_distinct [] = tt
 strings_distinct (x ∷ xs) = (tt, strings_distinct xs)
 
 -- the value of a name is another: the names are those
-names_kept : (name : List ℕ) (x : Tree) (es : Entries) → names_of (with_value name x es) ≡ names_of es
+names_kept : (name : List ℕ) (x : Tree) (es : Entries) → entry_names (with_value name x es) ≡ entry_names es
 names_kept name x no_entry = refl
 names_kept name x (entry_and other at y es) =
-    ap (λ l. other ∷ l) (cond_both (bytes_eq other name) _ _ (λ (p : Tree × Entries). names_of p.1 ≡ names_of es) (λ e. refl) (λ e. names_kept name x es))
+    ap (λ l. other ∷ l) (cond_both (bytes_eq other name) _ _ (λ (p : Tree × Entries). entry_names p.1 ≡ entry_names es) (λ e. refl) (λ e. names_kept name x es))
 
-values_kept : (name : List ℕ) (x : Tree) (es : Entries) → HasDistinctNames x → ValuesHaveDistinctNames es → ValuesHaveDistinctNames (with_value name x es)
+values_kept : (name : List ℕ) (x : Tree) (es : Entries) → TreeHasDistinctNames x → ValuesHaveDistinctNames es → ValuesHaveDistinctNames (with_value name x es)
 values_kept name x no_entry d h = tt
 values_kept name x (entry_and other at y es) d h =
-    cond_both (bytes_eq other name) _ _ (λ (p : Tree × Entries). HasDistinctNames p.0 × ValuesHaveDistinctNames p.1) (λ e. (d, h.1)) (λ e. (h.0, values_kept name x es d h.1))
+    cond_both (bytes_eq other name) _ _ (λ (p : Tree × Entries). TreeHasDistinctNames p.0 × ValuesHaveDistinctNames p.1) (λ e. (d, h.1)) (λ e. (h.0, values_kept name x es d h.1))
 
 same_test : (a b : List ℕ) → a ≡ b → bytes_eq a b ≡ true
 same_test a b e = search (rules, bytes_eq-Decides)
@@ -104,7 +104,7 @@ no_value : (y : Tree) → Some y ≡ None → ⊥
 no_value y e = cc
 
 -- a name that isn't there
-absent : (name : List ℕ) (es : Entries) → lookup name es ≡ None → Contains (names_of es) name → ⊥
+absent : (name : List ℕ) (es : Entries) → lookup name es ≡ None → Contains (entry_names es) name → ⊥
 absent name no_entry none c = let within = c.1 in omega arith
 absent name (entry_and other at y es) none (zero, within, same) = no_value y (sym (cond-true (bytes_eq other name) _ _ (same_test other name same)) ∙ none)
 absent name (entry_and other at y es) none (suc k, within, same) =
@@ -121,13 +121,13 @@ past n names m other (zero, within, same) = absurd (other same)
 past n names m other (suc k, within, same) = (k, omega arith, same)
 
 -- a name more
-contains_more : (name property : List ℕ) (x : Tree) (es : Entries) (m : List ℕ) → Contains (names_of (with_entry name property x es)) m → (property ≡ m → ⊥) → Contains (names_of es) m
+contains_more : (name property : List ℕ) (x : Tree) (es : Entries) (m : List ℕ) → Contains (entry_names (with_entry name property x es)) m → (property ≡ m → ⊥) → Contains (entry_names es) m
 contains_more name property x no_entry m c other = c
 contains_more name property x (entry_and n at y es) m (zero, within, same) other = (zero, omega arith, same)
 contains_more name property x (entry_and n at y es) m (suc k, within, same) other =
-    cond_both (bytes_eq n name) _ _ (λ (p : Tree × Entries). Contains (names_of p.1) m → Contains (n ∷ names_of es) m)
-    (λ e c. one_behind n (names_of es) m (past property (names_of es) m other c))
-    (λ e c. one_behind n (names_of es) m (contains_more name property x es m c other))
+    cond_both (bytes_eq n name) _ _ (λ (p : Tree × Entries). Contains (entry_names p.1) m → Contains (n ∷ entry_names es) m)
+    (λ e c. one_behind n (entry_names es) m (past property (entry_names es) m other c))
+    (λ e c. one_behind n (entry_names es) m (contains_more name property x es m c other))
     (k, omega arith, same)
 
 -- the first of distinct names is none of the others
@@ -140,27 +140,27 @@ others_distinct n names d = λ i j e less within. d (suc i) (suc j) e (omega ari
 distinct_cons : (n : List ℕ) (names : List (List ℕ)) → (Contains names n → ⊥) → AreDistinct names → AreDistinct (n ∷ names)
 distinct_cons n names new d = AllPairs-cons (λ a b. a ≢ b) n names (λ k e within same. new (subst (Contains names) (sym same) (Contains-get_or names k e within))) d
 
-one_more_distinct : (name property : List ℕ) (x : Tree) (es : Entries) → (Contains (names_of es) property → ⊥) → AreDistinct (names_of es) → AreDistinct (names_of (with_entry name property x es))
+one_more_distinct : (name property : List ℕ) (x : Tree) (es : Entries) → (Contains (entry_names es) property → ⊥) → AreDistinct (entry_names es) → AreDistinct (entry_names (with_entry name property x es))
 one_more_distinct name property x no_entry new d = d
 one_more_distinct name property x (entry_and n at y es) new d =
-    let not_later : Contains (names_of es) property → ⊥ = λ c. new (suc c.0, omega (arith, c.1), c.2) in
+    let not_later : Contains (entry_names es) property → ⊥ = λ c. new (suc c.0, omega (arith, c.1), c.2) in
     let not_here : property ≡ n → ⊥ = λ e. new (0, omega arith, sym e) in
-    let rest = others_distinct n (names_of es) d in
-    let lone = apart n (names_of es) d in
-    cond_both (bytes_eq n name) _ _ (λ (p : Tree × Entries). AreDistinct (n ∷ names_of p.1))
-    (λ e. distinct_cons n (property ∷ names_of es) (λ c. split c lone not_here) (distinct_cons property (names_of es) not_later rest))
-    (λ e. distinct_cons n (names_of (with_entry name property x es)) (λ c. lone (contains_more name property x es n c not_here)) (one_more_distinct name property x es not_later rest))
+    let rest = others_distinct n (entry_names es) d in
+    let lone = apart n (entry_names es) d in
+    cond_both (bytes_eq n name) _ _ (λ (p : Tree × Entries). AreDistinct (n ∷ entry_names p.1))
+    (λ e. distinct_cons n (property ∷ entry_names es) (λ c. split c lone not_here) (distinct_cons property (entry_names es) not_later rest))
+    (λ e. distinct_cons n (entry_names (with_entry name property x es)) (λ c. lone (contains_more name property x es n c not_here)) (one_more_distinct name property x es not_later rest))
   where
-    split : Contains (property ∷ names_of es) n → (Contains (names_of es) n → ⊥) → (property ≡ n → ⊥) → ⊥
+    split : Contains (property ∷ entry_names es) n → (Contains (entry_names es) n → ⊥) → (property ≡ n → ⊥) → ⊥
     split (zero, w, e) a b = b e
     split (suc k, w, e) a b = a (k, omega arith, e)
 
-one_more_values : (name property : List ℕ) (x : Tree) (es : Entries) → HasDistinctNames x → ValuesHaveDistinctNames es → ValuesHaveDistinctNames (with_entry name property x es)
+one_more_values : (name property : List ℕ) (x : Tree) (es : Entries) → TreeHasDistinctNames x → ValuesHaveDistinctNames es → ValuesHaveDistinctNames (with_entry name property x es)
 one_more_values name property x no_entry d h = tt
 one_more_values name property x (entry_and n at y es) d h =
-    cond_both (bytes_eq n name) _ _ (λ (p : Tree × Entries). HasDistinctNames p.0 × ValuesHaveDistinctNames p.1) (λ e. (h.0, (d, h.1))) (λ e. (h.0, one_more_values name property x es d h.1))
+    cond_both (bytes_eq n name) _ _ (λ (p : Tree × Entries). TreeHasDistinctNames p.0 × ValuesHaveDistinctNames p.1) (λ e. (h.0, (d, h.1))) (λ e. (h.0, one_more_values name property x es d h.1))
 
-set_by_distinct : (property : List ℕ) (x : Tree) (es : Entries) (o : Option Tree) → lookup property es ≡ o → HasDistinctNames x → AreDistinct (names_of es) × ValuesHaveDistinctNames es → AreDistinct (names_of (set_by property x o es)) × ValuesHaveDistinctNames (set_by property x o es)
+set_by_distinct : (property : List ℕ) (x : Tree) (es : Entries) (o : Option Tree) → lookup property es ≡ o → TreeHasDistinctNames x → AreDistinct (entry_names es) × ValuesHaveDistinctNames es → AreDistinct (entry_names (set_by property x o es)) × ValuesHaveDistinctNames (set_by property x o es)
 set_by_distinct property x es None is d h = (one_more_distinct (codes "name") property x es (absent property es is) h.0, one_more_values (codes "name") property x es d h.1)
 set_by_distinct property x es (Some y) is d h = (subst AreDistinct (sym (names_kept property x es)) h.0, values_kept property x es d h.1)
 

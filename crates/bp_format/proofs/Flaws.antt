@@ -10,11 +10,11 @@ use Rattle.bp_lexer.specs.declared.token.TokenKind.TheVariants.{Ident, Punct as 
 use Rattle.bp_parser.specs.Trees.{Tree, Entries, no_entry, entry_and, Definition, File}
 use Rattle.bp_parser.specs.Words.{Word}
 use Rattle.bp_parser.specs.Grammar.{SpellsDef, SpellsFile}
-use Rattle.bp_parser.specs.Flaws.{BeginsAFile, IsUnexpected, IsTooNested, IsRepeated, IsDuplicate, IsFlaw, SpellsFirst, opens, closes}
-use Rattle.bp_parser.specs.Names.{names_of}
+use Rattle.bp_parser.specs.Flaws.{BeginsAFile, IsUnexpected, IsTooNested, IsRepeated, IsDuplicate, IsFlaw, SpellsFirst, is_opening, closes}
+use Rattle.bp_parser.specs.Names.{entry_names}
 use Rattle.bp_parser.specs.declared.flaw.Flaw.{Flaw}
 use Rattle.bp_parser.specs.declared.flaw.Flaw.TheVariants.{Unexpected, TooNested, Duplicate}
-use Rattle.bp_parser.specs.Meaning.{IsTree, file_of}
+use Rattle.bp_parser.specs.Meaning.{IsTree, number_of_file}
 use Rattle.bp_format.specs.WithoutPlaces.{entries_without_places, definitions_without_places, word_content, word_contents, origin}
 use Rattle.bp_format.proofs.Frames.{Alike, Moves, alike_parts, both, change, mark, word, moves, moves_def, no_word, SameEntries}
 
@@ -97,8 +97,8 @@ nested_alike a b k same is =
     record {
       bracket = f.0;
       at = f.2 ∙ ap (λ l. f.0 ∷ l) (behind_first b k f.0 f.1 f.2);
-      opening = sym (ap opens kind) ∙ is.opening;
-      open_before = sym (count_alike opens (take k a) (take k b) (alike_take k a b same)) ∙ is.open_before ∙ ap (λ n. n + 64) (count_alike closes (take k a) (take k b) (alike_take k a b same));
+      opening = sym (ap is_opening kind) ∙ is.opening;
+      open_before = sym (count_alike is_opening (take k a) (take k b) (alike_take k a b same)) ∙ is.open_before ∙ ap (λ n. n + 64) (count_alike closes (take k a) (take k b) (alike_take k a b same));
       expected = begins_alike (take (k + 1) a) (take (k + 1) b) (alike_take (k + 1) a b same) is.expected;
     }
 
@@ -113,7 +113,7 @@ first_moves (entry_and name at x es) ts rest s =
     (λ y e us other r. (r.0, r.2.0, r.2.2.0, r.2.2.2.0, r.1, (y.1.0, r.2.1), r.2.2.1, (y.1.1.1.0, r.2.2.2.1), r.2.2.2.2))
     (both (word Ident at name ts s.0 s.4) (both (mark Colon s.5.0 s.0 s.1 s.5.1) (both (moves x s.1 s.2 s.6) (both (mark Comma s.7.0 s.2 s.3 s.7.1) (first_moves es s.3 rest s.8)))))
 
-pub names_bare : (es : Entries) → names_of (entries_without_places es) ≡ names_of es
+pub names_bare : (es : Entries) → entry_names (entries_without_places es) ≡ entry_names es
 names_bare no_entry = refl
 names_bare (entry_and name at x es) = ap (λ l. name ∷ l) (names_bare es)
 
@@ -144,7 +144,7 @@ repeated_alike a b k same is =
       name = is.name;
       place = w.0.at;
       at = here ∙ (λ i. record { kind = (sym w.3 i).0; at = w.0.at; text = (sym w.3 i).1 } ∷ behind_first b k w.0 w.1 here i);
-      again = subst (λ l. Contains l is.name) (sym (names_bare is.before) ∙ ap names_of e.1 ∙ names_bare e.0) is.again;
+      again = subst (λ l. Contains l is.name) (sym (names_bare is.before) ∙ ap entry_names e.1 ∙ names_bare e.0) is.again;
     }
 
 duplicate_alike : (a b : List Word) (k : ℕ) → Alike a b → IsDuplicate a k → IsDuplicate b k
@@ -162,7 +162,7 @@ flaw_alike a b (Duplicate k) same is = duplicate_alike a b k same is
 pub tree_alike : (a b : List Word) (tree : File) → Alike a b → IsTree a tree → (other : File) × IsTree b other × (definitions_without_places tree.defs ≡ definitions_without_places other.defs)
 tree_alike a b tree same is =
     let m = file_moves tree.defs a b is.spelled same in (
-      record { file = file_of b; defs = m.0 },
+      record { file = number_of_file b; defs = m.0 },
       record { file = refl; spelled = m.1; sound = λ flaw wrong. is.sound flaw (flaw_alike b a flaw (sym same) wrong) },
       m.2,
     )

@@ -17,7 +17,7 @@ use Rattle.bp_format.specs.declared.spot.Spot.TheVariants.{Instead, Behind}
 use Rattle.bp_format.specs.WithoutPlaces.{definitions_without_places, origin}
 use Rattle.bp_format.specs.Editing.{Wanted}
 use Rattle.bp_format.specs.Setting.{list_expression, entry_with, changed_at, set_by, set_entry, set_in_definition, first_definition, set_in}
-use Rattle.bp_format.specs.Spots.{lookup, string_place, value_spot, spot_in, named_spot, or_else, spot}
+use Rattle.bp_format.specs.Spots.{lookup, string_place, value_spot, spot_in, named_spot, first_spot, spot}
 use Rattle.bp_format.proofs.Cuts.{same_front}
 use Rattle.bp_format.proofs.Depth.{opened, shut, opened_append, shut_append, framed, framed_def}
 use Rattle.bp_format.proofs.Frames.{moves, moves_def, SameTree, SameEntries, SameDef}
@@ -256,7 +256,7 @@ def_other w (Assigns name at x) is = refl
 def_other w (Extends name at x) is = refl
 def_other w (Declares kind at m) is = cond-false (is_some (string_place w.name (lookup (codes "name") m.entries))) _ _ (unnamed w.property m.entries (string_place w.name (lookup (codes "name") m.entries)) is)
 
-here_or_later : (r : Result (Option Spot) Fault) (others : Result Spot Fault) (place : Spot) → then_do r (λ s. or_else s others) ≡ Ok place → (r ≡ Ok (Some place)) ⊎ ((r ≡ Ok None) × (others ≡ Ok place))
+here_or_later : (r : Result (Option Spot) Fault) (others : Result Spot Fault) (place : Spot) → then_do r (λ s. first_spot s others) ≡ Ok place → (r ≡ Ok (Some place)) ⊎ ((r ≡ Ok None) × (others ≡ Ok place))
 here_or_later (Ok (Some s)) others place is = inl (ap (λ x. Ok (Some x)) (same_ok s place is))
 here_or_later (Ok None) others place is = inr (refl, is)
 here_or_later (Err f) others place is = absurd cc

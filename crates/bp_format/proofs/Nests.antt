@@ -10,7 +10,7 @@ use Rattle.bp_parser.specs.declared.flaw.Flaw.TheVariants.{TooNested}
 use Rattle.bp_parser.specs.Trees.{Tree, Leaf, Items, Body, Sum, Truth, Number, Str, Name, Definition, File}
 use Rattle.bp_parser.specs.Words.{Word}
 use Rattle.bp_parser.specs.Grammar.{SpellsFile}
-use Rattle.bp_parser.specs.Flaws.{IsTooNested, opens}
+use Rattle.bp_parser.specs.Flaws.{IsTooNested, is_opening}
 use Rattle.bp_parser.specs.Meaning.{IsTree}
 use Rattle.bp_format.specs.declared.spot.Spot.{Spot}
 use Rattle.bp_format.specs.declared.spot.Spot.TheVariants.{Instead, Behind}
@@ -25,7 +25,7 @@ use Rattle.bp_format.proofs.Reset.{new_words}
 -- 64 brackets are open before the word, and it opens another
 pub record IsDeep (ws a : List Word) (w : Word) (b : List Word) : Type 0 where
   pub split : ws ≡ a ++ w ∷ b
-  pub opening : opens w.kind ≡ true
+  pub opening : is_opening w.kind ≡ true
   pub deep : opened a ≡ shut a + 64
 
 -- the words of a file have no such word
@@ -73,8 +73,8 @@ pub list_shut : (xs : List (List ℕ)) → shut (bit_words (list_bits xs)) ≡ 1
 list_shut xs = inner_shut xs
 
 -- a word that opens, among words, is counted
-counted_in : (m d : List Word) (w : Word) (e : List Word) → m ≡ d ++ w ∷ e → opens w.kind ≡ true → opened m ≡ opened d + (1 + opened e)
-counted_in m d w e is o = ap opened is ∙ opened_append d (w ∷ e) ∙ ap (λ n. opened d + n) (opened_cons w e ∙ ap (λ n. n + opened e) (cond-true (opens w.kind) 1 0 o))
+counted_in : (m d : List Word) (w : Word) (e : List Word) → m ≡ d ++ w ∷ e → is_opening w.kind ≡ true → opened m ≡ opened d + (1 + opened e)
+counted_in m d w e is o = ap opened is ∙ opened_append d (w ∷ e) ∙ ap (λ n. opened d + n) (opened_cons w e ∙ ap (λ n. n + opened e) (cond-true (is_opening w.kind) 1 0 o))
 
 -- Where words p are followed by others, o then and m now, which close what they open, a deep word is in m or was deep.
 deep_in : (p o m q a : List Word) (w : Word) (b : List Word) → opened o ≡ shut o → opened m ≡ shut m → IsDeep (p ++ (m ++ q)) a w b

@@ -8,7 +8,7 @@ use Rattle.bp_faults.specs.declared.kind.FaultKind.TheVariants.{TextTooLong}
 use Rattle.bp_lexer.specs.declared.token.Token.{Token}
 use Rattle.bp_lexer.specs.Meaning.{IsTokenList}
 use Rattle.bp_lexer.specs.Laws.{OneTokenList, SomeListOrFault, NotListAndFault, OneFault as OneLexFault}
-use Rattle.bp_parser.specs.Meaning.{IsFirstFault as IsTreeFault}
+use Rattle.bp_parser.specs.Meaning.{IsFirstParseFault as IsTreeFault}
 use Rattle.bp_parser.specs.Words.{words_of}
 use Rattle.bp_parser.specs.Laws.{OneTree, SomeTreeOrFault, NotTreeAndFault, OneFault as OneTreeFault}
 use Rattle.bp_format.specs.Layout.{layout}

@@ -5,10 +5,10 @@ use Rattle.bp_faults.specs.declared.place.Place.{Place}
 use Rattle.bp_lexer.specs.declared.token.Token.{Token}
 use Rattle.bp_lexer.specs.Laws.{PlacesRise, TokensStandWithin}
 use Rattle.bp_lexer.specs.Meaning.{IsToken, Covers}
-use Rattle.bp_lexer.specs.Places.{IsBefore}
+use Rattle.bp_lexer.specs.Places.{IsPlaceBefore}
 use Rattle.bp_format.specs.Spans.{is_at, from_place}
 
-not_at : (t : Token) (q : Place) → IsBefore t.place q → is_at q t ≡ false
+not_at : (t : Token) (q : Place) → IsPlaceBefore t.place q → is_at q t ≡ false
 not_at t q (inl line) = and_left _ _ (ne_eqb t.place.line q.line (λ e. omega arith))
 not_at t q (inr col) = and_right _ _ (ne_eqb t.place.col q.col (λ e. omega (arith, col.1)))
 

@@ -7,7 +7,7 @@ use Rattle.bp_lexer.specs.declared.token.TokenKind.TheVariants.{Ident}
 use Rattle.bp_lexer.specs.Forms.{IsForm}
 use Rattle.bp_lexer.specs.Meaning.{IsTokenList}
 use Rattle.bp_parser.specs.Laws.{OneTree, SpelledDefinitionsAreTrees, TreesHaveDistinctNames}
-use Rattle.bp_parser.specs.Meaning.{IsTree, file_of}
+use Rattle.bp_parser.specs.Meaning.{IsTree, number_of_file}
 use Rattle.bp_parser.specs.Trees.{File, Definition}
 use Rattle.bp_parser.specs.Words.{words_of}
 use Rattle.bp_format.specs.WithoutPlaces.{definitions_without_places}
@@ -41,7 +41,7 @@ set_tree lex law file text out w name items e =
     let same : definitions_without_places ds ≡ definitions_without_places put.0 = ap definitions_without_places (sym r.set.is) ∙ put.1 in
     let distinct = distinct_alike ds put.0 same (set_distinct w e.read.tree.defs (law.distinct (words_of text e.read.tokens) e.read.tree e.read.parsed)) in
     let parsed = law.trees ws put.0 put.2 distinct (shallow w r.place r.set.value r.set.new (words_of text e.read.tokens) e.read.tree e.read.parsed r.set.at h) in
-    let t = tree_alike ws (words_of out r.tokens) (record { file = file_of ws; defs = put.0 }) r.alike parsed in
+    let t = tree_alike ws (words_of out r.tokens) (record { file = number_of_file ws; defs = put.0 }) r.alike parsed in
     (r.tokens, r.listed, t.0, t.1, sym t.2 ∙ sym same)
 
 pub edits_set_lists : Lexing → Parsing → (file : ℕ) (text out : List ℕ) (w : Wanted) (ts : List Token) (tree : File) → IsForm Ident w.property → All IsUtf8 w.items → IsEdited file text w out → IsTokenList file text ts → IsTree (words_of text ts) tree → HasTree file out (set_in w tree.defs)

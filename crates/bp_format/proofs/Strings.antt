@@ -8,7 +8,7 @@ use lib.Utf8.{encode, next, scalar, scalars}
 use Rattle.bp_lexer.specs.declared.token.TokenKind.TheVariants.{Quoted}
 use Rattle.bp_lexer.specs.Forms.{IsForm}
 use Rattle.bp_lexer.specs.Meaning.{inner_of, string_of}
-use Rattle.bp_lexer.specs.Strings.{is_body, is_escape, unescaped}
+use Rattle.bp_lexer.specs.Strings.{is_body, is_escape, unescaped_chars}
 use Rattle.bp_format.specs.Quotes.{escape_letter, escape_by, character_in_quotes, characters_in_quotes, quotation}
 use Rattle.bp_format.proofs.Quoting.{encode_append, unescaped_back}
 
@@ -94,5 +94,5 @@ quoted_string text utf8 =
     let cs = utf8.0 in
     let same : chars text ≡ cs = ap chars (sym utf8.1.1) ∙ chars-encodes cs utf8.1.0 in
     let back : chars (encode_utf8_all (characters_in_quotes (chars text))) ≡ characters_in_quotes cs = ap (λ l. chars (encode_utf8_all (characters_in_quotes l))) same ∙ chars-encodes (characters_in_quotes cs) (scalars_all cs utf8.1.0) in
-    ap (λ l. encode_utf8_all (unescaped false (chars l))) (inner_quoted (encode_utf8_all (characters_in_quotes (chars text))))
-    ∙ ap (λ l. encode_utf8_all (unescaped false l)) back ∙ ap encode_utf8_all (unescaped_back cs) ∙ utf8.1.1
+    ap (λ l. encode_utf8_all (unescaped_chars false (chars l))) (inner_quoted (encode_utf8_all (characters_in_quotes (chars text))))
+    ∙ ap (λ l. encode_utf8_all (unescaped_chars false l)) back ∙ ap encode_utf8_all (unescaped_back cs) ∙ utf8.1.1

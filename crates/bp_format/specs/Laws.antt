@@ -6,7 +6,7 @@ use Rattle.bp_lexer.specs.declared.token.Token.{Token}
 use Rattle.bp_lexer.specs.Meaning.{IsTokenList}
 use Rattle.bp_lexer.specs.declared.token.TokenKind.TheVariants.{Ident}
 use Rattle.bp_lexer.specs.Forms.{IsForm}
-use Rattle.bp_lexer.specs.Strings.{unescaped}
+use Rattle.bp_lexer.specs.Strings.{unescaped_chars}
 use Rattle.bp_parser.specs.Grammar.{Spells}
 use Rattle.bp_parser.specs.Meaning.{IsTree}
 use Rattle.bp_parser.specs.Trees.{Tree, Leaf, Items, Str, Trees, File}
@@ -60,7 +60,7 @@ SomeEdit = (file : ℕ) (text : List ℕ) (wanted : Wanted)
 
 -- Characters that are escaped stand for themselves again.
 abbrev pub EscapesAreUndone : Type 0
-EscapesAreUndone = (cs : List ℕ) → unescaped false (characters_in_quotes cs) ≡ cs
+EscapesAreUndone = (cs : List ℕ) → unescaped_chars false (characters_in_quotes cs) ≡ cs
 
 -- The tree of an edited text is that of the text with the list set, but for places.
 abbrev pub EditsSetLists : Type 0

@@ -4,10 +4,10 @@ use Rattle.bp_faults.specs.Faults.{fault_at, file_start}
 use Rattle.bp_faults.specs.declared.fault.Fault.{Fault}
 use Rattle.bp_faults.specs.declared.kind.FaultKind.TheVariants.{TextTooLong}
 use Rattle.bp_lexer.specs.declared.token.Token.{Token}
-use Rattle.bp_lexer.specs.Meaning.{IsTokenList, IsFirstFault as IsLexFault}
+use Rattle.bp_lexer.specs.Meaning.{IsTokenList, IsFirstLexFault as IsLexFault}
 use Rattle.bp_parser.specs.Trees.{File}
 use Rattle.bp_parser.specs.Words.{words_of}
-use Rattle.bp_parser.specs.Meaning.{IsTree, IsFirstFault as IsTreeFault}
+use Rattle.bp_parser.specs.Meaning.{IsTree, IsFirstParseFault as IsTreeFault}
 use Rattle.bp_format.specs.Layout.{Piece, layout}
 use Rattle.bp_format.specs.Pieces.{ArePieces}
 

@@ -6,7 +6,8 @@ use Rattle.bp_faults.specs.Faults.{fault_on, file_start}
 use Rattle.bp_faults.specs.declared.fault.Fault.{Fault}
 use Rattle.bp_faults.specs.declared.kind.FaultKind.TheVariants.{NoModule, NotList}
 use Rattle.bp_faults.specs.declared.place.Place.{Place}
-use Rattle.bp_parser.specs.Trees.{Tree, Leaf, Items, Body, Sum, Str, Entries, no_entry, entry_and, Definition, Assigns}
+use Rattle.bp_parser.specs.Trees.{Tree, Leaf, Items, Body, Sum, Str, Entries, no_entry, entry_and, Definition}
+use Rattle.bp_parser.specs.Trees.{Assigns, first_place}
 use Rattle.bp_parser.specs.Trees.{Extends, Declares}
 use Rattle.bp_format.specs.declared.spot.Spot.{Spot}
 use Rattle.bp_format.specs.declared.spot.Spot.TheVariants.{Instead, Behind}
@@ -15,13 +16,6 @@ use Rattle.bp_format.specs.declared.spot.Spot.TheVariants.{Instead, Behind}
 abbrev pub lookup : List ℕ → Entries → Option Tree
 lookup name no_entry = None
 lookup name (entry_and other at x es) = if bytes_eq other name then Some x else lookup name es
-
--- Where an expression stands: its first token.
-abbrev pub first_place : Tree → Place
-first_place (Leaf at atom) = at
-first_place (Items at xs) = at
-first_place (Body at es) = at
-first_place (Sum x terms) = first_place x
 
 -- The place of a value that is one string literal, equal to the text.
 abbrev pub string_place : List ℕ → Option Tree → Option Place
@@ -47,12 +41,12 @@ named_spot wanted property (Assigns name at x) = Ok None
 named_spot wanted property (Extends name at x) = Ok None
 
 -- The first spot.
-abbrev pub or_else : Option Spot → Result Spot Fault → Result Spot Fault
-or_else None others = others
-or_else (Some s) others = Ok s
+abbrev pub first_spot : Option Spot → Result Spot Fault → Result Spot Fault
+first_spot None others = others
+first_spot (Some s) others = Ok s
 
 -- That of the first module with this name.
 abbrev pub spot : ℕ → List ℕ → List ℕ → List Definition → Result Spot Fault
 spot file wanted property [] = Err (fault_on NoModule (file_start file) wanted)
 spot file wanted property (d ∷ ds) =
-    then_do (named_spot wanted property d) (λ s. or_else s (spot file wanted property ds))
+    then_do (named_spot wanted property d) (λ s. first_spot s (spot file wanted property ds))

@@ -1,8 +1,8 @@
 ghost use Rattle.std.specs.Prelude.{◌≡◌, map, codes};
 ghost use Rattle.std.specs.Option.{option_map};
 ghost use Rattle.bp_faults.specs.Answers.{Answers};
-ghost use Rattle.bp_parser.specs.Trees.{tree_of, map_of, entry_of, entries_then, no_entry, definition_of};
-ghost use Rattle.bp_format.specs.Spots.{lookup, first_place, string_place, value_spot, named_spot, spot};
+ghost use Rattle.bp_parser.specs.Trees.{tree_of, map_of, entry_of, entries_then, no_entry, definition_of, first_place};
+ghost use Rattle.bp_format.specs.Spots.{lookup, string_place, value_spot, named_spot, spot};
 
 use bp_faults::{Fault, FaultKind, Place, Refusal, Text};
 use bp_parser::{Def, EntryExpr, Expr};

@@ -4,7 +4,7 @@ use Rattle.std.specs.Prelude.{not, ◌&&◌, ◌==◌}
 use Rattle.std.proofs.lemmas.Bool.{and_parts, and_from, cases_Bool, cond-true, cond-false, cases_lt, cases_order, false≢true, ne_eqb, eqb-true}
 use Rattle.std.proofs.lemmas.List.{take_more, take-take, drop_more, drop-take}
 use Rattle.bp_lexer.specs.Classes.{in_line}
-use Rattle.bp_lexer.specs.Strings.{is_body, is_plain, is_escape, IsClosedAt, IsBadEscapeAt}
+use Rattle.bp_lexer.specs.Strings.{is_body, is_string_byte, is_escape, IsClosedAt, IsBadEscapeAt}
 use Rattle.bp_lexer.specs.Search.{KnowsBadEscape}
 
 -- what follows a body is judged alone
@@ -18,7 +18,7 @@ body_append ok false (b ∷ bs) ys h =
     ⊎_elim
     (λ yes. cond-true (b == 92) _ _ yes ∙ body_append ok true bs ys (sym (cond-true (b == 92) _ _ yes) ∙ h))
     (λ other.
-    let parts = and_parts (is_plain b) (is_body ok false bs) (sym (cond-false (b == 92) _ _ other) ∙ h) in
+    let parts = and_parts (is_string_byte b) (is_body ok false bs) (sym (cond-false (b == 92) _ _ other) ∙ h) in
     cond-false (b == 92) _ _ other ∙ ap (λ t. t && is_body ok false (bs ++ ys)) parts.0 ∙ body_append ok false bs ys parts.1)
     (cases_Bool (b == 92))
 
@@ -29,7 +29,7 @@ front_and rest n m le = sym (take-append-drop n (take m rest)) ∙ ap (λ l. l +
 pub plain_more : (ok : ℕ → Bool) (rest : List ℕ) (n : ℕ) → n < length rest → is_body ok false (take n rest) ≡ true → (get_or rest n 0 ≡ 34 → ⊥) → (get_or rest n 0 ≡ 10 → ⊥) → (get_or rest n 0 ≡ 92 → ⊥) → is_body ok false (take (n + 1) rest) ≡ true
 plain_more ok rest n within h quote line slash =
     let b = get_or rest n 0 in
-    let plain : is_plain b ≡ true = and_from _ _ (ap not (ne_eqb b 34 quote)) (ap not (ne_eqb b 10 line)) in
+    let plain : is_string_byte b ≡ true = and_from _ _ (ap not (ne_eqb b 34 quote)) (ap not (ne_eqb b 10 line)) in
     ap (is_body ok false) (take_more rest n 0 within) ∙ body_append ok false (take n rest) (b ∷ []) h ∙ cond-false (b == 92) _ _ (ne_eqb b 92 slash) ∙ ap (λ t. t && true) plain
 
 pub pair_more : (ok : ℕ → Bool) (rest : List ℕ) (n : ℕ) → n + 1 < length rest → is_body ok false (take n rest) ≡ true → get_or rest n 0 ≡ 92 → ok (get_or rest (n + 1) 0) ≡ true → is_body ok false (take (n + 2) rest) ≡ true
@@ -155,7 +155,7 @@ rough false (b ∷ bs) h =
     ⊎_elim
     (λ yes. cond-true (b == 92) _ _ yes ∙ rough true bs (sym (cond-true (b == 92) _ _ yes) ∙ h))
     (λ other.
-    let parts = and_parts (is_plain b) (is_body is_escape false bs) (sym (cond-false (b == 92) _ _ other) ∙ h) in
+    let parts = and_parts (is_string_byte b) (is_body is_escape false bs) (sym (cond-false (b == 92) _ _ other) ∙ h) in
     cond-false (b == 92) _ _ other ∙ and_from _ _ parts.0 (rough false bs parts.1))
     (cases_Bool (b == 92))
 

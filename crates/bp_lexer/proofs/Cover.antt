@@ -4,11 +4,11 @@ use Rattle.std.proofs.lemmas.Bool.{cases_lt}
 use Rattle.bp_faults.specs.declared.fault.Fault.{Fault}
 use Rattle.bp_faults.specs.declared.place.Place.{Place}
 use Rattle.bp_lexer.specs.declared.flaw.Flaw.{Flaw}
-use Rattle.bp_lexer.specs.Faults.{IsFlaw, fault_of}
+use Rattle.bp_lexer.specs.Faults.{HasFlaw, lex_fault}
 use Rattle.bp_lexer.specs.declared.token.Token.{Token}
 use Rattle.bp_lexer.specs.Classes.{is_white}
 use Rattle.bp_lexer.specs.Places.{place_at}
-use Rattle.bp_lexer.specs.Meaning.{IsBlank, IsToken, Covers, IsFirstFault}
+use Rattle.bp_lexer.specs.Meaning.{IsBlank, IsToken, Covers, IsFirstLexFault}
 use Rattle.bp_lexer.proofs.Places.{file_of}
 
 blank_more : (text : List ℕ) (i j : ℕ) → IsBlank text i j → is_white (get_or text j 0) ≡ true → IsBlank text i (j + 1)
@@ -29,12 +29,12 @@ covers_token file text i [] t covers token = (covers, token, blank_none text t.e
 covers_token file text i (u ∷ ts) t covers token = (covers.0, covers.1, covers_token file text u.end ts t covers.2 token)
 
 -- what is wrong where the tokens stop is the first fault
-pub first_fault : (file : ℕ) (bytes text : List ℕ) (at : ℕ) (before : List Token) (flaw : Flaw) (place : Place) (fault : Fault) → bytes ≡ text → Covers file bytes 0 at before → at < length bytes → is_white (get_or bytes at 0) ≡ false → IsFlaw (drop at text) flaw → place ≡ place_at file bytes at → fault ≡ fault_of place.file text at flaw → IsFirstFault file text fault
+pub first_fault : (file : ℕ) (bytes text : List ℕ) (at : ℕ) (before : List Token) (flaw : Flaw) (place : Place) (fault : Fault) → bytes ≡ text → Covers file bytes 0 at before → at < length bytes → is_white (get_or bytes at 0) ≡ false → HasFlaw (drop at text) flaw → place ≡ place_at file bytes at → fault ≡ lex_fault place.file text at flaw → IsFirstLexFault file text fault
 first_fault file bytes text at before flaw place fault same covered inside other wrong here is = record {
   at = at;
   before = before;
   covered = subst (λ t. Covers file t 0 at before) same covered;
   inside = subst (λ t. at < length t) same inside;
   not_white = subst (λ t. is_white (get_or t at 0) ≡ false) same other;
-  wrong = (flaw, wrong, is ∙ ap (λ f. fault_of f text at flaw) (file_of file bytes at place here));
+  wrong = (flaw, wrong, is ∙ ap (λ f. lex_fault f text at flaw) (file_of file bytes at place here));
 }

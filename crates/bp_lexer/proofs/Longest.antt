@@ -12,7 +12,7 @@ use Rattle.bp_lexer.specs.declared.token.Punct.TheVariants.{OpenBrace, CloseBrac
 use Rattle.bp_lexer.specs.declared.token.TokenKind.{TokenKind}
 use Rattle.bp_lexer.specs.declared.token.TokenKind.TheVariants.{Ident, Int, Quoted, Raw, Punct as Mark, LineComment, BlockComment}
 use Rattle.bp_lexer.specs.Classes.{is_letter, is_word, is_digit, in_line, in_raw}
-use Rattle.bp_lexer.specs.Strings.{is_body, is_escape, is_plain}
+use Rattle.bp_lexer.specs.Strings.{is_body, is_escape, is_string_byte}
 use Rattle.bp_lexer.specs.Forms.{IsForm, IsLongest, IsEnd, IsFirstEnd, punct_text}
 use Rattle.bp_lexer.specs.Apart.{goes_on, StopsAt}
 use Rattle.bp_lexer.proofs.Runs.{all_le_prefix, run_stops}
@@ -75,8 +75,8 @@ body_only false (x ∷ a) (y ∷ b) after tail ha hb same =
     (λ plain. omega (
       arith,
       body_only false a b after tail
-          (and_parts (is_plain x) _ (sym (cond-false (x == 92) _ _ plain) ∙ ha)).1
-          (and_parts (is_plain x) _ (sym (cond-false (x == 92) _ _ plain) ∙ other)).1 rest,
+          (and_parts (is_string_byte x) _ (sym (cond-false (x == 92) _ _ plain) ∙ ha)).1
+          (and_parts (is_string_byte x) _ (sym (cond-false (x == 92) _ _ plain) ∙ other)).1 rest,
     ))
     (cases_Bool (x == 92))
 

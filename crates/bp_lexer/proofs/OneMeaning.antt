@@ -8,9 +8,9 @@ use Rattle.bp_lexer.specs.declared.token.Token.{Token}
 use Rattle.bp_lexer.specs.declared.token.TokenKind.{TokenKind}
 use Rattle.bp_lexer.specs.declared.token.TokenKind.TheVariants.{Int}
 use Rattle.bp_lexer.specs.Classes.{is_white}
-use Rattle.bp_lexer.specs.Faults.{IsFlaw, IsInRange, fault_of}
+use Rattle.bp_lexer.specs.Faults.{HasFlaw, IsInRange, lex_fault}
 use Rattle.bp_lexer.specs.Forms.{IsForm, IsLongest, HasNoForm}
-use Rattle.bp_lexer.specs.Meaning.{IsBlank, IsToken, Covers, IsTokenList, IsFaultAt, IsFirstFault, LexMeans, word_of}
+use Rattle.bp_lexer.specs.Meaning.{IsBlank, IsToken, Covers, IsTokenList, IsFaultAt, IsFirstLexFault, LexMeans, word_of}
 use Rattle.bp_lexer.specs.Places.{place_at}
 use Rattle.bp_lexer.proofs.Bodies.{bad_once}
 use Rattle.bp_lexer.proofs.Comments.{slash_first}
@@ -84,7 +84,7 @@ no_form_no_token file text at none t same token =
     let form : IsForm t.kind (take (t.end - t.start) (drop at text)) = subst (λ p. IsForm t.kind (take (t.end - t.start) (drop p text))) same token.longest.form in
     none t.kind (take (t.end - t.start) (drop at text)) (drop (t.end - t.start) (drop at text)) (sym (take-append-drop _ _)) form
 
-flaw_no_token : (file : ℕ) (text : List ℕ) (at : ℕ) (flaw : Flaw) → IsFlaw (drop at text) flaw → NoToken file text at
+flaw_no_token : (file : ℕ) (text : List ℕ) (at : ℕ) (flaw : Flaw) → HasFlaw (drop at text) flaw → NoToken file text at
 flaw_no_token file text at BadChar wrong = no_form_no_token file text at wrong.0
 flaw_no_token file text at OpenString wrong = no_form_no_token file text at wrong.0
 flaw_no_token file text at OpenComment wrong = no_form_no_token file text at wrong.0
@@ -116,11 +116,11 @@ stops file text i at n (u ∷ us) (t ∷ ts) a other none below b =
     let same : t ≡ u = same_first file text i t u b.0 b.1 a.0 a.1 in
     stops file text u.end at n us ts a.2 other none below (subst (λ (v : Token). Covers file text v.end n ts) same b.2)
 
-pub list_or_fault : (file : ℕ) (text : List ℕ) (ts : List Token) (fault : Fault) → IsTokenList file text ts → IsFirstFault file text fault → ⊥
+pub list_or_fault : (file : ℕ) (text : List ℕ) (ts : List Token) (fault : Fault) → IsTokenList file text ts → IsFirstLexFault file text fault → ⊥
 list_or_fault file text ts fault list first = stops file text 0 first.at (length text) first.before ts first.covered first.not_white (fault_no_token file text first.at fault first.wrong) first.inside list
 
 -- the place of a first fault is one
-one_place : (file : ℕ) (text : List ℕ) (a b : Fault) (first : IsFirstFault file text a) (second : IsFirstFault file text b) → first.at ≡ second.at
+one_place : (file : ℕ) (text : List ℕ) (a b : Fault) (first : IsFirstLexFault file text a) (second : IsFirstLexFault file text b) → first.at ≡ second.at
 one_place file text a b first second =
     ⊎_elim (λ same. same) (λ apart. ⊎_elim
     (λ before. absurd (stops file text 0 first.at second.at first.before second.before first.covered first.not_white (fault_no_token file text first.at a first.wrong) before second.covered))
@@ -146,7 +146,7 @@ rank_le (BadEscape k) = omega arith
 rank_le (BadNumber n) = omega arith
 
 -- two kinds of flaw are never at one place
-excludes : (text : List ℕ) (j k : Flaw) → rank j < rank k → IsFlaw text j → IsFlaw text k → ⊥
+excludes : (text : List ℕ) (j k : Flaw) → rank j < rank k → HasFlaw text j → HasFlaw text k → ⊥
 unfolding rank
 excludes text BadChar OpenString less a b = a.1 (⊎_elim (λ quote. inl quote.0) (λ back. inr (inl back)) b.1)
 excludes text BadChar OpenComment less a b = a.1 (inr (inr b.1))
@@ -165,7 +165,7 @@ excludes text OpenComment (BadNumber n) less a b = no_form_no_longest text Int n
 excludes text (BadEscape k) (BadNumber n) less a b = no_form_no_longest text Int n a.0 b.0
 excludes text j k less a b = absurd (omega (arith, rank_le k))
 
-alike : (text : List ℕ) (j k : Flaw) → rank j ≡ rank k → IsFlaw text j → IsFlaw text k → j ≡ k
+alike : (text : List ℕ) (j k : Flaw) → rank j ≡ rank k → HasFlaw text j → HasFlaw text k → j ≡ k
 unfolding rank
 alike text BadChar BadChar same a b = refl
 alike text OpenString OpenString same a b = refl
@@ -174,7 +174,7 @@ alike text (BadEscape k) (BadEscape j) same a b = ap BadEscape (bad_once (drop 1
 alike text (BadNumber m) (BadNumber n) same a b = ap BadNumber (one_longest text Int Int m n a.0 b.0).1
 alike text j k same a b = absurd (omega arith)
 
-one_flaw : (text : List ℕ) (j k : Flaw) → IsFlaw text j → IsFlaw text k → j ≡ k
+one_flaw : (text : List ℕ) (j k : Flaw) → HasFlaw text j → HasFlaw text k → j ≡ k
 one_flaw text j k a b =
     ⊎_elim (λ same. alike text j k same a b) (λ apart. ⊎_elim
     (λ before. absurd (excludes text j k before a b))
@@ -184,9 +184,9 @@ one_flaw text j k a b =
 -- at one place only one thing is wrong
 one_fault_at : (file : ℕ) (text : List ℕ) (at : ℕ) (a b : Fault) → IsFaultAt file text at a → IsFaultAt file text at b → a ≡ b
 one_fault_at file text at a b first second =
-    first.2 ∙ ap (fault_of file text at) (one_flaw (drop at text) first.0 second.0 first.1 second.1) ∙ sym second.2
+    first.2 ∙ ap (lex_fault file text at) (one_flaw (drop at text) first.0 second.0 first.1 second.1) ∙ sym second.2
 
-pub one_fault : (file : ℕ) (text : List ℕ) (a b : Fault) → IsFirstFault file text a → IsFirstFault file text b → a ≡ b
+pub one_fault : (file : ℕ) (text : List ℕ) (a b : Fault) → IsFirstLexFault file text a → IsFirstLexFault file text b → a ≡ b
 one_fault file text a b first second =
     let here : IsFaultAt file text second.at a = subst (λ at. IsFaultAt file text at a) (one_place file text a b first second) first.wrong in
     one_fault_at file text second.at a b here second.wrong

@@ -14,9 +14,9 @@ use Rattle.bp_lexer.specs.declared.token.Token.{Token}
 use Rattle.bp_lexer.specs.declared.token.TokenKind.{TokenKind}
 use Rattle.bp_lexer.specs.declared.token.TokenKind.TheVariants.{Ident, Int, Quoted, Raw, Punct as Mark, LineComment, BlockComment}
 use Rattle.bp_lexer.specs.Classes.{is_white, is_letter, is_word, is_digit, in_line, in_raw}
-use Rattle.bp_lexer.specs.Faults.{IsInRange, IsFlaw, fault_of}
+use Rattle.bp_lexer.specs.Faults.{IsInRange, HasFlaw, lex_fault}
 use Rattle.bp_lexer.specs.Forms.{IsLongest, IsEnd, IsFirstEnd, punct_text}
-use Rattle.bp_lexer.specs.Meaning.{Covers, IsToken, IsTokenList, IsFirstFault}
+use Rattle.bp_lexer.specs.Meaning.{Covers, IsToken, IsTokenList, IsFirstLexFault}
 use Rattle.bp_lexer.specs.Places.{place_at}
 use Rattle.bp_lexer.specs.Strings.{is_body, is_escape, IsClosedAt}
 use Rattle.bp_lexer.specs.Search.{KnowsBadEscape, IsBodyFlaw}
@@ -32,7 +32,7 @@ use Rattle.bp_lexer.proofs.TokenKinds.{kind_of}
 
 -- what the front of a text is
 abbrev Front : List ℕ → Type 0
-Front text = ((k : TokenKind) × (n : ℕ) × IsLongest text k n) ⊎ ((flaw : Flaw) × IsFlaw text flaw)
+Front text = ((k : TokenKind) × (n : ℕ) × IsLongest text k n) ⊎ ((flaw : Flaw) × HasFlaw text flaw)
 
 int_front : (text : List ℕ) → 0 < length text → (get_or text 0 0 ≡ 45) ⊎ (is_digit (get_or text 0 0) ≡ true) → Front text
 int_front text some first =
@@ -183,16 +183,16 @@ in_range k word = inl (λ e. absurd (cc))
 
 -- what the text is
 abbrev Outcome : ℕ → List ℕ → Type 0
-Outcome file text = ((ts : List Token) × IsTokenList file text ts) ⊎ ((fault : Fault) × IsFirstFault file text fault)
+Outcome file text = ((ts : List Token) × IsTokenList file text ts) ⊎ ((fault : Fault) × IsFirstLexFault file text fault)
 
 at_end : (file : ℕ) (text : List ℕ) (at : ℕ) (before : List Token) → at ≤ length text → length text ≤ at → Covers file text 0 at before → Outcome file text
 at_end file text at before within past covered =
     let end : at ≡ length text = omega arith in
     inl (before, subst (λ i. Covers file text 0 i before) end covered)
 
-at_flaw : (file : ℕ) (text : List ℕ) (at : ℕ) (before : List Token) (flaw : Flaw) → at < length text → is_white (get_or text at 0) ≡ false → Covers file text 0 at before → IsFlaw (drop at text) flaw → Outcome file text
+at_flaw : (file : ℕ) (text : List ℕ) (at : ℕ) (before : List Token) (flaw : Flaw) → at < length text → is_white (get_or text at 0) ≡ false → Covers file text 0 at before → HasFlaw (drop at text) flaw → Outcome file text
 at_flaw file text at before flaw within other covered wrong = inr (
-  fault_of file text at flaw,
+  lex_fault file text at flaw,
   record {
     at = at;
     before = before;

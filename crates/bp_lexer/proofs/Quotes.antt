@@ -12,7 +12,7 @@ use Rattle.bp_lexer.specs.declared.token.TokenKind.TheVariants.{Quoted, Raw}
 use Rattle.bp_lexer.specs.Classes.{in_raw}
 use Rattle.bp_lexer.specs.Strings.{is_body, is_escape, IsClosedAt, IsOpen, IsBadEscapeAt}
 use Rattle.bp_lexer.specs.Forms.{IsForm, IsLongest, HasNoForm}
-use Rattle.bp_lexer.specs.Faults.{IsFlaw}
+use Rattle.bp_lexer.specs.Faults.{HasFlaw}
 use Rattle.bp_lexer.specs.Search.{IsBodyFlaw}
 use Rattle.bp_lexer.proofs.Runs.{prefix_all, run_stops, run_ends}
 use Rattle.bp_lexer.proofs.Rivals.{rival, form_as}
@@ -61,7 +61,7 @@ string_bad (b ∷ bs) k some first bad j word after split form =
     bad_not_closed bs k q.0 bad q.2
 
 -- what is wrong with the body is wrong with the string
-pub body_flaw : (text : List ℕ) (flaw : Flaw) → 0 < length text → get_or text 0 0 ≡ 34 → IsBodyFlaw (drop 1 text) flaw → IsFlaw text flaw
+pub body_flaw : (text : List ℕ) (flaw : Flaw) → 0 < length text → get_or text 0 0 ≡ 34 → IsBodyFlaw (drop 1 text) flaw → HasFlaw text flaw
 body_flaw text OpenString some first wrong = (string_open text some first wrong, inl (first, wrong))
 body_flaw text (BadEscape k) some first wrong = (string_bad text k some first wrong.1, (first, wrong.0, wrong.1))
 body_flaw text flaw some first wrong = absurd wrong

@@ -32,22 +32,22 @@ HasBadEscape text k =
     (slice_index text 0 ≡ 34) × ((n : ℕ) × IsClosedAt in_line (drop 1 text) n) × IsBadEscapeAt (drop 1 text) k
 
 -- What is wrong at the front of a text: no form fits, and why; or the longest form is a number out of range.
-abbrev pub IsFlaw : List ℕ → Flaw → Type 0
-IsFlaw text BadChar = HasNoForm text × (Opens text → ⊥)
-IsFlaw text OpenString = HasNoForm text × OpensString text
-IsFlaw text OpenComment = HasNoForm text × (take 2 text ≡ codes "/*")
-IsFlaw text (BadEscape k) = HasNoForm text × HasBadEscape text k
-IsFlaw text (BadNumber n) = IsLongest text Int n × (IsInRange (take n text) → ⊥)
+abbrev pub HasFlaw : List ℕ → Flaw → Type 0
+HasFlaw text BadChar = HasNoForm text × (Opens text → ⊥)
+HasFlaw text OpenString = HasNoForm text × OpensString text
+HasFlaw text OpenComment = HasNoForm text × (take 2 text ≡ codes "/*")
+HasFlaw text (BadEscape k) = HasNoForm text × HasBadEscape text k
+HasFlaw text (BadNumber n) = IsLongest text Int n × (IsInRange (take n text) → ⊥)
 
 -- The character that a text begins with, in UTF-8.
 abbrev pub first_char : List ℕ → List ℕ
 first_char text = encode_utf8_all (take 1 (chars text))
 
 -- The fault that a flaw at a place is. A bad escape stands at its backslash, behind the quote.
-abbrev pub fault_of : ℕ → List ℕ → ℕ → Flaw → Fault
-fault_of file text at BadChar = fault_on fault.BadChar (place_at file text at) (first_char (drop at text))
-fault_of file text at OpenString = fault_at fault.OpenString (place_at file text at)
-fault_of file text at OpenComment = fault_at fault.OpenComment (place_at file text at)
-fault_of file text at (BadEscape k) =
+abbrev pub lex_fault : ℕ → List ℕ → ℕ → Flaw → Fault
+lex_fault file text at BadChar = fault_on fault.BadChar (place_at file text at) (first_char (drop at text))
+lex_fault file text at OpenString = fault_at fault.OpenString (place_at file text at)
+lex_fault file text at OpenComment = fault_at fault.OpenComment (place_at file text at)
+lex_fault file text at (BadEscape k) =
     fault_on fault.BadEscape (place_at file text (at + 1 + k)) (first_char (drop (at + 1 + k + 1) text))
-fault_of file text at (BadNumber n) = fault_on fault.BadNumber (place_at file text at) (take n (drop at text))
+lex_fault file text at (BadNumber n) = fault_on fault.BadNumber (place_at file text at) (take n (drop at text))

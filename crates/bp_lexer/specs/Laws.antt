@@ -9,8 +9,8 @@ use Rattle.bp_lexer.specs.declared.token.TokenKind.TheVariants.{Int}
 use Rattle.bp_lexer.specs.Apart.{goes_on, StopsAt}
 use Rattle.bp_lexer.specs.Classes.{is_white}
 use Rattle.bp_lexer.specs.Forms.{IsForm, IsLongest}
-use Rattle.bp_lexer.specs.Meaning.{IsToken, IsTokenList, IsFirstFault, LexMeans}
-use Rattle.bp_lexer.specs.Places.{place_at, last_line, IsBefore}
+use Rattle.bp_lexer.specs.Meaning.{IsToken, IsTokenList, IsFirstLexFault, LexMeans}
+use Rattle.bp_lexer.specs.Places.{place_at, last_line, IsPlaceBefore}
 
 -- A text has at most one token list.
 abbrev pub OneTokenList : Type 0
@@ -20,16 +20,16 @@ OneTokenList = (file : ℕ) (text : List ℕ) (ts us : List Token) → IsTokenLi
 -- Each text has a token list or a first fault.
 abbrev pub SomeListOrFault : Type 0
 SomeListOrFault = (file : ℕ) (text : List ℕ)
-    → ((ts : List Token) × IsTokenList file text ts) ⊎ ((fault : Fault) × IsFirstFault file text fault)
+    → ((ts : List Token) × IsTokenList file text ts) ⊎ ((fault : Fault) × IsFirstLexFault file text fault)
 
 -- No text has both.
 abbrev pub NotListAndFault : Type 0
 NotListAndFault = (file : ℕ) (text : List ℕ) (ts : List Token) (fault : Fault)
-    → IsTokenList file text ts → IsFirstFault file text fault → ⊥
+    → IsTokenList file text ts → IsFirstLexFault file text fault → ⊥
 
 -- A text has at most one first fault.
 abbrev pub OneFault : Type 0
-OneFault = (file : ℕ) (text : List ℕ) (a b : Fault) → IsFirstFault file text a → IsFirstFault file text b → a ≡ b
+OneFault = (file : ℕ) (text : List ℕ) (a b : Fault) → IsFirstLexFault file text a → IsFirstLexFault file text b → a ≡ b
 
 -- A text means one thing alone.
 abbrev pub OneMeaning : Type 0
@@ -67,7 +67,7 @@ TokensStandWithin = (file : ℕ) (text : List ℕ) (t : Token) → IsToken file 
 -- Of two tokens, the one that ends before the other begins has the earlier place.
 abbrev pub PlacesRise : Type 0
 PlacesRise = (file : ℕ) (text : List ℕ) (t u : Token) → IsToken file text t → IsToken file text u
-    → t.end ≤ u.start → IsBefore t.place u.place
+    → t.end ≤ u.start → IsPlaceBefore t.place u.place
 
 -- Each token of a list is a token of the text, in the file of its place.
 abbrev pub ListsHaveTokens : Type 0

@@ -9,9 +9,9 @@ use Rattle.bp_lexer.specs.declared.token.Token.{Token}
 use Rattle.bp_lexer.specs.declared.token.TokenKind.{TokenKind}
 use Rattle.bp_lexer.specs.declared.token.TokenKind.TheVariants.{Int, Quoted, Raw}
 use Rattle.bp_lexer.specs.Classes.{is_white}
-use Rattle.bp_lexer.specs.Strings.{unescaped}
+use Rattle.bp_lexer.specs.Strings.{unescaped_chars}
 use Rattle.bp_lexer.specs.Forms.{IsLongest}
-use Rattle.bp_lexer.specs.Faults.{IsInRange, IsFlaw, fault_of}
+use Rattle.bp_lexer.specs.Faults.{IsInRange, HasFlaw, lex_fault}
 use Rattle.bp_lexer.specs.Places.{place_at}
 
 -- There is only white space from i to j.
@@ -40,10 +40,10 @@ IsTokenList file text ts = Covers file text 0 (length text) ts
 
 -- What is wrong at a place, as a fault.
 abbrev pub IsFaultAt : ℕ → List ℕ → ℕ → Fault → Type 0
-IsFaultAt file text at fault = (flaw : Flaw) × IsFlaw (drop at text) flaw × (fault ≡ fault_of file text at flaw)
+IsFaultAt file text at fault = (flaw : Flaw) × HasFlaw (drop at text) flaw × (fault ≡ lex_fault file text at flaw)
 
 -- The first fault: tokens cover what stands before its place, and there begins no token.
-pub record IsFirstFault (file : ℕ) (text : List ℕ) (fault : Fault) : Type 0 where
+pub record IsFirstLexFault (file : ℕ) (text : List ℕ) (fault : Fault) : Type 0 where
   pub at : ℕ
   pub before : List Token
   pub covered : Covers file text 0 at before
@@ -54,7 +54,7 @@ pub record IsFirstFault (file : ℕ) (text : List ℕ) (fault : Fault) : Type 0 
 -- What a text means, by the number of its file.
 abbrev pub LexMeans : ℕ → List ℕ → Result (List Token) Fault → Type 0
 LexMeans file text (Ok ts) = IsTokenList file text ts
-LexMeans file text (Err fault) = IsFirstFault file text fault
+LexMeans file text (Err fault) = IsFirstLexFault file text fault
 
 -- What stands between the quotes or backquotes.
 abbrev pub inner_of : List ℕ → List ℕ
@@ -62,6 +62,6 @@ inner_of word = take (length word - 2) (drop 1 word)
 
 -- The string that a token stands for. A token that is no string stands for its own bytes.
 abbrev pub string_of : TokenKind → List ℕ → List ℕ
-string_of Quoted word = encode_utf8_all (unescaped false (chars (inner_of word)))
+string_of Quoted word = encode_utf8_all (unescaped_chars false (chars (inner_of word)))
 string_of Raw word = inner_of word
 string_of kind word = word

@@ -20,5 +20,5 @@ place_at file text i = record {
 }
 
 -- One place is before another: on an earlier line, or on the same line in an earlier column.
-abbrev pub IsBefore : Place → Place → Type 0
-IsBefore p q = (p.line < q.line) ⊎ ((p.line ≡ q.line) × (p.col < q.col))
+abbrev pub IsPlaceBefore : Place → Place → Type 0
+IsPlaceBefore p q = (p.line < q.line) ⊎ ((p.line ≡ q.line) × (p.col < q.col))

@@ -10,7 +10,7 @@ use Rattle.bp_lexer.specs.Classes.{in_line}
 use Rattle.bp_lexer.specs.Places.{begins_char}
 use Rattle.bp_lexer.specs.Strings.{is_escape, is_body, IsClosedAt, IsOpen, IsBadEscapeAt}
 use Rattle.bp_lexer.specs.Forms.{IsLongest}
-use Rattle.bp_lexer.specs.Faults.{IsInRange, IsFlaw}
+use Rattle.bp_lexer.specs.Faults.{IsInRange, HasFlaw}
 
 -- Up to n there is no bad escape, or the first is known.
 abbrev pub KnowsBadEscape : List ℕ → ℕ → Option ℕ → Type 0
@@ -26,12 +26,12 @@ IsBodyFlaw rest flaw = ⊥
 -- A search at the front of a text finds the longest form and its length, or what is wrong.
 abbrev pub Finds : List ℕ → Result (TokenKind × ℕ) Flaw → Type 0
 Finds text (Ok found) = IsLongest text found.0 found.1
-Finds text (Err flaw) = IsFlaw text flaw
+Finds text (Err flaw) = HasFlaw text flaw
 
 -- The same where a number out of range is no token.
 abbrev pub FindsToken : List ℕ → Result (TokenKind × ℕ) Flaw → Type 0
 FindsToken text (Ok found) = IsLongest text found.0 found.1 × (found.0 ≡ Int → IsInRange (take found.1 text))
-FindsToken text (Err flaw) = IsFlaw text flaw
+FindsToken text (Err flaw) = HasFlaw text flaw
 
 -- The place behind a byte.
 abbrev pub place_after : Place → ℕ → Place

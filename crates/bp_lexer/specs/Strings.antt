@@ -16,15 +16,16 @@ abbrev pub is_escape : ℕ → Bool
 is_escape c = is_some (escape_of c)
 
 -- What stands for itself: anything but the quote and LF, where it is no backslash.
-abbrev pub is_plain : ℕ → Bool
-is_plain b = not (b == 34) && not (b == 10)
+abbrev pub is_string_byte : ℕ → Bool
+is_string_byte b = not (b == 34) && not (b == 10)
 
 -- The body of a string: plain bytes, and pairs of a backslash and a byte that is allowed behind it.
 -- `slash`: a backslash stands before.
 abbrev pub is_body : (ℕ → Bool) → Bool → List ℕ → Bool
 is_body allowed slash [] = not slash
 is_body allowed true (b ∷ bs) = allowed b && is_body allowed false bs
-is_body allowed false (b ∷ bs) = if b == 92 then is_body allowed true bs else (is_plain b && is_body allowed false bs)
+is_body allowed false (b ∷ bs) =
+    if b == 92 then is_body allowed true bs else (is_string_byte b && is_body allowed false bs)
 
 -- The first n bytes are a body, and a quote closes it.
 abbrev pub IsClosedAt : (ℕ → Bool) → List ℕ → ℕ → Type 0
@@ -41,7 +42,7 @@ IsBadEscapeAt rest k = (k + 1 < length rest) × (is_body is_escape false (take k
 
 -- The characters that a string stands for, from those between its quotes.
 -- `slash`: a backslash stands before.
-abbrev pub unescaped : Bool → List ℕ → List ℕ
-unescaped slash [] = []
-unescaped true (c ∷ cs) = unwrap_or (escape_of c) c ∷ unescaped false cs
-unescaped false (c ∷ cs) = if c == 92 then unescaped true cs else c ∷ unescaped false cs
+abbrev pub unescaped_chars : Bool → List ℕ → List ℕ
+unescaped_chars slash [] = []
+unescaped_chars true (c ∷ cs) = unwrap_or (escape_of c) c ∷ unescaped_chars false cs
+unescaped_chars false (c ∷ cs) = if c == 92 then unescaped_chars true cs else c ∷ unescaped_chars false cs

@@ -1,5 +1,5 @@
 ghost use Rattle.std.specs.Prelude.{◌≡◌, false, IfOk, string_bytes, encode_utf8_all, chars};
-ghost use Rattle.bp_lexer.specs.Strings.{escape_of, unescaped};
+ghost use Rattle.bp_lexer.specs.Strings.{escape_of, unescaped_chars};
 
 use bp_faults::OutOfMemory;
 use std::alloc::Global;
@@ -23,7 +23,7 @@ pub fn escape_of(c: char) -> Option<char>
 
 /// The text that stands between two quotes, with its escapes taken.
 pub fn unescaped(alloc: Global, inner: &str) -> Result<String, OutOfMemory>
-    ensures { IfOk result (λ text. string_bytes text ≡ encode_utf8_all (unescaped false (chars inner.now))) }
+    ensures { IfOk result (λ text. string_bytes text ≡ encode_utf8_all (unescaped_chars false (chars inner.now))) }
 {
     let mut text = String::with_capacity(alloc, inner.len())?;
     let mut slash = false;

@@ -5,7 +5,7 @@ ghost use Rattle.bp_lexer.specs.declared.class.Class.TheVariants.{White};
 ghost use Rattle.bp_lexer.specs.declared.token.TokenKind.TheVariants.{Int};
 ghost use Rattle.bp_lexer.specs.Classes.{in_class};
 ghost use Rattle.bp_lexer.specs.Forms.{IsLongest};
-ghost use Rattle.bp_lexer.specs.Faults.{IsFlaw, IsInRange, fault_of, first_char};
+ghost use Rattle.bp_lexer.specs.Faults.{HasFlaw, IsInRange, lex_fault, first_char};
 ghost use Rattle.bp_lexer.specs.Meaning.{LexMeans};
 ghost use Rattle.bp_lexer.specs.Places.{place_at};
 ghost use Rattle.bp_lexer.specs.Search.{FindsToken};
@@ -42,8 +42,8 @@ fn fault_of(
     requires short { length text.now ≤ 2 ^ 20 }
     requires within { IsCharBoundary text.now at }
     requires here { place ≡ place_at place.file text.now at }
-    requires flaw { IsFlaw (drop at text.now) flaw }
-    ensures { IfOk result (λ fault. fault ≡ fault_of place.file text.now at flaw) }
+    requires flaw { HasFlaw (drop at text.now) flaw }
+    ensures { IfOk result (λ fault. fault ≡ lex_fault place.file text.now at flaw) }
 {
     match flaw {
         Flaw::BadChar => {

@@ -9,11 +9,11 @@ use Rattle.std.proofs.lemmas.List.Elements.{filter-append}
 use Rattle.bp_faults.specs.declared.fault.Fault.{Fault}
 use Rattle.bp_faults.specs.Answers.{then_do}
 use Rattle.bp_values.specs.Scopes.{Pairs}
-use Rattle.bp_values.specs.Meaning.{Raw, evaluated}
+use Rattle.bp_values.specs.Meaning.{Raw, file_evaluation}
 use Rattle.bp_load.specs.Directories.{is_above}
 use Rattle.bp_load.specs.Trees.{Placed}
-use Rattle.bp_load.specs.Inherited.{Finished, nearer, nearest, scope_of, in_directory, all_evaluated}
-use Rattle.bp_load.specs.Opened.{Turn, scope_in, evaluated_in, closed, innermost, all_turned}
+use Rattle.bp_load.specs.Inherited.{Finished, nearer, nearest_file, scope_of, in_directory, all_evaluated}
+use Rattle.bp_load.specs.Opened.{Turn, scope_in, evaluated_in, still_open, innermost, all_turned}
 use Rattle.bp_load.proofs.Joined.{and_then}
 use Rattle.bp_load.proofs.Turns.{Modules, goes_on, goes_none, goes_more, with_file}
 
@@ -31,8 +31,8 @@ no_scope (Some file) = refl
 pub without_base : (finished : List Finished) (files : List Placed) → evaluated_in [] finished files ≡ all_evaluated finished files
 without_base finished [] = refl
 without_base finished (file ∷ files) =
-    ap (λ scope. then_files [] finished file files (evaluated scope file.defs)) (no_scope (nearest file.directory finished))
-    ∙ by (evaluated (scope_of (nearest file.directory finished)) file.defs) (λ more. without_base (finished ++ more ∷ []) files)
+    ap (λ scope. then_files [] finished file files (file_evaluation scope file.defs)) (no_scope (nearest_file file.directory finished))
+    ∙ by (file_evaluation (scope_of (nearest_file file.directory finished)) file.defs) (λ more. without_base (finished ++ more ∷ []) files)
   where
     by : (values : Result (List Raw × Pairs) Fault) → ((more : Finished) → evaluated_in [] (finished ++ more ∷ []) files ≡ all_evaluated (finished ++ more ∷ []) files)
         → then_files [] finished file files values ≡ then_do values (λ v. then_do (all_evaluated (finished ++ (file.directory, v.1) ∷ []) files) (λ more. Ok (in_directory file.dir v.0 ++ more)))
@@ -52,7 +52,7 @@ none_left d [] apart = refl
 none_left d (f ∷ files) apart =
     ap (λ t. cond t (f ∷ filter (λ g. is_above g.0 d) files) (filter (λ g. is_above g.0 d) files)) apart.0 ∙ none_left d files apart.1
 
-nearest_without : (d : List (List ℕ)) (lost finished : List Finished) → AreApart d lost → nearest d (lost ++ finished) ≡ nearest d finished
+nearest_without : (d : List (List ℕ)) (lost finished : List Finished) → AreApart d lost → nearest_file d (lost ++ finished) ≡ nearest_file d finished
 nearest_without d lost finished apart =
     ap (fold nearer None) (filter-append (λ f. is_above f.0 d) lost finished ∙ ap (λ fs. fs ++ filter (λ f. is_above f.0 d) finished) (none_left d lost apart))
 
@@ -61,8 +61,8 @@ module _ (base : Pairs) where
   without_lost : (lost finished : List Finished) (files : List Placed) → NoneAbove lost files → evaluated_in base (lost ++ finished) files ≡ evaluated_in base finished files
   without_lost lost finished [] none = refl
   without_lost lost finished (file ∷ files) none =
-      ap (λ found. then_files base (lost ++ finished) file files (evaluated (scope_in base found) file.defs)) (nearest_without file.directory lost finished none.0)
-      ∙ by (evaluated (scope_in base (nearest file.directory finished)) file.defs) (λ more. without_lost lost (finished ++ more ∷ []) files none.1)
+      ap (λ found. then_files base (lost ++ finished) file files (file_evaluation (scope_in base found) file.defs)) (nearest_without file.directory lost finished none.0)
+      ∙ by (file_evaluation (scope_in base (nearest_file file.directory finished)) file.defs) (λ more. without_lost lost (finished ++ more ∷ []) files none.1)
     where
       by : (values : Result (List Raw × Pairs) Fault) → ((more : Finished) → evaluated_in base (lost ++ (finished ++ more ∷ [])) files ≡ evaluated_in base (finished ++ more ∷ []) files)
           → then_files base (lost ++ finished) file files values ≡ then_files base finished file files values
@@ -100,7 +100,7 @@ module _ (base : Pairs) (back : List Placed) where
   separate_behind [] finished none separate =
       ap (λ fs. evaluated_in base fs back) (sym (append-nil finished)) ∙ without_lost base finished [] back none ∙ sym (goes_none (evaluated_in base [] back))
   separate_behind (file ∷ front) finished none separate =
-      by (evaluated (scope_in base (nearest file.directory finished)) file.defs)
+      by (file_evaluation (scope_in base (nearest_file file.directory finished)) file.defs)
       (λ scope. separate_behind front (finished ++ (file.directory, scope) ∷ []) (none_more finished (file.directory, scope) back none separate.0) separate.1)
     where
       joins : (here : Modules) (front back : Result Modules Fault) → then_do (and_then front back) (λ more. Ok (here ++ more)) ≡ and_then (then_do front (λ more. Ok (here ++ more))) back
@@ -158,7 +158,7 @@ longer_more k [] file longer last = (last, tt)
 longer_more k (f ∷ finished) file longer last = (longer.0, longer_more k finished file longer.1 last)
 
 module _ (base scope : Pairs) (k : List (List ℕ)) where
-  inherits_base : (d : List (List ℕ)) (finished : List Finished) → AreLonger k finished → is_above k d ≡ true → scope_in base (nearest d ((k, scope) ∷ finished)) ≡ scope_in scope (nearest d finished)
+  inherits_base : (d : List (List ℕ)) (finished : List Finished) → AreLonger k finished → is_above k d ≡ true → scope_in base (nearest_file d ((k, scope) ∷ finished)) ≡ scope_in scope (nearest_file d finished)
   inherits_base d finished longer above =
       ap (λ t. scope_in base (fold nearer None (cond t ((k, scope) ∷ filter (λ f. is_above f.0 d) finished) (filter (λ f. is_above f.0 d) finished)))) above
       ∙ base_for base scope k (filter (λ f. is_above f.0 d) finished) (longer_left k d finished longer)
@@ -166,8 +166,8 @@ module _ (base scope : Pairs) (k : List (List ℕ)) where
   on_base : (finished : List Finished) (files : List Placed) → AreLonger k finished → Below k files → evaluated_in base ((k, scope) ∷ finished) files ≡ evaluated_in scope finished files
   on_base finished [] longer below = refl
   on_base finished (file ∷ files) longer below =
-      ap (λ inherited. then_files base ((k, scope) ∷ finished) file files (evaluated inherited file.defs)) (inherits_base file.directory finished longer below.0)
-      ∙ by (evaluated (scope_in scope (nearest file.directory finished)) file.defs)
+      ap (λ inherited. then_files base ((k, scope) ∷ finished) file files (file_evaluation inherited file.defs)) (inherits_base file.directory finished longer below.0)
+      ∙ by (file_evaluation (scope_in scope (nearest_file file.directory finished)) file.defs)
       (λ more. on_base (finished ++ (file.directory, more) ∷ []) files (longer_more k finished (file.directory, more) longer (above_length k file.directory below.0)) below.1)
     where
       by : (values : Result (List Raw × Pairs) Fault)
@@ -186,9 +186,9 @@ abbrev IsOver : List Finished → List Placed → Type 0
 IsOver [] files = ⊤
 IsOver (o ∷ opened) files = Below o.0 files
 
-stays : (opened : List Finished) (file : Placed) (files : List Placed) → IsOver opened (file ∷ files) → closed file.directory opened ≡ opened
+stays : (opened : List Finished) (file : Placed) (files : List Placed) → IsOver opened (file ∷ files) → still_open file.directory opened ≡ opened
 stays [] file files over = refl
-stays (o ∷ opened) file files over = ap (λ (t : Bool). if t then o ∷ opened else closed file.directory opened) over.0
+stays (o ∷ opened) file files over = ap (λ (t : Bool). if t then o ∷ opened else still_open file.directory opened) over.0
 
 module _ (base : Pairs) (rest : List Placed) where
   abbrev pub behind : Result Turn Fault → Result Modules Fault
@@ -200,8 +200,8 @@ module _ (base : Pairs) (rest : List Placed) where
 
   one_more : (file : Placed) (trunk : List Placed) → Continues trunk → Continues (file ∷ trunk)
   one_more file trunk more turn over above =
-      ap (λ stay. by_stack stay (evaluated (scope_in base (innermost stay)) file.defs)) (stays turn.opened file (trunk ++ rest) over)
-      ∙ same (evaluated (scope_in base (innermost turn.opened)) file.defs)
+      ap (λ stay. by_stack stay (file_evaluation (scope_in base (innermost stay)) file.defs)) (stays turn.opened file (trunk ++ rest) over)
+      ∙ same (file_evaluation (scope_in base (innermost turn.opened)) file.defs)
     where
       by_stack : List Finished → Result (List Raw × Pairs) Fault → Result Modules Fault
       by_stack stay values = behind (then_do (then_do values (λ v. Ok (with_file turn stay file v))) (λ next. all_turned base next trunk))

@@ -145,9 +145,6 @@ pub record IsOpenBranch (all : List Directory) (branch at : ℕ) : Type 0 where
   pub near : branch ≤ at
   pub above : (i : ℕ) → branch ≤ i → i < at → is_above (get_or all branch []) (get_or all i []) ≡ true
 
-pub open_first : (all : List Directory) → IsOpenBranch all 0 0
-open_first all = record { begins = λ i before. absurd (omega arith); near = omega arith; above = λ i from before. absurd (omega arith) }
-
 -- the directory goes on the branch
 pub branch_goes_on : (all : List Directory) (branch at : ℕ) → is_above (get_or all branch []) (get_or all at []) ≡ true → IsOpenBranch all branch at → IsOpenBranch all branch (at + 1)
 branch_goes_on all branch at here is = record { begins = is.begins; near = omega (arith, is.near); above = above }

@@ -6,7 +6,7 @@ use Rattle.std.proofs.lemmas.Simd.{map-map}
 use Rattle.bp_load.specs.Directories.{directories}
 use Rattle.bp_faults.specs.Phases.{Each}
 use Rattle.bp_load.specs.Texts.{AsText}
-use Rattle.bp_load.specs.Trees.{Source, Placed, placed, TextMeans, FileMeans}
+use Rattle.bp_load.specs.Trees.{Source, Placed, placed_file, SourceTextMeans, SourceFileMeans}
 use Rattle.bp_load.proofs.AsTexts.{then_value}
 
 -- one more at the end
@@ -32,13 +32,13 @@ each_same Means f g same n (u ∷ xs) (v ∷ ys) each =
     let rest : map g ys ≡ map f xs = each_same Means f g same (n + 1) xs ys each.1 in
     cc
 
-same_directory : (n : ℕ) (file : Source) (p : Placed) → FileMeans n file (Ok p) → p.directory ≡ directories file.0
+same_directory : (n : ℕ) (file : Source) (p : Placed) → SourceFileMeans n file (Ok p) → p.directory ≡ directories file.0
 same_directory n file p means =
-    let found = then_value (AsText n file.1 (TextMeans n file.1)) (λ tree o. Ok (placed file.0 tree) ≡ o) p means in
+    let found = then_value (AsText n file.1 (SourceTextMeans n file.1)) (λ tree o. Ok (placed_file file.0 tree) ≡ o) p means in
     let same = found.2 in
-    let is : p ≡ placed file.0 found.0 = cc in
+    let is : p ≡ placed_file file.0 found.0 = cc in
     ap (λ (q : Placed). q.directory) is
 
 -- files as they are parsed stand in the directories of their paths
-pub each_directories : (files : List Source) (ps : List Placed) → Each FileMeans 1 files ps → map (λ p. p.directory) ps ≡ map directories (map (λ f. f.0) files)
-each_directories files ps each = each_same FileMeans (λ f. directories f.0) (λ p. p.directory) same_directory 1 files ps each ∙ sym (map-map directories (λ f. f.0) files)
+pub each_directories : (files : List Source) (ps : List Placed) → Each SourceFileMeans 1 files ps → map (λ p. p.directory) ps ≡ map directories (map (λ f. f.0) files)
+each_directories files ps each = each_same SourceFileMeans (λ f. directories f.0) (λ p. p.directory) same_directory 1 files ps each ∙ sym (map-map directories (λ f. f.0) files)

@@ -12,8 +12,8 @@ use Rattle.bp_faults.specs.Phases.{Each, IsFirstOf, Phase}
 use Rattle.bp_props.specs.declared.module.Module.{Module}
 use Rattle.bp_values.specs.declared.file.RawModule.{RawModule}
 use Rattle.bp_values.specs.Meaning.{Raw}
-use Rattle.property_tables.specs.Meaning.{typed}
-use Rattle.bp_load.specs.Halves.{AreJoined, IsBehind}
+use Rattle.property_tables.specs.Meaning.{typed_module}
+use Rattle.bp_load.specs.Halves.{JoinMeans, AppendMeans}
 use Rattle.bp_load.specs.Inherited.{placed_raw}
 use Rattle.bp_load.specs.Loaded.{all_typed}
 
@@ -42,14 +42,14 @@ module _ {T V : Type 0} (view : T → V) (Front Back Whole : Result (List V) Fau
   refused_back front OutOfMemory made first = tt
 
   one_behind : (front back : Vec T Global) (whole : Result (Vec T Global) Refusal) → Front (Ok (shown front)) → Back (Ok (shown back))
-      → IsBehind front.items back.items whole → Tells shown Whole whole
+      → AppendMeans front.items back.items whole → Tells shown Whole whole
   one_behind front back (Ok all) made more is =
       subst (λ vs. Whole (Ok vs)) (sym (ap (map view) is ∙ map-append view front.items back.items))
       (halves.both (shown front) (shown back) made more)
   one_behind front back (Err refusal) made more is = subst (λ r. Tells shown Whole (Err r)) (sym is) tt
 
   pub told_joined : (front back whole : Result (Vec T Global) Refusal) → Tells shown Front front → Tells shown Back back
-      → AreJoined front back whole → Tells shown Whole whole
+      → JoinMeans front back whole → Tells shown Whole whole
   told_joined (Err refusal) back whole first second is = subst (Tells shown Whole) (sym is) (refused_front refusal first)
   told_joined (Ok front) (Err refusal) whole first second is =
       subst (Tells shown Whole) (sym is) (refused_back front refusal first second)
@@ -102,7 +102,7 @@ and_then front back = then_do front (λ ms. then_do back (λ more. Ok (ms ++ mor
 module _ {T V : Type 0} (show : Vec T Global → List V)
     (joins : (front back all : Vec T Global) → all.items ≡ front.items ++ back.items → show all ≡ show front ++ show back) where
   pub both_answered : (first second : Result (List V) Fault) (front back whole : Result (Vec T Global) Refusal) → Answers show front first
-      → Answers show back second → AreJoined front back whole → Answers show whole (and_then first second)
+      → Answers show back second → JoinMeans front back whole → Answers show whole (and_then first second)
   both_answered first second (Err (Bad fault)) back whole a b is =
       subst (λ r. Answers show r (and_then first second)) (sym is) (ap (λ o. and_then o second) a)
   both_answered first second (Err OutOfMemory) back whole a b is =
@@ -124,7 +124,7 @@ typed_append [] ys = by (all_typed ys)
     by : (back : Result (List Module) Fault) → back ≡ then_do back (λ more. Ok ([] ++ more))
     by (Ok more) = refl
     by (Err fault) = refl
-typed_append (x ∷ xs) ys = by (typed x.1 x.0) (all_typed xs) (all_typed ys) (typed_append xs ys)
+typed_append (x ∷ xs) ys = by (typed_module x.1 x.0) (all_typed xs) (all_typed ys) (typed_append xs ys)
   where
     by : (made : Result (Option Module) Fault) (front back : Result (List Module) Fault) → all_typed (xs ++ ys) ≡ and_then front back
         → then_do made (λ m. then_do (all_typed (xs ++ ys)) (λ more. Ok (option_to_list m ++ more)))
@@ -138,7 +138,7 @@ abbrev items : Vec Module Global → List Module
 items made = made.items
 
 pub typed_joined : (all xs ys : List (List ℕ × RawModule)) → xs ++ ys ≡ all → (front back whole : Result (Vec Module Global) Refusal)
-    → Answers items front (all_typed (map placed_raw xs)) → Answers items back (all_typed (map placed_raw ys)) → AreJoined front back whole
+    → Answers items front (all_typed (map placed_raw xs)) → Answers items back (all_typed (map placed_raw ys)) → JoinMeans front back whole
     → Answers items whole (all_typed (map placed_raw all))
 typed_joined all xs ys is front back whole a b joins =
     let parts : all_typed (map placed_raw all) ≡ and_then (all_typed (map placed_raw xs)) (all_typed (map placed_raw ys)) =

@@ -20,10 +20,10 @@ use Rattle.std.proofs.lemmas.Map.Entries.{length-values_of}
 use Rattle.bp_faults.specs.declared.fault.Fault.{Fault}
 use Rattle.property_tables.specs.Paths.{parts}
 use Rattle.bp_load.specs.Directories.{directories, directory_cmp}
-use Rattle.bp_load.specs.ListFile.{is_blank, undotted, is_listed, is_sound, named, file_name, AreListed, AreFiles, IsWrongAt, IsFirstFault, line_place}
+use Rattle.bp_load.specs.ListFile.{is_blank, without_dots, is_listed, is_sound, listed_path, file_name, AreListed, AreFiles, IsWrongAt, IsFirstListFault, line_place}
 use Rattle.bp_faults.specs.Faults.{fault_on}
 use Rattle.bp_faults.specs.declared.kind.FaultKind.TheVariants.{BadList, TooMany}
-use Rattle.bp_load.specs.Listing.{Entries, with_line, with_path, counted}
+use Rattle.bp_load.specs.Listing.{Entries, with_line, with_path, counted_entries}
 use Rattle.bp_load.proofs.Orders.{directories_total, exact_directories, sorted_insert}
 use Rattle.bp_load.proofs.Members.{Has, has_contained, contained_had}
 
@@ -109,13 +109,13 @@ has_new path (e ∷ es) = by (directory_cmp (directories path) e.0) (has_new pat
 
 -- what lines name, with one more line
 
-named_path : (lines : List (List ℕ)) (line : List ℕ) → is_blank line ≡ false → filter_map named (lines ++ line ∷ []) ≡ filter_map named lines ++ undotted line ∷ []
+named_path : (lines : List (List ℕ)) (line : List ℕ) → is_blank line ≡ false → filter_map listed_path (lines ++ line ∷ []) ≡ filter_map listed_path lines ++ without_dots line ∷ []
 named_path lines line full =
-    filter_map-append named lines (line ∷ []) ∙ ap (λ (b : Bool). filter_map named lines ++ cons_option (if b then None else Some (undotted line)) []) full
+    filter_map-append listed_path lines (line ∷ []) ∙ ap (λ (b : Bool). filter_map listed_path lines ++ cons_option (if b then None else Some (without_dots line)) []) full
 
-named_none : (lines : List (List ℕ)) (line : List ℕ) → is_blank line ≡ true → filter_map named (lines ++ line ∷ []) ≡ filter_map named lines ++ []
+named_none : (lines : List (List ℕ)) (line : List ℕ) → is_blank line ≡ true → filter_map listed_path (lines ++ line ∷ []) ≡ filter_map listed_path lines ++ []
 named_none lines line blank =
-    filter_map-append named lines (line ∷ []) ∙ ap (λ (b : Bool). filter_map named lines ++ cons_option (if b then None else Some (undotted line)) []) blank
+    filter_map-append listed_path lines (line ∷ []) ∙ ap (λ (b : Bool). filter_map listed_path lines ++ cons_option (if b then None else Some (without_dots line)) []) blank
 
 -- the map has the paths that the lines list, each under its directory
 pub record Lists (lines : List (List ℕ)) (entries : Entries) : Type 0 where
@@ -124,10 +124,10 @@ pub record Lists (lines : List (List ℕ)) (entries : Entries) : Type 0 where
   pub listed : AreListed lines (values_of entries)
 
 sound_blank : (line : List ℕ) → is_blank line ≡ true → IsTrue (is_sound line)
-sound_blank line blank = ap (λ (b : Bool). b || is_listed (undotted line)) blank
+sound_blank line blank = ap (λ (b : Bool). b || is_listed (without_dots line)) blank
 
-sound_listed : (line : List ℕ) → is_listed (undotted line) ≡ true → IsTrue (is_sound line)
-sound_listed line listed = or_right (is_blank line) (is_listed (undotted line)) listed
+sound_listed : (line : List ℕ) → is_listed (without_dots line) ≡ true → IsTrue (is_sound line)
+sound_listed line listed = or_right (is_blank line) (is_listed (without_dots line)) listed
 
 with_blank : (lines : List (List ℕ)) (entries : Entries) (line : List ℕ) → is_blank line ≡ true → Lists lines entries → Lists (lines ++ line ∷ []) entries
 with_blank lines entries line blank lists = record {
@@ -140,9 +140,9 @@ with_blank lines entries line blank lists = record {
   };
 }
 
-with_listed : (lines : List (List ℕ)) (entries : Entries) (line : List ℕ) → is_blank line ≡ false → is_listed (undotted line) ≡ true → Lists lines entries → Lists (lines ++ line ∷ []) (with (undotted line) entries)
+with_listed : (lines : List (List ℕ)) (entries : Entries) (line : List ℕ) → is_blank line ≡ false → is_listed (without_dots line) ≡ true → Lists lines entries → Lists (lines ++ line ∷ []) (with (without_dots line) entries)
 with_listed lines entries line full listed lists =
-    let path = undotted line in
+    let path = without_dots line in
     let keyed : Keyed (with path entries) = keyed_with path listed entries lists.keyed in
     let sorted : IsStrictlySortedBy directory_cmp (keys_of (with path entries)) = sorted_insert directory_cmp directories_total (directories path) path entries lists.sorted in
     record {
@@ -152,8 +152,8 @@ with_listed lines entries line full listed lists =
         sound = All-push (λ l. IsTrue (is_sound l)) lines line lists.listed.sound (sound_listed line listed);
         order = subst (IsStrictlySortedBy directory_cmp) (keys_are (with path entries) keyed) sorted;
         members = λ q. (
-          λ has. subst (λ ps. Contains ps q) (sym (named_path lines line full)) (elim (has_with path q entries (has_contained (values_of (with path entries)) q has)) [ inl old ↦ Contains-append_left (filter_map named lines) (path ∷ []) q ((lists.listed.members q).0 (contained_had (values_of entries) q old)) | inr new ↦ Contains-append_right (filter_map named lines) (path ∷ []) q (contained_had (path ∷ []) q (inl new)) ]),
-          λ has. contained_had (values_of (with path entries)) q (elim (Contains-push_cases (filter_map named lines) path q (subst (λ ps. Contains ps q) (named_path lines line full) has)) [ inl old ↦ had_with path q listed entries lists.keyed (has_contained (values_of entries) q ((lists.listed.members q).1 old)) | inr new ↦ subst (Has (values_of (with path entries))) new (has_new path entries) ]),
+          λ has. subst (λ ps. Contains ps q) (sym (named_path lines line full)) (elim (has_with path q entries (has_contained (values_of (with path entries)) q has)) [ inl old ↦ Contains-append_left (filter_map listed_path lines) (path ∷ []) q ((lists.listed.members q).0 (contained_had (values_of entries) q old)) | inr new ↦ Contains-append_right (filter_map listed_path lines) (path ∷ []) q (contained_had (path ∷ []) q (inl new)) ]),
+          λ has. contained_had (values_of (with path entries)) q (elim (Contains-push_cases (filter_map listed_path lines) path q (subst (λ ps. Contains ps q) (named_path lines line full) has)) [ inl old ↦ had_with path q listed entries lists.keyed (has_contained (values_of entries) q ((lists.listed.members q).1 old)) | inr new ↦ subst (Has (values_of (with path entries))) new (has_new path entries) ]),
         );
       };
     }
@@ -177,14 +177,14 @@ holds_none = record {
 pub files_held : (lines : List (List ℕ)) (entries : Entries) → Holds lines entries → AreFiles lines (values_of entries)
 files_held lines entries holds = record { listed = holds.lists.listed; few = holds.few }
 
-counted_ok : (at : ℕ) (entries new : Entries) → counted at entries ≡ Ok new → (entries ≡ new) × (length entries ≤ 2 ^ 14)
+counted_ok : (at : ℕ) (entries new : Entries) → counted_entries at entries ≡ Ok new → (entries ≡ new) × (length entries ≤ 2 ^ 14)
 counted_ok at entries new = by (nat_le (length entries) (2 ^ 14)) refl
   where
     by : (few : Bool) → nat_le (length entries) (2 ^ 14) ≡ few → (if few then Ok entries else Err (fault_on TooMany (line_place at) (codes "files"))) ≡ Ok new → (entries ≡ new) × (length entries ≤ 2 ^ 14)
     by true few is = (cc, leb-true (length entries) (2 ^ 14) few)
     by false many is = absurd (cc)
 
-counted_err : (at : ℕ) (entries : Entries) (fault : Fault) → counted at entries ≡ Err fault → (2 ^ 14 < length entries) × (fault ≡ fault_on TooMany (line_place at) (codes "files"))
+counted_err : (at : ℕ) (entries : Entries) (fault : Fault) → counted_entries at entries ≡ Err fault → (2 ^ 14 < length entries) × (fault ≡ fault_on TooMany (line_place at) (codes "files"))
 counted_err at entries fault = by (nat_le (length entries) (2 ^ 14)) refl
   where
     by : (few : Bool) → nat_le (length entries) (2 ^ 14) ≡ few → (if few then Ok entries else Err (fault_on TooMany (line_place at) (codes "files"))) ≡ Err fault → (2 ^ 14 < length entries) × (fault ≡ fault_on TooMany (line_place at) (codes "files"))
@@ -194,18 +194,18 @@ counted_err at entries fault = by (nat_le (length entries) (2 ^ 14)) refl
 -- a line that is taken
 
 abbrev line_by : (at : ℕ) (entries : Entries) (line : List ℕ) (blank listed : Bool) → Result Entries Fault
-line_by at entries line blank listed = if blank then Ok entries else if listed then with_path at entries (undotted line) else Err (fault_on BadList (line_place at) line)
+line_by at entries line blank listed = if blank then Ok entries else if listed then with_path at entries (without_dots line) else Err (fault_on BadList (line_place at) line)
 
 pub holds_more : (lines : List (List ℕ)) (at : ℕ) (entries new : Entries) (line : List ℕ) → Holds lines entries → with_line at entries line ≡ Ok new → Holds (lines ++ line ∷ []) new
-holds_more lines at entries new line holds = by (is_blank line) refl (is_listed (undotted line)) refl
+holds_more lines at entries new line holds = by (is_blank line) refl (is_listed (without_dots line)) refl
   where
-    by : (blank : Bool) → is_blank line ≡ blank → (listed : Bool) → is_listed (undotted line) ≡ listed → line_by at entries line blank listed ≡ Ok new → Holds (lines ++ line ∷ []) new
+    by : (blank : Bool) → is_blank line ≡ blank → (listed : Bool) → is_listed (without_dots line) ≡ listed → line_by at entries line blank listed ≡ Ok new → Holds (lines ++ line ∷ []) new
     by true blank listed is taken = subst (Holds (lines ++ line ∷ [])) (cc) (record { lists = with_blank lines entries line blank holds.lists; few = holds.few })
     by false full true listed taken =
-        let counts = counted_ok at (with (undotted line) entries) new taken in
+        let counts = counted_ok at (with (without_dots line) entries) new taken in
         subst (Holds (lines ++ line ∷ [])) counts.0 (record {
           lists = with_listed lines entries line full listed holds.lists;
-          few = omega (arith, counts.1, length-values_of (with (undotted line) entries));
+          few = omega (arith, counts.1, length-values_of (with (without_dots line) entries));
         })
     by false full false bad taken = absurd (cc)
 
@@ -215,21 +215,21 @@ same_line : (lines : List (List ℕ)) (at : ℕ) (line : List ℕ) → at < leng
 same_line lines at line below is = is ∙ get_or_default lines at line [] below
 
 pub wrong_line : (lines : List (List ℕ)) (at : ℕ) (entries : Entries) (line : List ℕ) (fault : Fault) → at < length lines → line ≡ get_or lines at line → Holds (take at lines) entries → with_line at entries line ≡ Err fault → IsWrongAt lines at fault
-wrong_line lines at entries line fault below here holds = by (is_blank line) refl (is_listed (undotted line)) refl
+wrong_line lines at entries line fault below here holds = by (is_blank line) refl (is_listed (without_dots line)) refl
   where
-    by : (blank : Bool) → is_blank line ≡ blank → (listed : Bool) → is_listed (undotted line) ≡ listed → line_by at entries line blank listed ≡ Err fault → IsWrongAt lines at fault
+    by : (blank : Bool) → is_blank line ≡ blank → (listed : Bool) → is_listed (without_dots line) ≡ listed → line_by at entries line blank listed ≡ Err fault → IsWrongAt lines at fault
     by true blank listed is taken = absurd (cc)
     by false full true listed taken =
-        let counts = counted_err at (with (undotted line) entries) fault taken in
+        let counts = counted_err at (with (without_dots line) entries) fault taken in
         let front : take at lines ++ line ∷ [] ≡ take (at + 1) lines = sym (take_more lines at [] below ∙ ap (λ l. take at lines ++ l ∷ []) (sym (same_line lines at line below here))) in
-        let lists : Lists (take (at + 1) lines) (with (undotted line) entries) = subst (λ ls. Lists ls (with (undotted line) entries)) front (with_listed (take at lines) entries line full listed holds.lists) in
-        inr (values_of (with (undotted line) entries), lists.listed, omega (arith, counts.0, length-values_of (with (undotted line) entries)), counts.1)
+        let lists : Lists (take (at + 1) lines) (with (without_dots line) entries) = subst (λ ls. Lists ls (with (without_dots line) entries)) front (with_listed (take at lines) entries line full listed holds.lists) in
+        inr (values_of (with (without_dots line) entries), lists.listed, omega (arith, counts.0, length-values_of (with (without_dots line) entries)), counts.1)
     by false full false bad taken = inl (
-      ap is_sound (sym (same_line lines at line below here)) ∙ or_from (is_blank line) (is_listed (undotted line)) full bad,
+      ap is_sound (sym (same_line lines at line below here)) ∙ or_from (is_blank line) (is_listed (without_dots line)) full bad,
       (let is : fault ≡ fault_on BadList (line_place at) line = cc in is) ∙ ap (fault_on BadList (line_place at)) (same_line lines at line below here),
     )
 
-pub first_fault : (lines : List (List ℕ)) (at : ℕ) (entries : Entries) (line : List ℕ) (fault : Fault) → at < length lines → line ≡ get_or lines at line → Holds (take at lines) entries → with_line at entries line ≡ Err fault → IsFirstFault lines fault
+pub first_fault : (lines : List (List ℕ)) (at : ℕ) (entries : Entries) (line : List ℕ) (fault : Fault) → at < length lines → line ≡ get_or lines at line → Holds (take at lines) entries → with_line at entries line ≡ Err fault → IsFirstListFault lines fault
 first_fault lines at entries line fault below here holds refused = record {
   at = at;
   inside = below;

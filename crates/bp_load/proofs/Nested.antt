@@ -2,7 +2,7 @@
 use Rattle.std.proofs.Common.{◌≡◌, ℕ, ◌≤◌, Bool, true, false, cond, List, [], ◌∷◌, ◌++◌, map, refl, ap, sym, subst, ◌∙◌, arith}
 use Rattle.std.specs.Prelude.{reverse, Ok}
 use Rattle.bp_faults.specs.Answers.{then_do}
-use Rattle.bp_values.specs.Meaning.{evaluated}
+use Rattle.bp_values.specs.Meaning.{file_evaluation}
 use Rattle.bp_load.proofs.Turns.{with_file}
 use Rattle.std.proofs.lemmas.List.{take_all, reverse-append}
 use Rattle.bp_values.specs.declared.scope.Scope.{Scope}
@@ -10,19 +10,19 @@ use Rattle.bp_values.specs.Scopes.{Pairs, pairs_of, count_of, outer_pairs, HasOu
 use Rattle.bp_load.specs.declared.opened.Open.{Open}
 use Rattle.bp_load.specs.Directories.{is_above}
 use Rattle.bp_load.specs.Trees.{Placed}
-use Rattle.bp_load.specs.Opened.{Turn, turned, open_in, closed, stay_open, names_in, innermost, scope_in, AreNested}
+use Rattle.bp_load.specs.Opened.{Turn, next_turn, open_in, still_open, stay_open, names_in, innermost, scope_in, AreNested}
 
 -- all names of a scope
 pub whole : (s : Scope) → outer_pairs (count_of s) s ≡ pairs_of s
 whole s = take_all (count_of s) (pairs_of s) (omega arith)
 
 -- what stays open
-pub stays : (s : Scope) (d : List (List ℕ)) (os : List Open) → map (open_in s) (stay_open d os) ≡ closed d (map (open_in s) os)
+pub stays : (s : Scope) (d : List (List ℕ)) (os : List Open) → map (open_in s) (stay_open d os) ≡ still_open d (map (open_in s) os)
 stays s d [] = refl
 stays s d (o ∷ os) = by (is_above o.directory d) (stays s d os)
   where
-    by : (b : Bool) → map (open_in s) (stay_open d os) ≡ closed d (map (open_in s) os)
-        → map (open_in s) (cond b (o ∷ os) (stay_open d os)) ≡ cond b (map (open_in s) (o ∷ os)) (closed d (map (open_in s) os))
+    by : (b : Bool) → map (open_in s) (stay_open d os) ≡ still_open d (map (open_in s) os)
+        → map (open_in s) (cond b (o ∷ os) (stay_open d os)) ≡ cond b (map (open_in s) (o ∷ os)) (still_open d (map (open_in s) os))
     by true rest = refl
     by false rest = rest
 
@@ -85,16 +85,16 @@ module _ (s : Scope) (base n : ℕ) (pairs : Pairs) (os stay : List Open) (d : L
   inner : AreNested base n stay
   inner = subst (λ m. AreNested base m stay) (sym count) (innermost_nested base (count_of s) stay still)
 
-  finished : map (open_in s) stay ≡ closed d (map (open_in s) os)
+  finished : map (open_in s) stay ≡ still_open d (map (open_in s) os)
   finished = ap (map (open_in s)) closes ∙ stays s d os
 
   -- the file inherits the scope of the innermost
-  pub inherits : outer_pairs n s ≡ scope_in pairs (innermost (closed d (map (open_in s) os)))
+  pub inherits : outer_pairs n s ≡ scope_in pairs (innermost (still_open d (map (open_in s) os)))
   inherits = ap (λ m. outer_pairs m s) count ∙ innermost_scope s base pairs stay is_base ∙ ap (λ l. scope_in pairs (innermost l)) finished
 
   -- its own scope is the innermost then
   module _ (new : Scope) (o : Open) (all : List Open) (pushed : reverse all ≡ o ∷ stay) (names : o.names ≡ count_of new) (outer : HasOuter n s new) (grown : n ≤ count_of new) where
-    pub opened_more : map (open_in new) (reverse all) ≡ (o.directory, pairs_of new) ∷ closed d (map (open_in s) os)
+    pub opened_more : map (open_in new) (reverse all) ≡ (o.directory, pairs_of new) ∷ still_open d (map (open_in s) os)
     opened_more =
         ap (map (open_in new)) pushed
         ∙ (λ i. (o.directory, (ap (λ m. outer_pairs m new) names ∙ whole new) i) ∷ (same_opened s new base n stay inner outer ∙ finished) i)
@@ -108,6 +108,6 @@ module _ (s : Scope) (base n : ℕ) (pairs : Pairs) (os stay : List Open) (d : L
     base_more = outer base (base_within base n stay inner) ∙ is_base
 
 -- a file that inherits those pairs is evaluated
-pub turned_by : (base inherited : Pairs) (turn : Turn) (file : Placed) → inherited ≡ scope_in base (innermost (closed file.directory turn.opened))
-    → turned base turn file ≡ then_do (evaluated inherited file.defs) (λ values. Ok (with_file turn (closed file.directory turn.opened) file values))
-turned_by base inherited turn file is = ap (λ b. then_do (evaluated b file.defs) (λ values. Ok (with_file turn (closed file.directory turn.opened) file values))) (sym is)
+pub turned_by : (base inherited : Pairs) (turn : Turn) (file : Placed) → inherited ≡ scope_in base (innermost (still_open file.directory turn.opened))
+    → next_turn base turn file ≡ then_do (file_evaluation inherited file.defs) (λ values. Ok (with_file turn (still_open file.directory turn.opened) file values))
+turned_by base inherited turn file is = ap (λ b. then_do (file_evaluation b file.defs) (λ values. Ok (with_file turn (still_open file.directory turn.opened) file values))) (sym is)

@@ -11,7 +11,7 @@ use Rattle.bp_faults.specs.declared.kind.FaultKind.TheVariants.{BadList, TooMany
 use Rattle.bp_load.specs.Directories.{directories, directory_cmp}
 use Rattle.std.specs.Str.Lines.{lines}
 use Rattle.bp_load.proofs.AsTexts.{as_text_once}
-use Rattle.bp_load.specs.ListFile.{is_sound, named, line_place, AreListed, AreFiles, IsWrongAt, IsFirstFault, LinesMean}
+use Rattle.bp_load.specs.ListFile.{is_sound, listed_path, line_place, AreListed, AreFiles, IsWrongAt, IsFirstListFault, LinesMean}
 use Rattle.bp_load.proofs.Orders.{directories_total}
 use Rattle.bp_load.proofs.Members.{Has, has_contained, contained_had}
 use Rattle.bp_load.proofs.OneOrder.{same_ascending, no_more}
@@ -19,9 +19,9 @@ use Rattle.bp_load.specs.Laws.{OneList}
 
 -- no line is wrong where all lines list files
 
-named_in_front : (lines : List (List ℕ)) (n : ℕ) (q : List ℕ) → Contains (filter_map named (take n lines)) q → Contains (filter_map named lines) q
+named_in_front : (lines : List (List ℕ)) (n : ℕ) (q : List ℕ) → Contains (filter_map listed_path (take n lines)) q → Contains (filter_map listed_path lines) q
 named_in_front lines n q has =
-    subst (λ ps. Contains ps q) (sym (filter_map-append named (take n lines) (drop n lines)) ∙ ap (filter_map named) (take-append-drop n lines)) (Contains-append_left (filter_map named (take n lines)) (filter_map named (drop n lines)) q has)
+    subst (λ ps. Contains ps q) (sym (filter_map-append listed_path (take n lines) (drop n lines)) ∙ ap (filter_map listed_path) (take-append-drop n lines)) (Contains-append_left (filter_map listed_path (take n lines)) (filter_map listed_path (drop n lines)) q has)
 
 no_wrong : (lines paths : List (List ℕ)) (at : ℕ) (fault : Fault) → AreFiles lines paths → at < length lines → IsWrongAt lines at fault → ⊥
 no_wrong lines paths at fault files below (inl bad) = true≢false (sym (files.listed.sound at [] below) ∙ bad.0)
@@ -52,11 +52,11 @@ one_wrong lines at a b below (inl x) (inr y) = absurd (not_listed lines y.0 at b
 one_wrong lines at a b below (inr x) (inl y) = absurd (not_listed lines x.0 at below x.1 y.0)
 one_wrong lines at a b below (inr x) (inr y) = x.3 ∙ sym y.3
 
-not_behind : (lines : List (List ℕ)) (a b : Fault) (first : IsFirstFault lines a) (second : IsFirstFault lines b) → first.at < second.at → ⊥
+not_behind : (lines : List (List ℕ)) (a b : Fault) (first : IsFirstListFault lines a) (second : IsFirstListFault lines b) → first.at < second.at → ⊥
 not_behind lines a b first second before =
     no_wrong (take second.at lines) second.before first.at a second.files (omega (arith, second.inside, length-take second.at lines)) (wrong_in_front lines first.at second.at a before first.wrong)
 
-one_fault : (lines : List (List ℕ)) (a b : Fault) → IsFirstFault lines a → IsFirstFault lines b → a ≡ b
+one_fault : (lines : List (List ℕ)) (a b : Fault) → IsFirstListFault lines a → IsFirstListFault lines b → a ≡ b
 one_fault lines a b first second =
     ⊎_elim
     (λ same. one_wrong lines second.at a b second.inside (subst (λ k. IsWrongAt lines k a) same first.wrong) second.wrong)

@@ -4,7 +4,7 @@ use Rattle.std.specs.Prelude.{Result, Ok, Err}
 use Rattle.std.specs.Str.Lines.{lines}
 use Rattle.std.proofs.lemmas.List.{take_all, take_more, get_or_default}
 use Rattle.bp_faults.specs.declared.fault.Fault.{Fault}
-use Rattle.bp_load.specs.ListFile.{IsFirstFault, LinesMean}
+use Rattle.bp_load.specs.ListFile.{IsFirstListFault, LinesMean}
 use Rattle.bp_load.specs.Listing.{Entries, with_line}
 use Rattle.bp_load.specs.Laws.{SomeList}
 use Rattle.bp_load.proofs.Listing.{Holds, holds_none, holds_more, files_held, first_fault}
@@ -13,7 +13,7 @@ use Rattle.bp_load.proofs.AsTexts.{some_text}
 use Rattle.std.specs.Map.{values_of}
 
 abbrev Taken : List (List ℕ) → ℕ → Type 0
-Taken lines k = ((entries : Entries) × Holds (take k lines) entries) ⊎ ((fault : Fault) × IsFirstFault lines fault)
+Taken lines k = ((entries : Entries) × Holds (take k lines) entries) ⊎ ((fault : Fault) × IsFirstListFault lines fault)
 
 taken : (lines : List (List ℕ)) (k : ℕ) → k ≤ length lines → Taken lines k
 taken lines zero within = inl ([], holds_none)

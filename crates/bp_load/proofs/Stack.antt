@@ -10,7 +10,7 @@ use Rattle.std.proofs.lemmas.List.Elements.{filter-append}
 use Rattle.bp_values.specs.Scopes.{Pairs}
 use Rattle.bp_load.specs.Directories.{is_above, directory_cmp}
 use Rattle.bp_load.specs.Inherited.{Finished, nearer}
-use Rattle.bp_load.specs.Opened.{closed, innermost}
+use Rattle.bp_load.specs.Opened.{still_open, innermost}
 use Rattle.bp_load.proofs.Above.{above_trans, above_between, above_shorter}
 
 abbrev above : List (List ℕ) → List Finished → List Finished
@@ -22,7 +22,7 @@ Before d files = AllByRecursion (λ f. directory_cmp f.0 d ≡ Less) files
 
 -- what the open directories are, for any file that comes later
 pub record IsOpen (finished opened : List Finished) : Type 0 where
-  pub stay : (d : List (List ℕ)) → Before d finished → closed d opened ≡ reverse (above d finished)
+  pub stay : (d : List (List ℕ)) → Before d finished → still_open d opened ≡ reverse (above d finished)
   pub before : (d : List (List ℕ)) → Before d finished → Before d opened
 
 pub open_none : IsOpen [] []
@@ -36,19 +36,19 @@ not_above a b d first second apart = by (is_above a d) refl
     by false is = is
 
 -- closing for an earlier file closes nothing that stays for a later one
-closed_twice : (b d : List (List ℕ)) → directory_cmp b d ≡ Less → (opened : List Finished) → Before b opened → closed d (closed b opened) ≡ closed d opened
+closed_twice : (b d : List (List ℕ)) → directory_cmp b d ≡ Less → (opened : List Finished) → Before b opened → still_open d (still_open b opened) ≡ still_open d opened
 closed_twice b d later [] before = refl
 closed_twice b d later (o ∷ opened) before = by (is_above o.0 b) refl (closed_twice b d later opened before.1)
   where
-    by : (stays : Bool) → is_above o.0 b ≡ stays → closed d (closed b opened) ≡ closed d opened → closed d (if stays then o ∷ opened else closed b opened) ≡ closed d (o ∷ opened)
+    by : (stays : Bool) → is_above o.0 b ≡ stays → still_open d (still_open b opened) ≡ still_open d opened → still_open d (if stays then o ∷ opened else still_open b opened) ≡ still_open d (o ∷ opened)
     by true is rest = refl
-    by false is rest = rest ∙ sym (ap (λ (t : Bool). if t then o ∷ opened else closed d opened) (not_above o.0 b d before.0 later is))
+    by false is rest = rest ∙ sym (ap (λ (t : Bool). if t then o ∷ opened else still_open d opened) (not_above o.0 b d before.0 later is))
 
-before_closed : (b d : List (List ℕ)) (opened : List Finished) → Before d opened → Before d (closed b opened)
+before_closed : (b d : List (List ℕ)) (opened : List Finished) → Before d opened → Before d (still_open b opened)
 before_closed b d [] before = tt
 before_closed b d (o ∷ opened) before = by (is_above o.0 b) (before_closed b d opened before.1)
   where
-    by : (stays : Bool) → Before d (closed b opened) → Before d (if stays then o ∷ opened else closed b opened)
+    by : (stays : Bool) → Before d (still_open b opened) → Before d (if stays then o ∷ opened else still_open b opened)
     by true rest = before
     by false rest = rest
 
@@ -73,20 +73,20 @@ before_split d (g ∷ files) f before = let rest = before_split d files f before
 reverse_push : (files : List Finished) (f : Finished) → reverse (files ++ f ∷ []) ≡ f ∷ reverse files
 reverse_push files f = reverse-append files (f ∷ [])
 
-pub open_more : (finished opened : List Finished) (b : List (List ℕ)) (scope : Pairs) → IsOpen finished opened → Before b finished → IsOpen (finished ++ (b, scope) ∷ []) ((b, scope) ∷ closed b opened)
+pub open_more : (finished opened : List Finished) (b : List (List ℕ)) (scope : Pairs) → IsOpen finished opened → Before b finished → IsOpen (finished ++ (b, scope) ∷ []) ((b, scope) ∷ still_open b opened)
 open_more finished opened b scope is earlier = record {
   stay = λ d before. let split = before_split d finished (b, scope) before in by d split.0 split.1 (is_above b d) refl;
   before = λ d before. let split = before_split d finished (b, scope) before in (split.1, before_closed b d opened (is.before d split.0));
 }
   where
-    by : (d : List (List ℕ)) → Before d finished → directory_cmp b d ≡ Less → (below : Bool) → is_above b d ≡ below → closed d ((b, scope) ∷ closed b opened) ≡ reverse (above d (finished ++ (b, scope) ∷ []))
+    by : (d : List (List ℕ)) → Before d finished → directory_cmp b d ≡ Less → (below : Bool) → is_above b d ≡ below → still_open d ((b, scope) ∷ still_open b opened) ≡ reverse (above d (finished ++ (b, scope) ∷ []))
     by d before later true below =
-        ap (λ (t : Bool). if t then (b, scope) ∷ closed b opened else closed d (closed b opened)) below
+        ap (λ (t : Bool). if t then (b, scope) ∷ still_open b opened else still_open d (still_open b opened)) below
         ∙ ap (λ rest. (b, scope) ∷ rest) (is.stay b earlier ∙ ap reverse (above_same b d later below finished earlier))
         ∙ sym (reverse_push (above d finished) (b, scope))
         ∙ ap reverse (sym (filter-append (λ f. is_above f.0 d) finished ((b, scope) ∷ []) ∙ ap (λ t. above d finished ++ cond t ((b, scope) ∷ []) []) below))
     by d before later false below =
-        ap (λ (t : Bool). if t then (b, scope) ∷ closed b opened else closed d (closed b opened)) below
+        ap (λ (t : Bool). if t then (b, scope) ∷ still_open b opened else still_open d (still_open b opened)) below
         ∙ closed_twice b d later opened (is.before b earlier)
         ∙ is.stay d before
         ∙ ap reverse (sym (filter-append (λ f. is_above f.0 d) finished ((b, scope) ∷ []) ∙ ap (λ t. above d finished ++ cond t ((b, scope) ∷ []) []) below ∙ append-nil (above d finished)))

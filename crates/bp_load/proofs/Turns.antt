@@ -11,11 +11,11 @@ use Rattle.std.proofs.lemmas.List.Kept.{IsStrictlySortedBy-filter}
 use Rattle.bp_faults.specs.declared.fault.Fault.{Fault}
 use Rattle.bp_faults.specs.Answers.{then_do}
 use Rattle.bp_values.specs.Scopes.{Pairs}
-use Rattle.bp_values.specs.Meaning.{Raw, evaluated}
+use Rattle.bp_values.specs.Meaning.{Raw, file_evaluation}
 use Rattle.bp_load.specs.Directories.{is_above, directory_cmp}
 use Rattle.bp_load.specs.Trees.{Placed}
-use Rattle.bp_load.specs.Inherited.{Finished, nearer, nearest, in_directory}
-use Rattle.bp_load.specs.Opened.{Turn, scope_in, evaluated_in, closed, innermost, turned, all_turned, no_turn}
+use Rattle.bp_load.specs.Inherited.{Finished, nearer, nearest_file, in_directory}
+use Rattle.bp_load.specs.Opened.{Turn, scope_in, evaluated_in, still_open, innermost, next_turn, all_turned, no_turn}
 use Rattle.bp_load.proofs.Stack.{Before, IsOpen, open_none, open_more, nearest_last}
 
 abbrev pub Modules : Type 0
@@ -65,7 +65,7 @@ nearest_of : (d : List (List ℕ)) (files : List Finished) → IsStrictlySortedB
 nearest_of d [] sorted all = refl
 nearest_of d (f ∷ files) sorted all = nearest_last d f files sorted all
 
-inherits : (d : List (List ℕ)) (files opened : List Finished) → IsStrictlySortedBy directory_cmp (map (λ f. f.0) files) → IsOpen files opened → Before d files → nearest d files ≡ innermost (closed d opened)
+inherits : (d : List (List ℕ)) (files opened : List Finished) → IsStrictlySortedBy directory_cmp (map (λ f. f.0) files) → IsOpen files opened → Before d files → nearest_file d files ≡ innermost (still_open d opened)
 inherits d files opened sorted is before =
     nearest_of d (filter (λ f. is_above f.0 d) files) (IsStrictlySortedBy-filter file_cmp (λ f. is_above f.0 d) files (sorted_files files sorted)) (all_above d files)
     ∙ ap innermost (sym (is.stay d before))
@@ -100,11 +100,11 @@ module _ (base : Pairs) where
       → modules_of (all_turned base turn files) ≡ goes_on turn.modules (evaluated_in base finished files)
 
   one_more : (file : Placed) (files : List Placed) → AllTurn files → AllTurn (file ∷ files)
-  one_more file files more finished turn is sorted = same (evaluated (scope_in base (innermost stay)) file.defs)
-      ∙ ap (λ scope. by_nearest (evaluated (scope_in base scope) file.defs)) (sym (inherits file.directory finished turn.opened split.1 is before))
+  one_more file files more finished turn is sorted = same (file_evaluation (scope_in base (innermost stay)) file.defs)
+      ∙ ap (λ scope. by_nearest (file_evaluation (scope_in base scope) file.defs)) (sym (inherits file.directory finished turn.opened split.1 is before))
     where
       stay : List Finished
-      stay = closed file.directory turn.opened
+      stay = still_open file.directory turn.opened
 
       split : AllByRecursion (λ x. directory_cmp x file.directory ≡ Less) (map (λ f. f.0) finished) × IsStrictlySortedBy directory_cmp (map (λ f. f.0) finished)
       split = keys_split (map (λ f. f.0) finished) (directories_of files) file.directory sorted
@@ -146,11 +146,11 @@ from_here : (all : List Placed) (i : ℕ) (file : Placed) → i < length all →
 from_here all i file within is = drop-cons all i file within ∙ ap (λ f. f ∷ drop (suc i) all) (sym is) ∙ ap (λ n. file ∷ drop n all) (one_behind i)
 
 module _ (base : Pairs) (all : List Placed) (i : ℕ) (turn : Turn) (file : Placed) (within : i < length all) (here : file ≡ get_or all i file) (so_far : all_turned base no_turn all ≡ all_turned base turn (drop i all)) where
-  with_next : (next : Result Turn Fault) → turned base turn file ≡ next → all_turned base no_turn all ≡ then_do next (λ t. all_turned base t (drop (i + 1) all))
+  with_next : (next : Result Turn Fault) → next_turn base turn file ≡ next → all_turned base no_turn all ≡ then_do next (λ t. all_turned base t (drop (i + 1) all))
   with_next next is = so_far ∙ ap (all_turned base turn) (from_here all i file within here) ∙ ap (λ r. then_do r (λ t. all_turned base t (drop (i + 1) all))) is
 
-  pub turned_more : (new : Turn) → turned base turn file ≡ Ok new → all_turned base no_turn all ≡ all_turned base new (drop (i + 1) all)
+  pub turned_more : (new : Turn) → next_turn base turn file ≡ Ok new → all_turned base no_turn all ≡ all_turned base new (drop (i + 1) all)
   turned_more new is = with_next (Ok new) is
 
-  pub turned_fault : (fault : Fault) → turned base turn file ≡ Err fault → all_turned base no_turn all ≡ Err fault
+  pub turned_fault : (fault : Fault) → next_turn base turn file ≡ Err fault → all_turned base no_turn all ≡ Err fault
   turned_fault fault is = with_next (Err fault) is

@@ -7,7 +7,7 @@ use Rattle.bp_faults.specs.declared.fault.Fault.{Fault}
 use Rattle.bp_faults.specs.Answers.{then_do}
 use Rattle.bp_values.specs.declared.file.RawModule.{RawModule}
 use Rattle.bp_values.specs.Scopes.{Pairs}
-use Rattle.bp_values.specs.Meaning.{Raw, raw_of, evaluated}
+use Rattle.bp_values.specs.Meaning.{Raw, raw_of, file_evaluation}
 use Rattle.bp_load.specs.Directories.{is_above}
 use Rattle.bp_faults.specs.Phases.{Then}
 use Rattle.bp_load.specs.Trees.{Source, Placed, TreesMean}
@@ -23,8 +23,8 @@ nearer None file = Some file
 nearer (Some best) file = if nat_le (length best.0) (length file.0) then Some file else Some best
 
 -- The file in the nearest directory that is above this one or the same, if there is one.
-abbrev pub nearest : List (List ℕ) → List Finished → Option Finished
-nearest directory files = fold nearer None (filter (λ f. is_above f.0 directory) files)
+abbrev pub nearest_file : List (List ℕ) → List Finished → Option Finished
+nearest_file directory files = fold nearer None (filter (λ f. is_above f.0 directory) files)
 
 -- The final scope of a file, and the empty one where there is no file.
 abbrev pub scope_of : Option Finished → Pairs
@@ -33,8 +33,8 @@ scope_of (Some file) = file.1
 
 -- A file inherits the final scope of the file in its nearest ancestor directory that has one. Of the files
 -- before it in file order none stands in its own directory, and all of its ancestors' stand there.
-abbrev pub inherited : List (List ℕ) → List Finished → Pairs
-inherited directory files = scope_of (nearest directory files)
+abbrev pub inherited_scope : List (List ℕ) → List Finished → Pairs
+inherited_scope directory files = scope_of (nearest_file directory files)
 
 -- Modules, each with the directory of its file.
 abbrev pub in_directory : List ℕ → List Raw → List (List ℕ × Raw)
@@ -44,7 +44,7 @@ in_directory dir modules = map (λ m. (dir, m)) modules
 abbrev pub all_evaluated : List Finished → List Placed → Result (List (List ℕ × Raw)) Fault
 all_evaluated finished [] = Ok []
 all_evaluated finished (file ∷ files) =
-    then_do (evaluated (inherited file.directory finished) file.defs)
+    then_do (file_evaluation (inherited_scope file.directory finished) file.defs)
     (λ values. then_do (all_evaluated (finished ++ (file.directory, values.1) ∷ []) files)
     (λ modules. Ok (in_directory file.dir values.0 ++ modules)))
 

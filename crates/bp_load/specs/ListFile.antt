@@ -21,10 +21,10 @@ abbrev pub is_blank : List ℕ → Bool
 is_blank line = list_all (λ b. (b == 32) || (b == 9)) line
 
 -- All leading `./` are dropped.
-abbrev pub undotted : List ℕ → List ℕ
-undotted [] = []
-undotted (a ∷ []) = a ∷ []
-undotted (a ∷ b ∷ rest) = if (a == 46) && (b == 47) then undotted rest else a ∷ b ∷ rest
+abbrev pub without_dots : List ℕ → List ℕ
+without_dots [] = []
+without_dots (a ∷ []) = a ∷ []
+without_dots (a ∷ b ∷ rest) = if (a == 46) && (b == 47) then without_dots rest else a ∷ b ∷ rest
 
 -- The last component of a path.
 abbrev pub file_name : List ℕ → List ℕ
@@ -37,17 +37,17 @@ is_listed path =
 
 -- A line is sound where it is blank, or what it names may be listed.
 abbrev pub is_sound : List ℕ → Bool
-is_sound line = is_blank line || is_listed (undotted line)
+is_sound line = is_blank line || is_listed (without_dots line)
 
 -- What a line names.
-abbrev pub named : List ℕ → Option (List ℕ)
-named line = if is_blank line then None else Some (undotted line)
+abbrev pub listed_path : List ℕ → Option (List ℕ)
+listed_path line = if is_blank line then None else Some (without_dots line)
 
 -- The paths are those that the lines name, each once, in file order.
 pub record AreListed (lines paths : List (List ℕ)) : Type 0 where
   pub sound : All (λ line. IsTrue (is_sound line)) lines
   pub order : AreInFileOrder paths
-  pub members : (path : List ℕ) → Contains paths path ↔ Contains (filter_map named lines) path
+  pub members : (path : List ℕ) → Contains paths path ↔ Contains (filter_map listed_path lines) path
 
 -- The place of the line at an index, which is its start.
 abbrev pub line_place : ℕ → Place
@@ -67,7 +67,7 @@ pub record AreFiles (lines paths : List (List ℕ)) : Type 0 where
   pub few : length paths ≤ MOST_FILES
 
 -- The first fault: the lines before it list files, and its line is wrong.
-pub record IsFirstFault (lines : List (List ℕ)) (fault : Fault) : Type 0 where
+pub record IsFirstListFault (lines : List (List ℕ)) (fault : Fault) : Type 0 where
   pub at : ℕ
   pub inside : at < length lines
   pub before : List (List ℕ)
@@ -77,7 +77,7 @@ pub record IsFirstFault (lines : List (List ℕ)) (fault : Fault) : Type 0 where
 -- What the lines of a list file mean: the paths of its files in file order, or its first fault.
 abbrev pub LinesMean : List (List ℕ) → Result (List (List ℕ)) Fault → Type 0
 LinesMean lines (Ok paths) = AreFiles lines paths
-LinesMean lines (Err fault) = IsFirstFault lines fault
+LinesMean lines (Err fault) = IsFirstListFault lines fault
 
 -- What a list file means: the paths of its files in file order, or its first fault. Lines end with LF, and the
 -- last may lack it; one CR before LF is no part of the line.

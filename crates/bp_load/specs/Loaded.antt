@@ -12,7 +12,7 @@ use Rattle.bp_names.specs.Meaning.{knows}
 use Rattle.bp_props.specs.declared.given.Given.{Given}
 use Rattle.bp_props.specs.declared.module.Module.{Module}
 use Rattle.bp_values.specs.Meaning.{Raw}
-use Rattle.property_tables.specs.Meaning.{typed}
+use Rattle.property_tables.specs.Meaning.{typed_module}
 use Rattle.bp_faults.specs.Phases.{Then}
 use Rattle.bp_load.specs.Trees.{Source}
 use Rattle.bp_load.specs.Inherited.{RawMean}
@@ -20,7 +20,8 @@ use Rattle.bp_load.specs.Inherited.{RawMean}
 -- The phase of typing: every module in turn. One that is typed as nothing is dropped.
 abbrev pub all_typed : List (List ℕ × Raw) → Result (List Module) Fault
 all_typed [] = Ok []
-all_typed (m ∷ ms) = then_do (typed m.1 m.0) (λ made. then_do (all_typed ms) (λ more. Ok (option_to_list made ++ more)))
+all_typed (m ∷ ms) =
+    then_do (typed_module m.1 m.0) (λ made. then_do (all_typed ms) (λ more. Ok (option_to_list made ++ more)))
 
 -- The place of the entry that gives a module its name, and the module's own place where none does.
 abbrev pub name_place : Place → Option (Given (List ℕ)) → Place
@@ -28,19 +29,19 @@ name_place at None = at
 name_place at (Some name) = name.at
 
 -- Some module has that name.
-abbrev pub is_named : List ℕ → List Module → Bool
-is_named name modules = knows (map (λ (m : Module). m.name) modules) name
+abbrev pub has_module_named : List ℕ → List Module → Bool
+has_module_named name modules = knows (map (λ (m : Module). m.name) modules) name
 
 -- A module behind so many others is first counted, and then it matters whether its name was seen.
-abbrev pub tested : ℕ → Bool → Module → Result Unit Fault
-tested count seen m =
+abbrev pub name_check : ℕ → Bool → Module → Result Unit Fault
+name_check count seen m =
     if nat_le MOST_MODULES count then Err (fault_on TooMany m.at (codes "modules"))
     else if seen then Err (fault_on DuplicateName (name_place m.at m.props.name) m.name)
     else Ok tt
 
 -- A module is counted behind those before it, and its name is compared with theirs.
 abbrev pub name_tested : List Module → Module → Result Unit Fault
-name_tested before m = tested (length before) (is_named m.name before) m
+name_tested before m = name_check (length before) (has_module_named m.name before) m
 
 -- The phase of names: every module in turn, behind those before it.
 abbrev pub names_tested : List Module → List Module → Result Unit Fault

@@ -4,13 +4,13 @@ use Rattle.std.specs.Prelude.{if◌then◌else◌}
 use Rattle.bp_faults.specs.declared.fault.Fault.{Fault}
 use Rattle.bp_faults.specs.Answers.{then_do}
 use Rattle.bp_values.specs.Scopes.{Pairs, count_of, outer_pairs}
-use Rattle.bp_values.specs.Meaning.{Raw, evaluated}
+use Rattle.bp_values.specs.Meaning.{Raw, file_evaluation}
 use Rattle.bp_values.specs.declared.scope.Scope.{Scope}
 use Rattle.bp_load.specs.declared.opened.Open.{Open}
 use Rattle.bp_load.specs.declared.opened.Evaluation.{Evaluation}
 use Rattle.bp_load.specs.Directories.{is_above}
 use Rattle.bp_load.specs.Trees.{Placed}
-use Rattle.bp_load.specs.Inherited.{Finished, nearest, in_directory, placed_raw}
+use Rattle.bp_load.specs.Inherited.{Finished, nearest_file, in_directory, placed_raw}
 
 -- The scope of a file, and the base where there is none.
 abbrev pub scope_in : Pairs → Option Finished → Pairs
@@ -22,7 +22,7 @@ scope_in base (Some file) = file.1
 abbrev pub evaluated_in : Pairs → List Finished → List Placed → Result (List (List ℕ × Raw)) Fault
 evaluated_in base finished [] = Ok []
 evaluated_in base finished (file ∷ files) =
-    then_do (evaluated (scope_in base (nearest file.directory finished)) file.defs)
+    then_do (file_evaluation (scope_in base (nearest_file file.directory finished)) file.defs)
     (λ values. then_do (evaluated_in base (finished ++ (file.directory, values.1) ∷ []) files)
     (λ modules. Ok (in_directory file.dir values.0 ++ modules)))
 
@@ -40,9 +40,9 @@ abbrev pub turn_of : Evaluation → Turn
 turn_of e = record { opened = map (open_in e.scope) (reverse e.opened.items); modules = map placed_raw e.modules.items }
 
 -- What stays open for a file: from the innermost outwards, directories that aren't above the file's are closed.
-abbrev pub closed : List (List ℕ) → List Finished → List Finished
-closed directory [] = []
-closed directory (o ∷ more) = if is_above o.0 directory then o ∷ more else closed directory more
+abbrev pub still_open : List (List ℕ) → List Finished → List Finished
+still_open directory [] = []
+still_open directory (o ∷ more) = if is_above o.0 directory then o ∷ more else still_open directory more
 
 -- The same of directories with their numbers of names.
 abbrev pub stay_open : List (List ℕ) → List Open → List Open
@@ -72,18 +72,18 @@ innermost (o ∷ more) = Some o
 -- A file is evaluated in the scope of the innermost directory that stays open, and opens its own.
 abbrev pub with_values : Pairs → Turn → List Finished → Placed → Result Turn Fault
 with_values base turn stay file =
-    then_do (evaluated (scope_in base (innermost stay)) file.defs)
+    then_do (file_evaluation (scope_in base (innermost stay)) file.defs)
     (λ values. Ok
     (record { opened = (file.directory, values.1) ∷ stay; modules = turn.modules ++ in_directory file.dir values.0 }))
 
 -- One file more is evaluated.
-abbrev pub turned : Pairs → Turn → Placed → Result Turn Fault
-turned base turn file = with_values base turn (closed file.directory turn.opened) file
+abbrev pub next_turn : Pairs → Turn → Placed → Result Turn Fault
+next_turn base turn file = with_values base turn (still_open file.directory turn.opened) file
 
 -- The files are evaluated in turn.
 abbrev pub all_turned : Pairs → Turn → List Placed → Result Turn Fault
 all_turned base turn [] = Ok turn
-all_turned base turn (file ∷ files) = then_do (turned base turn file) (λ next. all_turned base next files)
+all_turned base turn (file ∷ files) = then_do (next_turn base turn file) (λ next. all_turned base next files)
 
 -- No directory is open yet, and there are no modules.
 abbrev pub no_turn : Turn

@@ -16,8 +16,8 @@ abbrev pub Source : Type 0
 Source = List ℕ × List ℕ
 
 -- How contracts see the files that are handed in.
-abbrev pub sources : List (List ℕ × Vec ℕ Global) → List Source
-sources files = map (λ f. (f.0, f.1.items)) files
+abbrev pub sources_given : List (List ℕ × Vec ℕ Global) → List Source
+sources_given files = map (λ f. (f.0, f.1.items)) files
 
 -- A file as it is parsed: the components of its directory, the directory as a path, and its definitions.
 pub record Placed : Type 0 where
@@ -30,18 +30,18 @@ abbrev pub placed_of : Parsed → Placed
 placed_of p = record { directory = p.directory; dir = p.dir; defs = (tree_view p.tree).defs }
 
 -- The parsed file that a path and a tree make.
-abbrev pub placed : List ℕ → File → Placed
-placed path tree = record { directory = directories path; dir = directory_of path; defs = tree.defs }
+abbrev pub placed_file : List ℕ → File → Placed
+placed_file path tree = record { directory = directories path; dir = directory_of path; defs = tree.defs }
 
 -- What a text means, by the number of its file: first its tokens, then their tree.
-abbrev pub TextMeans : ℕ → List ℕ → Result File Fault → Type 0
-TextMeans file text outcome = Then (LexMeans file text) (ParseMeans text) outcome
+abbrev pub SourceTextMeans : ℕ → List ℕ → Result File Fault → Type 0
+SourceTextMeans file text outcome = Then (LexMeans file text) (ParseMeans text) outcome
 
 -- What a file means, by its number.
-abbrev pub FileMeans : ℕ → Source → Result Placed Fault → Type 0
-FileMeans file source outcome =
-    Then (AsText file source.1 (TextMeans file source.1)) (λ tree o. Ok (placed source.0 tree) ≡ o) outcome
+abbrev pub SourceFileMeans : ℕ → Source → Result Placed Fault → Type 0
+SourceFileMeans file source outcome =
+    Then (AsText file source.1 (SourceTextMeans file source.1)) (λ tree o. Ok (placed_file source.0 tree) ≡ o) outcome
 
 -- What all files mean. The first has the number 1.
 abbrev pub TreesMean : List Source → Result (List Placed) Fault → Type 0
-TreesMean files outcome = Phase FileMeans 1 files outcome
+TreesMean files outcome = Phase SourceFileMeans 1 files outcome

@@ -1,5 +1,5 @@
 ghost use Rattle.std.specs.Prelude.{◌<◌, ◌≤◌};
-ghost use Rattle.bp_load.specs.Halves.{AreJoined};
+ghost use Rattle.bp_load.specs.Halves.{JoinMeans};
 
 use crate::LoadError;
 
@@ -17,7 +17,7 @@ pub fn joined<T: Drop>(
     front: Result<Vec<T>, LoadError>,
     back: Result<Vec<T>, LoadError>,
 ) -> Result<Vec<T>, LoadError>
-    ensures { AreJoined front back result }
+    ensures { JoinMeans front back result }
 {
     let mut all = front?;
     let mut rest = back?;

@@ -10,9 +10,9 @@ ghost use Rattle.bp_faults.specs.Faults.{fault_on};
 ghost use Rattle.bp_faults.specs.declared.kind.FaultKind.TheVariants.{BadList as BadListAs};
 ghost use Rattle.property_tables.specs.Paths.{parts};
 ghost use Rattle.bp_load.specs.Directories.{directory_cmp};
-ghost use Rattle.bp_load.specs.ListFile.{is_blank as blank, undotted as without_dots, file_name, is_listed, line_place};
+ghost use Rattle.bp_load.specs.ListFile.{is_blank as blank, without_dots, file_name, is_listed, line_place};
 ghost use Rattle.bp_load.specs.ListFile.{LinesMean, ListMeans};
-ghost use Rattle.bp_load.specs.Listing.{with_line, with_path, counted};
+ghost use Rattle.bp_load.specs.Listing.{with_line, with_path, counted_entries};
 
 use crate::LoadError;
 use crate::directory::Directory;

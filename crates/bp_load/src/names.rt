@@ -1,7 +1,7 @@
 ghost use Rattle.std.specs.Prelude.{◌≡◌, [], IfOk, OnOk};
 ghost use Rattle.bp_faults.specs.Answers.{Answers};
 ghost use Rattle.bp_faults.specs.Faults.{fault_on};
-ghost use Rattle.bp_load.specs.Loaded.{name_place as place_of_name, tested, names_tested};
+ghost use Rattle.bp_load.specs.Loaded.{name_place as place_of_name, name_check, names_tested};
 ghost use Rattle.bp_load.specs.Numbered.{numbered_names};
 ghost use Rattle.bp_names.specs.Meaning.{knows, Learns};
 
@@ -37,7 +37,7 @@ fn test_name<'a>(
     typed: &'a Module,
 ) -> Result<(), LoadError>
     ensures tested { Answers (λ done. done) result
-        (tested count (knows (numbered_names known.old) typed.now.name) typed.now) }
+        (name_check count (knows (numbered_names known.old) typed.now.name) typed.now) }
     ensures learned { OnOk result (Learns (numbered_names known.old) typed.now.name (numbered_names known.new)) }
 {
     if count >= MOST_MODULES {

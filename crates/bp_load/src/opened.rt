@@ -6,7 +6,7 @@ ghost use Rattle.bp_values.specs.Meaning.{raw_of};
 ghost use Rattle.bp_load.specs.Directories.{directory_cmp};
 ghost use Rattle.bp_load.specs.Trees.{placed_of};
 ghost use Rattle.bp_load.specs.Inherited.{in_directory, placed_raw, all_evaluated};
-ghost use Rattle.bp_load.specs.Opened.{turn_of, no_turn, stay_open, names_in, IsBelow, innermost, scope_in, turned};
+ghost use Rattle.bp_load.specs.Opened.{turn_of, no_turn, stay_open, names_in, IsBelow, innermost, scope_in, next_turn};
 ghost use Rattle.bp_load.specs.Opened.{all_turned, evaluated_in};
 
 use crate::LoadError;
@@ -97,7 +97,7 @@ fn evaluate_file(
     file: Parsed,
 ) -> Result<Evaluation, LoadError>
     ensures turn { (base : Pairs) → IsBelow base evaluation
-        → Answers turn_of result (turned base (turn_of evaluation) (placed_of file)) }
+        → Answers turn_of result (next_turn base (turn_of evaluation) (placed_of file)) }
     ensures below { (base : Pairs) → IsBelow base evaluation → IfOk result (IsBelow base) }
 {
     let Evaluation {

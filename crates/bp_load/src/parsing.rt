@@ -2,7 +2,7 @@ ghost use Rattle.std.specs.Prelude.{◌≡◌, ◌+◌, ◌<◌, ◌≤◌, ◌^
 ghost use Rattle.std.specs.List.{All};
 ghost use Rattle.std.specs.Thread.{IsSync};
 ghost use Rattle.bp_load.specs.Halves.{CanParse, TellsTrees};
-ghost use Rattle.bp_load.specs.Trees.{sources};
+ghost use Rattle.bp_load.specs.Trees.{sources_given};
 
 use crate::LoadError;
 use crate::halves::{joined, share};
@@ -17,8 +17,8 @@ const FEW_BYTES: usize = 65_536;
 /// The bytes of files in all.
 fn size(files: &[(Path, Vec<u8>)]) -> usize
     requires few { length files.now < 2 ^ 32 }
-    requires short { All (λ f. length f.1 ≤ 2 ^ 20) (sources files.now) }
-    ensures { result ≡ sum_by (λ f. length f.1) (sources files.now) }
+    requires short { All (λ f. length f.1 ≤ 2 ^ 20) (sources_given files.now) }
+    ensures { result ≡ sum_by (λ f. length f.1) (sources_given files.now) }
 {
     let mut bytes = 0;
     'files: for file in files {
@@ -31,7 +31,7 @@ fn size(files: &[(Path, Vec<u8>)]) -> usize
 /// other whose middle is before the cut.
 fn cut(files: &[(Path, Vec<u8>)], share: usize) -> usize
     requires few { length files.now < 2 ^ 32 }
-    requires short { All (λ f. length f.1 ≤ 2 ^ 20) (sources files.now) }
+    requires short { All (λ f. length f.1 ≤ 2 ^ 20) (sources_given files.now) }
     ensures { result ≤ length files.now }
 {
     let mut bytes = 0;

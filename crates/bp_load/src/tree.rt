@@ -2,7 +2,7 @@ ghost use Rattle.std.specs.Prelude.{◌≡◌, ◌≤◌, ◌^◌, length, map};
 ghost use Rattle.std.specs.List.{All};
 ghost use Rattle.bp_faults.specs.Answers.{Answers, Tells};
 ghost use Rattle.bp_load.specs.Directories.{AreInFileOrder};
-ghost use Rattle.bp_load.specs.Trees.{sources};
+ghost use Rattle.bp_load.specs.Trees.{sources_given};
 ghost use Rattle.bp_load.specs.Inherited.{placed_raw};
 ghost use Rattle.bp_load.specs.Loaded.{all_named, LoadMeans};
 
@@ -45,9 +45,9 @@ pub fn load<R: Threads + Sync>(
     workers: u32,
 ) -> Result<Vec<Module>, LoadError>
     requires few { length files.now ≤ 2 ^ 14 }
-    requires order { AreInFileOrder (map (λ f. f.0) (sources files.now)) }
-    requires short { All (λ f. length f.1 ≤ 2 ^ 20) (sources files.now) }
-    ensures { Tells (λ modules. modules.items) (LoadMeans (sources files.now)) result }
+    requires order { AreInFileOrder (map (λ f. f.0) (sources_given files.now)) }
+    requires short { All (λ f. length f.1 ≤ 2 ^ 20) (sources_given files.now) }
+    ensures { Tells (λ modules. modules.items) (LoadMeans (sources_given files.now)) result }
 {
     let parsed = parsed_by(rt, alloc, files, 1, workers)?;
     let raws = evaluate_by(rt, alloc, parsed, workers)?;

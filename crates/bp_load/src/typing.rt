@@ -3,7 +3,7 @@ ghost use Rattle.std.specs.Thread.{IsSync};
 ghost use Rattle.std.specs.Option.{option_to_list};
 ghost use Rattle.bp_faults.specs.Answers.{Answers, Leaves, then_do};
 ghost use Rattle.bp_values.specs.Meaning.{raw_of};
-ghost use Rattle.property_tables.specs.Meaning.{typed as typed_as};
+ghost use Rattle.property_tables.specs.Meaning.{typed_module as typed_as};
 ghost use Rattle.bp_load.specs.Inherited.{placed_raw};
 ghost use Rattle.bp_load.specs.Loaded.{all_typed};
 

@@ -19,7 +19,7 @@ use Rattle.bp_parser.specs.Words.{Word, as_word, all_words, is_comment, without_
 use Rattle.bp_parser.specs.Grammar.{IsMark, IsDefName, SpellsFile}
 use Rattle.bp_parser.specs.Flaws.{IsFirstFlaw}
 use Rattle.bp_parser.specs.Machine.{Part, an_expr, entries, a_value, stuck, StartsNot, StopsWith, DefsGoOn, DefsStopWith}
-use Rattle.bp_parser.specs.Meaning.{AreTokensOf, IsTree, file_of}
+use Rattle.bp_parser.specs.Meaning.{AreTokensOf, IsTree, number_of_file}
 use Rattle.bp_parser.specs.Reading.{AreTokens, IsTokenAt}
 use Rattle.bp_parser.proofs.Firsts.{same_head, nil_cons}
 use Rattle.bp_parser.proofs.Steps.{pass, pass_mark, def_stop}
@@ -92,7 +92,7 @@ kept_tokens have text ts list = All-filter (λ t. not (is_comment t.kind)) (λ t
 
 -- the meaning of a file
 
-pub tree_meant : (ws : List Word) (file : ℕ) (ds : List Definition) → file ≡ file_of ws → SpellsFile ds ws → stuck ws 0 [] ≡ None → IsTree ws (record { file = file; defs = ds })
+pub tree_meant : (ws : List Word) (file : ℕ) (ds : List Definition) → file ≡ number_of_file ws → SpellsFile ds ws → stuck ws 0 [] ≡ None → IsTree ws (record { file = file; defs = ds })
 tree_meant ws file ds same spelled whole = record { file = same; spelled = spelled; sound = no_flaw ws ds whole spelled }
 
 pub flaw_meant : (ws : List Word) (flaw : Flaw) (stop : Stop) → stop ≡ Bad flaw → DefsStopWith ws 0 stop → IsFirstFlaw ws flaw

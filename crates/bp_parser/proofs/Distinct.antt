@@ -13,7 +13,7 @@ use Rattle.bp_lexer.specs.declared.token.TokenKind.{TokenKind}
 use Rattle.bp_lexer.specs.declared.token.TokenKind.TheVariants.{Ident, Punct as Mark}
 use Rattle.bp_parser.specs.declared.flaw.Flaw.TheVariants.{Duplicate}
 use Rattle.bp_parser.specs.Trees.{Tree, Leaf, Items, Body, Sum, Trees, no_tree, tree_and, Terms, no_term, term_and, Entries, no_entry, entry_and, Definition, Assigns, Extends, Declares, File}
-use Rattle.bp_parser.specs.Names.{names_of, AreDistinct, HasDistinctNames, ItemsHaveDistinctNames, TermsHaveDistinctNames, ValuesHaveDistinctNames, DefinitionHasDistinctNames}
+use Rattle.bp_parser.specs.Names.{entry_names, AreDistinct, TreeHasDistinctNames, ItemsHaveDistinctNames, TermsHaveDistinctNames, ValuesHaveDistinctNames, DefinitionHasDistinctNames}
 use Rattle.bp_parser.specs.Words.{Word}
 use Rattle.bp_parser.specs.Grammar.{IsWord, IsMark, Spells, SpellsTerms, SpellsItems, SpellsMoreItems, SpellsEntries, SpellsMoreEntries, SpellsDef, SpellsFile}
 use Rattle.bp_parser.specs.Flaws.{SpellsFirst, IsRepeated}
@@ -44,7 +44,7 @@ record InMap (ws : List Word) (before : Entries) (here : List Word) : Type 0 whe
   spelled : SpellsFirst before inner here
 
 -- a name there is none of theirs
-new_name : (ws : List Word) (before : Entries) (here colon : List Word) (at : Place) (name : List ℕ) → AreFresh ws → EndWith ws here → InMap ws before here → IsWord Ident at name here colon → Contains (names_of before) name → ⊥
+new_name : (ws : List Word) (before : Entries) (here colon : List Word) (at : Place) (name : List ℕ) → AreFresh ws → EndWith ws here → InMap ws before here → IsWord Ident at name here colon → Contains (entry_names before) name → ⊥
 unfolding over_word
 new_name ws before here colon at name fresh end m s again =
     let w : Word = record { kind = Ident; at = at; text = name } in
@@ -67,8 +67,8 @@ new_name ws before here colon at name fresh end m s again =
 
 -- names that follow a name and are not among those up to it
 record AreNew (before es : Entries) : Type 0 where
-  distinct : AreDistinct (names_of es)
-  apart : (m : List ℕ) → Contains (names_of es) m → Contains (names_of before) m → ⊥
+  distinct : AreDistinct (entry_names es)
+  apart : (m : List ℕ) → Contains (entry_names es) m → Contains (entry_names before) m → ⊥
 
 no_names : (before : Entries) → AreNew before no_entry
 no_names before = record {
@@ -80,18 +80,18 @@ contained_cases : (name m : List ℕ) (names : List (List ℕ)) → {A : Type 0}
 contained_cases name m names (zero, within, same) here later = here same
 contained_cases name m names (suc k, within, same) here later = later (k, omega arith, same)
 
-name_then : (before : Entries) (name : List ℕ) (at : Place) (x : Tree) (es : Entries) → (Contains (names_of before) name → ⊥) → AreNew (and_then before name at x) es → AreNew before (entry_and name at x es)
+name_then : (before : Entries) (name : List ℕ) (at : Place) (x : Tree) (es : Entries) → (Contains (entry_names before) name → ⊥) → AreNew (and_then before name at x) es → AreNew before (entry_and name at x es)
 name_then before name at x es new more =
-    let known : names_of (and_then before name at x) ≡ names_of before ++ name ∷ [] = names_and_then before name at x in
+    let known : entry_names (and_then before name at x) ≡ entry_names before ++ name ∷ [] = names_and_then before name at x in
     record {
-      distinct = AllPairs-cons (λ a b. a ≢ b) name (names_of es)
+      distinct = AllPairs-cons (λ a b. a ≢ b) name (entry_names es)
           (λ k d within same. more.apart name
-          (subst (Contains (names_of es)) (sym same) (Contains-get_or (names_of es) k d within))
-          (subst (λ l. Contains l name) (sym known) (Contains-push (names_of before) name)))
+          (subst (Contains (entry_names es)) (sym same) (Contains-get_or (entry_names es) k d within))
+          (subst (λ l. Contains l name) (sym known) (Contains-push (entry_names before) name)))
           more.distinct;
-      apart = λ m c b. contained_cases name m (names_of es) c
-          (λ same. new (subst (Contains (names_of before)) (sym same) b))
-          (λ later. more.apart m later (subst (λ l. Contains l m) (sym known) (Contains-append_left (names_of before) (name ∷ []) m b)));
+      apart = λ m c b. contained_cases name m (entry_names es) c
+          (λ same. new (subst (Contains (entry_names before)) (sym same) b))
+          (λ later. more.apart m later (subst (λ l. Contains l m) (sym known) (Contains-append_left (entry_names before) (name ∷ []) m b)));
     }
 
 -- what is found of entries: their names and values, and where they end
@@ -104,7 +104,7 @@ abbrev Found : List Word → Type 0 → List Word → Type 0
 Found ws Names rest = Names × EndWith ws rest
 
 mutual
-  tree_names : (x : Tree) (ws ts rest : List Word) → AreFresh ws → EndWith ws ts → Spells x ts rest → Found ws (HasDistinctNames x) rest
+  tree_names : (x : Tree) (ws ts rest : List Word) → AreFresh ws → EndWith ws ts → Spells x ts rest → Found ws (TreeHasDistinctNames x) rest
   tree_names (Leaf at atom) ws ts rest fresh end s = (tt, over_word ws ts rest s.0 at s.1 end s.2)
   tree_names (Items at xs) ws ts rest fresh end s = items_names xs ws s.0 rest fresh (over_mark ws ts s.0 _ end (at, s.1)) s.2
   tree_names (Body at es) ws ts rest fresh end s =

@@ -12,9 +12,9 @@ use Rattle.bp_parser.specs.declared.flaw.Flaw.TheVariants.{Unexpected, TooNested
 use Rattle.bp_parser.specs.Trees.{Definition}
 use Rattle.bp_parser.specs.Words.{Word}
 use Rattle.bp_parser.specs.Grammar.{SpellsFile}
-use Rattle.bp_parser.specs.Flaws.{BeginsAFile, IsUnexpected, IsTooNested, IsRepeated, IsDuplicate, IsFlaw, IsFirstFlaw, index_of, opens}
-use Rattle.bp_parser.specs.Names.{names_of}
-use Rattle.bp_parser.specs.Machine.{Part, an_expr, more_terms, items, more_items, a_colon, entries, more_entries, a_value, behind_all, go_behind, stuck, flaw_at, name_flaw, bracket_flaw, has_name, depth_of, IsKnown}
+use Rattle.bp_parser.specs.Flaws.{BeginsAFile, IsUnexpected, IsTooNested, IsRepeated, IsDuplicate, IsFlaw, IsFirstFlaw, index_of, is_opening}
+use Rattle.bp_parser.specs.Names.{entry_names}
+use Rattle.bp_parser.specs.Machine.{Part, an_expr, more_terms, items, more_items, a_colon, entries, more_entries, a_value, behind_all, go_behind, stuck, flaw_at, name_flaw, bracket_flaw, is_among, depth_of, IsKnown}
 use Rattle.bp_parser.proofs.Firsts.{same_head, none_some, some_same}
 use Rattle.bp_parser.proofs.Language.{Lang, sound_all, CompletesAll, complete_all, spelling_all, ends}
 use Rattle.bp_parser.proofs.Runs.{Reaches, stay, also, shrinks, one_state, first, run_first, depth_before}
@@ -22,7 +22,7 @@ use Rattle.bp_parser.proofs.OneMeaning.{shorter, tree_or_unexpected, in_range}
 
 -- what a flaw says
 
-bracket_found : (ps : List Part) (k : TokenKind) (n : List ℕ) (at : ℕ) → opens k ≡ true → depth_of ps ≡ 64 → flaw_at ps k n at ≡ Some (TooNested at)
+bracket_found : (ps : List Part) (k : TokenKind) (n : List ℕ) (at : ℕ) → is_opening k ≡ true → depth_of ps ≡ 64 → flaw_at ps k n at ≡ Some (TooNested at)
 bracket_found ps (Mark OpenBrace) n at opening full = cond-true (depth_of ps == 64) _ _ (eq-eqb (depth_of ps) 64 full)
 bracket_found ps (Mark OpenBracket) n at opening full = cond-true (depth_of ps == 64) _ _ (eq-eqb (depth_of ps) 64 full)
 bracket_found ps _ n at opening full = absurd cc
@@ -38,13 +38,13 @@ name_says : (ps : List Part) (n : List ℕ) (at : ℕ) (e : Flaw) → name_flaw 
 name_says (more_terms ∷ ps) n at e says = name_says ps n at e says
 name_says (entries names ∷ ps) n at e says =
     ⊎_elim
-    (λ yes. sym (some_same (Duplicate at) e (sym (cond-true (has_name n names) _ _ yes) ∙ says)))
-    (λ other. none_some e (sym (cond-false (has_name n names) _ _ other) ∙ says))
-    (cases_Bool (has_name n names))
+    (λ yes. sym (some_same (Duplicate at) e (sym (cond-true (is_among n names) _ _ yes) ∙ says)))
+    (λ other. none_some e (sym (cond-false (is_among n names) _ _ other) ∙ says))
+    (cases_Bool (is_among n names))
 name_says _ n at e says = none_some e says
 
 abbrev Says : TokenKind → List Part → ℕ → Flaw → Type 0
-Says k ps at e = ((e ≡ TooNested at) × (opens k ≡ true) × (depth_of ps ≡ 64)) ⊎ (e ≡ Duplicate at)
+Says k ps at e = ((e ≡ TooNested at) × (is_opening k ≡ true) × (depth_of ps ≡ 64)) ⊎ (e ≡ Duplicate at)
 
 flaw_says : (ps : List Part) (k : TokenKind) (n : List ℕ) (at : ℕ) (e : Flaw) → flaw_at ps k n at ≡ Some e → Says k ps at e
 flaw_says ps Ident n at e says = inr (name_says ps n at e says)
@@ -267,7 +267,7 @@ earlier_beyond None i j le beyond = tt
 earlier_beyond (Some e) i j le beyond = omega (arith, beyond)
 
 -- the state before a name that stands behind entries of its map
-name_state : (ts : List Word) (r : Option Flaw) (j : ℕ) → stuck ts 0 [] ≡ r → Beyond r j → (f : IsRepeated ts j) → (more : List Part) × Reaches [] ts (entries (names_of f.before) ∷ more) (drop j ts)
+name_state : (ts : List Word) (r : Option Flaw) (j : ℕ) → stuck ts 0 [] ≡ r → Beyond r j → (f : IsRepeated ts j) → (more : List Part) × Reaches [] ts (entries (entry_names f.before) ∷ more) (drop j ts)
 name_state ts r j found beyond f =
     let v : Word = record { kind = Mark OpenBrace; at = f.opened.0; text = f.opened.1.0 } in
     let brace : drop f.brace ts ≡ v ∷ f.inner = f.opened.1.1 in
@@ -280,7 +280,7 @@ name_state ts r j found beyond f =
     let goes : behind_all b.state (Mark OpenBrace) f.opened.1.0 ≡ Some b.new = ap (λ (x : Word). behind_all b.state x.kind x.text) (sym eb.0) ∙ b.goes in
     let s = brace_state b.state f.opened.1.0 b.new goes in
     let to_brace : Reaches [] ts b.new f.inner = also ts [] b.state b.new (drop f.brace ts) f.inner b.reached (first (drop f.brace ts) f.inner v b.state b.new b.new f.inner brace goes (stay b.new f.inner)) in
-    (s.0, also ts [] b.new (entries (names_of f.before) ∷ s.0) f.inner (drop j ts) to_brace (subst (λ l. Reaches l f.inner (entries (names_of f.before) ∷ s.0) (drop j ts)) (sym s.1) (run_first f.before f.inner (drop j ts) s.0 [] f.spelled)))
+    (s.0, also ts [] b.new (entries (entry_names f.before) ∷ s.0) f.inner (drop j ts) to_brace (subst (λ l. Reaches l f.inner (entries (entry_names f.before) ∷ s.0) (drop j ts)) (sym s.1) (run_first f.before f.inner (drop j ts) s.0 [] f.spelled)))
 
 no_name : (ts : List Word) (r : Option Flaw) (j : ℕ) → stuck ts 0 [] ≡ r → Beyond r j → IsRepeated ts j → ⊥
 no_name ts r j found beyond f =
@@ -290,9 +290,9 @@ no_name ts r j found beyond f =
     let n = name_state ts r j found beyond f in
     let p = passed ts [] 0 r j found below (subst (Beyond r) zero' beyond) in
     let e = same_head p.word v _ _ (sym p.here ∙ f.at) in
-    let state : p.state ≡ entries (names_of f.before) ∷ n.0 = one_state ts [] p.state _ (drop j ts) p.reached n.1 in
-    let again : has_name f.name (names_of f.before) ≡ true = list_any-from_Contains nat_list_eq_equiv f.name (names_of f.before) f.again in
-    none_some (Duplicate (0 + j)) (sym p.clean ∙ flaw_same p.state p.word v (0 + j) e.0 ∙ ap (λ l. flaw_at l Ident f.name (0 + j)) state ∙ cond-true (has_name f.name (names_of f.before)) _ _ again)
+    let state : p.state ≡ entries (entry_names f.before) ∷ n.0 = one_state ts [] p.state _ (drop j ts) p.reached n.1 in
+    let again : is_among f.name (entry_names f.before) ≡ true = list_any-from_Contains nat_list_eq_equiv f.name (entry_names f.before) f.again in
+    none_some (Duplicate (0 + j)) (sym p.clean ∙ flaw_same p.state p.word v (0 + j) e.0 ∙ ap (λ l. flaw_at l Ident f.name (0 + j)) state ∙ cond-true (is_among f.name (entry_names f.before)) _ _ again)
 
 -- what the machine's answers mean
 

@@ -13,14 +13,14 @@ use Rattle.bp_lexer.specs.declared.token.Punct.TheVariants.{OpenBrace, CloseBrac
 use Rattle.bp_lexer.specs.declared.token.TokenKind.{TokenKind}
 use Rattle.bp_lexer.specs.declared.token.TokenKind.TheVariants.{Ident, Int, Quoted, Raw, Punct as Mark}
 use Rattle.bp_parser.specs.Trees.{Tree, Leaf, Items, Body, Sum, Trees, no_tree, tree_and, Terms, no_term, term_and, Entries, no_entry, entry_and, Definition, Assigns, Extends, Declares}
-use Rattle.bp_parser.specs.Names.{names_of, AreDistinct, HasDistinctNames, ItemsHaveDistinctNames, TermsHaveDistinctNames, ValuesHaveDistinctNames, DefinitionHasDistinctNames}
+use Rattle.bp_parser.specs.Names.{entry_names, AreDistinct, TreeHasDistinctNames, ItemsHaveDistinctNames, TermsHaveDistinctNames, ValuesHaveDistinctNames, DefinitionHasDistinctNames}
 use Rattle.bp_parser.specs.Words.{Word, is_truth}
 use Rattle.bp_parser.specs.Grammar.{IsMark, Spells, SpellsTerms, SpellsItems, SpellsMoreItems, SpellsEntries, SpellsMoreEntries, SpellsDef, SpellsFile}
 use Rattle.bp_parser.specs.declared.flaw.Flaw.{Flaw}
 use Rattle.bp_parser.specs.declared.flaw.Flaw.TheVariants.{Unexpected, TooNested, Duplicate}
 use Rattle.bp_parser.specs.Flaws.{BeginsAFile, IsUnexpected, IsTooNested, IsRepeated, IsFlaw}
-use Rattle.bp_parser.specs.Meaning.{IsTree, file_of}
-use Rattle.bp_parser.specs.Machine.{Part, an_expr, more_terms, items, more_items, a_colon, entries, more_entries, a_value, with_rest, behind_all, has_name}
+use Rattle.bp_parser.specs.Meaning.{IsTree, number_of_file}
+use Rattle.bp_parser.specs.Machine.{Part, an_expr, more_terms, items, more_items, a_colon, entries, more_entries, a_value, with_rest, behind_all, is_among}
 use Rattle.bp_parser.proofs.Firsts.{none_some, some_same}
 use Rattle.bp_parser.proofs.Language.{atom_alone}
 use Rattle.bp_parser.proofs.PartsRead.{same_bytes}
@@ -29,7 +29,7 @@ use Rattle.bp_parser.proofs.Runs.{Reaches, stay as stands, one_state, shrinks, r
 -- the word is a name that the map has
 abbrev has_again : List Part → List ℕ → Bool
 has_again (more_terms ∷ parts) n = has_again parts n
-has_again (entries names ∷ parts) n = has_name n names
+has_again (entries names ∷ parts) n = is_among n names
 has_again _ n = false
 
 abbrev is_again : List Part → TokenKind → List ℕ → Bool
@@ -82,20 +82,20 @@ as_item (w ∷ ws) ps qs rest (inl a) = part_apart (more_items ∷ ps) qs a.0
 as_item (w ∷ ws) ps qs rest (inr a) = inr (a.0, item_step ps w.kind w.text a.0 a.1, item_fresh ps w.kind w.text, a.3)
 
 -- a name that differs from those before it is not among them
-new_name : (names : List (List ℕ)) (n : List ℕ) (more : List (List ℕ)) → AreDistinct (names ++ n ∷ more) → has_name n names ≡ false
+new_name : (names : List (List ℕ)) (n : List ℕ) (more : List (List ℕ)) → AreDistinct (names ++ n ∷ more) → is_among n names ≡ false
 new_name names n more distinct = ⊎_elim
     (λ again.
     let c = Contains-from_any same_bytes n names again in
     absurd (distinct c.0 (length names) n c.1 (omega (arith, length-append names (n ∷ more)))
     (get_or-append names (n ∷ more) n c.0 c.1 ∙ c.2 ∙ sym (get_or-append_seam names n more n))))
     (λ other. other)
-    (cases_Bool (has_name n names))
+    (cases_Bool (is_among n names))
 
 next_names : (names : List (List ℕ)) (n : List ℕ) (more : List (List ℕ)) → AreDistinct (names ++ n ∷ more) → AreDistinct ((names ++ n ∷ []) ++ more)
 next_names names n more distinct = subst AreDistinct (sym (append_assoc names (n ∷ []) more)) distinct
 
 mutual
-  goes_tree : (x : Tree) (ts rest : List Word) (ps : List Part) → HasDistinctNames x → Spells x ts rest → Goes (an_expr ∷ ps) ts (more_terms ∷ ps) rest
+  goes_tree : (x : Tree) (ts rest : List Word) (ps : List Part) → TreeHasDistinctNames x → Spells x ts rest → Goes (an_expr ∷ ps) ts (more_terms ∷ ps) rest
   goes_tree (Leaf at atom) ts rest ps d s = over ts rest (record { kind = s.0; at = at; text = s.1 }) (an_expr ∷ ps) (more_terms ∷ ps) (more_terms ∷ ps) rest s.2 (ap (λ o. with_rest o ps) (atom_alone s.0 s.1 atom s.3)) (expr_fresh ps s.0 s.1) (rests (more_terms ∷ ps) rest)
   goes_tree (Items at xs) ts rest ps d s = over_mark OpenBracket ts s.0 (an_expr ∷ ps) (items ∷ more_terms ∷ ps) (more_terms ∷ ps) rest (at, s.1) (λ n. refl) (goes_items xs s.0 rest (more_terms ∷ ps) d s.2)
   goes_tree (Body at es) ts rest ps d s = over_mark OpenBrace ts s.0 (an_expr ∷ ps) (entries [] ∷ more_terms ∷ ps) (more_terms ∷ ps) rest (at, s.1) (λ n. refl) (goes_entries es s.0 rest (more_terms ∷ ps) [] d.0 d.1 s.2)
@@ -118,23 +118,23 @@ mutual
       over_mark Comma ts s.0 (more_terms ∷ more_items ∷ ps) (items ∷ ps) ps rest s.2 (λ n. refl)
       (next s.0 (items ∷ ps) (more_terms ∷ more_items ∷ ps) ps s.1 rest (as_item s.0 ps (more_items ∷ ps) s.1 (goes_tree x s.0 s.1 (more_items ∷ ps) d.0 s.3)) (goes_more_items xs s.1 rest ps d.1 s.4))
 
-  goes_entries : (es : Entries) (ts rest : List Word) (ps : List Part) (names : List (List ℕ)) → AreDistinct (names ++ names_of es) → ValuesHaveDistinctNames es → SpellsEntries es ts rest → Goes (entries names ∷ ps) ts ps rest
+  goes_entries : (es : Entries) (ts rest : List Word) (ps : List Part) (names : List (List ℕ)) → AreDistinct (names ++ entry_names es) → ValuesHaveDistinctNames es → SpellsEntries es ts rest → Goes (entries names ∷ ps) ts ps rest
   goes_entries no_entry ts rest ps names d v s = over_mark CloseBrace ts rest (entries names ∷ ps) ps ps rest s (λ n. refl) (rests ps rest)
   goes_entries (entry_and n at x es) ts rest ps names d v s =
       let more = more_entries (names ++ n ∷ []) ∷ ps in
-      over ts s.0 (record { kind = Ident; at = at; text = n }) (entries names ∷ ps) (a_colon ∷ an_expr ∷ more) ps rest s.3 refl (new_name names n (names_of es) d)
+      over ts s.0 (record { kind = Ident; at = at; text = n }) (entries names ∷ ps) (a_colon ∷ an_expr ∷ more) ps rest s.3 refl (new_name names n (entry_names es) d)
       (over_mark Colon s.0 s.1 (a_colon ∷ an_expr ∷ more) (an_expr ∷ more) ps rest s.4 (λ m. refl)
-      (next s.1 (an_expr ∷ more) (more_terms ∷ more) ps s.2 rest (goes_tree x s.1 s.2 more v.0 s.5) (goes_more_entries es s.2 rest ps (names ++ n ∷ []) (next_names names n (names_of es) d) v.1 s.6)))
+      (next s.1 (an_expr ∷ more) (more_terms ∷ more) ps s.2 rest (goes_tree x s.1 s.2 more v.0 s.5) (goes_more_entries es s.2 rest ps (names ++ n ∷ []) (next_names names n (entry_names es) d) v.1 s.6)))
 
-  goes_more_entries : (es : Entries) (ts rest : List Word) (ps : List Part) (names : List (List ℕ)) → AreDistinct (names ++ names_of es) → ValuesHaveDistinctNames es → SpellsMoreEntries es ts rest → Goes (more_terms ∷ more_entries names ∷ ps) ts ps rest
+  goes_more_entries : (es : Entries) (ts rest : List Word) (ps : List Part) (names : List (List ℕ)) → AreDistinct (names ++ entry_names es) → ValuesHaveDistinctNames es → SpellsMoreEntries es ts rest → Goes (more_terms ∷ more_entries names ∷ ps) ts ps rest
   goes_more_entries no_entry ts rest ps names d v (inl s) = over_mark CloseBrace ts rest (more_terms ∷ more_entries names ∷ ps) ps ps rest s (λ n. refl) (rests ps rest)
   goes_more_entries no_entry ts rest ps names d v (inr s) = over_mark Comma ts s.0 (more_terms ∷ more_entries names ∷ ps) (entries names ∷ ps) ps rest s.1 (λ n. refl) (over_mark CloseBrace s.0 rest (entries names ∷ ps) ps ps rest s.2 (λ n. refl) (rests ps rest))
   goes_more_entries (entry_and n at x es) ts rest ps names d v s =
       let more = more_entries (names ++ n ∷ []) ∷ ps in
       over_mark Comma ts s.0 (more_terms ∷ more_entries names ∷ ps) (entries names ∷ ps) ps rest s.4 (λ m. refl)
-      (over s.0 s.1 (record { kind = Ident; at = at; text = n }) (entries names ∷ ps) (a_colon ∷ an_expr ∷ more) ps rest s.5 refl (new_name names n (names_of es) d)
+      (over s.0 s.1 (record { kind = Ident; at = at; text = n }) (entries names ∷ ps) (a_colon ∷ an_expr ∷ more) ps rest s.5 refl (new_name names n (entry_names es) d)
       (over_mark Colon s.1 s.2 (a_colon ∷ an_expr ∷ more) (an_expr ∷ more) ps rest s.6 (λ m. refl)
-      (next s.2 (an_expr ∷ more) (more_terms ∷ more) ps s.3 rest (goes_tree x s.2 s.3 more v.0 s.7) (goes_more_entries es s.3 rest ps (names ++ n ∷ []) (next_names names n (names_of es) d) v.1 s.8))))
+      (next s.2 (an_expr ∷ more) (more_terms ∷ more) ps s.3 rest (goes_tree x s.2 s.3 more v.0 s.7) (goes_more_entries es s.3 rest ps (names ++ n ∷ []) (next_names names n (entry_names es) d) v.1 s.8))))
 
 -- before a definition a sum may go on, or not
 abbrev between : Bool → List Part
@@ -211,15 +211,15 @@ no_repeat ws ds k s distinct is =
     let b = braced a.0 w.text t.0 t.1 in
     let inner : is.inner ≡ drop (brace + 1) ws = ap (drop 1) (sym is.opened.1.1) ∙ drop-drop 1 brace ws in
     let first = run_first is.before is.inner (drop k ws) b.0 [] is.spelled in
-    let less = shrinks is.inner (entries [] ∷ b.0) (entries (names_of is.before) ∷ b.0) (drop k ws) first in
+    let less = shrinks is.inner (entries [] ∷ b.0) (entries (entry_names is.before) ∷ b.0) (drop k ws) first in
     let n = k - (brace + 1) in
     let order : brace + 1 + n ≡ k = omega (arith, less, ap length inner, ap length is.at, length-drop (brace + 1) ws, length-drop k ws) in
     let here : drop n is.inner ≡ drop k ws = ap (drop n) inner ∙ drop-drop n (brace + 1) ws ∙ ap (λ i. drop i ws) order in
     let c = passes n is.inner t.0 g.0 (omega (arith, ap length here, length-drop n is.inner, ap length is.at)) t.3 in
-    let same : c.0 ≡ entries (names_of is.before) ∷ b.0 = one_state is.inner t.0 c.0 (entries (names_of is.before) ∷ b.0) (drop k ws)
-    (subst (Reaches t.0 is.inner c.0) here c.1) (subst (λ l. Reaches l is.inner (entries (names_of is.before) ∷ b.0) (drop k ws)) (sym b.1) first) in
+    let same : c.0 ≡ entries (entry_names is.before) ∷ b.0 = one_state is.inner t.0 c.0 (entries (entry_names is.before) ∷ b.0) (drop k ws)
+    (subst (Reaches t.0 is.inner c.0) here c.1) (subst (λ l. Reaches l is.inner (entries (entry_names is.before) ∷ b.0) (drop k ws)) (sym b.1) first) in
     let e = took name (drop (k + 1) ws) (drop n is.inner) c.0 g.0 (here ∙ is.at) c.2 in
-    false≢true (sym (ap (λ l. has_again l is.name) (sym same) ∙ e.2) ∙ list_any-from_Contains nat_list_eq_equiv is.name (names_of is.before) is.again)
+    false≢true (sym (ap (λ l. has_again l is.name) (sym same) ∙ e.2) ∙ list_any-from_Contains nat_list_eq_equiv is.name (entry_names is.before) is.again)
 
 -- words that spell definitions begin a file's at each word
 begins_file : (ws : List Word) (ds : List Definition) (k : ℕ) → SpellsFile ds ws → BeginsAFile (take k ws)
@@ -231,7 +231,7 @@ not_unexpected ws ds k s is = ⊎_elim
     (λ past. is.end (omega (arith, is.within)) ds s)
     (cases_lt k (length ws))
 
-pub spelled_tree : (ws : List Word) (ds : List Definition) → SpellsFile ds ws → All DefinitionHasDistinctNames ds → ((k : ℕ) → IsTooNested ws k → ⊥) → IsTree ws (record { file = file_of ws; defs = ds })
+pub spelled_tree : (ws : List Word) (ds : List Definition) → SpellsFile ds ws → All DefinitionHasDistinctNames ds → ((k : ℕ) → IsTooNested ws k → ⊥) → IsTree ws (record { file = number_of_file ws; defs = ds })
 spelled_tree ws ds s distinct shallow = record { file = refl; spelled = s; sound = sound } where
   sound : (flaw : Flaw) → IsFlaw ws flaw → ⊥
   sound (Unexpected k) is = not_unexpected ws ds k s is

@@ -14,7 +14,7 @@ use Rattle.bp_parser.specs.declared.flaw.Flaw.TheVariants.{Unexpected}
 use Rattle.bp_parser.specs.Trees.{Atom, Str, Tree, Leaf, Items, Body, Sum, Trees, no_tree, tree_and, Terms, no_term, term_and, Entries, no_entry, entry_and, Definition, Assigns, Extends, Declares}
 use Rattle.bp_parser.specs.Words.{Word, is_truth, atom_of}
 use Rattle.bp_parser.specs.Grammar.{IsWord, IsMarkAt, IsMark, IsPrim, Spells, SpellsTerms, SpellsItems, SpellsMoreItems, SpellsEntries, SpellsMoreEntries, SpellsDef, SpellsFile}
-use Rattle.bp_parser.specs.Machine.{Part, an_expr, more_terms, items, more_items, a_colon, entries, more_entries, a_value, behind, with_rest, is_plus, begin_def, behind_all, at_end, StartsNot}
+use Rattle.bp_parser.specs.Machine.{Part, an_expr, more_terms, items, more_items, a_colon, entries, more_entries, a_value, expected_behind, with_rest, is_plus, begin_def, behind_all, at_end, StartsNot}
 use Rattle.bp_parser.proofs.Firsts.{same_head, nil_cons, none_some, some_same, true_false, starts_not, none_starts, first_word, no_plus_items, no_plus_entries, no_plus_file}
 
 -- { "+" Prim }, and no plus behind
@@ -83,23 +83,23 @@ join_expr ts rest s = join_terms s.0 s.4.0 ts s.1 rest s.2 s.3 s.4.1
 
 pub record Sound (p : Part) (w : Word) (ts rest : List Word) : Type 0 where
   pub new : List Part
-  pub next : behind p w.kind w.text ≡ Some new
+  pub next : expected_behind p w.kind w.text ≡ Some new
   pub spelled : Chain new ts rest
 
 pub record SoundPrim (w : Word) (ts rest : List Word) : Type 0 where
   pub new : List Part
-  pub alone : behind an_expr w.kind w.text ≡ Some (new ++ more_terms ∷ [])
-  pub item : behind items w.kind w.text ≡ Some (new ++ more_terms ∷ more_items ∷ [])
+  pub alone : expected_behind an_expr w.kind w.text ≡ Some (new ++ more_terms ∷ [])
+  pub item : expected_behind items w.kind w.text ≡ Some (new ++ more_terms ∷ more_items ∷ [])
   pub spelled : Chain new ts rest
 
-pub atom_alone : (k : TokenKind) (n : List ℕ) (atom : Atom) → atom_of k n ≡ Some atom → behind an_expr k n ≡ Some (more_terms ∷ [])
+pub atom_alone : (k : TokenKind) (n : List ℕ) (atom : Atom) → atom_of k n ≡ Some atom → expected_behind an_expr k n ≡ Some (more_terms ∷ [])
 atom_alone Ident n atom e = refl
 atom_alone Int n atom e = refl
 atom_alone Quoted n atom e = refl
 atom_alone Raw n atom e = refl
 atom_alone _ n atom e = none_some atom e
 
-atom_item : (k : TokenKind) (n : List ℕ) (atom : Atom) → atom_of k n ≡ Some atom → behind items k n ≡ Some (more_terms ∷ more_items ∷ [])
+atom_item : (k : TokenKind) (n : List ℕ) (atom : Atom) → atom_of k n ≡ Some atom → expected_behind items k n ≡ Some (more_terms ∷ more_items ∷ [])
 atom_item Ident n atom e = refl
 atom_item Int n atom e = refl
 atom_item Quoted n atom e = refl
@@ -107,8 +107,8 @@ atom_item Raw n atom e = refl
 atom_item _ n atom e = none_some atom e
 
 -- what is expected behind a word is so by its kind and its text
-behind_word : (p : Part) (v w : Word) (new : List Part) → v ≡ w → behind p w.kind w.text ≡ Some new → behind p v.kind v.text ≡ Some new
-behind_word p v w new same e = ap (λ (x : Word). behind p x.kind x.text) same ∙ e
+behind_word : (p : Part) (v w : Word) (new : List Part) → v ≡ w → expected_behind p w.kind w.text ≡ Some new → expected_behind p v.kind v.text ≡ Some new
+behind_word p v w new same e = ap (λ (x : Word). expected_behind p x.kind x.text) same ∙ e
 
 sound_prim : (x : Tree) (w : Word) (ts rest : List Word) → IsPrim x → Spells x (w ∷ ts) rest → SoundPrim w ts rest
 sound_prim (Leaf at atom) w ts rest prim s =
@@ -146,7 +146,7 @@ sound_expr w ts rest s =
     record { new = f.new ++ more_terms ∷ []; next = f.alone; spelled = chain_append f.new (more_terms ∷ []) ts s.1 rest f.spelled (rest, s.4, refl) }
 
 -- a mark that is expected
-sound_mark : (p : Part) (m : Punct) (new : List Part) (w : Word) (ts next rest : List Word) → ((n : List ℕ) → behind p (Mark m) n ≡ Some new) → IsMark m (w ∷ ts) next → Chain new next rest → Sound p w ts rest
+sound_mark : (p : Part) (m : Punct) (new : List Part) (w : Word) (ts next rest : List Word) → ((n : List ℕ) → expected_behind p (Mark m) n ≡ Some new) → IsMark m (w ∷ ts) next → Chain new next rest → Sound p w ts rest
 sound_mark p m new w ts next rest expects s chain =
     let v : Word = record { kind = Mark m; at = s.0; text = s.1.0 } in
     let e = same_head w v ts next s.1.1 in
@@ -213,7 +213,7 @@ pub record SoundAll (ps : List Part) (w : Word) (ts : List Word) : Type 0 where
   pub next : behind_all ps w.kind w.text ≡ Some new
   pub lang : Lang new ts
 
-with_part : (p : Part) (ps : List Part) (w : Word) (ts rest : List Word) → ((o : Option (List Part)) → behind p w.kind w.text ≡ o → behind_all (p ∷ ps) w.kind w.text ≡ with_rest o ps) → Sound p w ts rest → Lang ps rest → SoundAll (p ∷ ps) w ts
+with_part : (p : Part) (ps : List Part) (w : Word) (ts rest : List Word) → ((o : Option (List Part)) → expected_behind p w.kind w.text ≡ o → behind_all (p ∷ ps) w.kind w.text ≡ with_rest o ps) → Sound p w ts rest → Lang ps rest → SoundAll (p ∷ ps) w ts
 with_part p ps w ts rest goes f more = record { new = f.new ++ ps; next = goes (Some f.new) f.next; lang = chain_lang f.new ps ts rest f.spelled more }
 
 def_value : (d : Definition) (ts rest : List Word) → SpellsDef d ts rest → StartsNot (Mark Plus) rest → (at : Place) × (name : List ℕ) × (more : List Word) × IsWord Ident at name ts more × (is_truth name ≡ false) × SpelledValue more rest
@@ -307,7 +307,7 @@ list_expr at n ts mid rest s terms = (Items at s.0, mid, tt, (ts, (n, refl), s.1
 pub map_expr : (at : Place) (n : List ℕ) (ts mid rest : List Word) → Spelled (entries []) ts mid → SpelledTerms mid rest → SpelledExpr (record { kind = Mark OpenBrace; at = at; text = n } ∷ ts) rest
 map_expr at n ts mid rest s terms = (Body at s.0, mid, tt, (ts, (n, refl), s.1), terms)
 
-complete : (p : Part) (k : TokenKind) (at : Place) (n : List ℕ) (ts rest : List Word) → Completes (behind p k n) p (record { kind = k; at = at; text = n }) ts rest
+complete : (p : Part) (k : TokenKind) (at : Place) (n : List ℕ) (ts rest : List Word) → Completes (expected_behind p k n) p (record { kind = k; at = at; text = n }) ts rest
 complete an_expr Ident at n ts rest = λ chain. leaf_expr Ident at n _ ts rest refl (last more_terms ts rest chain)
 complete an_expr Int at n ts rest = λ chain. leaf_expr Int at n _ ts rest refl (last more_terms ts rest chain)
 complete an_expr Quoted at n ts rest = λ chain. leaf_expr Quoted at n _ ts rest refl (last more_terms ts rest chain)
@@ -380,13 +380,13 @@ complete_terms false ps k at n ts is c = skip (behind_all ps k n) ps (record { k
 pub complete_all : (ps : List Part) (k : TokenKind) (at : Place) (n : List ℕ) (ts : List Word) → CompletesAll (behind_all ps k n) ps (record { kind = k; at = at; text = n }) ts
 complete_all [] k at n ts = complete_def k at n ts
 complete_all (more_terms ∷ ps) k at n ts = complete_terms (is_plus k) ps k at n ts refl (complete_all ps k at n ts)
-complete_all (an_expr ∷ ps) k at n ts = with_more (behind an_expr k n) an_expr ps _ ts (complete an_expr k at n ts)
-complete_all (items ∷ ps) k at n ts = with_more (behind items k n) items ps _ ts (complete items k at n ts)
-complete_all (more_items ∷ ps) k at n ts = with_more (behind more_items k n) more_items ps _ ts (complete more_items k at n ts)
-complete_all (a_colon ∷ ps) k at n ts = with_more (behind a_colon k n) a_colon ps _ ts (complete a_colon k at n ts)
-complete_all (entries names ∷ ps) k at n ts = with_more (behind (entries names) k n) (entries names) ps _ ts (complete (entries names) k at n ts)
-complete_all (more_entries names ∷ ps) k at n ts = with_more (behind (more_entries names) k n) (more_entries names) ps _ ts (complete (more_entries names) k at n ts)
-complete_all (a_value ∷ ps) k at n ts = with_more (behind a_value k n) a_value ps _ ts (complete a_value k at n ts)
+complete_all (an_expr ∷ ps) k at n ts = with_more (expected_behind an_expr k n) an_expr ps _ ts (complete an_expr k at n ts)
+complete_all (items ∷ ps) k at n ts = with_more (expected_behind items k n) items ps _ ts (complete items k at n ts)
+complete_all (more_items ∷ ps) k at n ts = with_more (expected_behind more_items k n) more_items ps _ ts (complete more_items k at n ts)
+complete_all (a_colon ∷ ps) k at n ts = with_more (expected_behind a_colon k n) a_colon ps _ ts (complete a_colon k at n ts)
+complete_all (entries names ∷ ps) k at n ts = with_more (expected_behind (entries names) k n) (entries names) ps _ ts (complete (entries names) k at n ts)
+complete_all (more_entries names ∷ ps) k at n ts = with_more (expected_behind (more_entries names) k n) (more_entries names) ps _ ts (complete (more_entries names) k at n ts)
+complete_all (a_value ∷ ps) k at n ts = with_more (expected_behind a_value k n) a_value ps _ ts (complete a_value k at n ts)
 
 -- what is expected can be spelled, and begins with no plus
 

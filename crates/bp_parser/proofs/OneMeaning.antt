@@ -10,8 +10,8 @@ use Rattle.bp_parser.specs.declared.flaw.Flaw.TheVariants.{Unexpected, TooNested
 use Rattle.bp_parser.specs.Trees.{Definition, File}
 use Rattle.bp_parser.specs.Words.{Word, words_of}
 use Rattle.bp_parser.specs.Grammar.{SpellsFile}
-use Rattle.bp_parser.specs.Flaws.{BeginsAFile, IsUnexpected, IsTooNested, IsDuplicate, IsFlaw, index_of, IsFirstFlaw, opens}
-use Rattle.bp_parser.specs.Meaning.{IsTree, IsFirstFault, ParseMeans, fault_of}
+use Rattle.bp_parser.specs.Flaws.{BeginsAFile, IsUnexpected, IsTooNested, IsDuplicate, IsFlaw, index_of, IsFirstFlaw, is_opening}
+use Rattle.bp_parser.specs.Meaning.{IsTree, IsFirstParseFault, ParseMeans, parse_fault}
 use Rattle.bp_parser.proofs.Firsts.{same_head, true_false}
 use Rattle.bp_parser.proofs.OneTree.{one_file}
 
@@ -50,7 +50,7 @@ unexpected_apart ws k below expected f = f.word below expected
 bracket_or_name : (ws : List Word) (k : ℕ) → IsTooNested ws k → IsDuplicate ws k → ⊥
 bracket_or_name ws k f g =
     let e = same_head f.bracket (record { kind = Ident; at = g.repeated.place; text = g.repeated.name }) (drop (k + 1) ws) (drop (k + 1) ws) (sym f.at ∙ g.repeated.at) in
-    true_false (sym f.opening ∙ ap (λ (w : Word). opens w.kind) e.0)
+    true_false (sym f.opening ∙ ap (λ (w : Word). is_opening w.kind) e.0)
 
 pub nested_range : (ws : List Word) (k : ℕ) → IsTooNested ws k → k < length ws
 nested_range ws k f = in_range ws (drop (k + 1) ws) f.bracket k f.at
@@ -76,10 +76,10 @@ one_flaw ws a b f g =
     (λ after. absurd (f.1 b after g.0))
     apart) (cases_order (index_of a) (index_of b))
 
-pub one_fault : (text : List ℕ) (ws : List Word) (a b : Fault) → IsFirstFault text ws a → IsFirstFault text ws b → a ≡ b
-one_fault text ws a b f g = f.2 ∙ ap (fault_of text ws) (one_flaw ws f.0 g.0 f.1 g.1) ∙ sym g.2
+pub one_fault : (text : List ℕ) (ws : List Word) (a b : Fault) → IsFirstParseFault text ws a → IsFirstParseFault text ws b → a ≡ b
+one_fault text ws a b f g = f.2 ∙ ap (parse_fault text ws) (one_flaw ws f.0 g.0 f.1 g.1) ∙ sym g.2
 
-pub tree_or_fault : (text : List ℕ) (ws : List Word) (tree : File) (fault : Fault) → IsTree ws tree → IsFirstFault text ws fault → ⊥
+pub tree_or_fault : (text : List ℕ) (ws : List Word) (tree : File) (fault : Fault) → IsTree ws tree → IsFirstParseFault text ws fault → ⊥
 tree_or_fault text ws tree fault s f = s.sound f.0 f.1.0
 
 pub one_meaning : (text : List ℕ) (ts : List Token) (a b : Result File Fault) → ParseMeans text ts a → ParseMeans text ts b → a ≡ b

@@ -18,7 +18,7 @@ use Rattle.bp_parser.specs.Trees.{Trees, Entries, no_entry, entry_of, entries_th
 use Rattle.bp_parser.specs.Words.{Word, all_words}
 use Rattle.bp_parser.specs.Grammar.{IsWord, IsMark, SpellsItems, SpellsMoreItems, SpellsEntries, SpellsMoreEntries}
 use Rattle.bp_parser.specs.Flaws.{SpellsFirst, IsRepeated}
-use Rattle.bp_parser.specs.Machine.{Part, an_expr, items, more_items, entries, more_entries, stuck, behind_all, flaw_at, has_name, bracket_flaw, StopsWith}
+use Rattle.bp_parser.specs.Machine.{Part, an_expr, items, more_items, entries, more_entries, stuck, behind_all, flaw_at, is_among, bracket_flaw, StopsWith}
 use Rattle.bp_parser.specs.Reading.{IsTokenAt, LacksMark, EndsPart}
 use Rattle.bp_parser.proofs.Firsts.{true_false}
 use Rattle.bp_parser.proofs.Steps.{pass_mark, halt, full, after_item, at_last_item, after_entry, at_last_entry, names_in, names_then}
@@ -101,7 +101,7 @@ new_from new false is fresh = refl
 pub same_bytes : (x y : List ℕ) → bytes_eq x y ≡ true → x ≡ y
 same_bytes x y e = search (rules, bytes_eq-Decides)
 
-pub repeated : (ws inner : List Word) (brace k : ℕ) (es : List EntryExpr) (place : Place) (name : List ℕ) → IsMark OpenBrace (drop brace ws) inner → SpellsFirst (entries_then (map entry_of es) no_entry) inner (drop k ws) → IsWord Ident place name (drop k ws) (drop (k + 1) ws) → has_name name (names_in es) ≡ true → IsRepeated ws k
+pub repeated : (ws inner : List Word) (brace k : ℕ) (es : List EntryExpr) (place : Place) (name : List ℕ) → IsMark OpenBrace (drop brace ws) inner → SpellsFirst (entries_then (map entry_of es) no_entry) inner (drop k ws) → IsWord Ident place name (drop k ws) (drop (k + 1) ws) → is_among name (names_in es) ≡ true → IsRepeated ws k
 repeated ws inner brace k es place name opened spelled here again = record {
   brace = brace;
   inner = inner;

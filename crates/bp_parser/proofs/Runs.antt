@@ -10,8 +10,8 @@ use Rattle.bp_lexer.specs.declared.token.TokenKind.TheVariants.{Ident, Int, Quot
 use Rattle.bp_parser.specs.Trees.{Tree, Leaf, Items, Body, Sum, Trees, no_tree, tree_and, Terms, no_term, term_and, Entries, no_entry, entry_and}
 use Rattle.bp_parser.specs.Words.{Word, is_truth}
 use Rattle.bp_parser.specs.Grammar.{IsMark, Spells, SpellsTerms, SpellsItems, SpellsMoreItems, SpellsEntries, SpellsMoreEntries}
-use Rattle.bp_parser.specs.Names.{names_of}
-use Rattle.bp_parser.specs.Flaws.{SpellsFirst, opens, closes}
+use Rattle.bp_parser.specs.Names.{entry_names}
+use Rattle.bp_parser.specs.Flaws.{SpellsFirst, is_opening, closes}
 use Rattle.bp_parser.specs.Machine.{Part, an_expr, more_terms, items, more_items, a_colon, entries, more_entries, a_value, with_rest, begin_def, behind_all, depth_of}
 use Rattle.bp_parser.proofs.Firsts.{none_some, some_same}
 use Rattle.bp_parser.proofs.Language.{atom_alone}
@@ -113,13 +113,13 @@ mutual
       (over_mark Colon s.1 s.2 (a_colon ∷ an_expr ∷ more) (an_expr ∷ more) ps rest s.6 (λ m. refl)
       (also s.2 (an_expr ∷ more) (more_terms ∷ more) ps s.3 rest (run_tree x s.2 s.3 more s.7) (run_more_entries es s.3 rest ps (names ++ n ∷ []) s.8))))
 
-pub run_first : (es : Entries) (ts rest : List Word) (ps : List Part) (names : List (List ℕ)) → SpellsFirst es ts rest → Reaches (entries names ∷ ps) ts (entries (names ++ names_of es) ∷ ps) rest
+pub run_first : (es : Entries) (ts rest : List Word) (ps : List Part) (names : List (List ℕ)) → SpellsFirst es ts rest → Reaches (entries names ∷ ps) ts (entries (names ++ entry_names es) ∷ ps) rest
 run_first no_entry ts rest ps names s = subst (λ l. Reaches (entries names ∷ ps) ts (entries l ∷ ps) rest) (sym (append-nil names)) (subst (λ l. Reaches (entries names ∷ ps) ts (entries names ∷ ps) l) s (stay (entries names ∷ ps) ts))
 run_first (entry_and n at x es) ts rest ps names s =
     let known = names ++ n ∷ [] in
-    let end = entries (known ++ names_of es) ∷ ps in
+    let end = entries (known ++ entry_names es) ∷ ps in
     let more = more_entries known ∷ ps in
-    let all : known ++ names_of es ≡ names ++ (n ∷ names_of es) = append_assoc names (n ∷ []) (names_of es) in
+    let all : known ++ entry_names es ≡ names ++ (n ∷ entry_names es) = append_assoc names (n ∷ []) (entry_names es) in
     subst (λ l. Reaches (entries names ∷ ps) ts (entries l ∷ ps) rest) all
     (first ts s.0 (record { kind = Ident; at = at; text = n }) (entries names ∷ ps) (a_colon ∷ an_expr ∷ more) end rest s.4 refl
     (over_mark Colon s.0 s.1 (a_colon ∷ an_expr ∷ more) (an_expr ∷ more) end rest s.5 (λ m. refl)
@@ -130,7 +130,7 @@ run_first (entry_and n at x es) ts rest ps names s =
 
 abbrev Deep : Option (List Part) → ℕ → TokenKind → Type 0
 Deep None d k = Unit {0}
-Deep (Some new) d k = cond (opens k) 1 0 + d ≡ cond (closes k) 1 0 + depth_of new
+Deep (Some new) d k = cond (is_opening k) 1 0 + d ≡ cond (closes k) 1 0 + depth_of new
 
 deep_name : (b : Bool) → Deep (cond b None (Some (a_value ∷ []))) 0 Ident
 deep_name true = tt
@@ -179,13 +179,13 @@ deep (a_value ∷ ps) (Mark OpenBrace) n = omega arith
 deep (a_value ∷ ps) _ n = tt
 
 abbrev opens_word : Word → ℕ
-opens_word w = cond (opens w.kind) 1 0
+opens_word w = cond (is_opening w.kind) 1 0
 
 abbrev closes_word : Word → ℕ
 closes_word w = cond (closes w.kind) 1 0
 
 abbrev opened_in : List Word → ℕ
-opened_in ws = count_by (λ w. opens w.kind) ws
+opened_in ws = count_by (λ w. is_opening w.kind) ws
 
 abbrev closed_in : List Word → ℕ
 closed_in ws = count_by (λ w. closes w.kind) ws
@@ -194,7 +194,7 @@ depth_along : (ts : List Word) (ps qs : List Part) (rest : List Word) → Reache
 depth_along [] ps qs rest a = omega (arith, ap depth_of a.0, ap opened_in a.1, ap closed_in a.1)
 depth_along (w ∷ ws) ps qs rest (inl a) = omega (arith, ap depth_of a.0, ap opened_in a.1, ap closed_in a.1)
 depth_along (w ∷ ws) ps qs rest (inr a) =
-    let step : cond (opens w.kind) 1 0 + depth_of ps ≡ cond (closes w.kind) 1 0 + depth_of a.0 = subst (λ o. Deep o (depth_of ps) w.kind) a.1 (deep ps w.kind w.text) in
+    let step : cond (is_opening w.kind) 1 0 + depth_of ps ≡ cond (closes w.kind) 1 0 + depth_of a.0 = subst (λ o. Deep o (depth_of ps) w.kind) a.1 (deep ps w.kind w.text) in
     omega (arith, step, depth_along ws a.0 qs rest a.2, sum_by-cons opens_word w ws, sum_by-cons closes_word w ws)
 
 pub depth_before : (ts : List Word) (k : ℕ) (qs : List Part) → Reaches [] ts qs (drop k ts) → opened_in (take k ts) ≡ closed_in (take k ts) + depth_of qs

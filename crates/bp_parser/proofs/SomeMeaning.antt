@@ -9,7 +9,7 @@ use Rattle.bp_parser.specs.declared.flaw.Flaw.TheVariants.{Unexpected, TooNested
 use Rattle.bp_parser.specs.Trees.{File, no_term}
 use Rattle.bp_parser.specs.Words.{Word}
 use Rattle.bp_parser.specs.Machine.{Part, an_expr, more_terms, items, more_items, a_colon, entries, more_entries, a_value, behind_all, flaw_at, at_end, go_behind, stuck, IsKnown}
-use Rattle.bp_parser.specs.Meaning.{IsTree, IsFirstFault, file_of, fault_of}
+use Rattle.bp_parser.specs.Meaning.{IsTree, IsFirstParseFault, number_of_file, parse_fault}
 use Rattle.bp_parser.proofs.Firsts.{none_starts}
 use Rattle.bp_parser.proofs.Language.{Lang}
 use Rattle.bp_parser.proofs.FirstFlaw.{before_lang, first_flaw}
@@ -45,9 +45,9 @@ known ws (Unexpected k) e = tt
 known ws (TooNested k) e = tt
 known ws (Duplicate k) e = tracked ws [] ws 0 k refl tt e
 
-decide : (text : List ℕ) (ws : List Word) (r : Option Flaw) → stuck ws 0 [] ≡ r → ((tree : File) × IsTree ws tree) ⊎ ((fault : Fault) × IsFirstFault text ws fault)
-decide text ws None e = let file = accepted ws [] 0 e in inl (record { file = file_of ws; defs = file.0 }, tree_meant ws (file_of ws) file.0 refl file.1 e)
-decide text ws (Some flaw) e = inr (fault_of text ws flaw, (flaw, first_flaw flaw ws e (known ws flaw e), refl))
+decide : (text : List ℕ) (ws : List Word) (r : Option Flaw) → stuck ws 0 [] ≡ r → ((tree : File) × IsTree ws tree) ⊎ ((fault : Fault) × IsFirstParseFault text ws fault)
+decide text ws None e = let file = accepted ws [] 0 e in inl (record { file = number_of_file ws; defs = file.0 }, tree_meant ws (number_of_file ws) file.0 refl file.1 e)
+decide text ws (Some flaw) e = inr (parse_fault text ws flaw, (flaw, first_flaw flaw ws e (known ws flaw e), refl))
 
-pub some_meaning : (text : List ℕ) (ws : List Word) → ((tree : File) × IsTree ws tree) ⊎ ((fault : Fault) × IsFirstFault text ws fault)
+pub some_meaning : (text : List ℕ) (ws : List Word) → ((tree : File) × IsTree ws tree) ⊎ ((fault : Fault) × IsFirstParseFault text ws fault)
 some_meaning text ws = decide text ws (stuck ws 0 []) refl

@@ -18,14 +18,14 @@ use Rattle.bp_parser.specs.declared.stop.Stop.TheVariants.{Bad, OutOfMemory}
 use Rattle.bp_parser.specs.declared.tree.Expr.{Expr}
 use Rattle.bp_parser.specs.declared.tree.EntryExpr.{EntryExpr}
 use Rattle.bp_parser.specs.declared.tree.MapExpr.{MapExpr}
-use Rattle.bp_parser.specs.declared.tree.Expr.TheOpen.{EntryExpr-F, MapExpr-F}
-use Rattle.bp_parser.specs.declared.tree.Expr.TheViews.{roll-EntryExpr, roll-MapExpr}
-use Rattle.bp_parser.specs.declared.tree.Expr.TheFolds.{fold-roll-MapExpr, fold-roll-EntryExpr}
+use Rattle.bp_parser.specs.declared.tree.Expr.TheOpen.{MapExpr-F}
+use Rattle.bp_parser.specs.declared.tree.Expr.TheViews.{roll-MapExpr}
+use Rattle.bp_parser.specs.declared.tree.Expr.TheFolds.{fold-roll-MapExpr}
 use Rattle.bp_parser.specs.Trees.{Tree, Sum, Trees, no_tree, tree_and, Terms, no_term, term_and, Entries, no_entry, entry_and, Entry, Map, tree_of, term_of, entry_of, map_of, expr_step, entry_step, map_step, trees_then, terms_then, entries_then}
 use Rattle.bp_parser.specs.Words.{Word, is_truth}
 use Rattle.bp_parser.specs.Grammar.{IsWord, IsMark, SpellsItems, SpellsMoreItems, SpellsEntries, SpellsMoreEntries}
-use Rattle.bp_parser.specs.Names.{names_of}
-use Rattle.bp_parser.specs.Machine.{Part, an_expr, more_terms, items, more_items, a_colon, entries, more_entries, a_value, begin_def, behind_all, flaw_at, bracket_flaw, has_name, at_end, go_behind, stuck, depth_of, StartsNot, StopsWith}
+use Rattle.bp_parser.specs.Names.{entry_names}
+use Rattle.bp_parser.specs.Machine.{Part, an_expr, more_terms, items, more_items, a_colon, entries, more_entries, a_value, begin_def, behind_all, flaw_at, bracket_flaw, is_among, at_end, go_behind, stuck, depth_of, StartsNot, StopsWith}
 use Rattle.bp_parser.specs.Reading.{sum_of}
 use Rattle.bp_parser.proofs.Firsts.{no_mark, starts_not, true_false}
 use Rattle.bp_parser.proofs.Language.{not_plus, no_plus_next}
@@ -198,7 +198,7 @@ pub names_push : (es : List EntryExpr) (e : EntryExpr) → names_in (es ++ e ∷
 names_push [] e = refl
 names_push (d ∷ es) e = ap (λ l. (entry_of d).name ∷ l) (names_push es e)
 
-pub names_then : (es : List EntryExpr) → names_of (entries_then (map entry_of es) no_entry) ≡ names_in es
+pub names_then : (es : List EntryExpr) → entry_names (entries_then (map entry_of es) no_entry) ≡ names_in es
 names_then [] = refl
 names_then (e ∷ es) = ap (λ l. (entry_of e).name ∷ l) (names_then es)
 
@@ -208,17 +208,14 @@ either true false = refl
 either false true = refl
 either false false = refl
 
-pub has_name_push : (q n : List ℕ) (names : List (List ℕ)) → has_name q (names ++ n ∷ []) ≡ cond (bytes_eq n q) true (has_name q names)
+pub has_name_push : (q n : List ℕ) (names : List (List ℕ)) → is_among q (names ++ n ∷ []) ≡ cond (bytes_eq n q) true (is_among q names)
 has_name_push q n names =
     list_any-append (bytes_eq q) names (n ∷ []) ∙
-    ap (λ b. has_name q names || (b || false)) (nat_list_eq_equiv.symm q n) ∙
-    either (has_name q names) (bytes_eq n q)
+    ap (λ b. is_among q names || (b || false)) (nat_list_eq_equiv.symm q n) ∙
+    either (is_among q names) (bytes_eq n q)
 
 pub map_roll : (m : MapExpr-F Expr EntryExpr MapExpr) → map_of (roll-MapExpr m) ≡ record { at = m.at; entries = entries_then (map entry_of m.entries.items) no_entry }
 map_roll = fold-roll-MapExpr Tree Entry Map expr_step entry_step map_step
-
-pub entry_roll : (e : EntryExpr-F Expr EntryExpr MapExpr) → entry_of (roll-EntryExpr e) ≡ record { name = e.name; at = e.at; value = tree_of e.value }
-entry_roll = fold-roll-EntryExpr Tree Entry Map expr_step entry_step map_step
 
 pub sum_is : (first : Tree) (ts : List (Place × Expr)) → (length ts == 0) ≡ false → sum_of first (terms_then (map term_of ts) no_term) ≡ Sum first (terms_then (map term_of ts) no_term)
 sum_is first [] some = absurd (true_false some)
@@ -234,17 +231,17 @@ pub stops_at : (ps : List Part) (ws : List Word) (at depth k : ℕ) (stop : Stop
 stops_at ps ws at depth k stop is goes = subst (StopsWith ps ws at depth) (sym is) (goes, tt)
 
 -- a name that is new
-pub to_colon : (ws : List Word) (next : ℕ) (p : Place) (n : List ℕ) (names : List (List ℕ)) (parts : List Part) → IsWord Ident p n (drop next ws) (drop (next + 1) ws) → has_name n names ≡ false → stuck (drop next ws) next (entries names ∷ parts) ≡ stuck (drop (next + 1) ws) (next + 1) (a_colon ∷ an_expr ∷ more_entries (names ++ n ∷ []) ∷ parts)
+pub to_colon : (ws : List Word) (next : ℕ) (p : Place) (n : List ℕ) (names : List (List ℕ)) (parts : List Part) → IsWord Ident p n (drop next ws) (drop (next + 1) ws) → is_among n names ≡ false → stuck (drop next ws) next (entries names ∷ parts) ≡ stuck (drop (next + 1) ws) (next + 1) (a_colon ∷ an_expr ∷ more_entries (names ++ n ∷ []) ∷ parts)
 to_colon ws next p n names parts name new =
-    pass Ident p n (drop next ws) (drop (next + 1) ws) next (entries names ∷ parts) (a_colon ∷ an_expr ∷ more_entries (names ++ n ∷ []) ∷ parts) name refl (cond-false (has_name n names) _ _ new)
+    pass Ident p n (drop next ws) (drop (next + 1) ws) next (entries names ∷ parts) (a_colon ∷ an_expr ∷ more_entries (names ++ n ∷ []) ∷ parts) name refl (cond-false (is_among n names) _ _ new)
 
 -- a name that the map has
-pub name_again : (ws : List Word) (next : ℕ) (p : Place) (n : List ℕ) (names : List (List ℕ)) (parts : List Part) → IsWord Ident p n (drop next ws) (drop (next + 1) ws) → has_name n names ≡ true → stuck (drop next ws) next (entries names ∷ parts) ≡ Some (Duplicate next)
+pub name_again : (ws : List Word) (next : ℕ) (p : Place) (n : List ℕ) (names : List (List ℕ)) (parts : List Part) → IsWord Ident p n (drop next ws) (drop (next + 1) ws) → is_among n names ≡ true → stuck (drop next ws) next (entries names ∷ parts) ≡ Some (Duplicate next)
 name_again ws next p n names parts name again =
-    halt Ident p n (drop next ws) (drop (next + 1) ws) next (entries names ∷ parts) (a_colon ∷ an_expr ∷ more_entries (names ++ n ∷ []) ∷ parts) (Duplicate next) name refl (cond-true (has_name n names) _ _ again)
+    halt Ident p n (drop next ws) (drop (next + 1) ws) next (entries names ∷ parts) (a_colon ∷ an_expr ∷ more_entries (names ++ n ∷ []) ∷ parts) (Duplicate next) name refl (cond-true (is_among n names) _ _ again)
 
 -- a name and a colon
-pub to_value : (ws : List Word) (next : ℕ) (p : Place) (n : List ℕ) (names : List (List ℕ)) (parts : List Part) → IsWord Ident p n (drop next ws) (drop (next + 1) ws) → has_name n names ≡ false → IsMark Colon (drop (next + 1) ws) (drop (next + 1 + 1) ws) → stuck (drop next ws) next (entries names ∷ parts) ≡ stuck (drop (next + 2) ws) (next + 2) (an_expr ∷ more_entries (names ++ n ∷ []) ∷ parts)
+pub to_value : (ws : List Word) (next : ℕ) (p : Place) (n : List ℕ) (names : List (List ℕ)) (parts : List Part) → IsWord Ident p n (drop next ws) (drop (next + 1) ws) → is_among n names ≡ false → IsMark Colon (drop (next + 1) ws) (drop (next + 1 + 1) ws) → stuck (drop next ws) next (entries names ∷ parts) ≡ stuck (drop (next + 2) ws) (next + 2) (an_expr ∷ more_entries (names ++ n ∷ []) ∷ parts)
 to_value ws next p n names parts name new colon =
     let two : next + 1 + 1 ≡ next + 2 = omega arith in
     to_colon ws next p n names parts name new ∙

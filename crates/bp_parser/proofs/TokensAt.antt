@@ -4,14 +4,12 @@ use Rattle.std.proofs.Math.Seq.{drop-cons}
 use Rattle.std.proofs.lemmas.List.{drop-map, drop_all}
 use Rattle.bp_lexer.specs.declared.token.Punct.{Punct}
 use Rattle.bp_lexer.specs.declared.token.Token.{Token}
-use Rattle.bp_lexer.specs.declared.token.TokenKind.{TokenKind}
 use Rattle.bp_lexer.specs.declared.token.TokenKind.TheVariants.{Punct as Mark}
 use Rattle.bp_lexer.specs.Meaning.{IsToken, word_of}
 use Rattle.bp_parser.specs.Words.{Word, as_word, all_words}
 use Rattle.bp_parser.specs.Grammar.{IsMarkAt}
-use Rattle.bp_parser.specs.Machine.{StartsNot}
 use Rattle.bp_parser.specs.Reading.{AreTokens, IsTokenAt, HasMark, LacksMark}
-use Rattle.bp_parser.proofs.Firsts.{same_head, none_starts}
+use Rattle.bp_parser.proofs.Firsts.{same_head}
 
 word_here : (text : List ℕ) (ts : List Token) (at : ℕ) (d : Token) → at < length ts → drop at (all_words text ts) ≡ as_word text (get_or ts at d) ∷ drop (at + 1) (all_words text ts)
 word_here text ts at d within =
@@ -53,11 +51,3 @@ pub mark_other : (mark : Punct) (ts : List Token) (at : ℕ) (t : Token) → Sta
 mark_other mark ts at t found other text w rest is kind =
     let e = same_head (as_word text (get_or ts at t)) w _ rest (sym (word_here text ts at t found.0) ∙ is) in
     other (ap (λ (x : Token). x.kind) (found.1 t) ∙ ap (λ (v : Word). v.kind) e.0 ∙ kind)
-
-pub starts_none : (kind : TokenKind) (text : List ℕ) (ts : List Token) (at : ℕ) → length ts ≤ at → StartsNot kind (drop at (all_words text ts))
-starts_none kind text ts at past = subst (StartsNot kind) (sym (past_end text ts at past)) (none_starts kind)
-
-pub starts_other : (kind : TokenKind) (text : List ℕ) (ts : List Token) (at : ℕ) (t : Token) → IsTokenAt text ts at t → (t.kind ≡ kind → ⊥) → StartsNot kind (drop at (all_words text ts))
-starts_other kind text ts at t here other w rest is same =
-    let e = same_head (as_word text t) w _ rest (sym here.here ∙ is) in
-    other (ap (λ (v : Word). v.kind) e.0 ∙ same)

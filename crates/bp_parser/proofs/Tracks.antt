@@ -13,9 +13,9 @@ use Rattle.bp_parser.specs.declared.flaw.Flaw.TheVariants.{Unexpected, TooNested
 use Rattle.bp_parser.specs.Trees.{Tree, no_tree, no_term, term_and, Entries, no_entry, entry_and}
 use Rattle.bp_parser.specs.Words.{Word, is_truth}
 use Rattle.bp_parser.specs.Grammar.{IsWord, IsMarkAt, IsMark, Spells}
-use Rattle.bp_parser.specs.Names.{names_of}
+use Rattle.bp_parser.specs.Names.{entry_names}
 use Rattle.bp_parser.specs.Flaws.{SpellsFirst, IsRepeated}
-use Rattle.bp_parser.specs.Machine.{Part, an_expr, more_terms, items, more_items, a_colon, entries, more_entries, a_value, is_plus, begin_def, behind_all, at_end, go_behind, stuck, flaw_at, name_flaw, depth_of, has_name}
+use Rattle.bp_parser.specs.Machine.{Part, an_expr, more_terms, items, more_items, a_colon, entries, more_entries, a_value, is_plus, begin_def, behind_all, at_end, go_behind, stuck, flaw_at, name_flaw, depth_of, is_among}
 use Rattle.bp_parser.proofs.Firsts.{none_some, some_same, starts_not, true_false}
 use Rattle.bp_parser.proofs.Language.{Spelled, SpelledExpr, leaf_expr, list_expr, map_expr, item, after_comma_items, after_comma_entries, join_expr, plus_kind}
 use Rattle.bp_parser.proofs.PartsRead.{same_bytes}
@@ -27,7 +27,7 @@ pub record InMap (whole : List Word) (names : List (List ℕ)) (here : List Word
   pub opened : IsMark OpenBrace (drop brace whole) inner
   pub before : Entries
   pub spelled : SpellsFirst before inner here
-  pub known : names ≡ names_of before
+  pub known : names ≡ entry_names before
 
 -- Each map that is open has the names of its entries so far; a map around it will have them once what
 -- is read in it is at its end.
@@ -47,7 +47,7 @@ abbrev pub and_then : Entries → List ℕ → Place → Tree → Entries
 and_then no_entry n at x = entry_and n at x no_entry
 and_then (entry_and m p y es) n at x = entry_and m p y (and_then es n at x)
 
-pub names_and_then : (es : Entries) (n : List ℕ) (at : Place) (x : Tree) → names_of (and_then es n at x) ≡ names_of es ++ n ∷ []
+pub names_and_then : (es : Entries) (n : List ℕ) (at : Place) (x : Tree) → entry_names (and_then es n at x) ≡ entry_names es ++ n ∷ []
 names_and_then no_entry n at x = refl
 names_and_then (entry_and m p y es) n at x = ap (λ l. m ∷ l) (names_and_then es n at x)
 
@@ -137,7 +137,7 @@ abbrev IsAgain : Option Flaw → List Word → ℕ → Type 0
 IsAgain (Some (Duplicate k)) whole i = (k ≡ i) × IsRepeated whole i
 IsAgain _ whole i = Unit {0}
 
-again : (b : Bool) (names : List (List ℕ)) (whole : List Word) (at : Place) (n : List ℕ) (ws : List Word) (i : ℕ) → has_name n names ≡ b → drop i whole ≡ record { kind = Ident; at = at; text = n } ∷ ws → drop (i + 1) whole ≡ ws → InMap whole names (record { kind = Ident; at = at; text = n } ∷ ws) → IsAgain (cond b (Some (Duplicate i)) None) whole i
+again : (b : Bool) (names : List (List ℕ)) (whole : List Word) (at : Place) (n : List ℕ) (ws : List Word) (i : ℕ) → is_among n names ≡ b → drop i whole ≡ record { kind = Ident; at = at; text = n } ∷ ws → drop (i + 1) whole ≡ ws → InMap whole names (record { kind = Ident; at = at; text = n } ∷ ws) → IsAgain (cond b (Some (Duplicate i)) None) whole i
 again false names whole at n ws i has here next m = tt
 again true names whole at n ws i has here next m = (
   refl,
@@ -156,7 +156,7 @@ again true names whole at n ws i has here next m = (
 
 name_again : (ps : List Part) (whole : List Word) (at : Place) (n : List ℕ) (ws : List Word) (i : ℕ) → drop i whole ≡ record { kind = Ident; at = at; text = n } ∷ ws → drop (i + 1) whole ≡ ws → Track ps whole (record { kind = Ident; at = at; text = n } ∷ ws) → IsAgain (name_flaw ps n i) whole i
 name_again (more_terms ∷ ps) whole at n ws i here next track = name_again ps whole at n ws i here next (past_sum ps whole Ident at n ws (λ e. cc) track)
-name_again (entries names ∷ ps) whole at n ws i here next track = again (has_name n names) names whole at n ws i refl here next track.0
+name_again (entries names ∷ ps) whole at n ws i here next track = again (is_among n names) names whole at n ws i refl here next track.0
 name_again _ whole at n ws i here next track = tt
 
 bracket_again : (b : Bool) (whole : List Word) (i : ℕ) → IsAgain (cond b (Some (TooNested i)) None) whole i

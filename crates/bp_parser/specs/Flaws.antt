@@ -9,7 +9,7 @@ use Rattle.bp_lexer.specs.declared.token.TokenKind.TheVariants.{Ident, Punct as 
 use Rattle.bp_parser.specs.declared.flaw.Flaw.{Flaw}
 use Rattle.bp_parser.specs.declared.flaw.Flaw.TheVariants.{Unexpected, TooNested, Duplicate}
 use Rattle.bp_parser.specs.Trees.{Entries, no_entry, entry_and, Definition}
-use Rattle.bp_parser.specs.Names.{names_of}
+use Rattle.bp_parser.specs.Names.{entry_names}
 use Rattle.bp_parser.specs.Words.{Word}
 use Rattle.bp_parser.specs.Grammar.{IsWord, IsMark, Spells, SpellsFile}
 
@@ -26,10 +26,10 @@ pub record IsUnexpected (ws : List Word) (k : ℕ) : Type 0 where
   pub end : k ≡ length ws → (ds : List Definition) → SpellsFile ds ws → ⊥
 
 -- A bracket that opens, and one that closes.
-abbrev pub opens : TokenKind → Bool
-opens (Mark OpenBrace) = true
-opens (Mark OpenBracket) = true
-opens _ = false
+abbrev pub is_opening : TokenKind → Bool
+is_opening (Mark OpenBrace) = true
+is_opening (Mark OpenBracket) = true
+is_opening _ = false
 
 -- A bracket that closes.
 abbrev pub closes : TokenKind → Bool
@@ -41,8 +41,8 @@ closes _ = false
 pub record IsTooNested (ws : List Word) (k : ℕ) : Type 0 where
   pub bracket : Word
   pub at : drop k ws ≡ bracket ∷ drop (k + 1) ws
-  pub opening : opens bracket.kind ≡ true
-  pub open_before : count_by (λ w. opens w.kind) (take k ws) ≡ count_by (λ w. closes w.kind) (take k ws) + 64
+  pub opening : is_opening bracket.kind ≡ true
+  pub open_before : count_by (λ w. is_opening w.kind) (take k ws) ≡ count_by (λ w. closes w.kind) (take k ws) + 64
   pub expected : BeginsAFile (take (k + 1) ws)
 
 -- Entries, each with a comma behind it, and then rest.
@@ -63,7 +63,7 @@ pub record IsRepeated (ws : List Word) (k : ℕ) : Type 0 where
   pub name : List ℕ
   pub place : Place
   pub at : IsWord Ident place name (drop k ws) (drop (k + 1) ws)
-  pub again : Contains (names_of before) name
+  pub again : Contains (entry_names before) name
 
 -- Such a name. The words up to it, itself included, begin a file's.
 pub record IsDuplicate (ws : List Word) (k : ℕ) : Type 0 where

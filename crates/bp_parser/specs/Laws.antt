@@ -4,7 +4,7 @@ use Rattle.bp_faults.specs.declared.fault.Fault.{Fault}
 use Rattle.bp_lexer.specs.declared.token.Token.{Token}
 use Rattle.bp_parser.specs.Flaws.{IsTooNested}
 use Rattle.bp_parser.specs.Grammar.{SpellsFile}
-use Rattle.bp_parser.specs.Meaning.{IsTree, IsFirstFault, ParseMeans, file_of}
+use Rattle.bp_parser.specs.Meaning.{IsTree, IsFirstParseFault, ParseMeans, number_of_file}
 use Rattle.bp_parser.specs.Names.{DefinitionHasDistinctNames, FileHasDistinctNames}
 use Rattle.bp_parser.specs.Trees.{Definition, File}
 use Rattle.bp_parser.specs.Words.{Word}
@@ -16,16 +16,17 @@ OneTree = (ws : List Word) (a b : File) → IsTree ws a → IsTree ws b → a �
 -- Any words have a tree or a first fault.
 abbrev pub SomeTreeOrFault : Type 0
 SomeTreeOrFault = (text : List ℕ) (ws : List Word)
-    → ((tree : File) × IsTree ws tree) ⊎ ((fault : Fault) × IsFirstFault text ws fault)
+    → ((tree : File) × IsTree ws tree) ⊎ ((fault : Fault) × IsFirstParseFault text ws fault)
 
 -- No words have both.
 abbrev pub NotTreeAndFault : Type 0
 NotTreeAndFault = (text : List ℕ) (ws : List Word) (tree : File) (fault : Fault)
-    → IsTree ws tree → IsFirstFault text ws fault → ⊥
+    → IsTree ws tree → IsFirstParseFault text ws fault → ⊥
 
 -- Words have at most one first fault.
 abbrev pub OneFault : Type 0
-OneFault = (text : List ℕ) (ws : List Word) (a b : Fault) → IsFirstFault text ws a → IsFirstFault text ws b → a ≡ b
+OneFault =
+    (text : List ℕ) (ws : List Word) (a b : Fault) → IsFirstParseFault text ws a → IsFirstParseFault text ws b → a ≡ b
 
 -- A text with its tokens means one thing alone.
 abbrev pub OneMeaning : Type 0
@@ -41,4 +42,4 @@ TreesHaveDistinctNames = (ws : List Word) (tree : File) → IsTree ws tree → F
 abbrev pub SpelledDefinitionsAreTrees : Type 0
 SpelledDefinitionsAreTrees = (ws : List Word) (ds : List Definition) → SpellsFile ds ws
     → All DefinitionHasDistinctNames ds → ((k : ℕ) → IsTooNested ws k → ⊥)
-    → IsTree ws (record { file = file_of ws; defs = ds })
+    → IsTree ws (record { file = number_of_file ws; defs = ds })

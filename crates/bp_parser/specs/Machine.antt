@@ -26,44 +26,42 @@ pub data Part : Type 0 where
   more_entries : List (List ℕ) → Part
   a_value : Part
 
--- What is expected behind a word, or none if the word is unexpected.
-abbrev pub behind : Part → TokenKind → List ℕ → Option (List Part)
-behind an_expr Ident n = Some (more_terms ∷ [])
-behind an_expr Int n = Some (more_terms ∷ [])
-behind an_expr Quoted n = Some (more_terms ∷ [])
-behind an_expr Raw n = Some (more_terms ∷ [])
-behind an_expr (Mark OpenBracket) n = Some (items ∷ more_terms ∷ [])
-behind an_expr (Mark OpenBrace) n = Some (entries [] ∷ more_terms ∷ [])
-behind an_expr _ n = None
-behind more_terms _ n = None
-behind items (Mark CloseBracket) n = Some []
-behind items Ident n = Some (more_terms ∷ more_items ∷ [])
-behind items Int n = Some (more_terms ∷ more_items ∷ [])
-behind items Quoted n = Some (more_terms ∷ more_items ∷ [])
-behind items Raw n = Some (more_terms ∷ more_items ∷ [])
-behind items (Mark OpenBracket) n = Some (items ∷ more_terms ∷ more_items ∷ [])
-behind items (Mark OpenBrace) n = Some (entries [] ∷ more_terms ∷ more_items ∷ [])
-behind items _ n = None
-behind more_items (Mark CloseBracket) n = Some []
-behind more_items (Mark Comma) n = Some (items ∷ [])
-behind more_items _ n = None
-behind a_colon (Mark Colon) n = Some []
-behind a_colon _ n = None
-behind (entries names) (Mark CloseBrace) n = Some []
-behind (entries names) Ident n = Some (a_colon ∷ an_expr ∷ more_entries (names ++ n ∷ []) ∷ [])
-behind (entries names) _ n = None
-behind (more_entries names) (Mark CloseBrace) n = Some []
-behind (more_entries names) (Mark Comma) n = Some (entries names ∷ [])
-behind (more_entries names) _ n = None
-behind a_value (Mark Equal) n = Some (an_expr ∷ [])
-behind a_value (Mark PlusEqual) n = Some (an_expr ∷ [])
-behind a_value (Mark OpenBrace) n = Some (entries [] ∷ [])
-behind a_value _ n = None
-
--- The same of all that is expected, in order, and definitions behind it.
+-- What is expected, and these parts behind it.
 abbrev pub with_rest : Option (List Part) → List Part → Option (List Part)
 with_rest None parts = None
 with_rest (Some new) parts = Some (new ++ parts)
+
+-- What is expected behind a word that begins an expression, or none if none begins with it.
+abbrev pub behind_first : TokenKind → List ℕ → Option (List Part)
+behind_first Ident n = Some (more_terms ∷ [])
+behind_first Int n = Some (more_terms ∷ [])
+behind_first Quoted n = Some (more_terms ∷ [])
+behind_first Raw n = Some (more_terms ∷ [])
+behind_first (Mark OpenBracket) n = Some (items ∷ more_terms ∷ [])
+behind_first (Mark OpenBrace) n = Some (entries [] ∷ more_terms ∷ [])
+behind_first _ n = None
+
+-- What is expected behind a word, or none if the word is unexpected. The items of a list go on behind an expression.
+abbrev pub expected_behind : Part → TokenKind → List ℕ → Option (List Part)
+expected_behind an_expr k n = behind_first k n
+expected_behind more_terms _ n = None
+expected_behind items (Mark CloseBracket) n = Some []
+expected_behind items k n = with_rest (behind_first k n) (more_items ∷ [])
+expected_behind more_items (Mark CloseBracket) n = Some []
+expected_behind more_items (Mark Comma) n = Some (items ∷ [])
+expected_behind more_items _ n = None
+expected_behind a_colon (Mark Colon) n = Some []
+expected_behind a_colon _ n = None
+expected_behind (entries names) (Mark CloseBrace) n = Some []
+expected_behind (entries names) Ident n = Some (a_colon ∷ an_expr ∷ more_entries (names ++ n ∷ []) ∷ [])
+expected_behind (entries names) _ n = None
+expected_behind (more_entries names) (Mark CloseBrace) n = Some []
+expected_behind (more_entries names) (Mark Comma) n = Some (entries names ∷ [])
+expected_behind (more_entries names) _ n = None
+expected_behind a_value (Mark Equal) n = Some (an_expr ∷ [])
+expected_behind a_value (Mark PlusEqual) n = Some (an_expr ∷ [])
+expected_behind a_value (Mark OpenBrace) n = Some (entries [] ∷ [])
+expected_behind a_value _ n = None
 
 -- The word is a plus.
 abbrev pub is_plus : TokenKind → Bool
@@ -75,33 +73,34 @@ abbrev pub begin_def : TokenKind → List ℕ → Option (List Part)
 begin_def Ident n = if is_truth n then None else Some (a_value ∷ [])
 begin_def _ n = None
 
--- Without a plus a sum ends, and what stands behind it is expected.
+-- What is expected behind a word of all that is expected, in order, and of definitions behind it. Without a plus a sum
+-- ends, and what stands behind it is expected.
 abbrev pub behind_all : List Part → TokenKind → List ℕ → Option (List Part)
 behind_all [] k n = begin_def k n
 behind_all (more_terms ∷ parts) k n = if is_plus k then Some (an_expr ∷ parts) else behind_all parts k n
-behind_all (p ∷ parts) k n = with_rest (behind p k n) parts
+behind_all (p ∷ parts) k n = with_rest (expected_behind p k n) parts
 
 -- How many brackets are open.
-abbrev pub opened : Part → ℕ → ℕ
-opened items n = suc n
-opened more_items n = suc n
-opened (entries names) n = suc n
-opened (more_entries names) n = suc n
-opened _ n = n
+abbrev pub open_brackets : Part → ℕ → ℕ
+open_brackets items n = suc n
+open_brackets more_items n = suc n
+open_brackets (entries names) n = suc n
+open_brackets (more_entries names) n = suc n
+open_brackets _ n = n
 
 -- How many brackets are open in all that is expected.
 abbrev pub depth_of : List Part → ℕ
 depth_of [] = 0
-depth_of (p ∷ parts) = opened p (depth_of parts)
+depth_of (p ∷ parts) = open_brackets p (depth_of parts)
 
 -- What is wrong with a word that is expected.
-abbrev pub has_name : List ℕ → List (List ℕ) → Bool
-has_name n names = list_any (bytes_eq n) names
+abbrev pub is_among : List ℕ → List (List ℕ) → Bool
+is_among n names = list_any (bytes_eq n) names
 
 -- A name that its map has is a duplicate.
 abbrev pub name_flaw : List Part → List ℕ → ℕ → Option Flaw
 name_flaw (more_terms ∷ parts) n at = name_flaw parts n at
-name_flaw (entries names ∷ parts) n at = if has_name n names then Some (Duplicate at) else None
+name_flaw (entries names ∷ parts) n at = if is_among n names then Some (Duplicate at) else None
 name_flaw _ n at = None
 
 -- A bracket where 64 are open is nested too deeply.
@@ -139,13 +138,13 @@ StartsNot kind ws = (w : Word) (rest : List Word) → ws ≡ w ∷ rest → w.ki
 
 -- The words from `at` to `next` are what is expected, where depth brackets are open around; behind them `qs` is
 -- expected.
-abbrev pub GoesOn : List Part → List Part → List Word → ℕ → ℕ → ℕ → Type 0
-GoesOn ps qs ws depth at next = (parts : List Part) → depth_of parts ≡ depth
+abbrev pub ReadsOn : List Part → List Part → List Word → ℕ → ℕ → ℕ → Type 0
+ReadsOn ps qs ws depth at next = (parts : List Part) → depth_of parts ≡ depth
     → stuck (drop at ws) at (ps ++ parts) ≡ stuck (drop next ws) next (qs ++ parts)
 
 -- From `at` on, there is this flaw.
-abbrev pub StopsAt : List Part → List Word → ℕ → ℕ → Flaw → Type 0
-StopsAt ps ws at depth flaw =
+abbrev pub FailsAt : List Part → List Word → ℕ → ℕ → Flaw → Type 0
+FailsAt ps ws at depth flaw =
     (parts : List Part) → depth_of parts ≡ depth → stuck (drop at ws) at (ps ++ parts) ≡ Some flaw
 
 -- What is known of a flaw beside where it is.
@@ -155,7 +154,7 @@ IsKnown ws _ = ⊤
 
 -- Why the reading of words stops, which from `at` on are to be these parts.
 abbrev pub StopsWith : List Part → List Word → ℕ → ℕ → Stop → Type 0
-StopsWith ps ws at depth (Bad flaw) = StopsAt ps ws at depth flaw × IsKnown ws flaw
+StopsWith ps ws at depth (Bad flaw) = FailsAt ps ws at depth flaw × IsKnown ws flaw
 StopsWith ps ws at depth OutOfMemory = ⊤
 
 -- The same where definitions are expected, and nothing else.

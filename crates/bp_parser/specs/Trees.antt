@@ -64,6 +64,13 @@ pub record File : Type 0 where
   pub file : ℕ
   pub defs : List Definition
 
+-- Where an expression stands: its first token.
+abbrev pub first_place : Tree → Place
+first_place (Leaf at atom) = at
+first_place (Items at items) = at
+first_place (Body at entries) = at
+first_place (Sum first terms) = first_place first
+
 -- These trees, and then others.
 abbrev pub trees_then : List Tree → Trees → Trees
 trees_then [] more = more

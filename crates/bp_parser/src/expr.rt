@@ -6,7 +6,7 @@ ghost use Rattle.bp_parser.specs.Trees.{Body, Sum, tree_of, term_of, entry_of, m
 ghost use Rattle.bp_parser.specs.Trees.{no_term};
 ghost use Rattle.bp_parser.specs.Words.{all_words};
 ghost use Rattle.bp_parser.specs.Grammar.{IsPrim, Spells, SpellsTerms, SpellsItems};
-ghost use Rattle.bp_parser.specs.Machine.{an_expr, more_terms, items, entries, GoesOn, StopsWith};
+ghost use Rattle.bp_parser.specs.Machine.{an_expr, more_terms, items, entries, ReadsOn, StopsWith};
 ghost use Rattle.bp_parser.specs.Reading.{AreTokens, HasMark, sum_of};
 
 use crate::atom::atom;
@@ -80,7 +80,7 @@ pub fn expr_at(
     ensures spells { IfOk result (λ x. Spells (tree_of x.0) (drop at (all_words text.now words.now))
         (drop x.1 (all_words text.now words.now))) }
     ensures further { IfOk result (λ x. (at < x.1) × (x.1 ≤ length words.now)) }
-    ensures goes_on { IfOk result (λ x. GoesOn (an_expr ∷ []) [] (all_words text.now words.now) depth at x.1) }
+    ensures goes_on { IfOk result (λ x. ReadsOn (an_expr ∷ []) [] (all_words text.now words.now) depth at x.1) }
     ensures stops { IfErr result (StopsWith (an_expr ∷ []) (all_words text.now words.now) at depth) }
 {
     let (first, next) = prim_at(alloc, text, words, at, depth)?;
@@ -103,7 +103,7 @@ fn terms_at(
     ensures spells { IfOk result (λ x. SpellsTerms (terms_then (map term_of x.0.items) no_term)
         (drop at (all_words text.now words.now)) (drop x.1 (all_words text.now words.now))) }
     ensures further { IfOk result (λ x. (at ≤ x.1) × (x.1 ≤ length words.now)) }
-    ensures goes_on { IfOk result (λ x. GoesOn (more_terms ∷ []) [] (all_words text.now words.now) depth at x.1) }
+    ensures goes_on { IfOk result (λ x. ReadsOn (more_terms ∷ []) [] (all_words text.now words.now) depth at x.1) }
     ensures stops { IfErr result (StopsWith (more_terms ∷ []) (all_words text.now words.now) at depth) }
 {
     let mut terms = Vec::new(alloc);
@@ -133,7 +133,7 @@ fn prim_at(
         (drop x.1 (all_words text.now words.now))) }
     ensures further { IfOk result (λ x. (at < x.1) × (x.1 ≤ length words.now)) }
     ensures goes_on { IfOk result
-        (λ x. GoesOn (an_expr ∷ []) (more_terms ∷ []) (all_words text.now words.now) depth at x.1) }
+        (λ x. ReadsOn (an_expr ∷ []) (more_terms ∷ []) (all_words text.now words.now) depth at x.1) }
     ensures stops { IfErr result (StopsWith (an_expr ∷ []) (all_words text.now words.now) at depth) }
 {
     if is_mark(words, at, Punct::OpenBracket) {
@@ -171,7 +171,7 @@ fn list_at(
     ensures spells { IfOk result (λ x. SpellsItems (trees_then (map tree_of x.0.items) no_tree)
         (drop at (all_words text.now words.now)) (drop x.1 (all_words text.now words.now))) }
     ensures further { IfOk result (λ x. (at < x.1) × (x.1 ≤ length words.now)) }
-    ensures goes_on { IfOk result (λ x. GoesOn (items ∷ []) [] (all_words text.now words.now) depth at x.1) }
+    ensures goes_on { IfOk result (λ x. ReadsOn (items ∷ []) [] (all_words text.now words.now) depth at x.1) }
     ensures stops { IfErr result (StopsWith (items ∷ []) (all_words text.now words.now) at depth) }
 {
     let mut list = Vec::new(alloc);
@@ -200,7 +200,8 @@ pub fn map_at(
     ensures spells { IfOk result (λ x. Spells (Body (map_of x.0).at (map_of x.0).entries)
         (drop at (all_words text.now words.now)) (drop x.1 (all_words text.now words.now))) }
     ensures further { IfOk result (λ x. (at < x.1) × (x.1 ≤ length words.now)) }
-    ensures goes_on { IfOk result (λ x. GoesOn (entries [] ∷ []) [] (all_words text.now words.now) depth (at + 1) x.1) }
+    ensures goes_on { IfOk result
+        (λ x. ReadsOn (entries [] ∷ []) [] (all_words text.now words.now) depth (at + 1) x.1) }
     ensures stops { IfErr result (StopsWith (entries [] ∷ []) (all_words text.now words.now) (at + 1) depth) }
 {
     let mut known = NameSet::new(alloc);

@@ -4,7 +4,8 @@ ghost use Rattle.bp_parser.specs.Trees.{definition_of, tree_view};
 ghost use Rattle.bp_parser.specs.Words.{all_words};
 ghost use Rattle.bp_parser.specs.Grammar.{SpellsFile};
 ghost use Rattle.bp_parser.specs.Machine.{stuck, DefsStopWith};
-ghost use Rattle.bp_parser.specs.Meaning.{AreTokensOf, ParseMeans, fault_of, file_of, place_of, subject_of};
+ghost use Rattle.bp_parser.specs.Meaning.{AreTokensOf, ParseMeans, parse_fault, number_of_file, word_place};
+ghost use Rattle.bp_parser.specs.Meaning.{word_subject};
 ghost use Rattle.bp_parser.specs.Reading.{AreTokens};
 
 use crate::ParseError;
@@ -20,7 +21,7 @@ use std::alloc::Global;
 
 // The number of the file of the first word.
 fn file_of(text: &str, words: &[Token]) -> u32
-    ensures { result ≡ file_of (all_words text.now words.now) }
+    ensures { result ≡ number_of_file (all_words text.now words.now) }
 {
     match words.first() {
         Some(token) => token.place.file,
@@ -37,8 +38,8 @@ fn subject_at(
 ) -> Result<(Place, Text), OutOfMemory>
     requires tokens { AreTokens text.now words.now }
     requires short { length text.now ≤ 2 ^ 20 }
-    ensures { IfOk result (λ x. (x.0 ≡ place_of text.now (all_words text.now words.now) at)
-        × (x.1 ≡ subject_of (all_words text.now words.now) at)) }
+    ensures { IfOk result (λ x. (x.0 ≡ word_place text.now (all_words text.now words.now) at)
+        × (x.1 ≡ word_subject (all_words text.now words.now) at)) }
 {
     match word_at(text, words, at) {
         Some(token) => Ok((token.place, Text::from_str(alloc, token.text(text))?)),
@@ -53,7 +54,7 @@ fn subject_at(
 fn fault_of(alloc: Global, text: &str, words: &[Token], flaw: Flaw) -> Result<Fault, OutOfMemory>
     requires tokens { AreTokens text.now words.now }
     requires short { length text.now ≤ 2 ^ 20 }
-    ensures { IfOk result (λ fault. fault ≡ fault_of text.now (all_words text.now words.now) flaw) }
+    ensures { IfOk result (λ fault. fault ≡ parse_fault text.now (all_words text.now words.now) flaw) }
 {
     match flaw {
         Flaw::Unexpected(at) => {

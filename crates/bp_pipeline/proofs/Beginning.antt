@@ -14,7 +14,7 @@ use Rattle.module_graph.specs.declared.graph.Node.{Node}
 use Rattle.module_graph.specs.declared.variation.Variation.TheVariants.{Empty}
 use Rattle.module_graph.specs.declared.variations.Axis.{Axis}
 use Rattle.module_graph.specs.declared.variations.Axis.TheVariants.{Target, Image, Link, PerSource, Sanitize}
-use Rattle.module_graph.specs.Axes.{place_of}
+use Rattle.module_graph.specs.Axes.{axis_index}
 use Rattle.module_graph.specs.Graphs.{edges_of, outward, NameNodes}
 use Rattle.module_graph.specs.Numbered.{by_number}
 use Rattle.module_graph.specs.Walks.{NoneReturns}
@@ -111,7 +111,7 @@ all_free : (axis : Axis) (k : ℕ) (ms : List Module) → HasFreeAxis axis (firs
 all_free axis k [] = tt
 all_free axis k (m ∷ ms) = (free_here axis, all_free axis (k + 1) ms)
   where
-    free_here : (axis : Axis) → slice_get (replicate 5 Empty) (place_of axis) ≡ Some Empty
+    free_here : (axis : Axis) → slice_get (replicate 5 Empty) (axis_index axis) ≡ Some Empty
     free_here Target = refl
     free_here Image = refl
     free_here Link = refl

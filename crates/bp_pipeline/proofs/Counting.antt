@@ -7,13 +7,13 @@ use Rattle.std.specs.List.{flat_map}
 use Rattle.std.proofs.lemmas.List.{length-map, take_more}
 use Rattle.bp_props.specs.declared.props.Props.{Props}
 use Rattle.module_graph.specs.declared.graph.Node.{Node}
-use Rattle.module_graph.specs.Graphs.{edges_of, outward}
+use Rattle.module_graph.specs.Graphs.{edges_of, outward, all_edges}
 use Rattle.module_graph.specs.Numbered.{by_number}
-use Rattle.variant_graphs.specs.Limits.{all_edges}
 use Rattle.ninja_file.specs.declared.file.NinjaFile.{NinjaFile}
 use Rattle.ninja_file.specs.declared.file.Statement.{Statement}
-use Rattle.ninja_write.specs.Meaning.{build_line, default_lines, ended, head_line, joined, rule_lines}
+use Rattle.ninja_write.specs.Meaning.{build_line, default_lines, head_line, joined_text, rule_lines}
 use Rattle.ninja_write.specs.Meaning.{statement_lines, text_of, variable_line}
+use Rattle.bp_faults.specs.Characters.{ended_line}
 
 length-edges : (k : ℕ) (nodes : List (Node Props))
     → length (by_number (λ n (x : Node Props). map (outward n) x.edges) k nodes) ≡ length (all_edges nodes)
@@ -57,20 +57,20 @@ edges_within (x ∷ xs) (suc i) =
     let rest = edges_within xs i in
     omega (arith, here, there, rest)
 
-length-joined : (xs ys : List (List ℕ)) → length (joined (xs ++ ys)) ≡ length (joined xs) + length (joined ys)
+length-joined : (xs ys : List (List ℕ)) → length (joined_text (xs ++ ys)) ≡ length (joined_text xs) + length (joined_text ys)
 length-joined [] ys = omega arith
 length-joined (x ∷ xs) ys =
-    let here = length-append (ended x) (joined (xs ++ ys)) in
-    let there = length-append (ended x) (joined xs) in
+    let here = length-append (ended_line x) (joined_text (xs ++ ys)) in
+    let there = length-append (ended_line x) (joined_text xs) in
     let rest = length-joined xs ys in
     omega (arith, here, there, rest)
 
 -- each statement has a line
-statements_within : (ss : List Statement) → length ss ≤ length (joined (flat_map statement_lines ss))
+statements_within : (ss : List Statement) → length ss ≤ length (joined_text (flat_map statement_lines ss))
 statements_within [] = omega arith
 statements_within (s ∷ ss) =
     let parts = length-joined (statement_lines s) (flat_map statement_lines ss) in
-    let line = length-append (ended (build_line s)) (joined (map variable_line s.vars)) in
+    let line = length-append (ended_line (build_line s)) (joined_text (map variable_line s.vars)) in
     let end = length-append (build_line s) (codes "\n") in
     let rest = statements_within ss in
     omega (arith, parts, line, end, rest)
@@ -81,7 +81,7 @@ statements_few f =
     let defaults = default_lines f.defaults in
     let statements = flat_map statement_lines f.statements in
     let rules = flat_map rule_lines f.rules in
-    let head = length-append (ended head_line) (joined (rules ++ (statements ++ defaults))) in
+    let head = length-append (ended_line head_line) (joined_text (rules ++ (statements ++ defaults))) in
     let first = length-joined rules (statements ++ defaults) in
     let second = length-joined statements defaults in
     let each = statements_within f.statements in

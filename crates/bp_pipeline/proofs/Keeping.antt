@@ -16,7 +16,7 @@ use Rattle.module_graph.specs.declared.graph.Node.{Node}
 use Rattle.module_graph.specs.declared.variation.Variation.{Variation}
 use Rattle.module_graph.specs.declared.variations.Axis.{Axis}
 use Rattle.module_graph.specs.declared.variations.Axis.TheVariants.{Target, Image, Link, PerSource, Sanitize}
-use Rattle.module_graph.specs.Axes.{place_of}
+use Rattle.module_graph.specs.Axes.{axis_index}
 use Rattle.module_graph.specs.Numbered.{by_number}
 use Rattle.module_graph.specs.Planned.{plan_of}
 use Rattle.mutator_rules.specs.declared.request.Request.{Request}
@@ -25,7 +25,7 @@ use Rattle.mutator_rules.specs.Conditions.{MayRun, places_in}
 use Rattle.mutator_rules.specs.Outcomes.{KindOutcome, Made, FaultAt, NodesBeyond, EdgesBeyond}
 use Rattle.mutator_kinds.specs.BottomUp.{BottomUpMeans, first_payloads}
 use Rattle.reverse_deps.specs.Applied.{AskInside}
-use Rattle.reverse_deps.specs.Linked.{bare}
+use Rattle.reverse_deps.specs.Linked.{without_edges}
 use Rattle.variant_graphs.specs.Payloads.{with_payloads}
 use Rattle.variant_graphs.specs.Splitting.{HasFreeAxis, StayFree}
 use Rattle.bp_pipeline.specs.Inside.{AreFreeAt, split_at}
@@ -90,23 +90,23 @@ module _ {P : Type 0} (many : OutsAreMany (Split P)) (mods : List Module) (answe
       by (EdgesBeyond at) means is = absurd (cc)
 
 -- nodes that are the same but for their edges have the same free axes
-bare_free : {P : Type 0} (axis : Axis) (xs ys : List (Node P)) → map bare xs ≡ map bare ys → HasFreeAxis axis ys
+bare_free : {P : Type 0} (axis : Axis) (xs ys : List (Node P)) → map without_edges xs ≡ map without_edges ys → HasFreeAxis axis ys
     → HasFreeAxis axis xs
 bare_free axis [] ys same free = tt
 bare_free axis (x ∷ xs) [] same free = absurd (cc)
 bare_free axis (x ∷ xs) (y ∷ ys) same free =
-    let head : bare x ≡ bare y = cc in
+    let head : without_edges x ≡ without_edges y = cc in
     let vars : x.vars ≡ y.vars = ap (λ (z : Node _). z.vars) head in
-    (ap (λ (vs : List Variation). slice_get vs (place_of axis)) vars ∙ free.0, bare_free axis xs ys (cc) free.1)
+    (ap (λ (vs : List Variation). slice_get vs (axis_index axis)) vars ∙ free.0, bare_free axis xs ys (cc) free.1)
 
 -- what edges are added leaves the axes free
 linked_free : {P : Type 0} (along : Option Axis) (old made new : List (Node P)) → along ≡ None → StayFree along old made
-    → map bare new ≡ map bare made → StayFree None old new
+    → map without_edges new ≡ map without_edges made → StayFree None old new
 linked_free along old made new none stay same axis other free =
     bare_free axis new made same (stay axis (λ is. let no : None ≡ Some axis = sym none ∙ is in absurd (cc)) free)
 
 pub applied_free : {P : Type 0} (along : Option Axis) (old made : List (Node P)) → along ≡ None → StayFree along old made
-    → (r : Result (Graph P) Refusal) → IfOk r (λ g. map bare g.nodes ≡ map bare made)
+    → (r : Result (Graph P) Refusal) → IfOk r (λ g. map without_edges g.nodes ≡ map without_edges made)
     → IfOk r (λ g. StayFree None old g.nodes)
 applied_free along old made none stay (Ok g) same = linked_free along old made g.nodes none stay same
 applied_free along old made none stay (Err e) same = tt

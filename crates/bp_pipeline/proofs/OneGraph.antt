@@ -7,7 +7,7 @@ use Rattle.bp_props.specs.declared.module.Module.{Module}
 use Rattle.bp_props.specs.declared.props.Props.{Props}
 use Rattle.build_actions.specs.declared.actions.Actions.{Actions}
 use Rattle.build_actions.specs.Acts.{acts_at}
-use Rattle.build_actions.specs.File.{file_of}
+use Rattle.build_actions.specs.File.{file_of_actions}
 use Rattle.module_graph.specs.declared.direction.Direction.TheVariants.{BottomUp}
 use Rattle.module_graph.specs.declared.graph.Node.{Node}
 use Rattle.module_graph.specs.declared.variations.Axis.{Axis}
@@ -25,7 +25,7 @@ use Rattle.mutator_kinds.specs.TopDown.{TopDownMeans}
 use Rattle.mutator_kinds.specs.Laws.{OneBottomUpOutcome, OneTopDownOutcome}
 use Rattle.transition_rules.specs.Passes.{WantsMean, MutateMeans}
 use Rattle.transition_rules.specs.Laws.{OneWantsOutcome, OneMutateOutcome}
-use Rattle.reverse_deps.specs.Applied.{IsApplied}
+use Rattle.reverse_deps.specs.Applied.{ApplyMeans}
 use Rattle.reverse_deps.specs.Laws.{OneOutcome}
 use Rattle.defaults_mutator.specs.Asked.{defaults_asked}
 use Rattle.defaults_mutator.specs.Merged.{defaults_merged}
@@ -44,8 +44,8 @@ use Rattle.bp_pipeline.specs.declared.passes.Pass.TheVariants.{SplitLinks, AskDe
 use Rattle.bp_pipeline.specs.declared.passes.Pass.TheVariants.{SplitSanitized, MarkSanitized, HandLevels, GatherInfo}
 use Rattle.bp_pipeline.specs.First.{first_nodes}
 use Rattle.bp_pipeline.specs.Limits.{ComesTo, graph_or_fault}
-use Rattle.bp_pipeline.specs.Generated.{ActionsMean, FileMeans, TextMeans, written}
-use Rattle.bp_pipeline.specs.Mutators.{built, passes_of}
+use Rattle.bp_pipeline.specs.Generated.{ActionsMean, FileMeans, TextMeans, text_within_limit}
+use Rattle.bp_pipeline.specs.Mutators.{mutator_count, passes_of}
 use Rattle.bp_pipeline.specs.Passes.{Answer, AskMeans, MakeMeans, StepMeans, pass_at}
 use Rattle.bp_pipeline.specs.Course.{CourseMeans, GraphAfter}
 use Rattle.bp_pipeline.specs.Laws.{OneCourse, OneGraph}
@@ -63,7 +63,7 @@ module _ (kind : OneBottomUpOutcome Props) (above : OneTopDownOutcome Props) (wa
 
   ask_once : (answer : Answer) (nodes : List (Node Props)) → IsOnce (AskMeans mods answer nodes)
   ask_once answer nodes =
-      then_once (ComesTo mods (BottomUpMeans answer nodes None)) (λ made. IsApplied mods made.0 made.1)
+      then_once (ComesTo mods (BottomUpMeans answer nodes None)) (λ made. ApplyMeans mods made.0 made.1)
       (kind_once answer nodes None) (λ made. applied mods made.0 made.1)
 
   make_once : (along : Option Axis) (answer : Answer) (nodes : List (Node Props))
@@ -119,15 +119,15 @@ module _ (once : OneCourse) where
     module _ (mods : List Module) (c : Config) where
       pub actions_once : IsOnce (ActionsMean mods c)
       actions_once =
-          then_once (GraphAfter mods c built) (λ nodes. PassMeans (acts_at mods nodes) (plan_of BottomUp nodes))
-          (one_graph mods c built) (λ nodes. means_once (acts_at mods nodes) (plan_of BottomUp nodes))
+          then_once (GraphAfter mods c mutator_count) (λ nodes. PassMeans (acts_at mods nodes) (plan_of BottomUp nodes))
+          (one_graph mods c mutator_count) (λ nodes. means_once (acts_at mods nodes) (plan_of BottomUp nodes))
 
       pub file_once : IsOnce (FileMeans mods c)
       file_once =
-          then_once (ActionsMean mods c) (λ made (outcome : Result NinjaFile Fault). Ok (file_of made) ≡ outcome)
-          actions_once (λ made. value_once (Ok (file_of made)))
+          then_once (ActionsMean mods c) (λ made (outcome : Result NinjaFile Fault). Ok (file_of_actions made) ≡ outcome)
+          actions_once (λ made. value_once (Ok (file_of_actions made)))
 
       pub text_once : IsOnce (TextMeans mods c)
       text_once =
-          then_once (FileMeans mods c) (λ file (outcome : Result (List ℕ) Fault). written file ≡ outcome) file_once
-          (λ file. value_once (written file))
+          then_once (FileMeans mods c) (λ file (outcome : Result (List ℕ) Fault). text_within_limit file ≡ outcome) file_once
+          (λ file. value_once (text_within_limit file))

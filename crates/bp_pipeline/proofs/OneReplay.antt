@@ -23,7 +23,7 @@ use Rattle.pass_ways.specs.Laws.{LinesSayOneOrder, OneRefusal, RefusedHaveNoOrde
 use Rattle.pass_ways.specs.OrderFiles.{IsRefused, Say, lines_behind, stopped_at}
 use Rattle.pass_ways.specs.Visits.{visits}
 use Rattle.bp_pipeline.specs.Endings.{IsFaulty}
-use Rattle.bp_pipeline.specs.Generated.{TextMeans, written}
+use Rattle.bp_pipeline.specs.Generated.{TextMeans, text_within_limit}
 use Rattle.bp_pipeline.specs.Journals.{HasRun, IsJournal, IsLegalJournal, plan_at}
 use Rattle.bp_pipeline.specs.Laws.{FaultsAreReplayed, JournalsAreReplayed, JournalTextsAreReplayed, OneCourse}
 use Rattle.bp_pipeline.specs.Laws.{OneOrder, OneReplay}
@@ -293,7 +293,7 @@ module _ (once : OneCourse) (one : AtMostOneOutcome Actions) (one_order : LinesS
       illegal_twice p q nodes others earlier before x y made refused made_too refused_too
   one_cause x y (Illegal p nodes earlier few made refused) (Behind journal acted l ls legal acts said behind is) =
       absurd (never_legal p nodes earlier x made refused few journal legal said)
-  one_cause x y (Illegal p nodes earlier few made refused) (TooLarge journal written are means large) =
+  one_cause x y (Illegal p nodes earlier few made refused) (TooLarge journal text_within_limit are means large) =
       absurd (never_legal p nodes earlier x made refused few journal are.legal are.say)
   one_cause x y (Behind journal made l ls legal acts said behind is) (Faulty p whole faulty say) =
       absurd (apart made y
@@ -306,18 +306,18 @@ module _ (once : OneCourse) (one : AtMostOneOutcome Actions) (one_order : LinesS
       ∙ same_place journal other (l ∷ ls) (m ∷ ms) (same_legal journal other legal legal_too said said_too) behind
       behind_too
       ∙ sym is_too
-  one_cause x y (Behind journal made l ls legal acts said behind is) (TooLarge other written are means large) =
+  one_cause x y (Behind journal made l ls legal acts said behind is) (TooLarge other text_within_limit are means large) =
       absurd (no_more other journal l ls are legal said behind)
   one_cause x y (TooLarge journal made are means large) (Faulty p whole faulty say) =
       absurd (apart made y
       (file_once once one mods c (Ok made) (Err y) means (Err y, faulty_acts mods c p whole y faulty, refl)))
-  one_cause x y (TooLarge journal written are means large) (Illegal p nodes earlier few made refused) =
+  one_cause x y (TooLarge journal text_within_limit are means large) (Illegal p nodes earlier few made refused) =
       absurd (never_legal p nodes earlier y made refused few journal are.legal are.say)
-  one_cause x y (TooLarge other written are means large) (Behind journal made l ls legal acts said behind is) =
+  one_cause x y (TooLarge other text_within_limit are means large) (Behind journal made l ls legal acts said behind is) =
       absurd (no_more other journal l ls are legal said behind)
   one_cause x y (TooLarge journal made are means large) (TooLarge other made_too are_too means_too large_too) =
       let same = value_of made made_too (file_once once one mods c (Ok made) (Ok made_too) means means_too) in
-      fault_of x y (sym large ∙ ap written same ∙ large_too)
+      fault_of x y (sym large ∙ ap text_within_limit same ∙ large_too)
 
   no_cause : (journal : List (ℕ × NodeId)) → AreJournal mods c lines file journal → (text : List ℕ)
       → TextMeans mods c (Ok text) → (x : Fault) → Cause mods c lines file x → ⊥

@@ -16,7 +16,7 @@ use Rattle.pass_ways.specs.Visits.{visits}
 use Rattle.pass_ways.specs.Ways.{Follows, RefusesPass, Runs}
 use Rattle.variant_graphs.specs.declared.error.StepError.{StepError}
 use Rattle.variant_graphs.specs.declared.error.StepError.TheVariants.{Kind, Refused}
-use Rattle.variant_graphs.specs.Steps.{AnswersStep, HasFollowed}
+use Rattle.variant_graphs.specs.Steps.{AnswersStep, FollowedMeans}
 use Rattle.bp_pipeline.specs.Inside.{RefusalMeans}
 use Rattle.bp_pipeline.specs.Limits.{ComesTo, graph_or_fault}
 use Rattle.bp_pipeline.specs.Runs.{HasRunBy, TellsPass}
@@ -50,7 +50,7 @@ module _ {G : Type 0} (way : Way G) (plan : Plan) (pass : ℕ) (given before : L
     -- a kind of mutator made its graph
     pub pass_made : (made : T) (value : U) → whole_view value ≡ view made
         → AnswersStep view Means (RefusesPass way given pass plan) (Ok made)
-        → HasFollowed order_of (Runs (Follows way) plan pass given) (Ok made) → (listed : List NodeId)
+        → FollowedMeans order_of (Runs (Follows way) plan pass given) (Ok made) → (listed : List NodeId)
         → listed ≡ order_of made → (after : List (ℕ × NodeId)) → after ≡ before ++ visits pass listed
         → TellsPass way whole_view (ComesTo mods Means) plan pass before after (Ok value)
     pass_made made value same means followed listed order_is after is =
@@ -66,7 +66,7 @@ module _ {G : Type 0} (way : Way G) (plan : Plan) (pass : ℕ) (given before : L
     -- it ended with an error, which is told as a refusal
     pub pass_ended : (e : StepError) (r : Refusal) (after : List (ℕ × NodeId))
         → AnswersStep view Means (RefusesPass way given pass plan) (Err e)
-        → HasFollowed order_of (Runs (Follows way) plan pass given) (Err e) → RefusalMeans mods e r
+        → FollowedMeans order_of (Runs (Follows way) plan pass given) (Err e) → RefusalMeans mods e r
         → TellsPass way whole_view (ComesTo mods Means) plan pass before after (Err r)
     pass_ended (Refused fault) (Bad told) after means followed same = inr (own_refusal told fault same means)
     pass_ended (Kind (At n fault)) (Bad told) after means followed same =

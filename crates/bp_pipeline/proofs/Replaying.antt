@@ -9,14 +9,14 @@ use Rattle.bp_faults.specs.declared.refusal.Refusal.TheVariants.{Bad, OutOfMemor
 use Rattle.bp_faults.specs.Answers.{Refuses, Tells}
 use Rattle.bp_props.specs.declared.module.Module.{Module}
 use Rattle.build_actions.specs.declared.actions.Actions.{Actions}
-use Rattle.build_actions.specs.File.{file_of}
+use Rattle.build_actions.specs.File.{file_of_actions}
 use Rattle.mutator_rules.specs.declared.config.Config.{Config}
 use Rattle.ninja_file.specs.declared.file.NinjaFile.{NinjaFile}
 use Rattle.pass_ways.specs.declared.way.OrderLine.{OrderLine}
 use Rattle.pass_ways.specs.declared.way.OrderLines.{OrderLines}
 use Rattle.pass_ways.specs.declared.way.Way.TheVariants.{Lines}
 use Rattle.pass_ways.specs.OrderFiles.{Say, lines_behind, stopped_at}
-use Rattle.bp_pipeline.specs.Generated.{written}
+use Rattle.bp_pipeline.specs.Generated.{text_within_limit}
 use Rattle.bp_pipeline.specs.Mutators.{passes}
 use Rattle.bp_pipeline.specs.Replays.{Cause, ReplayMeans, end_of}
 use Rattle.bp_pipeline.specs.Replays.Cause.{Behind, Faulty, Illegal, TooLarge}
@@ -87,7 +87,7 @@ module _ {T : Type 0} (view : T → List ℕ) (mods : List Module) (c : Config) 
 
     -- none does, and the text tells the replay
     pub replay_told : end_of file (suc count) (drop count lines) ≡ Ok tt → (made_file : NinjaFile)
-        → made_file ≡ file_of made → (r : Result T Refusal) → Tells view (λ outcome. written made_file ≡ outcome) r
+        → made_file ≡ file_of_actions made → (r : Result T Refusal) → Tells view (λ outcome. text_within_limit made_file ≡ outcome) r
         → Told r
     replay_told ends made_file is (Ok text) told = (
       (

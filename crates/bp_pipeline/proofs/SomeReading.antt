@@ -17,7 +17,7 @@ use Rattle.bp_faults.specs.declared.ids.NodeId.{NodeId}
 use Rattle.bp_faults.proofs.Lists.{contains_earlier, same_at}
 use Rattle.pass_core.specs.declared.plan.Plan.{Plan}
 use Rattle.pass_core.specs.Orders.{IsLegal, numbers}
-use Rattle.pass_core.specs.OrderOutcomes.{IsReady, IsReadyAt}
+use Rattle.pass_core.specs.OrderOutcomes.{IsReadyAfter, IsReadyAt}
 use Rattle.pass_core.specs.Plans.{predecessors}
 use Rattle.pass_ways.specs.declared.way.OrderLine.{OrderLine}
 use Rattle.pass_ways.specs.Laws.{PartsAreShort}
@@ -48,7 +48,7 @@ below_told n m =
     ⊎_elim (λ same. inr (λ less. omega (arith, same, less)))
     (λ apart. ⊎_elim (λ less. inl less) (λ more. inr (λ less. omega (arith, more, less))) apart) (cases_order n m)
 
-ready_told : (plan : Plan) (before : List ℕ) (n : ℕ) → IsTold (IsReady plan before n)
+ready_told : (plan : Plan) (before : List ℕ) (n : ℕ) → IsTold (IsReadyAfter plan before n)
 ready_told plan before n =
     ⊎_elim
     (λ inside. ⊎_elim
@@ -77,7 +77,7 @@ line_told plan pass order l = by l.entry refl
         (λ same. ⊎_elim
         (λ ready. inl (v.1, is ∙ ap (λ q. entry (q, v.1)) same, ready))
         (λ no. inr (λ legal. let e = same_entry v (pass, legal.0) (sym is ∙ legal.1) in
-        no (subst (λ (m : NodeId). IsReady plan (numbers order) m.0) (sym (ap (λ (w : ℕ × NodeId). w.1) e)) legal.2)))
+        no (subst (λ (m : NodeId). IsReadyAfter plan (numbers order) m.0) (sym (ap (λ (w : ℕ × NodeId). w.1) e)) legal.2)))
         (ready_told plan (numbers order) v.1.0))
         (λ differ. inr (λ legal. let e = same_entry v (pass, legal.0) (sym is ∙ legal.1) in
         differ (ap (λ (w : ℕ × NodeId). w.0) e)))
@@ -115,19 +115,19 @@ module _ (plan : Plan) (order : List ℕ) (ready : (place : ℕ) → place < len
   }
 
   -- one node more that is ready
-  ready_more : (n : ℕ) → IsReady plan order n → (place : ℕ) → place < length (order ++ n ∷ [])
+  ready_more : (n : ℕ) → IsReadyAfter plan order n → (place : ℕ) → place < length (order ++ n ∷ [])
       → IsReadyAt plan (order ++ n ∷ []) place
   ready_more n here place lt =
       let many = length-append order (n ∷ []) in
       ⊎_elim
       (λ same. subst (IsReadyAt plan (order ++ n ∷ [])) (sym same)
-      (subst (λ l. IsReady plan l (slice_index (order ++ n ∷ []) (length order)))
+      (subst (λ l. IsReadyAfter plan l (slice_index (order ++ n ∷ []) (length order)))
       (sym (take-append_seam order (n ∷ [])))
-      (subst (IsReady plan order) (sym (get_or-append_seam order n [] 0)) here)))
+      (subst (IsReadyAfter plan order) (sym (get_or-append_seam order n [] 0)) here)))
       (λ differ. ⊎_elim
-      (λ less. subst (λ l. IsReady plan l (slice_index (order ++ n ∷ []) place))
+      (λ less. subst (λ l. IsReadyAfter plan l (slice_index (order ++ n ∷ []) place))
       (sym (take-append-le place order (n ∷ []) (omega (arith, less))))
-      (subst (IsReady plan (take place order)) (sym (get_or-append order (n ∷ []) 0 place less)) (ready place less)))
+      (subst (IsReadyAfter plan (take place order)) (sym (get_or-append order (n ∷ []) 0 place less)) (ready place less)))
       (λ more. absurd (omega (arith, many, more, lt)))
       differ)
       (cases_order place (length order))

@@ -9,7 +9,7 @@ use Rattle.bp_props.specs.declared.module.Module.{Module}
 use Rattle.bp_props.specs.declared.props.Props.{Props}
 use Rattle.build_actions.specs.declared.actions.Actions.{Actions}
 use Rattle.build_actions.specs.Acts.{acts_at}
-use Rattle.build_actions.specs.File.{file_of}
+use Rattle.build_actions.specs.File.{file_of_actions}
 use Rattle.module_graph.specs.declared.direction.Direction.TheVariants.{BottomUp}
 use Rattle.module_graph.specs.declared.graph.Node.{Node}
 use Rattle.module_graph.specs.Laws.{PlansOfGraphsArePlans, ValidPlansHaveNoCycle}
@@ -24,11 +24,11 @@ use Rattle.pass_ways.specs.OrderFiles.{Say, lines_behind, stopped_at}
 use Rattle.pass_ways.specs.Visits.{visits}
 use Rattle.bp_pipeline.specs.Course.{CourseMeans}
 use Rattle.bp_pipeline.specs.First.{first_nodes}
-use Rattle.bp_pipeline.specs.Generated.{FileMeans, written}
+use Rattle.bp_pipeline.specs.Generated.{FileMeans, text_within_limit}
 use Rattle.bp_pipeline.specs.Journals.{HasRun, IsJournal, IsLegalJournal, plan_at}
 use Rattle.bp_pipeline.specs.Mutators.{passes}
 use Rattle.bp_pipeline.specs.Passes.{Outcome, StepMeans, pass_at}
-use Rattle.bp_pipeline.specs.Ready.{IsReady, SomeStep}
+use Rattle.bp_pipeline.specs.Ready.{IsReadyForPass, SomeStep}
 use Rattle.bp_pipeline.specs.Replays.{Cause, ReplayMeans}
 use Rattle.bp_pipeline.specs.Replays.Cause.{Behind, Faulty, Illegal, TooLarge}
 use Rattle.bp_pipeline.proofs.SomeGraph.{first_ready}
@@ -62,7 +62,7 @@ module _ (step : SomeStep) (short : PartsAreShort) (one : OneOutcome Actions) (p
     pub mutated : IsJournal mods c p nodes earlier
     pub course : CourseMeans mods c p (Ok nodes)
     pub say : Say lines earlier
-    pub ready : IsReady (length mods) p nodes
+    pub ready : IsReadyForPass (length mods) p nodes
 
   next_pass : (p : ℕ) → p < passes → IsSoFar p → Replayed ⊎ IsSoFar (suc p)
   next_pass p less now = by (reading short lines file now.earlier (suc p) (plan_at p now.nodes) now.say)
@@ -70,7 +70,7 @@ module _ (step : SomeStep) (short : PartsAreShort) (one : OneOutcome Actions) (p
       made : (order : List NodeId)
           → HasRun (plan_at p now.nodes) (suc p) now.earlier (now.earlier ++ visits (suc p) order)
           → Say lines (now.earlier ++ visits (suc p) order) → (outcome : Outcome)
-          → StepMeans mods c (pass_at p) now.nodes outcome → IfOk outcome (IsReady (length mods) (suc p))
+          → StepMeans mods c (pass_at p) now.nodes outcome → IfOk outcome (IsReadyForPass (length mods) (suc p))
           → Replayed ⊎ IsSoFar (suc p)
       made order run say (Ok new) means ready =
           inr (record {
@@ -127,22 +127,22 @@ module _ (step : SomeStep) (short : PartsAreShort) (one : OneOutcome Actions) (p
 
       module _ (made : List Actions)
           (means : PassMeans (acts_at mods now.nodes) (plan_of BottomUp now.nodes) (Ok made)) where
-        file_means : FileMeans mods c (Ok (file_of made))
+        file_means : FileMeans mods c (Ok (file_of_actions made))
         file_means = (Ok made, (Ok now.nodes, now.course, means), refl)
 
-        written_by : length lines ≡ length journal → (text : Result (List ℕ) Fault) → written (file_of made) ≡ text
+        written_by : length lines ≡ length journal → (text : Result (List ℕ) Fault) → text_within_limit (file_of_actions made) ≡ text
             → Replayed
         written_by all (Ok text) is =
-            (Ok text, ((journal, record { legal = legal; say = say; all = all }), (Ok (file_of made), file_means, is)))
+            (Ok text, ((journal, record { legal = legal; say = say; all = all }), (Ok (file_of_actions made), file_means, is)))
         written_by all (Err fault) is =
             faulty fault
-            (TooLarge journal (file_of made) (record { legal = legal; say = say; all = all }) file_means is)
+            (TooLarge journal (file_of_actions made) (record { legal = legal; say = say; all = all }) file_means is)
 
         behind_by : (behind : List OrderLine) → lines_behind lines journal ≡ behind → Replayed
         behind_by [] is =
             let most = none_behind (length journal) lines is in
             let least = say_few lines journal say in
-            written_by (omega (arith, most, least)) (written (file_of made)) refl
+            written_by (omega (arith, most, least)) (text_within_limit (file_of_actions made)) refl
         behind_by (l ∷ ls) is =
             faulty (stopped_at file (suc (length journal)) (l ∷ ls))
             (Behind journal made l ls legal (Ok now.nodes, now.course, means) say is refl)

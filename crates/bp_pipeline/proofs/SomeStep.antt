@@ -22,7 +22,7 @@ use Rattle.mutator_kinds.specs.TopDown.{TopDownMeans}
 use Rattle.mutator_kinds.specs.Laws.{SomeBottomUpOutcome, SomeTopDownOutcome, BottomUpKeeps, TopDownKeeps}
 use Rattle.transition_rules.specs.Passes.{WantsMean, MutateMeans}
 use Rattle.transition_rules.specs.Laws.{SomeWantsOutcome, SomeMutateOutcome, WantsKeep, MutateKeeps}
-use Rattle.reverse_deps.specs.Applied.{IsApplied}
+use Rattle.reverse_deps.specs.Applied.{ApplyMeans}
 use Rattle.reverse_deps.specs.Laws.{SomeOutcome, AppliedKeeps}
 use Rattle.defaults_mutator.specs.Asked.{defaults_asked}
 use Rattle.defaults_mutator.specs.Merged.{defaults_merged}
@@ -45,7 +45,7 @@ use Rattle.bp_pipeline.specs.declared.passes.Pass.TheVariants.{SplitSanitized, M
 use Rattle.bp_pipeline.specs.Inside.{AreFreeAt, IsUsable}
 use Rattle.bp_pipeline.specs.Limits.{ComesTo, graph_or_fault}
 use Rattle.bp_pipeline.specs.Passes.{Answer, Outcome, AskMeans, MakeMeans, StepMeans, pass_at}
-use Rattle.bp_pipeline.specs.Ready.{IsReady}
+use Rattle.bp_pipeline.specs.Ready.{IsReadyForPass}
 use Rattle.bp_pipeline.proofs.Keeping.{applied_free, asked_inside, axis_of, next_free, own_axis}
 
 -- An outcome that is meant, and what holds of its value.
@@ -99,7 +99,7 @@ module _ (some_up : SomeBottomUpOutcome Props) (up_keeps : BottomUpKeeps Props) 
         let next = some_applied mods made.0 made.1 kept.valid.ends asking in
         by next.0 next.1
       where
-        by : (outcome : Outcome) → IsApplied mods made.0 made.1 outcome → Comes (AskMeans mods answer nodes) (Kept None)
+        by : (outcome : Outcome) → ApplyMeans mods made.0 made.1 outcome → Comes (AskMeans mods answer nodes) (Kept None)
         by (Ok new) applied =
             let fit = applied_keeps mods made.0 made.1 new kept.valid kept.may
             (asked_inside many mods answer nodes made comes) applied in (
@@ -159,7 +159,7 @@ module _ (some_up : SomeBottomUpOutcome Props) (up_keeps : BottomUpKeeps Props) 
 
     -- The pass with a number over a graph that is ready for it.
     pub step_some : (p : ℕ) → AreFreeAt p nodes
-        → Comes (StepMeans mods c (pass_at p) nodes) (IsReady (length mods) (suc p))
+        → Comes (StepMeans mods c (pass_at p) nodes) (IsReadyForPass (length mods) (suc p))
     step_some p free =
         let made =
         pass_some (pass_at p) (λ axis is. let here = own_axis p axis is in free axis (omega (arith, here))) in
@@ -167,7 +167,7 @@ module _ (some_up : SomeBottomUpOutcome Props) (up_keeps : BottomUpKeeps Props) 
       where
         by : (outcome : Outcome) → StepMeans mods c (pass_at p) nodes outcome
             → IfOk outcome (Kept (axis_of (pass_at p)))
-            → Comes (StepMeans mods c (pass_at p) nodes) (IsReady (length mods) (suc p))
+            → Comes (StepMeans mods c (pass_at p) nodes) (IsReadyForPass (length mods) (suc p))
         by (Ok new) means kept =
             let more : p + 1 ≡ suc p = omega arith in (
               Ok new,

@@ -1,5 +1,5 @@
 -- One pass after another.
-use Rattle.std.proofs.Common.{◌≡◌, ◌<◌, ◌≤◌, ◌+◌, ◌-◌, ℕ, zero, suc, List, [], Result, Ok, Err, refl, sym, ap}
+use Rattle.std.proofs.Common.{◌≡◌, ◌<◌, ◌≤◌, ◌+◌, ◌-◌, ℕ, zero, suc, List, Result, Ok, Err, refl, sym, ap}
 use Rattle.std.proofs.Common.{subst, arith, ⊎_elim, inl}
 use Rattle.std.specs.Result.{IsErrAnd}
 use Rattle.bp_faults.specs.declared.fault.Fault.{Fault}
@@ -14,7 +14,6 @@ use Rattle.module_graph.specs.declared.graph.Node.{Node}
 use Rattle.mutator_rules.specs.declared.config.Config.{Config}
 use Rattle.pass_core.specs.declared.plan.Plan.{Plan}
 use Rattle.pass_ways.specs.declared.way.Way.{Way}
-use Rattle.pass_ways.specs.declared.way.Way.TheVariants.{Workers, Lines}
 use Rattle.pass_ways.specs.Ways.{Follows, RefusesPass}
 use Rattle.bp_pipeline.specs.declared.workshop.Workshop.{Workshop}
 use Rattle.bp_pipeline.specs.Course.{CourseMeans}
@@ -24,11 +23,6 @@ use Rattle.bp_pipeline.specs.Mutators.{passes}
 use Rattle.bp_pipeline.specs.Passes.{pass_at}
 use Rattle.bp_pipeline.specs.Runs.{AnswersCourse, CourseEnds, TellsStep}
 use Rattle.bp_pipeline.specs.Runs.CourseEnds.{Faulty, Refused}
-
--- before all passes there is no visit, which any way makes
-pub none_followed : {G : Type 0} (way : Way G) → Follows way []
-none_followed (Workers workers gate) = tt
-none_followed (Lines lines) = tt
 
 module _ {G : Type 0} (mods : List Module) (c : Config) (way : Way G) where
   -- passes that end end more passes

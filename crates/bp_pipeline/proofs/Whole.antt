@@ -11,7 +11,7 @@ use Rattle.bp_props.specs.declared.module.Module.{Module}
 use Rattle.bp_props.specs.declared.props.Props.{Props}
 use Rattle.build_actions.specs.declared.actions.Actions.{Actions}
 use Rattle.build_actions.specs.Acts.{acts_at}
-use Rattle.build_actions.specs.File.{file_of}
+use Rattle.build_actions.specs.File.{file_of_actions}
 use Rattle.module_graph.specs.declared.direction.Direction.TheVariants.{BottomUp}
 use Rattle.module_graph.specs.declared.graph.Node.{Node}
 use Rattle.module_graph.specs.Planned.{plan_of}
@@ -24,7 +24,7 @@ use Rattle.pass_ways.specs.Ways.{RefusesPass}
 use Rattle.bp_pipeline.specs.declared.ran.Ran.{Ran}
 use Rattle.bp_pipeline.specs.Course.{CourseMeans}
 use Rattle.bp_pipeline.specs.Endings.{IsFaulty}
-use Rattle.bp_pipeline.specs.Generated.{ActionsMean, FileMeans, TextMeans, written}
+use Rattle.bp_pipeline.specs.Generated.{ActionsMean, FileMeans, TextMeans, text_within_limit}
 use Rattle.bp_pipeline.specs.Journals.{IsJournal, IsLegalJournal, plan_at}
 use Rattle.bp_pipeline.specs.Mutators.{passes}
 use Rattle.bp_pipeline.specs.Runs.{AnswersAll, AnswersCourse, AreRun, CourseEnds, TellsPass}
@@ -89,19 +89,13 @@ module _ {G : Type 0} (mods : List Module) (c : Config) (way : Way G) where
     pub legal_journal : IsLegalJournal mods c journal
     legal_journal = record { nodes = run.nodes; earlier = run.earlier; mutated = run.mutated; acted = run.acted }
 
-    pub file_means : (file : NinjaFile) → file ≡ file_of made → FileMeans mods c (Ok file)
+    pub file_means : (file : NinjaFile) → file ≡ file_of_actions made → FileMeans mods c (Ok file)
     file_means file is = (Ok made, made_means, ap Ok (sym is))
 
     -- and the text of the file is the job's
-    pub text_means : (file : NinjaFile) → file ≡ file_of made → (outcome : Result (List ℕ) Fault)
-        → written file ≡ outcome → TextMeans mods c outcome
+    pub text_means : (file : NinjaFile) → file ≡ file_of_actions made → (outcome : Result (List ℕ) Fault)
+        → text_within_limit file ≡ outcome → TextMeans mods c outcome
     text_means file is outcome is_written = (Ok file, file_means file is, is_written)
-
-    pub text_tells : {T : Type 0} (view : T → List ℕ) (file : NinjaFile) → file ≡ file_of made → (r : Result T Refusal)
-        → Tells view (λ outcome. written file ≡ outcome) r → Tells view (TextMeans mods c) r
-    text_tells view file is (Ok text) told = text_means file is (Ok (view text)) told
-    text_tells view file is (Err (Bad fault)) told = text_means file is (Err fault) told
-    text_tells view file is (Err OutOfMemory) told = tt
 
 -- a pass that ends with a fault ends the job
 pub faulty_acts : (mods : List Module) (c : Config) (p : ℕ) (whole : List (ℕ × NodeId)) (fault : Fault)

@@ -10,7 +10,7 @@ use Rattle.bp_props.specs.declared.module.Module.{Module}
 use Rattle.bp_props.specs.declared.props.Props.{Props}
 use Rattle.build_actions.specs.declared.actions.Actions.{Actions}
 use Rattle.build_actions.specs.Acts.{acts_at}
-use Rattle.build_actions.specs.File.{file_of}
+use Rattle.build_actions.specs.File.{file_of_actions}
 use Rattle.module_graph.specs.declared.direction.Direction.TheVariants.{BottomUp}
 use Rattle.module_graph.specs.declared.graph.Node.{Node}
 use Rattle.module_graph.specs.Planned.{plan_of}
@@ -18,14 +18,14 @@ use Rattle.mutator_rules.specs.declared.config.Config.{Config}
 use Rattle.ninja_file.specs.declared.file.NinjaFile.{NinjaFile}
 use Rattle.ninja_write.specs.Meaning.{text_of}
 use Rattle.pass_core.specs.Outcomes.{PassMeans}
-use Rattle.variant_graphs.specs.Limits.{all_edges}
 use Rattle.bp_pipeline.specs.declared.sizes.Sizes.{Sizes}
 use Rattle.bp_pipeline.specs.Course.{GraphAfter}
-use Rattle.bp_pipeline.specs.Mutators.{built}
+use Rattle.bp_pipeline.specs.Mutators.{mutator_count}
+use Rattle.module_graph.specs.Graphs.{all_edges}
 
 -- The text of a file for Ninja, which is no larger than its limit.
-abbrev pub written : NinjaFile → Result (List ℕ) Fault
-written file =
+abbrev pub text_within_limit : NinjaFile → Result (List ℕ) Fault
+text_within_limit file =
     if nat_le (length (text_of file)) LARGEST_OUTPUT then Ok (text_of file)
     else Err (fault_at OutputTooLarge (file_start 0))
 
@@ -38,15 +38,15 @@ module _ (mods : List Module) (c : Config) where
   -- What is done at the nodes of the graph after all mutators, or the first fault.
   abbrev pub ActionsMean : Result (List Actions) Fault → Type 0
   ActionsMean outcome =
-      Then (GraphAfter mods c built) (λ nodes. PassMeans (acts_at mods nodes) (plan_of BottomUp nodes)) outcome
+      Then (GraphAfter mods c mutator_count) (λ nodes. PassMeans (acts_at mods nodes) (plan_of BottomUp nodes)) outcome
 
   -- The file for Ninja, or the first fault.
   abbrev pub FileMeans : Result NinjaFile Fault → Type 0
-  FileMeans outcome = Then ActionsMean (λ made outcome. Ok (file_of made) ≡ outcome) outcome
+  FileMeans outcome = Then ActionsMean (λ made outcome. Ok (file_of_actions made) ≡ outcome) outcome
 
   -- Its text, or the first fault.
   abbrev pub TextMeans : Result (List ℕ) Fault → Type 0
-  TextMeans outcome = Then FileMeans (λ file outcome. written file ≡ outcome) outcome
+  TextMeans outcome = Then FileMeans (λ file outcome. text_within_limit file ≡ outcome) outcome
 
   -- The number of the file's statements, the one of all outputs among them.
   abbrev pub IsStatementCount : ℕ → Type 0
@@ -61,4 +61,4 @@ module _ (mods : List Module) (c : Config) where
 
   -- The size of the graph after each mutator.
   abbrev pub AreSizes : List Sizes → Type 0
-  AreSizes = AreSizesTo built
+  AreSizes = AreSizesTo mutator_count

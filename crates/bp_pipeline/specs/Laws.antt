@@ -18,7 +18,7 @@ use Rattle.bp_pipeline.specs.Course.{CourseMeans, GraphAfter}
 use Rattle.bp_pipeline.specs.Endings.{IsFaulty}
 use Rattle.bp_pipeline.specs.Generated.{TextMeans}
 use Rattle.bp_pipeline.specs.Journals.{IsLegalJournal}
-use Rattle.bp_pipeline.specs.Mutators.{built}
+use Rattle.bp_pipeline.specs.Mutators.{mutator_count}
 use Rattle.bp_pipeline.specs.Replays.{AreJournal, OrderMeans, ReplayMeans}
 
 -- The first passes come to one graph or one fault.
@@ -66,14 +66,14 @@ JournalTextsAreReplayed =
 -- The first mutators come to a graph or a fault, whatever the modules are.
 abbrev pub SomeGraph : Type 0
 SomeGraph =
-    (mods : List Module) (c : Config) (k : ℕ) → length mods ≤ 2 ^ 17 → TargetsDiffer c → k ≤ built
+    (mods : List Module) (c : Config) (k : ℕ) → length mods ≤ 2 ^ 17 → TargetsDiffer c → k ≤ mutator_count
     → HasOutcome (GraphAfter mods c k)
 
 -- A graph that they come to is valid, a `u32` numbers its nodes and edges, and its nodes are variants of the modules.
 abbrev pub GraphsAreValid : Type 0
 GraphsAreValid =
     (mods : List Module) (c : Config) (k : ℕ) (nodes : List (Node Props)) → length mods ≤ 2 ^ 17 → TargetsDiffer c
-    → k ≤ built → GraphAfter mods c k (Ok nodes) → IsValid nodes × MayRun (places_in (length mods)) nodes
+    → k ≤ mutator_count → GraphAfter mods c k (Ok nodes) → IsValid nodes × MayRun (places_in (length mods)) nodes
 
 -- Where the first mutators come to a graph, fewer of them do.
 abbrev pub EarlierGraphs : Type 0

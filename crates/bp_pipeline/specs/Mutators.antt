@@ -3,8 +3,8 @@ use Rattle.std.specs.Prelude.{ℕ, ◌+◌, nat_lt, Option, Some, None, List, co
 use Rattle.std.specs.Str.{bytes_eq}
 
 -- How many mutators there are.
-abbrev pub built : ℕ
-built = 11
+abbrev pub mutator_count : ℕ
+mutator_count = 11
 
 -- How many mutators have run after the one of a name.
 abbrev pub mutators_to : List ℕ → Option ℕ

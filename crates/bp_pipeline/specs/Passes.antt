@@ -13,7 +13,7 @@ use Rattle.mutator_kinds.specs.BottomUp.{BottomUpMeans}
 use Rattle.mutator_kinds.specs.TopDown.{TopDownMeans}
 use Rattle.transition_rules.specs.Passes.{WantsMean, MutateMeans}
 use Rattle.module_rules.specs.Rules.{asks, renews, splits}
-use Rattle.reverse_deps.specs.Applied.{IsApplied}
+use Rattle.reverse_deps.specs.Applied.{ApplyMeans}
 use Rattle.defaults_mutator.specs.Asked.{defaults_asked}
 use Rattle.defaults_mutator.specs.Merged.{defaults_merged}
 use Rattle.target_mutators.specs.Arch.{arch_variants}
@@ -66,7 +66,7 @@ module _ (mods : List Module) where
   -- A mutator that asks: its pass, then its requests with the limit of edges and the cycle rule.
   abbrev pub AskMeans : {P : Type 0} → AnswerOver P → List (Node P) → OutcomeOver P → Type 0
   AskMeans answer nodes =
-      Then (ComesTo mods (BottomUpMeans answer nodes None)) (λ made. IsApplied mods made.0 made.1)
+      Then (ComesTo mods (BottomUpMeans answer nodes None)) (λ made. ApplyMeans mods made.0 made.1)
 
   -- A mutator that asks nothing, and splits along an axis or makes new records: its pass.
   abbrev pub MakeMeans : {P : Type 0} → Option Axis → AnswerOver P → List (Node P) → OutcomeOver P → Type 0

@@ -9,12 +9,13 @@ use Rattle.bp_pipeline.specs.Inside.{AreFreeAt, IsUsable}
 use Rattle.bp_pipeline.specs.Passes.{Outcome, StepMeans, pass_at}
 
 -- A graph is ready for the pass with a number.
-abbrev pub IsReady : ℕ → ℕ → List (Node Props) → Type 0
-IsReady count p nodes = IsUsable count nodes × AreFreeAt p nodes
+abbrev pub IsReadyForPass : ℕ → ℕ → List (Node Props) → Type 0
+IsReadyForPass count p nodes = IsUsable count nodes × AreFreeAt p nodes
 
 -- Each pass makes of a graph that is ready for it a fault, or a graph that is ready for the next pass.
 abbrev pub SomeStep : Type 0
 SomeStep =
     (mods : List Module) (c : Config) (p : ℕ) (nodes : List (Node Props)) → TargetsDiffer c
-    → IsReady (length mods) p nodes
-    → (outcome : Outcome) × StepMeans mods c (pass_at p) nodes outcome × IfOk outcome (IsReady (length mods) (suc p))
+    → IsReadyForPass (length mods) p nodes
+    → (outcome : Outcome) × StepMeans mods c (pass_at p) nodes outcome
+    × IfOk outcome (IsReadyForPass (length mods) (suc p))

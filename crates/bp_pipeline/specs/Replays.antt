@@ -12,7 +12,7 @@ use Rattle.order_text.specs.Lines.{AreLines}
 use Rattle.pass_ways.specs.declared.way.OrderLine.{OrderLine}
 use Rattle.pass_ways.specs.OrderFiles.{IsRefused, Say, lines_behind, stopped_at}
 use Rattle.bp_pipeline.specs.Endings.{IsFaulty}
-use Rattle.bp_pipeline.specs.Generated.{ActionsMean, FileMeans, TextMeans, written}
+use Rattle.bp_pipeline.specs.Generated.{ActionsMean, FileMeans, TextMeans, text_within_limit}
 use Rattle.bp_pipeline.specs.Journals.{IsJournal, IsLegalJournal, plan_at}
 use Rattle.bp_pipeline.specs.Mutators.{passes}
 
@@ -36,7 +36,7 @@ module _ (mods : List Module) (c : Config) (lines : List OrderLine) (file : ℕ)
         → lines_behind lines journal ≡ l ∷ ls → fault ≡ stopped_at file (suc (length journal)) (l ∷ ls) → Cause fault
     -- All lines are a legal journal, and the text of the file is too large.
     TooLarge : (journal : List (ℕ × NodeId)) → (made : NinjaFile) → AreJournal journal → FileMeans mods c (Ok made)
-        → written made ≡ Err fault → Cause fault
+        → text_within_limit made ≡ Err fault → Cause fault
 
   -- The text of the job where all lines are a legal journal, else the fault that comes first.
   abbrev pub ReplayMeans : Result (List ℕ) Fault → Type 0

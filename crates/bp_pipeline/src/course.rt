@@ -7,7 +7,7 @@ ghost use Rattle.bp_pipeline.specs.Course.{GraphAfter};
 ghost use Rattle.bp_pipeline.specs.Generated.{AreSizes};
 ghost use Rattle.bp_pipeline.specs.Inside.{IsUsable, AreFreeAt};
 ghost use Rattle.bp_pipeline.specs.Journals.{IsJournal};
-ghost use Rattle.bp_pipeline.specs.Mutators.{built, passes};
+ghost use Rattle.bp_pipeline.specs.Mutators.{mutator_count, passes};
 ghost use Rattle.bp_pipeline.specs.Runs.{MayStart, MayStep, AnswersCourse};
 
 use crate::GenError;
@@ -91,7 +91,7 @@ pub fn shared_graph_after<'m, R: Threads + Sync, G: Gate + Sync>(
 ) -> Result<Graph<Record<'m>>, GenError>
     requires few { length mods.now ≤ 2 ^ 17 }
     requires targets { TargetsDiffer c.now }
-    requires built { k ≤ built }
+    requires built { k ≤ mutator_count }
     requires workers { (1 ≤ workers) × (workers ≤ 64) }
     ensures means { Tells (λ g. g.nodes) (GraphAfter mods.now c.now k) result }
     ensures valid { IfOk result (λ g. IsValid g.nodes) }
@@ -121,7 +121,7 @@ pub fn graph_after<R: Threads + Sync, G: Gate + Sync>(
 ) -> Result<Graph<Props>, GenError>
     requires few { length mods.now ≤ 2 ^ 17 }
     requires targets { TargetsDiffer c.now }
-    requires built { k ≤ built }
+    requires built { k ≤ mutator_count }
     requires workers { (1 ≤ workers) × (workers ≤ 64) }
     ensures means { Tells (λ g. g.nodes) (GraphAfter mods.now c.now k) result }
     ensures valid { IfOk result (λ g. IsValid g.nodes) }

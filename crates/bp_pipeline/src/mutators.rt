@@ -1,5 +1,5 @@
 ghost use Rattle.std.specs.Prelude.{◌≡◌, ◌≤◌, ◌+◌, IfSome};
-ghost use Rattle.bp_pipeline.specs.Mutators.{built, mutators_to, passes, passes_of};
+ghost use Rattle.bp_pipeline.specs.Mutators.{mutator_count, mutators_to, passes, passes_of};
 
 /// How many mutators there are.
 pub const BUILT: u32 = 11;
@@ -7,7 +7,7 @@ pub const BUILT: u32 = 11;
 /// How many mutators have run after the one of a name, if there is such a one.
 pub fn mutators_to(name: &str) -> Option<u32>
     ensures named { result ≡ mutators_to name.now }
-    ensures built { IfSome result (λ k. k ≤ built) }
+    ensures built { IfSome result (λ k. k ≤ mutator_count) }
 {
     match name {
         "defaults_deps" => Some(1),
@@ -27,7 +27,7 @@ pub fn mutators_to(name: &str) -> Option<u32>
 
 /// How many passes the first k mutators have.
 pub fn passes_of(k: u32) -> u32
-    requires { k ≤ built }
+    requires { k ≤ mutator_count }
     ensures count { result ≡ passes_of k }
     ensures near { (k ≤ result) × (result ≤ k + 1) }
     ensures built { result ≤ passes }

@@ -1,6 +1,6 @@
 ghost use Rattle.std.specs.Prelude.{◌≡◌, ◌<◌, ◌≤◌, ◌^◌, IfOk, IsUtf8, length};
 ghost use Rattle.bp_faults.specs.Answers.{Tells};
-ghost use Rattle.bp_pipeline.specs.Generated.{written};
+ghost use Rattle.bp_pipeline.specs.Generated.{text_within_limit};
 
 use bp_faults::{Fault, FaultKind, Place, Refusal};
 use ninja_file::NinjaFile;
@@ -16,7 +16,7 @@ pub fn text_of<R: Threads + Sync>(
     workers: u32,
 ) -> Result<Vec<u8>, Refusal>
     requires workers { (1 ≤ workers) × (workers ≤ 64) }
-    ensures text { Tells (λ text. text.items) (λ outcome. written file.now ≡ outcome) result }
+    ensures text { Tells (λ text. text.items) (λ outcome. text_within_limit file.now ≡ outcome) result }
     ensures utf8 { IfOk result (λ text. IsUtf8 text.items) }
     ensures few { IfOk result (λ _. length file.now.statements < 2 ^ 32) }
 {

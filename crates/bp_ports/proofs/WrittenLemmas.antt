@@ -7,9 +7,9 @@ use Rattle.std.specs.Ordering.{nat_cmp}
 use Rattle.std.specs.Cmp.Lexicographic.{slice_cmp, nat_list_cmp_total}
 use Rattle.bp_ports.specs.Files.{Files}
 use Rattle.bp_ports.specs.declared.writes.Span.{Span}
-use Rattle.bp_ports.specs.Written.{total, written, held_after}
+use Rattle.bp_ports.specs.Written.{total, files_after, held_after}
 
-pub get-written : (spans : List Span) (run : List ℕ) (files : Files) (q : List ℕ) → get (written spans run files) q ≡ held_after spans run q (get files q)
+pub get-written : (spans : List Span) (run : List ℕ) (files : Files) (q : List ℕ) → get (files_after spans run files) q ≡ held_after spans run q (get files q)
 get-written [] run files q = refl
 get-written (s ∷ spans) run files q =
     get-written spans _ _ q ∙ ap (held_after spans (drop s.bytes (drop s.path run)) q) (get-insert nat_list_cmp_total files (take s.path run) (take s.bytes (drop s.path run)) q)
@@ -24,14 +24,14 @@ take_whole : (xs : List ℕ) → take (length xs) xs ≡ xs
 take_whole xs = grind (arith, common_steps)
 
 -- the first write, by its parts
-first_write : (s : Span) (spans : List Span) (run : List ℕ) (files : Files) (name bytes rest : List ℕ) → take s.path run ≡ name → take s.bytes (drop s.path run) ≡ bytes → drop s.bytes (drop s.path run) ≡ rest → written (s ∷ spans) run files ≡ written spans rest (insert files name bytes)
-first_write s spans run files name bytes rest is_name is_bytes is_rest = λ i. written spans (is_rest i) (insert files (is_name i) (is_bytes i))
+first_write : (s : Span) (spans : List Span) (run : List ℕ) (files : Files) (name bytes rest : List ℕ) → take s.path run ≡ name → take s.bytes (drop s.path run) ≡ bytes → drop s.bytes (drop s.path run) ≡ rest → files_after (s ∷ spans) run files ≡ files_after spans rest (insert files name bytes)
+first_write s spans run files name bytes rest is_name is_bytes is_rest = λ i. files_after spans (is_rest i) (insert files (is_name i) (is_bytes i))
 
 total-append : (spans more : List Span) → total (spans ++ more) ≡ total spans + total more
 total-append [] more = omega arith
 total-append (s ∷ spans) more = omega (arith, total-append spans more)
 
-pub written-push : (spans : List Span) (run path bytes : List ℕ) (files : Files) → total spans ≡ length run → written (spans ++ record { path = length path; bytes = length bytes } ∷ []) (run ++ (path ++ bytes)) files ≡ insert (written spans run files) path bytes
+pub written-push : (spans : List Span) (run path bytes : List ℕ) (files : Files) → total spans ≡ length run → files_after (spans ++ record { path = length path; bytes = length bytes } ∷ []) (run ++ (path ++ bytes)) files ≡ insert (files_after spans run files) path bytes
 written-push [] [] path bytes files whole = rw (take_all path bytes, drop_all path bytes, take_whole bytes) refl
 written-push [] (b ∷ run) path bytes files whole = absurd (omega arith)
 written-push (s ∷ spans) run path bytes files whole =
@@ -50,5 +50,5 @@ pub total-push : (spans : List Span) (run path bytes : List ℕ) → total spans
 total-push spans run path bytes whole = simp length-append (rw (total-append spans _) (omega arith))
 
 -- what a path holds after the writes, from what it was given
-pub get-held : (spans : List Span) (run : List ℕ) (entries : List (List ℕ × List ℕ)) (q : List ℕ) → get (written spans run (from_entries entries)) q ≡ held_after spans run q (find (slice_cmp nat_cmp) q entries)
+pub get-held : (spans : List Span) (run : List ℕ) (entries : List (List ℕ × List ℕ)) (q : List ℕ) → get (files_after spans run (from_entries entries)) q ≡ held_after spans run q (find (slice_cmp nat_cmp) q entries)
 get-held spans run entries q = get-written spans run (from_entries entries) q ∙ ap (held_after spans run q) (get-from_entries nat_list_cmp_total entries q)

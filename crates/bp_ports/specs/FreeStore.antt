@@ -1,12 +1,12 @@
 -- A store in memory that never fails: the files that it tells, its room and its calls.
 use Rattle.std.specs.Prelude.{◌≡◌, ℕ, Option, Some, None, if◌then◌else◌}
 use Rattle.bp_ports.specs.Files.{Files}
-use Rattle.bp_ports.specs.MemStore.{held, room_left, calls_of}
+use Rattle.bp_ports.specs.MemStore.{held_files, room_left, calls_of}
 use Rattle.bp_ports.specs.declared.free_store.FreeStore.{FreeStore}
 
 -- The files, as long as they are told.
 abbrev pub told_files : FreeStore → Option Files
-told_files s = if s.told then Some (held s.store) else None
+told_files s = if s.told then Some (held_files s.store) else None
 
 -- The room that is left for writes.
 abbrev pub room_for_writes : FreeStore → ℕ

@@ -4,7 +4,7 @@ use Rattle.std.specs.FinMap.{from_entries}
 use Rattle.std.specs.declared.alloc.Global.{Global}
 use Rattle.bp_ports.specs.Calls.{none_yet}
 use Rattle.bp_ports.specs.Files.{Files}
-use Rattle.bp_ports.specs.Written.{written}
+use Rattle.bp_ports.specs.Written.{files_after}
 use Rattle.bp_ports.specs.declared.calls.Calls.{Calls}
 use Rattle.bp_ports.specs.declared.mem_store.MemStore.{MemStore}
 
@@ -17,8 +17,8 @@ abbrev pub given_files : List (List ℕ × Vec ℕ Global) → Files
 given_files files = from_entries (entries_of files)
 
 -- The files that the store holds.
-abbrev pub held : MemStore → Files
-held s = written s.writes.spans.items s.writes.run.items (given_files s.files.items)
+abbrev pub held_files : MemStore → Files
+held_files s = files_after s.writes.spans.items s.writes.run.items (given_files s.files.items)
 
 -- The room that is left for writes.
 abbrev pub room_left : MemStore → ℕ
@@ -42,7 +42,7 @@ failed_writes s = s.write_faults
 
 -- A new store has the files, the room and the failing calls that it was given, and nothing was counted.
 pub record BeginsWith (given : Files) (room : ℕ) (failing : Vec ℕ Global) (s : MemStore) : Type 0 where
-  pub files : held s ≡ given
+  pub files : held_files s ≡ given
   pub space : room_left s ≡ room
   pub calls : calls_of s ≡ none_yet failing
   pub reads : failed_reads s ≡ 0

@@ -24,17 +24,18 @@ abbrev pub first_bytes : Span → List ℕ → List ℕ
 first_bytes s run = take s.bytes (drop s.path run)
 
 -- The run behind its first write.
-abbrev pub behind : Span → List ℕ → List ℕ
-behind s run = drop s.bytes (drop s.path run)
+abbrev pub run_behind : Span → List ℕ → List ℕ
+run_behind s run = drop s.bytes (drop s.path run)
 
 -- The files after these writes, the oldest of them first.
-abbrev pub written : List Span → List ℕ → Files → Files
-written [] run files = files
-written (s ∷ spans) run files = written spans (behind s run) (insert files (first_path s run) (first_bytes s run))
+abbrev pub files_after : List Span → List ℕ → Files → Files
+files_after [] run files = files
+files_after (s ∷ spans) run files =
+    files_after spans (run_behind s run) (insert files (first_path s run) (first_bytes s run))
 
 -- What a path holds after these writes, if it held this before.
 abbrev pub held_after : List Span → List ℕ → List ℕ → Option (List ℕ) → Option (List ℕ)
 held_after [] run path held = held
 held_after (s ∷ spans) run path held =
     let now = if is_eq (slice_cmp nat_cmp path (first_path s run)) then Some (first_bytes s run) else held in
-    held_after spans (behind s run) path now
+    held_after spans (run_behind s run) path now

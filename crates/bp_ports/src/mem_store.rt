@@ -55,7 +55,7 @@ fn given<'a>(files: &'a [(Text, Vec<u8>)], path: &str) -> Option<&'a [u8]>
 
 impl MemStore {
     ghost use Rattle.std.specs.FinMap.{get};
-    ghost use Rattle.bp_ports.specs.MemStore.{given_files, held, calls_so_far, BeginsWith};
+    ghost use Rattle.bp_ports.specs.MemStore.{given_files, held_files, calls_so_far, BeginsWith};
 
     /// A store that holds these files, of two with one path the first. The room for writes is taken
     /// now; the calls that fail are counted from 1, reads and writes together.
@@ -85,7 +85,7 @@ impl MemStore {
 
     /// What the path holds.
     pub fn held(&self, path: &str) -> Option<&[u8]>
-        ensures { option_copied result ≡ get (held self.now) path.now }
+        ensures { option_copied result ≡ get (held_files self.now) path.now }
     {
         self.writes.after(path, given(&self.files, path))
     }
@@ -96,26 +96,26 @@ impl Store for MemStore {
     ghost use Rattle.bp_ports.specs.Calls.{FailsNext, one_later};
     ghost use Rattle.bp_ports.specs.Causes.{HasCause, HasCauseAt, count_after, read_count_after};
     ghost use Rattle.bp_ports.specs.Files.{WriteLeaves};
-    ghost use Rattle.bp_ports.specs.MemStore.{held, room_left, calls_of, failed_reads, failed_writes};
+    ghost use Rattle.bp_ports.specs.MemStore.{held_files, room_left, calls_of, failed_reads, failed_writes};
     ghost use Rattle.bp_ports.specs.Written.{need_of};
 
-    ghost files = { λ s. Some (held s) };
+    ghost files = { λ s. Some (held_files s) };
 
     ghost read_faults = { λ s. failed_reads s };
 
     ghost write_faults = { λ s. failed_writes s };
 
     fn read(&mut self, alloc: Global, path: &Text, limit: u64) -> Result<Vec<u8>, ReadError>
-        ensures gives { ReadGives (get (held self.old) path.now) limit result }
+        ensures gives { ReadGives (get (held_files self.old) path.now) limit result }
         ensures bound { IfOk result (λ bytes. length bytes.items ≤ limit) }
-        ensures files { held self.new ≡ held self.old }
+        ensures files { held_files self.new ≡ held_files self.old }
         ensures cause { HasCauseAt ReadError.Failed (failed_reads self.old) (failed_reads self.new) result }
         ensures writes { failed_writes self.new ≡ failed_writes self.old }
 
         // The call fails exactly where it is listed, and wants memory only for what it gives.
         ensures exactly { IsErrOf result ReadError.Failed ↔ FailsNext (calls_of self.old) }
         ensures memory { IsErrOf result ReadError.OutOfMemory
-            → IsSomeAnd (get (held self.old) path.now) (λ bytes. length bytes ≤ limit) }
+            → IsSomeAnd (get (held_files self.old) path.now) (λ bytes. length bytes ≤ limit) }
         ensures counted { calls_of self.new ≡ one_later (calls_of self.old) }
         ensures raised { failed_reads self.new ≡ read_count_after result (failed_reads self.old) }
         ensures room { room_left self.new ≡ room_left self.old }
@@ -128,7 +128,7 @@ impl Store for MemStore {
     }
 
     fn write(&mut self, path: &Text, bytes: &[u8]) -> Result<(), Failed>
-        ensures files { WriteLeaves path.now bytes.now result (held self.old) (held self.new) }
+        ensures files { WriteLeaves path.now bytes.now result (held_files self.old) (held_files self.new) }
         ensures cause { HasCause (failed_writes self.old) (failed_writes self.new) result }
         ensures reads { failed_reads self.new ≡ failed_reads self.old }
 
@@ -138,7 +138,7 @@ impl Store for MemStore {
         ensures counted { calls_of self.new ≡ one_later (calls_of self.old) }
         ensures raised { failed_writes self.new ≡ count_after result (failed_writes self.old) }
         ensures spent { OnOk result (room_left self.new + need_of path.now bytes.now ≡ room_left self.old) }
-        ensures untouched { OnErr result (held self.new ≡ held self.old) }
+        ensures untouched { OnErr result (held_files self.new ≡ held_files self.old) }
         ensures saved { OnErr result (room_left self.new ≡ room_left self.old) }
     {
         let path = path.as_str().as_bytes();

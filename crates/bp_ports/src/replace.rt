@@ -1,6 +1,6 @@
 ghost use Rattle.std.specs.Prelude.{◌≡◌, ◌<◌, length, IfSome, IfNone, OnOk};
 ghost use Rattle.std.specs.Io.KnownBytes.{Appends};
-ghost use Rattle.bp_ports.specs.NewFiles.{suffix_of, new_path};
+ghost use Rattle.bp_ports.specs.NewFiles.{new_suffix, new_path};
 
 use crate::writing::write_through;
 use arrayvec::ArrayString;
@@ -19,7 +19,7 @@ const LEFT_OVER_AFTER: u64 = 600;
 
 fn suffix(number: usize) -> &'static str
     requires { number < 3 }
-    ensures { result.now ≡ suffix_of number }
+    ensures { result.now ≡ new_suffix number }
 {
     match number {
         0 => ".bpgen-new",

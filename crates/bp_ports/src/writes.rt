@@ -4,7 +4,7 @@ ghost use Rattle.std.specs.Option.{option_copied};
 ghost use Rattle.std.specs.Ordering.{nat_cmp, is_eq};
 ghost use Rattle.std.specs.Cmp.Lexicographic.{slice_cmp};
 ghost use Rattle.std.specs.FinMap.{insert};
-ghost use Rattle.bp_ports.specs.Written.{need_of, total, written, held_after};
+ghost use Rattle.bp_ports.specs.Written.{need_of, total, files_after, held_after};
 
 use bp_faults::OutOfMemory;
 use std::alloc::Global;
@@ -98,8 +98,8 @@ impl Writes {
     pub fn add(&mut self, path: &[u8], bytes: &[u8], need: u32)
         requires need { need ≡ need_of path.now bytes.now }
         requires room { need ≤ self.old.room }
-        ensures written { (files : _) → written self.new.spans.items self.new.run.items files
-            ≡ insert (written self.old.spans.items self.old.run.items files) path.now bytes.now }
+        ensures written { (files : _) → files_after self.new.spans.items self.new.run.items files
+            ≡ insert (files_after self.old.spans.items self.old.run.items files) path.now bytes.now }
         ensures room { self.new.room + need ≡ self.old.room }
     {
         append(&mut self.spans, &mut self.run, path, bytes);

@@ -7,7 +7,7 @@ use Rattle.bp_faults.specs.Faults.{fault_on}
 use Rattle.bp_faults.specs.declared.fault.Fault.{Fault}
 use Rattle.bp_faults.specs.Answers.{then_do}
 use Rattle.bp_props.specs.declared.module.Module.{Module}
-use Rattle.bp_load.specs.Loaded.{names_tested, name_tested, tested, all_typed, is_named, name_place, LoadMeans}
+use Rattle.bp_load.specs.Loaded.{names_tested, name_tested, name_check, all_typed, has_module_named, name_place, LoadMeans}
 use Rattle.std.proofs.lemmas.Bool.{leb-false}
 use Rattle.std.proofs.lemmas.List.{length-append}
 
@@ -23,7 +23,7 @@ abbrev fine : Result Unit Fault
 fine = Ok tt
 
 -- a module that is fine stands behind fewer than the limit
-few_before : (count : ℕ) (seen : Bool) (m : Module) → tested count seen m ≡ Ok tt → count < 2 ^ 17
+few_before : (count : ℕ) (seen : Bool) (m : Module) → name_check count seen m ≡ Ok tt → count < 2 ^ 17
 few_before count seen m h = by (nat_le (2 ^ 17) count) refl h
   where
     by : (over : Bool) → nat_le (2 ^ 17) count ≡ over
@@ -37,7 +37,7 @@ few_in_all : (before ms : List Module) → length before ≤ 2 ^ 17 → names_te
 few_in_all before [] few h = omega (arith, few)
 few_in_all before (m ∷ ms) few h =
     let here =
-    few_before (length before) (is_named m.name before) m
+    few_before (length before) (has_module_named m.name before) m
     (done_first (name_tested before m) (names_tested (before ++ m ∷ []) ms) h) in
     let size = length-append before (m ∷ []) in
     let rest =

@@ -24,11 +24,11 @@ use Rattle.bp_run.specs.declared.words.Configuration.TheVariants.{Build, Graph, 
 use Rattle.bp_run.specs.End.{Ended, EndsDelivery, EndsWriting, Stopped, files_with_journal}
 use Rattle.bp_run.specs.Job.{ModulesGive}
 use Rattle.bp_run.specs.Lines.{synth_name}
-use Rattle.bp_run.specs.Run.{Gives, CommandGives, AreListNames, AreNames, AreCommandNames, IsUnread}
+use Rattle.bp_run.specs.Run.{Gives, CommandGives, AreListNames, ArePlaceNames, AreCommandNames, IsUnread}
 use Rattle.bp_run.specs.Run.{IsCommandUnread, Journals, IsUnjournaled}
 use Rattle.bp_run.specs.Steps.{GivesOrStops, OnRead, ReadCause, CannotRead, CannotReadOf, HasJournal, ListedFilesMake}
 use Rattle.bp_run.specs.Steps.{SourcesMake, journal_path, journal_of}
-use Rattle.bp_run.specs.Tree.{AreListed, ListFileMeans, ListLoads}
+use Rattle.bp_run.specs.Tree.{AreListedFiles, ListFileMeans, ListLoads}
 use Rattle.bp_run.specs.Words.{list_of}
 use Rattle.bp_run.specs.World.{World, Unchanged}
 use Rattle.bp_run.proofs.Meeting.{Never}
@@ -61,10 +61,10 @@ module _ (c : Configuration) (list : List ℕ) (has : list_of c ≡ Some list) (
           subst (λ l. IfSome old.files (λ files. Then (ListLoads l files) (ModulesGive (Graph words)) outcome)) same h
       by (Synth words) is h = absurd (cc)
 
-  pub names_of_list : (names : List (List ℕ)) → AreListNames list old names → AreNames c old names
+  pub names_of_list : (names : List (List ℕ)) → AreListNames list old names → ArePlaceNames c old names
   names_of_list names h = by c has
     where
-      by : (c : Configuration) → list_of c ≡ Some list → AreNames c old names
+      by : (c : Configuration) → list_of c ≡ Some list → ArePlaceNames c old names
       by (Build words) is = let same : list ≡ words.list = cc in subst (λ l. AreListNames l old names) same h
       by (Graph words) is = let same : list ≡ words.list = cc in subst (λ l. AreListNames l old names) same h
       by (Synth words) is = absurd (cc)
@@ -201,7 +201,7 @@ module _ (c : Configuration) (list : List ℕ) (has : list_of c ≡ Some list) (
       (λ files means. (Err fault, (Err fault, means, refl), refl)) gives))
       (names_of_list c list has old (list ∷ []) (
         [],
-        where_some old.files (λ files. ListFileMeans list files (Err fault)) (λ files. AreListed list files [])
+        where_some old.files (λ files. ListFileMeans list files (Err fault)) (λ files. AreListedFiles list files [])
             (λ files means. (Err fault, means, refl)) gives,
         refl,
       ))
@@ -245,7 +245,7 @@ module _ (c : Configuration) (list : List ℕ) (has : list_of c ≡ Some list) (
         (λ files. Then (ListLoads list files) (ModulesGive c) (Err fault)) (fault_given fault) listed gives))
         (names_of_list c list has old (list ∷ paths) (
           paths,
-          where_some old.files (λ files. ListFileMeans list files (Ok paths)) (λ files. AreListed list files paths)
+          where_some old.files (λ files. ListFileMeans list files (Ok paths)) (λ files. AreListedFiles list files paths)
               (λ files means. (Ok paths, means, refl)) listed,
           refl,
         ))

@@ -12,8 +12,8 @@ use Rattle.bp_run.specs.declared.words.Configuration.{Configuration}
 use Rattle.bp_run.specs.declared.words.Configuration.TheVariants.{Build, Graph, Synth}
 use Rattle.bp_run.specs.declared.words.Rewriting.{Rewriting}
 use Rattle.bp_run.specs.declared.end.End.{End}
-use Rattle.bp_run.specs.End.{status_of, report_of, IsReported, Ended}
-use Rattle.bp_run.specs.Job.{JobMeans, ReplayMeans, RewriteMeans}
+use Rattle.bp_run.specs.End.{status_of, report_of, IsLineReported, Ended}
+use Rattle.bp_run.specs.Job.{JobMeans, ReplayJobMeans, RewriteMeans}
 use Rattle.bp_run.specs.Laws.{OneJob, OneReplay, OneRewrite}
 use Rattle.bp_run.specs.Run.{Gives, CommandGives, ToldGives, CommandToldGives, DoneBy, FaultBy, ReadBy, WriteBy}
 use Rattle.bp_run.specs.Run.{IsUnjournaled, Spares, RunMeans}
@@ -44,7 +44,7 @@ module _ (once : OneJob) (replayed : OneReplay) (rewritten : OneRewrite) where
   given_once (Synth words) old a b x y = once (Synth words) empty a b x y
 
   replay_once : (words : ReplayWords) (told : Option Files) (a b : Result (List ℕ) Fault)
-      → IfSome told (λ files. ReplayMeans words files a) → IsSomeAnd told (λ files. ReplayMeans words files b) → a ≡ b
+      → IfSome told (λ files. ReplayJobMeans words files a) → IsSomeAnd told (λ files. ReplayJobMeans words files b) → a ≡ b
   replay_once words None a b x y = absurd y
   replay_once words (Some files) a b x y = replayed words files a b x y
 
@@ -92,7 +92,7 @@ module _ (once : OneJob) (replayed : OneReplay) (rewritten : OneRewrite) (conf :
   not_quiet (Replay words) line (text, gives, fails) quiet = quiet.writes fails.cause
   not_quiet (Rewrite r) line (text, gives, fails) quiet = quiet.writes fails.cause
 
-  pub ended : (end : End) → Ended conf old new end → IsReported (report_of end) before after
+  pub ended : (end : End) → Ended conf old new end → IsLineReported (report_of end) before after
       → RunMeans conf old new before after (status_of end)
   ended End.Done h said = record {
     known = lit≤ tt;

@@ -10,7 +10,7 @@ use Rattle.bp_faults.specs.declared.limits.TheConstants.{LARGEST_ORDER_FILE}
 use Rattle.bp_faults.specs.Answers.{then_do}
 use Rattle.bp_faults.specs.Phases.{GoesOn}
 use Rattle.bp_ports.specs.Files.{Files}
-use Rattle.bp_load.specs.Trees.{Source, sources}
+use Rattle.bp_load.specs.Trees.{Source, sources_given}
 use Rattle.command_words.specs.declared.configuration.Replay.{Replay as ReplayWords}
 use Rattle.bp_run.specs.declared.made.Made.{Made}
 use Rattle.bp_run.specs.declared.replay.Inputs.{Inputs}
@@ -23,7 +23,7 @@ use Rattle.bp_run.proofs.Progress.{Held}
 
 -- what was read
 abbrev pub contents : Inputs → List Source × List ℕ
-contents inputs = (sources inputs.files.items, inputs.order.items)
+contents inputs = (sources_given inputs.files.items, inputs.order.items)
 
 module _ (paths : List (List ℕ)) (order : List ℕ) where
   abbrev Read : Files → Result Inputs Stop → Type 0
@@ -33,16 +33,16 @@ module _ (paths : List (List ℕ)) (order : List ℕ) where
 
   -- the order file is read behind the others
   abbrev behind : Files → Result (List Source) Fault → Result (List Source × List ℕ) Fault
-  behind files read = then_do read (λ sources. then_do (order_of files paths order) (λ bytes. Ok (sources, bytes)))
+  behind files read = then_do read (λ sources_given. then_do (order_of files paths order) (λ bytes. Ok (sources_given, bytes)))
 
   -- a file of the list can't be read, or has a fault
   pub files_fail : (old : Option Files) (e : Stop) (r : Result Inputs Stop) → IsErrAnd r (λ x. x ≡ e)
-      → IfSome old (λ files. GivesOrStops {T = Vec Held Global} {V = List Source} (λ read. sources read.items)
+      → IfSome old (λ files. GivesOrStops {T = Vec Held Global} {V = List Source} (λ read. sources_given read.items)
       (Exactly (sources_of files paths)) (CannotReadOf files paths) (Err e))
       → IfSome old (λ files. Read files r)
   files_fail None e r same h = tt
   files_fail (Some files) e r same h =
-      stops {T = Vec Held Global} {U = Inputs} (λ read. sources read.items) contents (Exactly (sources_of files paths))
+      stops {T = Vec Held Global} {U = Inputs} (λ read. sources_given read.items) contents (Exactly (sources_of files paths))
       (Exactly (sources_and_order files paths order)) (CannotReadOf files paths) (CannotReadAlong files paths order)
       (λ fault means. ap (behind files) means) (λ path cannot. inl cannot) e r same h
 

@@ -44,12 +44,6 @@ module _ {T U A B : Type 0} (view : T → A) (whole_view : U → B) (First : Res
       stops view whole_view First (Then First Next) Never Never (λ fault means. (Err fault, means, refl))
       (λ path never. absurd never) e r same h
 
-  -- the same where the first is another layer's
-  pub first_refuses : (e : Refusal) (r : Result U Stop) → IsErrAnd r (λ x. x ≡ stop_of e) → Tells view First (Err e)
-      → GivesOrStops whole_view (Then First Next) Never r
-  first_refuses e r same h =
-      told view whole_view First (Then First Next) (λ fault means. (Err fault, means, refl)) e r same h
-
   -- the second answers for the whole
   pub second_gives : (value : A) → First (Ok value) → (r : Result U Stop)
       → GivesOrStops whole_view (Next value) Never r → GivesOrStops whole_view (Then First Next) Never r

@@ -18,12 +18,12 @@ use Rattle.module_graph.specs.Planned.{plan_of}
 use Rattle.mutator_rules.specs.declared.config.Config.{Config}
 use Rattle.build_actions.specs.declared.actions.Actions.{Actions}
 use Rattle.build_actions.specs.Acts.{acts_at}
-use Rattle.build_actions.specs.File.{file_of}
+use Rattle.build_actions.specs.File.{file_of_actions}
 use Rattle.ninja_file.specs.declared.file.NinjaFile.{NinjaFile}
 use Rattle.bp_pipeline.specs.Course.{GraphAfter}
-use Rattle.bp_pipeline.specs.Generated.{ActionsMean, FileMeans, TextMeans, IsStatementCount, sizes_of, written}
+use Rattle.bp_pipeline.specs.Generated.{ActionsMean, FileMeans, TextMeans, IsStatementCount, sizes_of, text_within_limit}
 use Rattle.bp_pipeline.specs.Laws.{OneGraph}
-use Rattle.bp_pipeline.specs.Mutators.{built}
+use Rattle.bp_pipeline.specs.Mutators.{mutator_count}
 use Rattle.bp_pipeline.specs.Shown.{shown_graph}
 use Rattle.bp_load.specs.ListFile.{ListMeans}
 use Rattle.bp_load.specs.Loaded.{LoadMeans}
@@ -34,7 +34,7 @@ use Rattle.synthetic_tree.specs.declared.summary.Summary.{Summary}
 use Rattle.synthetic_tree.specs.Summary.{summary_text}
 use Rattle.bp_run.specs.declared.words.Configuration.{Configuration}
 use Rattle.bp_run.specs.declared.words.Configuration.TheVariants.{Build, Graph, Synth}
-use Rattle.bp_run.specs.Job.{GraphGives, HasNodes, HasEdges, IsSummary, SummaryGives, ModulesGive, synth_config}
+use Rattle.bp_run.specs.Job.{GraphGives, HasNodeCount, HasEdgeCount, IsSummary, SummaryGives, ModulesGive, synth_config}
 use Rattle.bp_run.specs.Laws.{OneJob}
 use Rattle.bp_run.specs.Tree.{read_of, sources_of, ListFileMeans, ListedFilesLoad, ListLoads, SynthLoads, TreeMeans}
 use Rattle.bp_run.specs.Words.{config_of}
@@ -65,18 +65,18 @@ pass_once one mean plan (Err e) (Err f) x y =
 module _ (list : OneList) (load : OneLoad) (graph : OneGraph) (pass : AtMostOneOutcome Actions) where
   actions_once : (typed : List Module) (c : Config) → IsOnce (ActionsMean typed c)
   actions_once typed c =
-      then_once (GraphAfter typed c built) (λ nodes. PassMeans (acts_at typed nodes) (plan_of BottomUp nodes))
-      (graph typed c built) (λ nodes. pass_once pass (acts_at typed nodes) (plan_of BottomUp nodes))
+      then_once (GraphAfter typed c mutator_count) (λ nodes. PassMeans (acts_at typed nodes) (plan_of BottomUp nodes))
+      (graph typed c mutator_count) (λ nodes. pass_once pass (acts_at typed nodes) (plan_of BottomUp nodes))
 
   file_once : (typed : List Module) (c : Config) → IsOnce (FileMeans typed c)
   file_once typed c =
-      then_once (ActionsMean typed c) (λ made outcome. Ok (file_of made) ≡ outcome) (actions_once typed c)
-      (λ made. value_once (Ok (file_of made)))
+      then_once (ActionsMean typed c) (λ made outcome. Ok (file_of_actions made) ≡ outcome) (actions_once typed c)
+      (λ made. value_once (Ok (file_of_actions made)))
 
   text_once : (typed : List Module) (c : Config) → IsOnce (TextMeans typed c)
   text_once typed c =
-      then_once (FileMeans typed c) (λ file outcome. written file ≡ outcome) (file_once typed c)
-      (λ file. value_once (written file))
+      then_once (FileMeans typed c) (λ file outcome. text_within_limit file ≡ outcome) (file_once typed c)
+      (λ file. value_once (text_within_limit file))
 
   graph_once : (words : GraphWords) (typed : List Module) → IsOnce (GraphGives words typed)
   graph_once words typed =
@@ -103,7 +103,7 @@ module _ (list : OneList) (load : OneLoad) (graph : OneGraph) (pass : AtMostOneO
       let modules : a.modules ≡ b.modules = x.modules ∙ sym y.modules in
       let linked : a.linked ≡ b.linked = nodes_alike 5 a.linked b.linked x.linked y.linked in
       let edges : a.edges ≡ b.edges = edges_alike 7 a.edges b.edges x.edges y.edges in
-      let nodes : a.nodes ≡ b.nodes = nodes_alike built a.nodes b.nodes x.nodes y.nodes in
+      let nodes : a.nodes ≡ b.nodes = nodes_alike mutator_count a.nodes b.nodes x.nodes y.nodes in
       let statements : a.statements ≡ b.statements =
       count_once typed a.statements b.statements x.statements y.statements in
       let bytes : a.bytes ≡ b.bytes = x.bytes ∙ sym y.bytes in
@@ -116,11 +116,11 @@ module _ (list : OneList) (load : OneLoad) (graph : OneGraph) (pass : AtMostOneO
         bytes = bytes i;
       })
     where
-      nodes_alike : (k m n : ℕ) → HasNodes typed k m → HasNodes typed k n → m ≡ n
+      nodes_alike : (k m n : ℕ) → HasNodeCount typed k m → HasNodeCount typed k n → m ≡ n
       nodes_alike k m n first second =
           first.2 ∙ ap (λ s. s.nodes) (nodes_once typed k first.0 second.0 first.1 second.1) ∙ sym second.2
 
-      edges_alike : (k m n : ℕ) → HasEdges typed k m → HasEdges typed k n → m ≡ n
+      edges_alike : (k m n : ℕ) → HasEdgeCount typed k m → HasEdgeCount typed k n → m ≡ n
       edges_alike k m n first second =
           first.2 ∙ ap (λ s. s.edges) (nodes_once typed k first.0 second.0 first.1 second.1) ∙ sym second.2
 

@@ -8,9 +8,9 @@ use Rattle.std.proofs.lemmas.List.{map-append, take_more}
 use Rattle.std.proofs.lemmas.List.Elements.{All-append}
 use Rattle.bp_faults.specs.declared.fault.Fault.{Fault}
 use Rattle.bp_ports.specs.Files.{Files}
-use Rattle.bp_load.specs.Trees.{Source, sources}
+use Rattle.bp_load.specs.Trees.{Source, sources_given}
 use Rattle.bp_run.specs.declared.stop.Stop.{Stop}
-use Rattle.bp_run.specs.Tree.{bytes_of, sources_of}
+use Rattle.bp_run.specs.Tree.{file_bytes, sources_of}
 use Rattle.bp_run.specs.Steps.{GivesOrStops, Exactly, CannotReadOf}
 use Rattle.bp_run.proofs.Reading.{size_of, size_more, read_more, read_fault, read_stop}
 
@@ -27,11 +27,11 @@ pub record Told : Type 0 where
 -- the first i paths are read
 pub record Reads (old now : Told) (paths : List (List ℕ)) (i number size : ℕ) (read : List Held) : Type 0 where
   pub number_is : number ≡ 1 + i
-  pub size_is : size ≡ size_of (sources read)
+  pub size_is : size ≡ size_of (sources_given read)
   pub bound : size ≤ 2 ^ 26
-  pub names : map (λ f. f.0) (sources read) ≡ take i paths
-  pub short : All (λ f. length f.1 ≤ 2 ^ 20) (sources read)
-  pub gives : IfSome old.files (λ files. sources_of files (take i paths) ≡ Ok (sources read))
+  pub names : map (λ f. f.0) (sources_given read) ≡ take i paths
+  pub short : All (λ f. length f.1 ≤ 2 ^ 20) (sources_given read)
+  pub gives : IfSome old.files (λ files. sources_of files (take i paths) ≡ Ok (sources_given read))
   pub files : now.files ≡ old.files
   pub later : old.reads ≤ now.reads
   pub writes : now.writes ≡ old.writes
@@ -44,37 +44,37 @@ module _ (old now : Told) (paths : List (List ℕ)) (i number size : ℕ) (read 
     (reads : Reads old now paths i number size read) (within : i < length paths) (is : path ≡ get_or paths i path) where
   abbrev Gives : Result (Vec ℕ Global) Stop → Files → Type 0
   Gives result files =
-      GivesOrStops {T = Vec ℕ Global} {V = List ℕ} (λ bytes. bytes.items) (Exactly (bytes_of files number size path))
+      GivesOrStops {T = Vec ℕ Global} {V = List ℕ} (λ bytes. bytes.items) (Exactly (file_bytes files number size path))
       (λ unread. unread ≡ path) result
 
   -- what is said of the numbers that are kept is so of those that are meant
-  meant : (files : Files) (r : Result (List ℕ) Fault) → bytes_of files number size path ≡ r
-      → bytes_of files (1 + i) (size_of (sources read)) path ≡ r
+  meant : (files : Files) (r : Result (List ℕ) Fault) → file_bytes files number size path ≡ r
+      → file_bytes files (1 + i) (size_of (sources_given read)) path ≡ r
   meant files r h =
-      subst (λ s. bytes_of files (1 + i) s path ≡ r) reads.size_is
-      (subst (λ n. bytes_of files n size path ≡ r) reads.number_is h)
+      subst (λ s. file_bytes files (1 + i) s path ≡ r) reads.size_is
+      (subst (λ n. file_bytes files n size path ≡ r) reads.number_is h)
 
-  stopped_here : (files : Files) → sources_of files (take i paths) ≡ Ok (sources read) → (e : Stop)
+  stopped_here : (files : Files) → sources_of files (take i paths) ≡ Ok (sources_given read) → (e : Stop)
       → Gives (Err e) files
-      → GivesOrStops {T = Vec Held Global} {V = List Source} (λ read. sources read.items)
+      → GivesOrStops {T = Vec Held Global} {V = List Source} (λ read. sources_given read.items)
       (Exactly (sources_of files paths)) (CannotReadOf files paths) (Err e)
   stopped_here files done (Stop.Fault fault) h =
-      read_fault files paths i (sources read) path within is done fault (meant files (Err fault) h)
+      read_fault files paths i (sources_given read) path within is done fault (meant files (Err fault) h)
   stopped_here files done (Stop.Read unread) h =
-      subst (CannotReadOf files paths) (sym h) (read_stop files paths i (sources read) path within is done)
+      subst (CannotReadOf files paths) (sym h) (read_stop files paths i (sources_given read) path within is done)
   stopped_here files done Stop.OutOfMemory h = tt
 
   -- a path whose file has a fault or can't be read
   pub stopped : (e : Stop) → IfSome now.files (Gives (Err e))
       → IfSome old.files
-      (λ files. GivesOrStops {T = Vec Held Global} {V = List Source} (λ read. sources read.items)
+      (λ files. GivesOrStops {T = Vec Held Global} {V = List Source} (λ read. sources_given read.items)
       (Exactly (sources_of files paths)) (CannotReadOf files paths) (Err e))
   stopped e h = by old.files reads.gives (subst (λ m. IfSome m (Gives (Err e))) reads.files h)
     where
-      by : (told : Option Files) → IfSome told (λ files. sources_of files (take i paths) ≡ Ok (sources read))
+      by : (told : Option Files) → IfSome told (λ files. sources_of files (take i paths) ≡ Ok (sources_given read))
           → IfSome told (Gives (Err e))
           → IfSome told
-          (λ files. GivesOrStops {T = Vec Held Global} {V = List Source} (λ read. sources read.items)
+          (λ files. GivesOrStops {T = Vec Held Global} {V = List Source} (λ read. sources_given read.items)
           (Exactly (sources_of files paths)) (CannotReadOf files paths) (Err e))
       by None done h = tt
       by (Some files) done h = stopped_here files done e h
@@ -85,19 +85,19 @@ module _ (old now : Told) (paths : List (List ℕ)) (i number size : ℕ) (read 
       → IfSome now.files (Gives (Ok bytes)) → next.files ≡ now.files → now.reads ≤ next.reads → next.writes ≡ now.writes
       → Reads old next paths (i + 1) (number + 1) (size + count) more
   one_read bytes count count_is next more more_is short bound h files later writes =
-      let front : sources more ≡ sources read ++ (path, bytes.items) ∷ [] = ap sources more_is
+      let front : sources_given more ≡ sources_given read ++ (path, bytes.items) ∷ [] = ap sources_given more_is
       ∙ map-append (λ f. (f.0, f.1.items)) read ((path, bytes) ∷ []) in
       record {
         number_is = omega (arith, reads.number_is);
-        size_is = omega (arith, count_is, reads.size_is, size_more (sources read) (path, bytes.items))
+        size_is = omega (arith, count_is, reads.size_is, size_more (sources_given read) (path, bytes.items))
             ∙ ap size_of (sym front);
         bound = omega (arith, count_is, bound);
         names =
-            ap (map (λ f. f.0)) front ∙ map-append (λ f. f.0) (sources read) ((path, bytes.items) ∷ [])
+            ap (map (λ f. f.0)) front ∙ map-append (λ f. f.0) (sources_given read) ((path, bytes.items) ∷ [])
             ∙ ap (λ names. names ++ path ∷ []) reads.names
             ∙ ap (λ p. take i paths ++ p ∷ []) is ∙ sym (take_more paths i path within);
         short = subst (All (λ f. length f.1 ≤ 2 ^ 20)) (sym front)
-            (All-append (λ f. length f.1 ≤ 2 ^ 20) (sources read) ((path, bytes.items) ∷ []) reads.short
+            (All-append (λ f. length f.1 ≤ 2 ^ 20) (sources_given read) ((path, bytes.items) ∷ []) reads.short
             (one_short (path, bytes.items) short));
         gives = by old.files reads.gives (subst (λ m. IfSome m (Gives (Ok bytes))) reads.files h);
         files = files ∙ reads.files;
@@ -105,10 +105,10 @@ module _ (old now : Told) (paths : List (List ℕ)) (i number size : ℕ) (read 
         writes = writes ∙ reads.writes;
       }
     where
-      by : (told : Option Files) → IfSome told (λ files. sources_of files (take i paths) ≡ Ok (sources read))
+      by : (told : Option Files) → IfSome told (λ files. sources_of files (take i paths) ≡ Ok (sources_given read))
           → IfSome told (Gives (Ok bytes))
-          → IfSome told (λ files. sources_of files (take (i + 1) paths) ≡ Ok (sources more))
+          → IfSome told (λ files. sources_of files (take (i + 1) paths) ≡ Ok (sources_given more))
       by None done h = tt
       by (Some files) done h =
-          read_more files paths i (sources read) path within is done bytes.items (meant files (Ok bytes.items) h)
-          ∙ ap Ok (sym (ap sources more_is ∙ map-append (λ f. (f.0, f.1.items)) read ((path, bytes) ∷ [])))
+          read_more files paths i (sources_given read) path within is done bytes.items (meant files (Ok bytes.items) h)
+          ∙ ap Ok (sym (ap sources_given more_is ∙ map-append (λ f. (f.0, f.1.items)) read ((path, bytes) ∷ [])))

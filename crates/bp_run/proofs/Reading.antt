@@ -8,7 +8,7 @@ use Rattle.bp_faults.specs.declared.fault.Fault.{Fault}
 use Rattle.bp_faults.specs.Answers.{then_do}
 use Rattle.bp_ports.specs.Files.{Files}
 use Rattle.bp_load.specs.Trees.{Source}
-use Rattle.bp_run.specs.Tree.{bytes_of, sources_from, sources_of}
+use Rattle.bp_run.specs.Tree.{file_bytes, sources_from, sources_of}
 use Rattle.bp_run.specs.Steps.{CannotReadOf}
 
 -- how many bytes files have together
@@ -70,7 +70,7 @@ module _ (files : Files) where
       ∙ ap (λ n. behind [] (sources_from files n size ys)) (none_more number)
       ∙ ap (λ s. behind [] (sources_from files (number + 0) s ys)) (none_more size))
   read_append number size (x ∷ xs) ys done h =
-      held (λ bytes more. read_append (number + 1) (size + length bytes) xs ys more) (bytes_of files number size x) refl
+      held (λ bytes more. read_append (number + 1) (size + length bytes) xs ys more) (file_bytes files number size x) refl
       h
     where
       Goal : Type 0
@@ -93,7 +93,7 @@ module _ (files : Files) where
           (sources_from files (number + 1 + length xs) (size + length bytes + size_of more) ys)
 
       others : Onward → (bytes : List ℕ) (rest : Result (List Source) Fault)
-          → sources_from files (number + 1) (size + length bytes) xs ≡ rest → bytes_of files number size x ≡ Ok bytes
+          → sources_from files (number + 1) (size + length bytes) xs ≡ rest → file_bytes files number size x ≡ Ok bytes
           → then_do rest (λ more. Ok ((x, bytes) ∷ more)) ≡ Ok done → Goal
       others onward bytes (Err fault) rest_is held_is h = absurd (cc)
       others onward bytes (Ok more) rest_is held_is h =
@@ -105,7 +105,7 @@ module _ (files : Files) where
           ∙ ap (behind ((x, bytes) ∷ more)) (shift bytes more)
           ∙ ap (λ done. behind done (sources_from files (number + suc (length xs)) (size + size_of done) ys)) same
 
-      held : Onward → (r : Result (List ℕ) Fault) → bytes_of files number size x ≡ r → step number size x xs r ≡ Ok done
+      held : Onward → (r : Result (List ℕ) Fault) → file_bytes files number size x ≡ r → step number size x xs r ≡ Ok done
           → Goal
       held onward (Err fault) is h = absurd (cc)
       held onward (Ok bytes) is h =
@@ -123,7 +123,7 @@ module _ (files : Files) where
         ∙ ap (λ n. behind done (sources_from files n (0 + size_of done) rest)) count
         ∙ ap (λ s. behind done (sources_from files (1 + i) s rest)) size
 
-    pub read_more : (bytes : List ℕ) → bytes_of files (1 + i) (size_of done) path ≡ Ok bytes
+    pub read_more : (bytes : List ℕ) → file_bytes files (1 + i) (size_of done) path ≡ Ok bytes
         → sources_of files (take (i + 1) paths) ≡ Ok (done ++ (path, bytes) ∷ [])
     read_more bytes here =
         let front : take (i + 1) paths ≡ take i paths ++ path ∷ [] = take_more paths i path within
@@ -131,7 +131,7 @@ module _ (files : Files) where
         ap (sources_of files) front ∙ onward (path ∷ [])
         ∙ ap (λ held. behind done (step (1 + i) (size_of done) path [] held)) here
 
-    pub read_fault : (fault : Fault) → bytes_of files (1 + i) (size_of done) path ≡ Err fault
+    pub read_fault : (fault : Fault) → file_bytes files (1 + i) (size_of done) path ≡ Err fault
         → sources_of files paths ≡ Err fault
     read_fault fault here =
         ap (sources_of files) (whole paths i path within is) ∙ onward (path ∷ drop (i + 1) paths)

@@ -10,7 +10,7 @@ use Rattle.bp_run.specs.declared.made.Made.{Made}
 use Rattle.bp_run.specs.declared.stop.Stop.{Stop}
 use Rattle.bp_run.specs.declared.words.Command.TheVariants.{Replay}
 use Rattle.bp_run.specs.End.{Ended, EndsWriting, Stopped, files_with_journal}
-use Rattle.bp_run.specs.Job.{ListedFilesReplay, ReplayMeans}
+use Rattle.bp_run.specs.Job.{ListedFilesReplay, ReplayJobMeans}
 use Rattle.bp_run.specs.Run.{IsUnjournaled}
 use Rattle.bp_run.specs.Steps.{GivesOrStops, ReadCause, CannotReadAlong, CannotReplay}
 use Rattle.bp_run.specs.Tree.{AreListedWith, ListFileMeans}
@@ -27,7 +27,7 @@ module _ (words : ReplayWords) (old new : World) where
   list_stopped (Stop.Fault fault) end gives cause same h =
       ends_at_fault (Replay words) old new same (words.list ∷ []) fault
       (where_some old.files (λ files. ListFileMeans words.list files (Err fault))
-      (λ files. ReplayMeans words files (Err fault)) (λ files means. (Err fault, means, refl)) gives) (
+      (λ files. ReplayJobMeans words files (Err fault)) (λ files means. (Err fault, means, refl)) gives) (
         [],
         where_some old.files (λ files. ListFileMeans words.list files (Err fault))
             (λ files. AreListedWith words.list words.order files []) (λ files means. (Err fault, means, refl)) gives,
@@ -52,7 +52,7 @@ module _ (words : ReplayWords) (old new : World) where
     files_stopped (Stop.Fault fault) end gives cause same h =
         ends_at_fault (Replay words) old new same (words.list ∷ (paths ++ words.order ∷ [])) fault
         (where_both old.files (λ files. ListFileMeans words.list files (Ok paths))
-        (λ files. ListedFilesReplay words files paths (Err fault)) (λ files. ReplayMeans words files (Err fault))
+        (λ files. ListedFilesReplay words files paths (Err fault)) (λ files. ReplayJobMeans words files (Err fault))
         (λ files means goes. (Ok paths, means, goes)) listed gives) (
           paths ++ words.order ∷ [],
           where_some old.files (λ files. ListFileMeans words.list files (Ok paths))
@@ -76,11 +76,11 @@ module _ (words : ReplayWords) (old new : World) where
         → EndsWriting words.out made (reading old reads) new end → Ended (Some (Replay words)) old new end
     text_delivered made reads plain end gives h = by end h
       where
-        gives_all : IfSome old.files (λ files. ReplayMeans words files (Ok made.text))
+        gives_all : IfSome old.files (λ files. ReplayJobMeans words files (Ok made.text))
         gives_all =
             where_both old.files (λ files. ListFileMeans words.list files (Ok paths))
             (λ files. ListedFilesReplay words files paths (Ok made.text))
-            (λ files. ReplayMeans words files (Ok made.text))
+            (λ files. ReplayJobMeans words files (Ok made.text))
             (λ files means goes. (Ok paths, means, goes)) listed gives
 
         by : (end : End) → EndsWriting words.out made (reading old reads) new end

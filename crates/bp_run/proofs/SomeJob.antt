@@ -19,7 +19,7 @@ use Rattle.bp_load.specs.Laws.{SomeList, SomeLoad}
 use Rattle.bp_pipeline.specs.Course.{GraphAfter}
 use Rattle.bp_pipeline.specs.Generated.{ActionsMean, FileMeans, TextMeans, sizes_of}
 use Rattle.bp_pipeline.specs.Laws.{EarlierGraphs, SomeGraph, SomeText}
-use Rattle.bp_pipeline.specs.Mutators.{built}
+use Rattle.bp_pipeline.specs.Mutators.{mutator_count}
 use Rattle.bp_pipeline.specs.Shown.{shown_graph}
 use Rattle.command_words.specs.declared.configuration.Synth.{Synth as SynthWords}
 use Rattle.synthetic_tree.specs.declared.summary.Summary.{Summary}
@@ -28,7 +28,7 @@ use Rattle.bp_run.specs.declared.words.Configuration.{Configuration}
 use Rattle.bp_run.specs.declared.words.Configuration.TheVariants.{Build, Graph, Synth}
 use Rattle.bp_run.specs.Job.{synth_config, IsSummary, SummaryGives, ModulesGive, JobMeans}
 use Rattle.bp_run.specs.Tree.{read_of, sources_of, ListFileMeans, ListedFilesLoad, ListLoads, TreeMeans}
-use Rattle.bp_run.specs.Words.{config_of, IsSound}
+use Rattle.bp_run.specs.Words.{config_of, IsSoundForCommand}
 use Rattle.bp_run.proofs.Counted.{few_modules}
 
 -- The modules that are loaded of what is read are few.
@@ -60,11 +60,11 @@ module _ (list : SomeList) (load : SomeLoad) where
 -- What a text was made of: the graph after all mutators, and the file.
 module _ (earlier : EarlierGraphs) (words : SynthWords) (typed : List Module) where
   of_nodes : (text : List ℕ) (file : NinjaFile) → FileMeans typed synth_config (Ok file) → (nodes : List (Node Props))
-      → GraphAfter typed synth_config built (Ok nodes)
+      → GraphAfter typed synth_config mutator_count (Ok nodes)
       → (summary : Summary) × IsSummary words typed text summary
   of_nodes text file means nodes graph =
-      let fifth = earlier typed synth_config 5 built nodes (omega arith) graph in
-      let seventh = earlier typed synth_config 7 built nodes (omega arith) graph in (
+      let fifth = earlier typed synth_config 5 mutator_count nodes (omega arith) graph in
+      let seventh = earlier typed synth_config 7 mutator_count nodes (omega arith) graph in (
         record {
           modules = words.modules;
           linked = (sizes_of fifth.0).nodes;
@@ -117,7 +117,7 @@ default_differ (suc zero) (suc (suc (suc j))) d lt within same = absurd (omega (
 default_differ (suc (suc i)) j d lt within same = absurd (omega (arith, lt, within))
 
 module _ (graph : SomeGraph) (text : SomeText) (earlier : EarlierGraphs) where
-  some_given : (c : Configuration) → IsSound c → (typed : List Module) → length typed ≤ 2 ^ 17
+  some_given : (c : Configuration) → IsSoundForCommand c → (typed : List Module) → length typed ≤ 2 ^ 17
       → HasOutcome (ModulesGive c typed)
   some_given (Build words) sound typed few = text typed (config_of words.targets) few sound.targets
   some_given (Graph words) sound typed few =
@@ -127,7 +127,7 @@ module _ (graph : SomeGraph) (text : SomeText) (earlier : EarlierGraphs) where
       (λ nodes. (Ok (shown_graph typed nodes), refl))
   some_given (Synth words) sound typed few = given_some earlier words typed (text typed synth_config few default_differ)
 
-  pub some_job : (c : Configuration) (files : Files) → IsSound c → HasOutcome (TreeMeans c files)
+  pub some_job : (c : Configuration) (files : Files) → IsSoundForCommand c → HasOutcome (TreeMeans c files)
       → HasOutcome (JobMeans c files)
   some_job c files sound (Ok typed, means) =
       let given = some_given c sound typed (few_loaded c files typed means) in (given.0, (Ok typed, means, given.1))

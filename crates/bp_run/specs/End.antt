@@ -14,7 +14,7 @@ use Rattle.bp_run.specs.declared.stop.Stop.{Stop}
 use Rattle.bp_run.specs.Lines.{read_line, memory_line}
 use Rattle.bp_run.specs.declared.made.Journal.{Journal}
 use Rattle.bp_run.specs.declared.made.Made.{Made}
-use Rattle.bp_run.specs.Run.{DoneBy, FaultBy, ReadBy, WriteBy, IsUnwritten, IsUnjournaled, IsShown, IsUnshown}
+use Rattle.bp_run.specs.Run.{DoneBy, FaultBy, ReadBy, WriteBy, IsUnwritten, IsUnjournaled, IsPrinted, IsUnshown}
 use Rattle.bp_run.specs.World.{World, Stream, Says, SaysNothing, Untouched, Unchanged}
 
 -- The exit status of an end.
@@ -36,9 +36,9 @@ report_of (End.Write line) = Some line
 report_of End.OutOfMemory = Some memory_line
 
 -- The line was put on the stream, where there is one.
-abbrev pub IsReported : Option (List ℕ) → Stream → Stream → Type 0
-IsReported None before after = SaysNothing before after
-IsReported (Some line) before after = Says before after line
+abbrev pub IsLineReported : Option (List ℕ) → Stream → Stream → Type 0
+IsLineReported None before after = SaysNothing before after
+IsLineReported (Some line) before after = Says before after line
 
 -- What a call has done before it reports its end.
 abbrev pub Ended : Option Command → World → World → End → Type 0
@@ -71,7 +71,7 @@ EndsWriting path made old new end = ⊥
 
 -- What showing a text comes to.
 abbrev pub EndsShowing : List ℕ → World → World → End → Type 0
-EndsShowing text old new End.Done = IsShown text old new
+EndsShowing text old new End.Done = IsPrinted text old new
 EndsShowing text old new (End.Write line) = IsUnshown text old new line
 EndsShowing text old new End.OutOfMemory = Unchanged old new
 EndsShowing text old new end = ⊥

@@ -18,7 +18,7 @@ use Rattle.bp_load.specs.Trees.{Source}
 use Rattle.bp_pipeline.specs.Course.{GraphAfter}
 use Rattle.bp_pipeline.specs.Generated.{TextMeans, IsStatementCount, sizes_of}
 use Rattle.bp_pipeline.specs.Journals.{IsLegalJournal}
-use Rattle.bp_pipeline.specs.Mutators.{built}
+use Rattle.bp_pipeline.specs.Mutators.{mutator_count}
 use Rattle.bp_pipeline.specs.Replays.{OrderMeans}
 use Rattle.bp_pipeline.specs.Shown.{shown_graph}
 use Rattle.command_words.specs.declared.configuration.Build.{Build as BuildWords}
@@ -48,21 +48,21 @@ abbrev pub synth_config : Config
 synth_config = config_of default_targets
 
 -- The graph after the first k mutators has so many nodes.
-abbrev pub HasNodes : List Module → ℕ → ℕ → Type 0
-HasNodes typed k count =
+abbrev pub HasNodeCount : List Module → ℕ → ℕ → Type 0
+HasNodeCount typed k count =
     (nodes : List (Node Props)) × GraphAfter typed synth_config k (Ok nodes) × (count ≡ (sizes_of nodes).nodes)
 
 -- It has so many edges.
-abbrev pub HasEdges : List Module → ℕ → ℕ → Type 0
-HasEdges typed k count =
+abbrev pub HasEdgeCount : List Module → ℕ → ℕ → Type 0
+HasEdgeCount typed k count =
     (nodes : List (Node Props)) × GraphAfter typed synth_config k (Ok nodes) × (count ≡ (sizes_of nodes).edges)
 
 -- What the job over a synthetic tree comes to, in numbers. `link` is the fifth mutator, and `plugins` the seventh.
 pub record IsSummary (words : SynthWords) (typed : List Module) (text : List ℕ) (summary : Summary) : Type 0 where
   pub modules : summary.modules ≡ words.modules
-  pub linked : HasNodes typed 5 summary.linked
-  pub edges : HasEdges typed 7 summary.edges
-  pub nodes : HasNodes typed built summary.nodes
+  pub linked : HasNodeCount typed 5 summary.linked
+  pub edges : HasEdgeCount typed 7 summary.edges
+  pub nodes : HasNodeCount typed mutator_count summary.nodes
   pub statements : IsStatementCount typed synth_config summary.statements
   pub bytes : summary.bytes ≡ length text
 
@@ -98,8 +98,8 @@ ListedFilesReplay words files paths outcome =
     GoesOn (sources_and_order files paths words.order) (SourcesReplay words (length paths + 1)) outcome
 
 -- The job of `replay` over files: the text of the file for Ninja, where the order file is a legal order.
-abbrev pub ReplayMeans : ReplayWords → Files → Result (List ℕ) Fault → Type 0
-ReplayMeans words files outcome = Then (ListFileMeans words.list files) (ListedFilesReplay words files) outcome
+abbrev pub ReplayJobMeans : ReplayWords → Files → Result (List ℕ) Fault → Type 0
+ReplayJobMeans words files outcome = Then (ListFileMeans words.list files) (ListedFilesReplay words files) outcome
 
 -- What `edit` is asked for.
 abbrev pub wanted_of : EditWords → Wanted

@@ -3,16 +3,16 @@ use Rattle.std.specs.Prelude.{◌≡◌, ℕ, List, ◌++◌}
 use Rattle.bp_faults.specs.Phases.{HasOutcome, IsOnce}
 use Rattle.bp_ports.specs.Files.{Files}
 use Rattle.build_actions.specs.declared.actions.Actions.{Actions}
-use Rattle.build_actions.specs.File.{file_of}
+use Rattle.build_actions.specs.File.{file_of_actions}
 use Rattle.build_actions.specs.Head.{head_lines}
-use Rattle.ninja_write.specs.Meaning.{text_of, joined}
+use Rattle.ninja_write.specs.Meaning.{text_of, joined_text}
 use Rattle.bp_run.specs.declared.words.Configuration.{Configuration}
 use Rattle.bp_run.specs.declared.words.Rewriting.{Rewriting}
 use Rattle.command_words.specs.declared.configuration.Replay.{Replay as ReplayWords}
 use Rattle.command_words.specs.Sound.{IsSoundReplay}
-use Rattle.bp_run.specs.Job.{JobMeans, ReplayMeans, RewriteMeans}
+use Rattle.bp_run.specs.Job.{JobMeans, ReplayJobMeans, RewriteMeans}
 use Rattle.bp_run.specs.Tree.{ListLoads, TreeMeans}
-use Rattle.bp_run.specs.Words.{IsSound}
+use Rattle.bp_run.specs.Words.{IsSoundForCommand}
 
 -- A job has one outcome.
 abbrev pub OneJob : Type 0
@@ -20,7 +20,7 @@ OneJob = (c : Configuration) (files : Files) → IsOnce (JobMeans c files)
 
 -- So has the job of `replay`.
 abbrev pub OneReplay : Type 0
-OneReplay = (words : ReplayWords) (files : Files) → IsOnce (ReplayMeans words files)
+OneReplay = (words : ReplayWords) (files : Files) → IsOnce (ReplayJobMeans words files)
 
 -- So have the jobs of `fmt` and of `edit`.
 abbrev pub OneRewrite : Type 0
@@ -33,11 +33,12 @@ SomeListed = (list : List ℕ) (files : Files) → HasOutcome (ListLoads list fi
 -- The job of a sound configuration has an outcome, where its tree has one: a text or a fault.
 abbrev pub SomeJob : Type 0
 SomeJob =
-    (c : Configuration) (files : Files) → IsSound c → HasOutcome (TreeMeans c files) → HasOutcome (JobMeans c files)
+    (c : Configuration) (files : Files) → IsSoundForCommand c → HasOutcome (TreeMeans c files)
+    → HasOutcome (JobMeans c files)
 
 -- The job of `replay` has an outcome, over all files.
 abbrev pub SomeReplay : Type 0
-SomeReplay = (words : ReplayWords) (files : Files) → IsSoundReplay words → HasOutcome (ReplayMeans words files)
+SomeReplay = (words : ReplayWords) (files : Files) → IsSoundReplay words → HasOutcome (ReplayJobMeans words files)
 
 -- So have the jobs of `fmt` and of `edit`.
 abbrev pub SomeRewrite : Type 0
@@ -45,4 +46,4 @@ SomeRewrite = (r : Rewriting) (files : Files) → HasOutcome (RewriteMeans r fil
 
 -- Every written text begins with the literal lines of the head.
 abbrev pub HeadIsText : Type 0
-HeadIsText = (made : List Actions) → (rest : List ℕ) × (text_of (file_of made) ≡ joined head_lines ++ rest)
+HeadIsText = (made : List Actions) → (rest : List ℕ) × (text_of (file_of_actions made) ≡ joined_text head_lines ++ rest)

@@ -14,10 +14,10 @@ use Rattle.bp_run.specs.declared.words.Command.{Command}
 use Rattle.bp_run.specs.declared.words.Command.TheVariants.{Job, Replay, Rewrite}
 use Rattle.bp_run.specs.declared.words.Configuration.{Configuration}
 use Rattle.bp_run.specs.declared.words.Configuration.TheVariants.{Build, Graph, Synth}
-use Rattle.bp_run.specs.Job.{JobMeans, ReplayMeans, RewriteMeans, SynthMeans, IsJournalOfList}
+use Rattle.bp_run.specs.Job.{JobMeans, ReplayJobMeans, RewriteMeans, SynthMeans, IsJournalOfList}
 use Rattle.bp_run.specs.Lines.{read_line, write_line, output_line, memory_line, synth_name}
 use Rattle.bp_run.specs.Steps.{CannotRead, CannotReplay}
-use Rattle.bp_run.specs.Tree.{AreListed, AreListedWith}
+use Rattle.bp_run.specs.Tree.{AreListedFiles, AreListedWith}
 use Rattle.bp_run.specs.Words.{file_path, out_path}
 use Rattle.bp_run.specs.World.{World, Stream, Says, SaysNothing, Unchanged, Untouched, IsSpared, Quiet}
 
@@ -36,30 +36,30 @@ ToldGives (Synth words) old outcome = SynthMeans words outcome
 -- The same of a command.
 abbrev pub CommandGives : Command → World → Result (List ℕ) Fault → Type 0
 CommandGives (Job c) old outcome = Gives c old outcome
-CommandGives (Replay words) old outcome = IfSome old.files (λ files. ReplayMeans words files outcome)
+CommandGives (Replay words) old outcome = IfSome old.files (λ files. ReplayJobMeans words files outcome)
 CommandGives (Rewrite r) old outcome = IfSome old.files (λ files. RewriteMeans r files outcome)
 
 -- The store tells its files, where the command needs one, and this is the outcome.
 abbrev pub CommandToldGives : Command → World → Result (List ℕ) Fault → Type 0
 CommandToldGives (Job c) old outcome = ToldGives c old outcome
-CommandToldGives (Replay words) old outcome = IsSomeAnd old.files (λ files. ReplayMeans words files outcome)
+CommandToldGives (Replay words) old outcome = IsSomeAnd old.files (λ files. ReplayJobMeans words files outcome)
 CommandToldGives (Rewrite r) old outcome = IsSomeAnd old.files (λ files. RewriteMeans r files outcome)
 
 -- The names of files by their numbers: a list has the number 0, and behind it stand the files that it names.
 abbrev pub AreListNames : List ℕ → World → List (List ℕ) → Type 0
 AreListNames list old names =
-    (paths : List (List ℕ)) × IfSome old.files (λ files. AreListed list files paths) × (names ≡ list ∷ paths)
+    (paths : List (List ℕ)) × IfSome old.files (λ files. AreListedFiles list files paths) × (names ≡ list ∷ paths)
 
 -- The names by which a fault's line tells the places of a job. A synthetic tree has `synth` in the place of a list.
-abbrev pub AreNames : Configuration → World → List (List ℕ) → Type 0
-AreNames (Build words) old names = AreListNames words.list old names
-AreNames (Graph words) old names = AreListNames words.list old names
-AreNames (Synth words) old names =
+abbrev pub ArePlaceNames : Configuration → World → List (List ℕ) → Type 0
+ArePlaceNames (Build words) old names = AreListNames words.list old names
+ArePlaceNames (Graph words) old names = AreListNames words.list old names
+ArePlaceNames (Synth words) old names =
     (files : List Source) × AreTree words.seed words.modules files × (names ≡ synth_name ∷ map (λ f. f.0) files)
 
 -- The same of a command. A replay has the order file behind the files of the list; `fmt` and `edit` have FILE alone.
 abbrev pub AreCommandNames : Command → World → List (List ℕ) → Type 0
-AreCommandNames (Job c) old names = AreNames c old names
+AreCommandNames (Job c) old names = ArePlaceNames c old names
 AreCommandNames (Replay words) old names =
     (paths : List (List ℕ)) × IfSome old.files (λ files. AreListedWith words.list words.order files paths)
     × (names ≡ words.list ∷ paths)
@@ -84,7 +84,7 @@ Journals words before (Some path) written after =
     (lines : List ℕ) × IsJournalOfList words before lines × (after ≡ insert written path lines)
 
 -- OUT holds the text and the journal's path a legal journal, every other file is as it was, and so is the output.
-pub record IsWritten (words : BuildWords) (text : List ℕ) (old new : World) : Type 0 where
+pub record IsOutWritten (words : BuildWords) (text : List ℕ) (old new : World) : Type 0 where
   pub files : WhereTold
       (λ before after. Journals words before words.journal (insert before words.out text) after) old.files new.files
   pub out : new.out ≡ old.out
@@ -95,15 +95,15 @@ pub record IsSaved (path text : List ℕ) (old new : World) : Type 0 where
   pub out : new.out ≡ old.out
 
 -- The text stands behind the output, and the files are as they were.
-pub record IsShown (text : List ℕ) (old new : World) : Type 0 where
+pub record IsPrinted (text : List ℕ) (old new : World) : Type 0 where
   pub out : WhereTold (λ before after. after ≡ before ++ text) old.out new.out
   pub files : new.files ≡ old.files
 
 -- The text is where the command puts it: in OUT, or on the output.
 abbrev pub Delivers : Configuration → List ℕ → World → World → Type 0
-Delivers (Build words) text old new = IsWritten words text old new
-Delivers (Graph words) text old new = IsShown text old new
-Delivers (Synth words) text old new = IsShown text old new
+Delivers (Build words) text old new = IsOutWritten words text old new
+Delivers (Graph words) text old new = IsPrinted text old new
+Delivers (Synth words) text old new = IsPrinted text old new
 
 -- The same of a command.
 abbrev pub CommandDelivers : Command → List ℕ → World → World → Type 0

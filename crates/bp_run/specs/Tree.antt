@@ -30,20 +30,20 @@ abbrev pub ListFileMeans : List ℕ → Files → Result (List (List ℕ)) Fault
 ListFileMeans list files outcome = GoesOn (read_of 0 LARGEST_LIST_FILE (get files list)) ListMeans outcome
 
 -- Files together are no larger than the limit of a tree: the bytes of a file, behind others of that size.
-abbrev pub counted : ℕ → ℕ → List ℕ → Result (List ℕ) Fault
-counted number size bytes =
+abbrev pub counted_bytes : ℕ → ℕ → List ℕ → Result (List ℕ) Fault
+counted_bytes number size bytes =
     if nat_le (size + length bytes) LARGEST_TREE then Ok bytes
     else Err (fault_on TooMany (file_start number) (codes "bytes"))
 
 -- The bytes of an Android.bp file, which is no larger than its limit.
-abbrev pub bytes_of : Files → ℕ → ℕ → List ℕ → Result (List ℕ) Fault
-bytes_of files number size path = then_do (read_of number LARGEST_FILE (get files path)) (counted number size)
+abbrev pub file_bytes : Files → ℕ → ℕ → List ℕ → Result (List ℕ) Fault
+file_bytes files number size path = then_do (read_of number LARGEST_FILE (get files path)) (counted_bytes number size)
 
 -- The files of some paths in turn, numbered on, behind others of that size.
 abbrev pub sources_from : Files → ℕ → ℕ → List (List ℕ) → Result (List Source) Fault
 sources_from files number size [] = Ok []
 sources_from files number size (path ∷ paths) =
-    then_do (bytes_of files number size path)
+    then_do (file_bytes files number size path)
     (λ bytes. then_do (sources_from files (number + 1) (size + length bytes) paths) (λ more. Ok ((path, bytes) ∷ more)))
 
 -- The files that the list names, which are numbered from 1.
@@ -90,8 +90,8 @@ listed_with order (Ok paths) = paths ++ order ∷ []
 listed_with order (Err fault) = []
 
 -- The files by their numbers: the list has the number 0, and behind it stand those that it names.
-abbrev pub AreListed : List ℕ → Files → List (List ℕ) → Type 0
-AreListed list files paths =
+abbrev pub AreListedFiles : List ℕ → Files → List (List ℕ) → Type 0
+AreListedFiles list files paths =
     (outcome : Result (List (List ℕ)) Fault) × ListFileMeans list files outcome × (paths ≡ listed_of outcome)
 
 -- The files of a replay by their numbers, but for the list: those that it names, and then the order file.

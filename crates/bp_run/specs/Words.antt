@@ -27,10 +27,10 @@ abbrev pub command_of : List (List ℕ) → Option Command
 command_of words = option_map command_for (configuration_of words)
 
 -- What holds of a configuration, by its command.
-abbrev pub IsSound : Configuration → Type 0
-IsSound (Build words) = IsSoundBuild words
-IsSound (Graph words) = IsSoundGraph words
-IsSound (Synth words) = IsSoundSynth words
+abbrev pub IsSoundForCommand : Configuration → Type 0
+IsSoundForCommand (Build words) = IsSoundBuild words
+IsSoundForCommand (Graph words) = IsSoundGraph words
+IsSoundForCommand (Synth words) = IsSoundSynth words
 
 -- What holds of what is asked of a file.
 abbrev pub IsSoundRewriting : Rewriting → Type 0
@@ -39,7 +39,7 @@ IsSoundRewriting (Edit words) = IsSoundEdit words
 
 -- What holds of a command.
 abbrev pub IsSoundCommand : Command → Type 0
-IsSoundCommand (Job c) = IsSound c
+IsSoundCommand (Job c) = IsSoundForCommand c
 IsSoundCommand (Replay words) = IsSoundReplay words
 IsSoundCommand (Rewrite r) = IsSoundRewriting r
 

@@ -1,7 +1,7 @@
 ghost use Rattle.std.specs.Prelude.{◌≡◌};
 ghost use Rattle.std.specs.Option.{option_copied};
 ghost use Rattle.bp_run.specs.World.{stream};
-ghost use Rattle.bp_run.specs.End.{status_of, report_of, IsReported};
+ghost use Rattle.bp_run.specs.End.{status_of, report_of, IsLineReported};
 
 use bp_faults::Text;
 use bp_ports::Sink;
@@ -44,7 +44,7 @@ fn line(end: &End) -> Option<&str>
 
 /// Puts the line on a stream. A stream that fails changes nothing else.
 pub fn report<D: Sink>(end: &End, diag: &mut D)
-    ensures { IsReported (report_of end.now) (stream D.Sink diag.old) (stream D.Sink diag.new) }
+    ensures { IsLineReported (report_of end.now) (stream D.Sink diag.old) (stream D.Sink diag.new) }
 {
     if let Some(line) = line(end) {
         let _ = diag.put(line.as_bytes());

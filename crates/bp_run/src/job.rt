@@ -1,14 +1,14 @@
 ghost use Rattle.std.specs.Prelude.{◌≡◌, ◌≤◌, ◌^◌, IfOk, IfSome, length, map, Some};
 ghost use Rattle.std.specs.List.{All};
 ghost use Rattle.bp_load.specs.Directories.{AreInFileOrder};
-ghost use Rattle.bp_load.specs.Trees.{sources};
+ghost use Rattle.bp_load.specs.Trees.{sources_given};
 ghost use Rattle.command_words.specs.Sound.{IsSoundBuild, IsSoundGraph, IsSoundSynth};
 ghost use Rattle.order_text.specs.Texts.{journal_text};
 ghost use Rattle.synthetic_tree.specs.Summary.{summary_text};
 ghost use Rattle.bp_run.specs.Job.{synth_config};
 ghost use Rattle.bp_run.specs.Steps.{GivesOrStops, GivesOrRunsOut, ReadCause, CannotReadOf};
 ghost use Rattle.bp_run.specs.Steps.{journal_path, journal_of, Summarizes, ModulesMake, ListedFilesMake, SourcesMake};
-ghost use Rattle.bp_run.specs.Words.{config_of, IsSound};
+ghost use Rattle.bp_run.specs.Words.{config_of, IsSoundForCommand};
 ghost use Rattle.bp_run.specs.declared.words.Configuration.TheVariants.{Build as BuildCommand, Graph as GraphCommand};
 ghost use Rattle.bp_run.specs.declared.words.Configuration.TheVariants.{Synth as SynthCommand};
 
@@ -163,7 +163,7 @@ fn make<R: Threads + Sync, G: Gate + Sync>(
     gate: &G,
 ) -> Result<Made, Stop>
     requires few { length typed.now ≤ 2 ^ 17 }
-    requires sound { IsSound configuration.now }
+    requires sound { IsSoundForCommand configuration.now }
     ensures makes { GivesOrRunsOut (λ made. made) (ModulesMake configuration.now typed.now) result }
     ensures asked { IfOk result (λ made. journal_path made.journal ≡ journal_of configuration.now) }
 {
@@ -194,7 +194,7 @@ pub fn do_job<R: Threads + Sync, S: Store, G: Gate + Sync>(
 ) -> Result<Made, Stop>
     requires few { length paths.now ≤ 2 ^ 14 }
     requires order { AreInFileOrder paths.now }
-    requires sound { IsSound configuration.now }
+    requires sound { IsSoundForCommand configuration.now }
     ensures gives { IfSome (S.files store.old) (λ files. GivesOrStops (λ made. made)
         (ListedFilesMake configuration.now files paths.now) (CannotReadOf files paths.now) result) }
     ensures asked { IfOk result (λ made. journal_path made.journal ≡ journal_of configuration.now) }
@@ -218,10 +218,10 @@ pub fn do_job_over<R: Threads + Sync, G: Gate + Sync>(
     gate: &G,
 ) -> Result<Made, Stop>
     requires few { length files.now ≤ 2 ^ 14 }
-    requires order { AreInFileOrder (map (λ f. f.0) (sources files.now)) }
-    requires short { All (λ f. length f.1 ≤ 2 ^ 20) (sources files.now) }
-    requires sound { IsSound configuration.now }
-    ensures makes { GivesOrRunsOut (λ made. made) (SourcesMake configuration.now (sources files.now)) result }
+    requires order { AreInFileOrder (map (λ f. f.0) (sources_given files.now)) }
+    requires short { All (λ f. length f.1 ≤ 2 ^ 20) (sources_given files.now) }
+    requires sound { IsSoundForCommand configuration.now }
+    ensures makes { GivesOrRunsOut (λ made. made) (SourcesMake configuration.now (sources_given files.now)) result }
     ensures asked { IfOk result (λ made. journal_path made.journal ≡ journal_of configuration.now) }
 {
     let typed = load_files(rt, alloc, files, workers_of(configuration))?;

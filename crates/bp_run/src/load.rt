@@ -2,7 +2,7 @@ ghost use Rattle.std.specs.Prelude.{◌≡◌, ◌≤◌, ◌^◌, IfOk, IfSome,
 ghost use Rattle.std.specs.List.{All};
 ghost use Rattle.bp_load.specs.Directories.{AreInFileOrder};
 ghost use Rattle.bp_load.specs.Loaded.{LoadMeans};
-ghost use Rattle.bp_load.specs.Trees.{sources};
+ghost use Rattle.bp_load.specs.Trees.{sources_given};
 ghost use Rattle.bp_run.specs.Steps.{GivesOrStops, GivesOrRunsOut, ReadCause, CannotReadOf};
 ghost use Rattle.bp_run.specs.Tree.{ListedFilesLoad};
 
@@ -23,9 +23,9 @@ pub fn load_files<R: Threads + Sync>(
     workers: u32,
 ) -> Result<Vec<Module>, Stop>
     requires few { length files.now ≤ 2 ^ 14 }
-    requires order { AreInFileOrder (map (λ f. f.0) (sources files.now)) }
-    requires short { All (λ f. length f.1 ≤ 2 ^ 20) (sources files.now) }
-    ensures gives { GivesOrRunsOut (λ typed. typed.items) (LoadMeans (sources files.now)) result }
+    requires order { AreInFileOrder (map (λ f. f.0) (sources_given files.now)) }
+    requires short { All (λ f. length f.1 ≤ 2 ^ 20) (sources_given files.now) }
+    ensures gives { GivesOrRunsOut (λ typed. typed.items) (LoadMeans (sources_given files.now)) result }
     ensures few { IfOk result (λ typed. length typed.items ≤ 2 ^ 17) }
 {
     let typed = load(rt, alloc, files, workers)?;

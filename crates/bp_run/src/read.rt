@@ -4,8 +4,8 @@ ghost use Rattle.std.specs.FinMap.{get};
 ghost use Rattle.bp_faults.specs.Faults.{fault_at, file_start};
 ghost use Rattle.bp_load.specs.Directories.{AreInFileOrder};
 ghost use Rattle.bp_load.specs.ListFile.{ListMeans};
-ghost use Rattle.bp_load.specs.Trees.{sources};
-ghost use Rattle.bp_run.specs.Tree.{read_of, counted, bytes_of, sources_of, ListFileMeans};
+ghost use Rattle.bp_load.specs.Trees.{sources_given};
+ghost use Rattle.bp_run.specs.Tree.{read_of, counted_bytes, file_bytes, sources_of, ListFileMeans};
 ghost use Rattle.bp_run.specs.Steps.{GivesOrStops, GivesOrRunsOut, Exactly, ReadCause, CannotReadOf};
 
 use crate::Stop;
@@ -75,7 +75,7 @@ pub fn read_list<S: Store>(alloc: Global, list: &Text, store: &mut S) -> Result<
 fn count_bytes(alloc: Global, bytes: Vec<u8>, number: u32, size: usize) -> Result<Vec<u8>, Stop>
     requires size { size ≤ 2 ^ 26 }
     requires short { length bytes.items ≤ 2 ^ 20 }
-    ensures gives { GivesOrRunsOut (λ bytes. bytes.items) (Exactly (counted number size bytes.items)) result }
+    ensures gives { GivesOrRunsOut (λ bytes. bytes.items) (Exactly (counted_bytes number size bytes.items)) result }
     ensures same { IfOk result (λ counted. counted.items ≡ bytes.items) }
     ensures bound { IfOk result (λ bytes. size + length bytes.items ≤ 2 ^ 26) }
 {
@@ -96,7 +96,7 @@ fn read_source<S: Store>(
 ) -> Result<Vec<u8>, Stop>
     requires { size ≤ 2 ^ 26 }
     ensures gives { IfSome (S.files store.old) (λ files. GivesOrStops (λ bytes. bytes.items)
-        (Exactly (bytes_of files number size path.now)) (λ unread. unread ≡ path.now) result) }
+        (Exactly (file_bytes files number size path.now)) (λ unread. unread ≡ path.now) result) }
     ensures short { IfOk result (λ bytes. length bytes.items ≤ 2 ^ 20) }
     ensures bound { IfOk result (λ bytes. size + length bytes.items ≤ 2 ^ 26) }
     ensures cause { ReadCause (S.read_faults store.old) (S.read_faults store.new) result }
@@ -122,10 +122,10 @@ pub fn read_files<S: Store>(
     store: &mut S,
 ) -> Result<Vec<(Path, Vec<u8>)>, Stop>
     requires { length paths.now ≤ 2 ^ 14 }
-    ensures gives { IfSome (S.files store.old) (λ files. GivesOrStops (λ read. sources read.items)
+    ensures gives { IfSome (S.files store.old) (λ files. GivesOrStops (λ read. sources_given read.items)
         (Exactly (sources_of files paths.now)) (CannotReadOf files paths.now) result) }
-    ensures paths { IfOk result (λ read. map (λ f. f.0) (sources read.items) ≡ paths.now) }
-    ensures short { IfOk result (λ read. All (λ f. length f.1 ≤ 2 ^ 20) (sources read.items)) }
+    ensures paths { IfOk result (λ read. map (λ f. f.0) (sources_given read.items) ≡ paths.now) }
+    ensures short { IfOk result (λ read. All (λ f. length f.1 ≤ 2 ^ 20) (sources_given read.items)) }
     ensures cause { ReadCause (S.read_faults store.old) (S.read_faults store.new) result }
     ensures files { S.files store.new ≡ S.files store.old }
     ensures writes { S.write_faults store.new ≡ S.write_faults store.old }

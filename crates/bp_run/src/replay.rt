@@ -1,7 +1,7 @@
 ghost use Rattle.std.specs.Prelude.{◌≡◌, ◌≤◌, ◌+◌, ◌^◌, None, IfOk, IfSome, length, map};
 ghost use Rattle.std.specs.List.{All};
 ghost use Rattle.bp_load.specs.Directories.{AreInFileOrder};
-ghost use Rattle.bp_load.specs.Trees.{sources};
+ghost use Rattle.bp_load.specs.Trees.{sources_given};
 ghost use Rattle.command_words.specs.Sound.{IsSoundReplay};
 ghost use Rattle.bp_run.specs.Job.{SourcesReplay, ListedFilesReplay};
 ghost use Rattle.bp_run.specs.Steps.{GivesOrStops, GivesOrRunsOut, Exactly, ReadCause, CannotReadAlong};
@@ -45,11 +45,11 @@ fn read_inputs<S: Store>(
     requires few { length paths.now ≤ 2 ^ 14 }
     requires number { number ≡ length paths.now + 1 }
     ensures gives { IfSome (S.files store.old) (λ files. GivesOrStops
-        (λ inputs. (sources inputs.files.items, inputs.order.items))
+        (λ inputs. (sources_given inputs.files.items, inputs.order.items))
         (Exactly (sources_and_order files paths.now words.now.order))
         (CannotReadAlong files paths.now words.now.order) result) }
-    ensures paths { IfOk result (λ inputs. map (λ f. f.0) (sources inputs.files.items) ≡ paths.now) }
-    ensures short { IfOk result (λ inputs. All (λ f. length f.1 ≤ 2 ^ 20) (sources inputs.files.items)) }
+    ensures paths { IfOk result (λ inputs. map (λ f. f.0) (sources_given inputs.files.items) ≡ paths.now) }
+    ensures short { IfOk result (λ inputs. All (λ f. length f.1 ≤ 2 ^ 20) (sources_given inputs.files.items)) }
     ensures bound { IfOk result (λ inputs. length inputs.order.items ≤ 2 ^ 26) }
     ensures cause { ReadCause (S.read_faults store.old) (S.read_faults store.new) result }
     ensures files { S.files store.new ≡ S.files store.old }
@@ -69,12 +69,12 @@ fn replay_inputs<R: Threads + Sync>(
     number: u32,
 ) -> Result<Made, Stop>
     requires few { length inputs.now.files.items ≤ 2 ^ 14 }
-    requires order { AreInFileOrder (map (λ f. f.0) (sources inputs.now.files.items)) }
-    requires short { All (λ f. length f.1 ≤ 2 ^ 20) (sources inputs.now.files.items) }
+    requires order { AreInFileOrder (map (λ f. f.0) (sources_given inputs.now.files.items)) }
+    requires short { All (λ f. length f.1 ≤ 2 ^ 20) (sources_given inputs.now.files.items) }
     requires bound { length inputs.now.order.items ≤ 2 ^ 26 }
     requires sound { IsSoundReplay words.now }
     ensures gives { GivesOrRunsOut (λ made. made.text)
-        (SourcesReplay words.now number (sources inputs.now.files.items, inputs.now.order.items)) result }
+        (SourcesReplay words.now number (sources_given inputs.now.files.items, inputs.now.order.items)) result }
     ensures plain { IfOk result (λ made. made.journal ≡ None) }
 {
     let typed = load_files(rt, alloc, &inputs.files, 1)?;

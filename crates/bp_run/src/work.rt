@@ -1,11 +1,11 @@
 ghost use Rattle.std.specs.Prelude.{◌≡◌, ◌∷◌, [], ◌++◌, IfOk, Some, map};
 ghost use Rattle.bp_faults.specs.Line.{line_of};
-ghost use Rattle.bp_load.specs.Trees.{sources};
+ghost use Rattle.bp_load.specs.Trees.{sources_given};
 ghost use Rattle.command_words.specs.Sound.{IsSoundReplay};
 ghost use Rattle.bp_run.specs.End.{Ended, Stopped};
 ghost use Rattle.bp_run.specs.Lines.{synth_name};
 ghost use Rattle.bp_run.specs.Run.{Spares};
-ghost use Rattle.bp_run.specs.Words.{command_of, list_of, IsSound, IsSoundRewriting, IsSoundCommand};
+ghost use Rattle.bp_run.specs.Words.{command_of, list_of, IsSoundForCommand, IsSoundRewriting, IsSoundCommand};
 ghost use Rattle.bp_run.specs.World.{world, IsSpared};
 ghost use Rattle.bp_run.specs.declared.words.Command.TheVariants.{Job, Replay as ReplayCommand};
 ghost use Rattle.bp_run.specs.declared.words.Command.TheVariants.{Rewrite as RewriteCommand};
@@ -63,7 +63,7 @@ fn carry_out_over_list<R: Threads + Sync, S: Store, O: Sink, G: Gate + Sync>(
     out: &mut O,
     gate: &G,
 ) -> End
-    requires sound { IsSound configuration.now }
+    requires sound { IsSoundForCommand configuration.now }
     requires list { list_of configuration.now ≡ Some list.now }
     ensures { Ended (Some (Job configuration.now))
         (world S.Store O.Sink store.old out.old) (world S.Store O.Sink store.new out.new) result }
@@ -78,7 +78,7 @@ fn carry_out_over_list<R: Threads + Sync, S: Store, O: Sink, G: Gate + Sync>(
 }
 
 fn paths_of(alloc: Global, files: &[(Path, Vec<u8>)]) -> Result<Vec<Path>, OutOfMemory>
-    ensures { IfOk result (λ paths. paths.items ≡ map (λ f. f.0) (sources files.now)) }
+    ensures { IfOk result (λ paths. paths.items ≡ map (λ f. f.0) (sources_given files.now)) }
 {
     let mut paths = Vec::new(alloc);
     for (path, _) in files {
@@ -89,7 +89,7 @@ fn paths_of(alloc: Global, files: &[(Path, Vec<u8>)]) -> Result<Vec<Path>, OutOf
 
 // The line that reports why nothing is made of a synthetic tree.
 fn stopped_over(alloc: Global, files: &[(Path, Vec<u8>)], stop: &Stop) -> End
-    ensures { Stopped (synth_name ∷ map (λ f. f.0) (sources files.now)) stop.now result }
+    ensures { Stopped (synth_name ∷ map (λ f. f.0) (sources_given files.now)) stop.now result }
 {
     match paths_of(alloc, files) {
         Ok(paths) => stopped(alloc, "synth", &paths, stop),
@@ -107,7 +107,7 @@ fn carry_out_over_synth<R: Threads + Sync, S: Store, O: Sink, G: Gate + Sync>(
     out: &mut O,
     gate: &G,
 ) -> End
-    requires sound { IsSound configuration.now }
+    requires sound { IsSoundForCommand configuration.now }
     requires words { configuration.now ≡ SynthCommand words.now }
     ensures ended { Ended (Some (Job configuration.now))
         (world S.Store O.Sink store.old out.old) (world S.Store O.Sink store.new out.new) result }
@@ -204,7 +204,7 @@ fn carry_out<R: Threads + Sync, S: Store, O: Sink, G: Gate + Sync>(
     out: &mut O,
     gate: &G,
 ) -> End
-    requires { IsSound configuration.now }
+    requires { IsSoundForCommand configuration.now }
     ensures ended { Ended (Some (Job configuration.now))
         (world S.Store O.Sink store.old out.old) (world S.Store O.Sink store.new out.new) result }
     ensures spares { Spares (Some (Job configuration.now))

@@ -12,15 +12,15 @@ use Rattle.bp_faults.specs.declared.fault.Fault.{Fault}
 use Rattle.bp_faults.specs.declared.kind.FaultKind.TheVariants.{AfterUse}
 use Rattle.bp_faults.specs.declared.place.Place.{Place}
 use Rattle.bp_parser.specs.Trees as tree
-use Rattle.bp_parser.specs.Trees.{Tree, Atom, Trees, Terms, Entries, no_tree, tree_and, no_term, term_and, no_entry, entry_and, Map, Definition, Assigns, Extends, Declares}
+use Rattle.bp_parser.specs.Trees.{Tree, Atom, Trees, Terms, Entries, no_tree, tree_and, no_term, term_and, no_entry, entry_and, Map, Definition, Assigns, Extends, Declares, first_place}
 use Rattle.bp_values.specs.Values.{Meaning, Items, body}
-use Rattle.bp_values.specs.Depths.{nested}
-use Rattle.bp_values.specs.Sums.{sum, limited}
+use Rattle.bp_values.specs.Depths.{nested_fields}
+use Rattle.bp_values.specs.Sums.{sum, list_within}
 use Rattle.bp_values.specs.Scopes.{Pairs, value_in}
-use Rattle.bp_values.specs.Expressions.{val, val_atom, val_items, val_terms, val_entries, val_map, known, item_of, first_place}
+use Rattle.bp_values.specs.Expressions.{val, val_atom, val_items, val_terms, val_entries, val_map, known_value, item_of}
 use Rattle.bp_values.specs.References.{is_in_entries}
-use Rattle.bp_values.specs.Meaning.{Known, with_new, with_other, uses_with, known_with, after_assignment, after_extension, after_own_extension, after_definition, after_definitions, known_first, evaluated}
-use Rattle.bp_values.specs.Laws.{HasSameValues, IsSameOutcome}
+use Rattle.bp_values.specs.Meaning.{Known, with_new, with_other, uses_with, known_with, after_assignment, after_extension, after_own_extension, after_definition, after_definitions, known_first, file_evaluation}
+use Rattle.bp_values.specs.Laws.{HasSameValues, SameOutcomeMeans}
 use Rattle.bp_values.proofs.Pairs.{lookup_append}
 
 -- expressions
@@ -29,13 +29,13 @@ same_atom : (a b : Pairs) (at : Place) (atom : Atom) → HasSameValues a b → v
 same_atom a b at (tree.Truth t) same = refl
 same_atom a b at (tree.Number n) same = refl
 same_atom a b at (tree.Str text) same = refl
-same_atom a b at (tree.Name name) same = ap (known at name) (same name)
+same_atom a b at (tree.Name name) same = ap (known_value at name) (same name)
 
 mutual
   same_val : (t : Tree) (a b : Pairs) → HasSameValues a b → val a t ≡ val b t
   same_val (tree.Leaf at atom) a b same = same_atom a b at atom same
-  same_val (tree.Items at items) a b same = ap (λ r. then_do r (λ l. then_do (limited (2 ^ 16) (codes "list") at l) (λ m. Ok (Items m)))) (same_items items a b same)
-  same_val (tree.Body at entries) a b same = ap (λ r. then_do (then_do r (λ fs. nested at fs)) (λ fs. Ok (body fs))) (same_entries entries a b same)
+  same_val (tree.Items at items) a b same = ap (λ r. then_do r (λ l. then_do (list_within (2 ^ 16) (codes "list") at l) (λ m. Ok (Items m)))) (same_items items a b same)
+  same_val (tree.Body at entries) a b same = ap (λ r. then_do (then_do r (λ fs. nested_fields at fs)) (λ fs. Ok (body fs))) (same_entries entries a b same)
   same_val (tree.Sum first terms) a b same = λ i. then_do (same_val first a b same i) (λ value. same_terms terms value a b same i)
 
   same_items : (ts : Trees) (a b : Pairs) → HasSameValues a b → val_items a ts ≡ val_items b ts
@@ -54,7 +54,7 @@ mutual
       λ i. then_do (same_val value a b same i) (λ v. then_do (same_entries more a b same i) (λ fs. Ok ((record { name = name; at = at; value = v }) ∷ fs)))
 
 same_map : (m : Map) (a b : Pairs) → HasSameValues a b → val_map a m.at m.entries ≡ val_map b m.at m.entries
-same_map m a b same = ap (λ r. then_do r (λ fs. nested m.at fs)) (same_entries m.entries a b same)
+same_map m a b same = ap (λ r. then_do r (λ fs. nested_fields m.at fs)) (same_entries m.entries a b same)
 
 -- scopes in which a name gets a value
 
@@ -177,12 +177,12 @@ same_definitions a b (d ∷ ds) k l above same =
     by (Ok m) (Err g) step rest = absurd step
     by (Err f) (Ok n) step rest = absurd step
 
-pub values_decide : (a b : Pairs) (ds : List Definition) → HasSameValues a b → IsSameOutcome (evaluated a ds) (evaluated b ds)
+pub values_decide : (a b : Pairs) (ds : List Definition) → HasSameValues a b → SameOutcomeMeans (file_evaluation a ds) (file_evaluation b ds)
 values_decide a b ds above =
     by (after_definitions a (known_first a) ds) (after_definitions b (known_first b) ds)
     (same_definitions a b ds (known_first a) (known_first b) above (record { scope = above; is_used = refl; modules = refl }))
   where
-    by : (r s : Result Known Fault) → SameStep r s → IsSameOutcome (then_do r (λ k. Ok (k.modules, k.scope))) (then_do s (λ k. Ok (k.modules, k.scope)))
+    by : (r s : Result Known Fault) → SameStep r s → SameOutcomeMeans (then_do r (λ k. Ok (k.modules, k.scope))) (then_do s (λ k. Ok (k.modules, k.scope)))
     by (Ok m) (Ok n) step = (step.modules, step.scope)
     by (Err f) (Err g) step = step
     by (Ok m) (Err g) step = absurd step

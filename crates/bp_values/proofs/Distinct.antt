@@ -21,12 +21,12 @@ use Rattle.bp_parser.specs.Trees.{Tree, Atom, Trees, Terms, Entries, no_tree, tr
 use Rattle.bp_parser.specs.Names as written
 use Rattle.bp_parser.specs.Names.{AreDistinct, DefinitionHasDistinctNames}
 use Rattle.bp_values.specs.Values.{Meaning, Truth, Number, Str, Items, Body, Fields, no_field, field_and, Field, fields_of, fields_then, body}
-use Rattle.bp_values.specs.Depths.{nested}
-use Rattle.bp_values.specs.Sums.{sum, sum_fields, sum_body, sum_number, sum_text, sum_item, limited, fits, met, value_at, has_name, others}
+use Rattle.bp_values.specs.Depths.{nested_fields}
+use Rattle.bp_values.specs.Sums.{sum, sum_fields, sum_body, sum_number, sum_text, sum_item, list_within, is_i64, combined_value, value_at, has_name, others}
 use Rattle.bp_values.specs.Scopes.{Pairs, value_in}
-use Rattle.bp_values.specs.Expressions.{val, val_atom, val_items, val_terms, val_entries, val_map, known}
-use Rattle.bp_values.specs.Meaning.{Raw, Known, with_new, with_other, known_with, after_assignment, after_extension, after_own_extension, after_definition, after_definitions, known_first, evaluated}
-use Rattle.bp_values.specs.Names.{names_of, HasDistinctNames, FieldsHaveDistinctNames, ModuleHasDistinctNames, ScopeHasDistinctNames}
+use Rattle.bp_values.specs.Expressions.{val, val_atom, val_items, val_terms, val_entries, val_map, known_value}
+use Rattle.bp_values.specs.Meaning.{Raw, Known, with_new, with_other, known_with, after_assignment, after_extension, after_own_extension, after_definition, after_definitions, known_first, file_evaluation}
+use Rattle.bp_values.specs.Names.{field_names, HasDistinctNames, FieldsHaveDistinctNames, ModuleHasDistinctNames, ScopeHasDistinctNames}
 
 -- results
 
@@ -56,7 +56,7 @@ names fs = map (λ f. f.name) fs
 abbrev field_named : List ℕ → Field
 field_named name = record { name = name; at = record { file = 0; line = 0; col = 0 }; value = Truth false }
 
-listed_names : (fields : Fields) → names (fields_of fields) ≡ names_of fields
+listed_names : (fields : Fields) → names (fields_of fields) ≡ field_names fields
 listed_names no_field = refl
 listed_names (field_and name at value more) = ap (λ l. name ∷ l) (listed_names more)
 
@@ -64,7 +64,7 @@ listed_values : (fields : Fields) → FieldsHaveDistinctNames fields → All Kep
 listed_values no_field kept = All-nil Kept
 listed_values (field_and name at value more) kept = All-cons Kept (record { name = name; at = at; value = value }) (fields_of more) kept.0 (listed_values more kept.1)
 
-names_then : (fs : List Field) → names_of (fields_then fs no_field) ≡ names fs
+names_then : (fs : List Field) → field_names (fields_then fs no_field) ≡ names fs
 names_then [] = refl
 names_then (f ∷ fs) = ap (λ l. f.name ∷ l) (names_then fs)
 
@@ -129,9 +129,9 @@ value_kept name (f ∷ fs) kept = by (bytes_eq name f.name) (value_kept name fs 
 
 -- the fields of a first map, each with its sum
 abbrev Summed : Fields → List Field → Type 0
-Summed fields fs = (names fs ≡ names_of fields) × All Kept fs
+Summed fields fs = (names fs ≡ field_names fields) × All Kept fs
 
-body_kept : (a : Fields) (seconds fs : List Field) → AreDistinct (names_of a) → AllPairs Apart seconds → All Kept seconds → Summed a fs → HasDistinctNames (body (fs ++ others seconds (fields_of a)))
+body_kept : (a : Fields) (seconds fs : List Field) → AreDistinct (field_names a) → AllPairs Apart seconds → All Kept seconds → Summed a fs → HasDistinctNames (body (fs ++ others seconds (fields_of a)))
 body_kept a seconds fs distinct apart kept summed =
     let rest = others seconds (fields_of a) in
     let test : Field → Bool = λ f. not (has_name (fields_of a) f.name) in
@@ -144,18 +144,18 @@ body_kept a seconds fs distinct apart kept summed =
     (All-append Kept fs rest summed.1 (All-filter test Kept seconds kept))
 
 number_kept : (at : Place) (a : ℤ) (b : Meaning) → IfOk (sum_number at a b) HasDistinctNames
-number_kept at a (Number b) = if_test HasDistinctNames (fits (a +ℤ b)) (Number (a +ℤ b)) _ tt
+number_kept at a (Number b) = if_test HasDistinctNames (is_i64 (a +ℤ b)) (Number (a +ℤ b)) _ tt
 number_kept at a _ = tt
 
 text_kept : (at : Place) (a : List ℕ) (b : Meaning) → IfOk (sum_text at a b) HasDistinctNames
-text_kept at a (Str b) = if_then (λ c. ⊤) HasDistinctNames (limited (2 ^ 20) (codes "string") at (a ++ b)) (λ c. Ok (Str c)) (anything (limited (2 ^ 20) (codes "string") at (a ++ b))) (λ c any. tt)
+text_kept at a (Str b) = if_then (λ c. ⊤) HasDistinctNames (list_within (2 ^ 20) (codes "string") at (a ++ b)) (λ c. Ok (Str c)) (anything (list_within (2 ^ 20) (codes "string") at (a ++ b))) (λ c any. tt)
 text_kept at a _ = tt
 
 items_kept : (at : Place) (a : List Item) (b : Meaning) → IfOk (sum_item at a b) HasDistinctNames
-items_kept at a (Items b) = if_then (λ c. ⊤) HasDistinctNames (limited (2 ^ 16) (codes "list") at (a ++ b)) (λ c. Ok (Items c)) (anything (limited (2 ^ 16) (codes "list") at (a ++ b))) (λ c any. tt)
+items_kept at a (Items b) = if_then (λ c. ⊤) HasDistinctNames (list_within (2 ^ 16) (codes "list") at (a ++ b)) (λ c. Ok (Items c)) (anything (list_within (2 ^ 16) (codes "list") at (a ++ b))) (λ c any. tt)
 items_kept at a _ = tt
 
-map_kept : (at : Place) (a : Fields) (each : List Field → Result (List Field) Fault) (b : Meaning) → AreDistinct (names_of a) → HasDistinctNames b
+map_kept : (at : Place) (a : Fields) (each : List Field → Result (List Field) Fault) (b : Meaning) → AreDistinct (field_names a) → HasDistinctNames b
     → ((seconds : List Field) → All Kept seconds → IfOk (each seconds) (Summed a)) → IfOk (sum_body at a each b) HasDistinctNames
 map_kept at a each (Body b) distinct whole rest =
     let kept = listed_values b whole.1 in
@@ -165,7 +165,7 @@ map_kept at a each (Body b) distinct whole rest =
 map_kept at a each _ distinct whole rest = tt
 
 met_kept : (value : Meaning) (add : Meaning → Result Meaning Fault) (o : Option Meaning) → HasDistinctNames value → IfSome o HasDistinctNames
-    → ((w : Meaning) → HasDistinctNames w → IfOk (add w) HasDistinctNames) → IfOk (met value add o) HasDistinctNames
+    → ((w : Meaning) → HasDistinctNames w → IfOk (add w) HasDistinctNames) → IfOk (combined_value value add o) HasDistinctNames
 met_kept value add None kept other rest = kept
 met_kept value add (Some w) kept other rest = rest w other
 
@@ -180,7 +180,7 @@ mutual
   fields_kept : (a : Fields) (at : Place) (seconds : List Field) → FieldsHaveDistinctNames a → All Kept seconds → IfOk (sum_fields at a seconds) (Summed a)
   fields_kept no_field at seconds first kept = (refl, All-nil Kept)
   fields_kept (field_and name place value more) at seconds first kept =
-      if_then HasDistinctNames (Summed (field_and name place value more)) (met value (sum at value) (value_at name seconds)) _
+      if_then HasDistinctNames (Summed (field_and name place value more)) (combined_value value (sum at value) (value_at name seconds)) _
       (met_kept value (sum at value) (value_at name seconds) first.0 (value_kept name seconds kept) (λ w other. sum_kept value at w first.0 other))
       (λ v whole. if_then (Summed more) (Summed (field_and name place value more)) (sum_fields at more seconds) _ (fields_kept more at seconds first.1 kept)
       (λ fs summed. (ap (λ l. name ∷ l) summed.0, All-cons Kept (record { name = name; at = place; value = v }) fs whole summed.1)))
@@ -198,7 +198,7 @@ in_scope name (p ∷ ps) kept = by (bytes_eq name p.0) (in_scope name ps (All-ta
     by true rest = All-head Holds p ps kept
     by false rest = rest
 
-known_kept : (at : Place) (name : List ℕ) (o : Option Meaning) → IfSome o HasDistinctNames → IfOk (known at name o) HasDistinctNames
+known_kept : (at : Place) (name : List ℕ) (o : Option Meaning) → IfSome o HasDistinctNames → IfOk (known_value at name o) HasDistinctNames
 known_kept at name None kept = tt
 known_kept at name (Some v) kept = kept
 
@@ -210,24 +210,24 @@ atom_kept scope at (tree.Name name) kept = known_kept at name (value_in scope na
 
 -- the fields of a map literal
 abbrev Evaluated : Entries → List Field → Type 0
-Evaluated es fs = (names fs ≡ written.names_of es) × All Kept fs
+Evaluated es fs = (names fs ≡ written.entry_names es) × All Kept fs
 
-items_any : (r : Result (List Item) Fault) (at : Place) → IfOk (then_do r (λ l. then_do (limited (2 ^ 16) (codes "list") at l) (λ m. Ok (Items m)))) HasDistinctNames
+items_any : (r : Result (List Item) Fault) (at : Place) → IfOk (then_do r (λ l. then_do (list_within (2 ^ 16) (codes "list") at l) (λ m. Ok (Items m)))) HasDistinctNames
 items_any r at =
     if_then (λ l. ⊤) HasDistinctNames r _ (anything r)
-    (λ l any. if_then (λ m. ⊤) HasDistinctNames (limited (2 ^ 16) (codes "list") at l) (λ m. Ok (Items m)) (anything (limited (2 ^ 16) (codes "list") at l)) (λ m also. tt))
+    (λ l any. if_then (λ m. ⊤) HasDistinctNames (list_within (2 ^ 16) (codes "list") at l) (λ m. Ok (Items m)) (anything (list_within (2 ^ 16) (codes "list") at l)) (λ m also. tt))
 
-nested_kept : (r : Result (List Field) Fault) (at : Place) (es : Entries) → AreDistinct (written.names_of es) → IfOk r (Evaluated es) → IfOk (then_do r (λ fs. nested at fs)) (λ fs. HasDistinctNames (body fs))
+nested_kept : (r : Result (List Field) Fault) (at : Place) (es : Entries) → AreDistinct (written.entry_names es) → IfOk r (Evaluated es) → IfOk (then_do r (λ fs. nested_fields at fs)) (λ fs. HasDistinctNames (body fs))
 nested_kept r at es distinct found =
-    if_then (Evaluated es) (λ fs. HasDistinctNames (body fs)) r (λ fs. nested at fs) found
+    if_then (Evaluated es) (λ fs. HasDistinctNames (body fs)) r (λ fs. nested_fields at fs) found
     (λ fs e. if_test (λ gs. HasDistinctNames (body gs)) _ fs _ (whole_body fs (subst AreDistinct (sym e.0) distinct) e.1))
 
 mutual
-  val_kept : (t : Tree) (scope : Pairs) → ScopeHasDistinctNames scope → written.HasDistinctNames t → IfOk (val scope t) HasDistinctNames
+  val_kept : (t : Tree) (scope : Pairs) → ScopeHasDistinctNames scope → written.TreeHasDistinctNames t → IfOk (val scope t) HasDistinctNames
   val_kept (tree.Leaf at atom) scope kept distinct = atom_kept scope at atom kept
   val_kept (tree.Items at items) scope kept distinct = items_any (val_items scope items) at
   val_kept (tree.Body at entries) scope kept distinct =
-      if_then (λ fs. HasDistinctNames (body fs)) HasDistinctNames (then_do (val_entries scope entries) (λ fs. nested at fs)) (λ fs. Ok (body fs))
+      if_then (λ fs. HasDistinctNames (body fs)) HasDistinctNames (then_do (val_entries scope entries) (λ fs. nested_fields at fs)) (λ fs. Ok (body fs))
       (nested_kept (val_entries scope entries) at entries distinct.0 (entries_kept entries scope kept distinct.1)) (λ fs whole. whole)
   val_kept (tree.Sum first terms) scope kept distinct =
       if_then HasDistinctNames HasDistinctNames (val scope first) (λ value. val_terms scope value terms) (val_kept first scope kept distinct.0)
@@ -260,13 +260,13 @@ other_kept name v (p ∷ ps) kept whole = by (bytes_eq name p.0) (other_kept nam
     by true rest = All-cons Holds (p.0, v) ps whole (All-tail Holds p ps kept)
     by false rest = All-cons Holds p (with_other ps name v) (All-head Holds p ps kept) rest
 
-assignment_kept : (k : Known) (name : List ℕ) (at : Place) (e : Tree) (o : Option Meaning) → KnownKept k → written.HasDistinctNames e → IfOk (after_assignment k name at e o) KnownKept
+assignment_kept : (k : Known) (name : List ℕ) (at : Place) (e : Tree) (o : Option Meaning) → KnownKept k → written.TreeHasDistinctNames e → IfOk (after_assignment k name at e o) KnownKept
 assignment_kept k name at e (Some old) kept distinct = tt
 assignment_kept k name at e None kept distinct =
     if_then HasDistinctNames KnownKept (val k.scope e) (λ v. Ok (known_with k (with_new k.scope name v) e)) (val_kept e k.scope kept.0 distinct)
     (λ v whole. (All-push Holds k.scope (name, v) kept.0 whole, kept.1))
 
-extension_kept : (k : Known) (name : List ℕ) (at : Place) (e : Tree) (o : Option Meaning) → KnownKept k → written.HasDistinctNames e → IfSome o HasDistinctNames → IfOk (after_extension k name at e o) KnownKept
+extension_kept : (k : Known) (name : List ℕ) (at : Place) (e : Tree) (o : Option Meaning) → KnownKept k → written.TreeHasDistinctNames e → IfSome o HasDistinctNames → IfOk (after_extension k name at e o) KnownKept
 extension_kept k name at e None kept distinct had = tt
 extension_kept k name at e (Some old) kept distinct had = by (k.is_used name)
   where
@@ -277,7 +277,7 @@ extension_kept k name at e (Some old) kept distinct had = by (k.is_used name)
         (if_then HasDistinctNames HasDistinctNames (val k.scope e) (λ v. sum at old v) (val_kept e k.scope kept.0 distinct) (λ w whole. sum_kept old at w had whole))
         (λ v whole. (other_kept name v k.scope kept.0 whole, kept.1))
 
-own_extension_kept : (k : Known) (name : List ℕ) (at : Place) (e : Tree) (o : Option Meaning) → KnownKept k → written.HasDistinctNames e → IfOk (after_own_extension k name at e o) KnownKept
+own_extension_kept : (k : Known) (name : List ℕ) (at : Place) (e : Tree) (o : Option Meaning) → KnownKept k → written.TreeHasDistinctNames e → IfOk (after_own_extension k name at e o) KnownKept
 own_extension_kept k name at e (Some inherited) kept distinct = tt
 own_extension_kept k name at e None kept distinct = extension_kept k name at e (value_in k.scope name) kept distinct (in_scope name k.scope kept.0)
 
@@ -299,7 +299,7 @@ definitions_kept inherited (d ∷ ds) k kept distinct =
 abbrev Whole : List Raw × Pairs → Type 0
 Whole v = All ModuleHasDistinctNames v.0 × ScopeHasDistinctNames v.1
 
-pub maps_stay_distinct : (inherited : Pairs) (ds : List Definition) (values : List Raw × Pairs) → All DefinitionHasDistinctNames ds → ScopeHasDistinctNames inherited → evaluated inherited ds ≡ Ok values
+pub maps_stay_distinct : (inherited : Pairs) (ds : List Definition) (values : List Raw × Pairs) → All DefinitionHasDistinctNames ds → ScopeHasDistinctNames inherited → file_evaluation inherited ds ≡ Ok values
     → All ModuleHasDistinctNames values.0 × ScopeHasDistinctNames values.1
 maps_stay_distinct inherited ds values distinct kept is =
     IfOk-at_ok Whole is

@@ -13,7 +13,7 @@ use Rattle.bp_values.specs.Sums.{sum}
 use Rattle.bp_values.specs.Scopes.{Pairs, value_in}
 use Rattle.bp_values.specs.Expressions.{val, val_map}
 use Rattle.bp_values.specs.References.{is_in, is_in_entries}
-use Rattle.bp_values.specs.Meaning.{Raw, Known, with_new, with_other, uses_with, known_with, with_module, after_assignment, after_extension, after_own_extension, after_module, after_definitions, evaluated}
+use Rattle.bp_values.specs.Meaning.{Raw, Known, with_new, with_other, uses_with, known_with, with_module, after_assignment, after_extension, after_own_extension, after_module, after_definitions, file_evaluation}
 use Rattle.bp_values.specs.Inside.{is_extended_or}
 
 -- a name that was extended stays so
@@ -112,5 +112,5 @@ same_but_for_marks inherited (Declares kind at m ∷ ds) scope one other modules
 
 -- marks that are set at first for those names alone that no definition extends are as good as none
 pub marks_at_first : (inherited : Pairs) (ds : List Definition) (marks : List ℕ → Bool) → ((q : List ℕ) → marks q ≡ not (is_extended_or false q ds))
-    → last (after_definitions inherited (known inherited marks []) ds) ≡ evaluated inherited ds
+    → last (after_definitions inherited (known inherited marks []) ds) ≡ file_evaluation inherited ds
 marks_at_first inherited ds marks is = same_but_for_marks inherited ds inherited marks (λ name. false) [] (λ name extended. is name ∙ ap not extended)

@@ -12,7 +12,7 @@ use Rattle.bp_values.specs.Values.{Meaning, Field}
 use Rattle.bp_values.specs.Sums.{sum}
 use Rattle.bp_values.specs.Scopes.{Pairs, value_in, Keeps}
 use Rattle.bp_values.specs.Expressions.{val, val_map}
-use Rattle.bp_values.specs.Meaning.{Raw, Known, with_new, with_other, known_with, with_module, after_assignment, after_extension, after_own_extension, after_definition, after_definitions, known_first, evaluated}
+use Rattle.bp_values.specs.Meaning.{Raw, Known, with_new, with_other, known_with, with_module, after_assignment, after_extension, after_own_extension, after_definition, after_definitions, known_first, file_evaluation}
 use Rattle.bp_values.proofs.Pairs.{value_before}
 use Rattle.bp_values.proofs.ByName.{value_other}
 
@@ -79,7 +79,7 @@ definitions_keep before k next (d ∷ ds) keeps is = by (after_definition before
     by (Err f) step rest is = cc
     by (Ok m) step rest is = rest m (definition_keeps before k m d keeps step) is
 
-pub inherited_stay : (inherited : Pairs) (ds : List Definition) (values : List Raw × Pairs) → evaluated inherited ds ≡ Ok values → Keeps inherited values.1
+pub inherited_stay : (inherited : Pairs) (ds : List Definition) (values : List Raw × Pairs) → file_evaluation inherited ds ≡ Ok values → Keeps inherited values.1
 inherited_stay inherited ds values is = by (after_definitions inherited (known_first inherited) ds) refl is
   where
     by : (r : Result Known Fault) → after_definitions inherited (known_first inherited) ds ≡ r → then_do r (λ k. Ok (k.modules, k.scope)) ≡ Ok values → Keeps inherited values.1

@@ -83,13 +83,6 @@ kept_extended kept mid now old new name v before names has taken given put place
     by true = places
     by false = keeps q
 
--- the places that are kept for the value that is taken
-pub kept_taken : (kept : List ℕ → Option MapPlaces) (own : Pairs) (name : List ℕ) (first : Meaning) (had : Option MapPlaces) → Some first ≡ value_in own name
-    → had ≡ kept name → ((q : List ℕ) → PlacesOf (kept q) (value_in own q)) → PlacesOf had (Some first)
-kept_taken kept own name first had has is keeps =
-    subst (λ (t : Option MapPlaces). PlacesOf t (Some first)) (sym is)
-    (subst (λ (o : Option Meaning). PlacesOf (kept name) o) (sym has) (keeps name))
-
 -- what is put for a variable, and what the others have
 pub any_put : (b : Bool) (names : Option MapPlaces) (old : Option (Option MapPlaces)) → if_any (cond b (Some names) old) ≡ cond b names (if_any old)
 any_put true names old = refl

@@ -5,7 +5,7 @@ use Rattle.std.proofs.lemmas.Bool.{false≢true}
 use Rattle.bp_parser.specs.Trees as tree
 use Rattle.bp_parser.specs.Trees.{Tree, Trees, no_tree, tree_and, Terms, no_term, term_and, Entries, no_entry, entry_and}
 use Rattle.bp_values.specs.References.{is_in, is_in_items, is_in_terms, is_in_entries}
-use Rattle.bp_values.specs.Inside.{noted, noted_items, noted_terms, noted_entries}
+use Rattle.bp_values.specs.Inside.{has_noted, noted_items, noted_terms, noted_entries}
 
 or_none : (b : Bool) → b ≡ (b || false)
 or_none true = refl
@@ -16,7 +16,7 @@ or_more true b c = refl
 or_more false b c = refl
 
 mutual
-  pub noted_is : (t : Tree) (b : Bool) (name : List ℕ) → noted b name t ≡ (b || is_in name t)
+  pub noted_is : (t : Tree) (b : Bool) (name : List ℕ) → has_noted b name t ≡ (b || is_in name t)
   noted_is (tree.Leaf at atom) b name = refl
   noted_is (tree.Items at items) b name = items_noted items b name
   noted_is (tree.Body at entries) b name = entries_noted entries b name
@@ -39,13 +39,13 @@ mutual
       ap (λ x. noted_entries x name more) (noted_is value b name) ∙ entries_noted more (b || is_in name value) name ∙ or_more b (is_in name value) (is_in_entries name more)
 
 -- the names of the first term are noted, and then those of the others
-pub noted_sum : {T E : Type 0} (r : Result T E) (old mid now : List ℕ → Bool) (first : Tree) (terms : Terms) → ((q : List ℕ) → mid q ≡ noted (old q) q first)
-    → OnOk r ((q : List ℕ) → now q ≡ noted_terms (mid q) q terms) → OnOk r ((q : List ℕ) → now q ≡ noted_terms (noted (old q) q first) q terms)
+pub noted_sum : {T E : Type 0} (r : Result T E) (old mid now : List ℕ → Bool) (first : Tree) (terms : Terms) → ((q : List ℕ) → mid q ≡ has_noted (old q) q first)
+    → OnOk r ((q : List ℕ) → now q ≡ noted_terms (mid q) q terms) → OnOk r ((q : List ℕ) → now q ≡ noted_terms (has_noted (old q) q first) q terms)
 noted_sum (Ok x) old mid now first terms begun done = λ q. done q ∙ ap (λ b. noted_terms b q terms) (begun q)
 noted_sum (Err e) old mid now first terms begun done = tt
 
 -- where a name was noted before, nothing that an expression refers to changes that
-pub all_noted : (t : Tree) (b : Bool) (name : List ℕ) → b ≡ true → b ≡ noted b name t
+pub all_noted : (t : Tree) (b : Bool) (name : List ℕ) → b ≡ true → b ≡ has_noted b name t
 all_noted t b name is = by b is ∙ sym (noted_is t b name)
   where
     by : (c : Bool) → c ≡ true → c ≡ (c || is_in name t)

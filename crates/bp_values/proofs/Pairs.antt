@@ -1,5 +1,5 @@
 -- A look-up in the list of pairs, and in the map's entries.
-use Rattle.std.proofs.Common.{◌≡◌, ℕ, Bool, true, false, cond, List, [], ◌∷◌, ◌++◌, map, Option, None, Some, option_map, refl, ap, sym, ◌∙◌, Bor, option_copied, Result, Ok, Err, OnOk}
+use Rattle.std.proofs.Common.{◌≡◌, ℕ, Bool, true, false, cond, List, [], ◌∷◌, ◌++◌, map, Option, None, Some, option_map, refl, ap, sym, ◌∙◌, Bor, option_copied}
 use Rattle.std.specs.Str.{bytes_eq}
 use Rattle.std.specs.Map.{lookup}
 use Rattle.std.specs.Option.{option_or}
@@ -61,11 +61,3 @@ absent_first k (x ∷ xs) ys none = by (bytes_eq k x.0) none (absent_first k xs 
 -- the value of a name that the first list has
 pub value_before : (k : List ℕ) (xs ys : Pairs) (v : Meaning) → Some v ≡ value_in xs k → value_in (xs ++ ys) k ≡ Some v
 value_before k xs ys v has = lookup_append (bytes_eq k) xs ys ∙ ap (λ r. option_or r (value_in ys k)) (sym has)
-
--- the value of a name that the first list lacks
-pub value_behind : (k : List ℕ) (xs ys : Pairs) → value_in xs k ≡ None → value_in (xs ++ ys) k ≡ value_in ys k
-value_behind k xs ys none = lookup_append (bytes_eq k) xs ys ∙ ap (λ r. option_or r (value_in ys k)) none
-
-pub always : {T E P : Type 0} (r : Result T E) → P → OnOk r P
-always (Ok x) p = p
-always (Err e) p = tt

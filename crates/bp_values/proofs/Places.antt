@@ -22,8 +22,8 @@ use Rattle.bp_faults.specs.Answers.{then_do, Refuses}
 use Rattle.bp_values.specs.declared.value.Value.{Value}
 use Rattle.bp_values.specs.declared.value.Entry.{Entry, out-Entry}
 use Rattle.bp_values.specs.Values.{Meaning, meaning, Field, field_of, fields_then, no_field, body}
-use Rattle.bp_values.specs.Sums.{sum, sum_fields, field_then, met, value_at, has_name, others}
-use Rattle.bp_values.specs.Places.{Search, names_in, place_in, AreApart, IsPlaced, is_place, value_for, unplaced, sum_places, sum_place}
+use Rattle.bp_values.specs.Sums.{sum, sum_fields, field_then, combined_value, value_at, has_name, others}
+use Rattle.bp_values.specs.Places.{Search, names_in, place_in, AreApart, IsPlaced, is_place, value_for, unplaced_fields, sum_places, sum_place}
 use Rattle.bp_values.proofs.Views.{field_out}
 use Rattle.bp_values.proofs.Steps.{map_take_more}
 use Rattle.bp_values.proofs.Unite.{sum_bodies}
@@ -32,7 +32,7 @@ use Rattle.bp_values.proofs.Unite.{sum_bodies}
 pub sum_none : (at : Place) (fs : List Field) (g : ℕ → Option Meaning) → ((i : ℕ) → g i ≡ None) → sum_places at fs g ≡ Ok fs
 sum_none at [] g none = refl
 sum_none at (f ∷ fs) g none =
-    λ i. field_then f.name f.at (met f.value (sum at f.value) (none 0 i)) (sum_none at fs (λ k. g (suc k)) (λ k. none (suc k)) i)
+    λ i. field_then f.name f.at (combined_value f.value (sum at f.value) (none 0 i)) (sum_none at fs (λ k. g (suc k)) (λ k. none (suc k)) i)
 
 -- of the values that are left, that at the first place is added first
 pub sum_next : (at : Place) (fs : List Field) (p : ℕ) (v : Meaning) (g h : ℕ → Option Meaning)
@@ -40,15 +40,15 @@ pub sum_next : (at : Place) (fs : List Field) (p : ℕ) (v : Meaning) (g h : ℕ
     → sum_places at fs g ≡ then_do (sum_place at fs p v) (λ gs. sum_places at gs h)
 sum_next at [] p v g h below here none above = refl
 sum_next at (f ∷ fs) zero v g h below here none above =
-    ap (λ o. field_then f.name f.at (met f.value (sum at f.value) o) (sum_places at fs (λ i. g (suc i)))) here ∙ by (sum at f.value v)
+    ap (λ o. field_then f.name f.at (combined_value f.value (sum at f.value) o) (sum_places at fs (λ i. g (suc i)))) here ∙ by (sum at f.value v)
   where
     by : (r : Result Meaning Fault) → field_then f.name f.at r (sum_places at fs (λ i. g (suc i)))
         ≡ then_do (then_do r (λ w. Ok ((record { name = f.name; at = f.at; value = w }) ∷ fs))) (λ gs. sum_places at gs h)
     by (Err e) = refl
     by (Ok w) =
-        λ j. field_then f.name f.at (met w (sum at w) (sym (none 0 (omega arith)) j)) (sum_places at fs (λ i. above (suc i) (omega arith) j))
+        λ j. field_then f.name f.at (combined_value w (sum at w) (sym (none 0 (omega arith)) j)) (sum_places at fs (λ i. above (suc i) (omega arith) j))
 sum_next at (f ∷ fs) (suc p) v g h below here none above =
-    ap (λ o. field_then f.name f.at (met f.value (sum at f.value) o) (sum_places at fs (λ i. g (suc i)))) (below 0 (omega arith))
+    ap (λ o. field_then f.name f.at (combined_value f.value (sum at f.value) o) (sum_places at fs (λ i. g (suc i)))) (below 0 (omega arith))
     ∙ ap (λ r. field_then f.name f.at (Ok f.value) r)
     (sum_next at fs p v (λ i. g (suc i)) (λ i. h (suc i)) (λ i lt. below (suc i) (omega arith)) here (λ i le. none (suc i) (omega arith)) (λ i lt. above (suc i) (omega arith)))
     ∙ by (sum_place at fs p v)
@@ -56,14 +56,14 @@ sum_next at (f ∷ fs) (suc p) v g h below here none above =
     by : (r : Result (List Field) Fault) → field_then f.name f.at (Ok f.value) (then_do r (λ gs. sum_places at gs (λ i. h (suc i))))
         ≡ then_do (then_do r (λ gs. Ok (f ∷ gs))) (λ gs. sum_places at gs h)
     by (Err e) = refl
-    by (Ok gs) = λ j. field_then f.name f.at (met f.value (sum at f.value) (sym (none 0 (omega arith)) j)) (sum_places at gs (λ i. h (suc i)))
+    by (Ok gs) = λ j. field_then f.name f.at (combined_value f.value (sum at f.value) (sym (none 0 (omega arith)) j)) (sum_places at gs (λ i. h (suc i)))
 
 -- sums keep the names
 pub sum_keeps : (at : Place) (fs gs : List Field) (g : ℕ → Option Meaning) → sum_places at fs g ≡ Ok gs → names_in gs ≡ names_in fs
 sum_keeps at [] gs g is =
     let same : [] ≡ gs = cc in
     ap names_in (sym same)
-sum_keeps at (f ∷ fs) gs g is = by (met f.value (sum at f.value) (g 0)) (sum_places at fs (λ i. g (suc i))) (λ hs. sum_keeps at fs hs (λ i. g (suc i))) is
+sum_keeps at (f ∷ fs) gs g is = by (combined_value f.value (sum at f.value) (g 0)) (sum_places at fs (λ i. g (suc i))) (λ hs. sum_keeps at fs hs (λ i. g (suc i))) is
   where
     by : (r : Result Meaning Fault) (s : Result (List Field) Fault) → ((hs : List Field) → s ≡ Ok hs → names_in hs ≡ names_in fs)
         → field_then f.name f.at r s ≡ Ok gs → names_in gs ≡ names_in (f ∷ fs)
@@ -113,8 +113,8 @@ other_values name names (f ∷ fs) i none = by (bytes_eq f.name name) refl (plac
 by_places : (at : Place) (fs second : List Field) → AreApart (names_in fs) → sum_places at fs (λ i. value_for (place_in (names_in fs)) i second) ≡ sum_fields at (fields_then fs no_field) second
 by_places at [] second apart = refl
 by_places at (f ∷ fs) second apart =
-    (λ j. field_then f.name f.at (met f.value (sum at f.value) (first_value f.name (names_in fs) second j)) (sum_places at fs (λ i. other_values f.name (names_in fs) second i apart.0 j)))
-    ∙ ap (λ r. field_then f.name f.at (met f.value (sum at f.value) (value_at f.name second)) r) (by_places at fs second apart.1)
+    (λ j. field_then f.name f.at (combined_value f.value (sum at f.value) (first_value f.name (names_in fs) second j)) (sum_places at fs (λ i. other_values f.name (names_in fs) second i apart.0 j)))
+    ∙ ap (λ r. field_then f.name f.at (combined_value f.value (sum at f.value) (value_at f.name second)) r) (by_places at fs second apart.1)
 
 pub sums_by_names : (at : Place) (search : Search) (fs second : List Field) (g : ℕ → Option Meaning) → IsPlaced search (names_in fs) → ((i : ℕ) → g i ≡ value_for search i second)
     → sum_places at fs g ≡ sum_fields at (fields_then fs no_field) second
@@ -130,7 +130,7 @@ has_placed name (f ∷ fs) = by (bytes_eq name f.name) (place_in (names_in fs) n
     by false None e = e
     by false (Some i) e = e
 
-pub others_unplaced : (search : Search) (first second : List Field) → IsPlaced search (names_in first) → unplaced search second ≡ others second first
+pub others_unplaced : (search : Search) (first second : List Field) → IsPlaced search (names_in first) → unplaced_fields search second ≡ others second first
 others_unplaced search first second placed =
     ap (λ (test : List ℕ → Bool). filter (λ f. not (test f.name)) second) (λ j q. (ap is_some (placed.places q) ∙ has_placed q first) j)
 
@@ -255,7 +255,7 @@ placed_summed at search first summed g placed is = subst (λ ns. IsPlaced search
 
 -- the sum of two maps, once the shared values are added and the others put behind
 pub placed_sum : (at : Place) (search : Search) (first second summed left all : List Field) (g : ℕ → Option Meaning) → IsPlaced search (names_in first) → ((i : ℕ) → g i ≡ value_for search i second)
-    → left ≡ unplaced search second → all ≡ summed ++ left → sum_places at first g ≡ Ok summed → sum at (body first) (body second) ≡ Ok (body all)
+    → left ≡ unplaced_fields search second → all ≡ summed ++ left → sum_places at first g ≡ Ok summed → sum at (body first) (body second) ≡ Ok (body all)
 placed_sum at search first second summed left all g placed values others_are is each =
     sum_bodies at first second
     ∙ ap (λ r. then_do r (λ hs. Ok (body (hs ++ others second first)))) (sym (sums_by_names at search first second g placed values) ∙ each)
@@ -320,17 +320,3 @@ within_left left rest p v n is sorted within =
     first_in Less h = h
     first_in Equal h = absurd (true≢false (ap is_some (sym here ∙ within p (omega arith))))
     first_in Greater h = absurd (true≢false (ap is_some (sym here ∙ within p (omega arith))))
-
--- one entry more of the second map, by whether its name has a place
-pub split_shared : (search : Search) (f : Field) (fs : List Field) (i p : ℕ) (whole old new : Option Meaning) → search f.name ≡ Some p → whole ≡ option_or old (value_for search i (f ∷ fs))
-    → new ≡ option_or old (cond (eqb p i) (Some f.value) None) → whole ≡ option_or new (value_for search i fs)
-split_shared search f fs i p whole old new found before after =
-    before ∙ ap (λ r. option_or old (cond (is_place r i) (Some f.value) (value_for search i fs))) found ∙ by old (eqb p i) ∙ ap (λ o. option_or o (value_for search i fs)) (sym after)
-  where
-    by : (o : Option Meaning) (b : Bool) → option_or o (cond b (Some f.value) (value_for search i fs)) ≡ option_or (option_or o (cond b (Some f.value) None)) (value_for search i fs)
-    by (Some v) b = refl
-    by None true = refl
-    by None false = refl
-
-pub split_other : (search : Search) (f : Field) (fs : List Field) (i : ℕ) → search f.name ≡ None → value_for search i (f ∷ fs) ≡ value_for search i fs
-split_other search f fs i none = ap (λ r. cond (is_place r i) (Some f.value) (value_for search i fs)) none

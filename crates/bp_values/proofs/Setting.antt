@@ -1,12 +1,10 @@
 -- What follows of a definition, from what its parts come to.
-use Rattle.std.proofs.Common.{◌≡◌, ℕ, Bool, true, false, ◌||◌, [], ◌∷◌, if◌then◌else◌, List, ◌++◌, Option, None, Some, Result, Ok, Err, option_map, is_some, ap, refl, sym, subst, ◌∙◌}
-use Rattle.bp_faults.specs.Answers.{then_do, Leaves, Refuses}
+use Rattle.std.proofs.Common.{◌≡◌, ℕ, Bool, false, ◌||◌, [], ◌∷◌, if◌then◌else◌, List, ◌++◌, Option, None, Some, Result, Ok, Err, option_map, is_some, ap, refl, sym, ◌∙◌}
+use Rattle.bp_faults.specs.Answers.{then_do}
 use Rattle.bp_faults.specs.Faults.{fault_on}
 use Rattle.bp_faults.specs.declared.kind.FaultKind.TheVariants.{AfterUse}
 use Rattle.bp_faults.specs.declared.fault.Fault.{Fault}
 use Rattle.bp_faults.specs.declared.place.Place.{Place}
-use Rattle.bp_faults.specs.declared.refusal.Refusal.{Refusal}
-use Rattle.bp_faults.specs.declared.refusal.Refusal.TheVariants.{Bad, OutOfMemory}
 use Rattle.bp_parser.specs.Trees.{Tree, Map}
 use Rattle.bp_values.specs.Values.{Meaning, Field}
 use Rattle.bp_values.specs.Sums.{sum}
@@ -64,13 +62,6 @@ is_extended scope used later modules name at e first w has unused value noted =
     ∙ ap (λ r. then_do r (λ w. then_do (sum at first w) (λ v. Ok (known_with (known scope used modules) (with_other scope name v) e)))) value
     ∙ (λ i. then_do (sum at first w) (λ v. Ok (record { scope = with_other scope name v; is_used = noted_with later used e noted i; modules = modules })))
 
--- one to which a definition before refers gets none
-pub not_extended : (scope : Pairs) (used : List ℕ → Bool) (modules : List Raw) (name : List ℕ) (at : Place) (e : Tree) (old : Option Meaning)
-    → is_some old ≡ true → used name ≡ true → after_extension (known scope used modules) name at e old ≡ Err (fault_on AfterUse at name)
-not_extended scope used modules name at e None has is_used = cc
-not_extended scope used modules name at e (Some first) has is_used =
-    ap (λ b. if b then Err (fault_on AfterUse at name) else summed (known scope used modules) name at e first (val scope e)) is_used
-
 -- a module is kept behind the others
 pub is_declared : (scope : Pairs) (used later : List ℕ → Bool) (modules now : List Raw) (kind : List ℕ) (at : Place) (m : Map) (fs : List Field)
     → val_map scope m.at m.entries ≡ Ok fs → ((q : List ℕ) → later q ≡ (used q || is_in_entries q m.entries))
@@ -79,9 +70,3 @@ pub is_declared : (scope : Pairs) (used later : List ℕ → Bool) (modules now 
 is_declared scope used later modules now kind at m fs value noted kept =
     ap (λ r. then_do r (λ gs. Ok (with_module (known scope used modules) kind at m gs))) value
     ∙ (λ i. Ok (record { scope = scope; is_used = λ q. sym (noted q) i; modules = sym kept i }))
-
--- a refusal of the first is the answer
-pub leaves : {Y T V : Type 0} (view : T → V) (new : T) (r : Result Unit Refusal) (e : Refusal) (meant : Result V Fault) (first : Result Y Fault) (next : Y → Result V Fault)
-    → meant ≡ then_do first next → Refuses e first → r ≡ Err e → Leaves view new r meant
-leaves view new r (Bad fault) meant first next whole h is = subst (λ s. Leaves view new s meant) (sym is) (whole ∙ ap (λ s. then_do s next) h)
-leaves view new r OutOfMemory meant first next whole h is = subst (λ s. Leaves view new s meant) (sym is) tt

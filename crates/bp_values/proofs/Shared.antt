@@ -1,5 +1,5 @@
 -- Which names of one list of entries stand in another, and the entries that are left.
-use Rattle.std.proofs.Common.{◌≡◌, ℕ, Bool, true, false, List, [], ◌∷◌, ◌++◌, ◌&&◌, ◌||◌, not, cond, refl, sym, ap, ◌∙◌, append_assoc, is_some}
+use Rattle.std.proofs.Common.{◌≡◌, ℕ, Bool, true, false, List, [], ◌∷◌, ◌++◌, ◌&&◌, ◌||◌, refl, sym, ap, ◌∙◌, is_some}
 use Rattle.std.specs.Str.{bytes_eq}
 use Rattle.std.specs.List.{list_any}
 use Rattle.std.specs.Cmp.Lexicographic.{nat_list_eq_equiv}
@@ -21,17 +21,6 @@ has_push [] f q = by (bytes_eq q f.name)
     by false = refl
 has_push (x ∷ fs) f q = ap (λ b. bytes_eq q x.name || b) (has_push fs f q) ∙ or_more (bytes_eq q x.name) (has_name fs q) (bytes_eq q f.name)
 
--- of a name more that is met, and of those before
-pub met_more : (l h b s : Bool) → l ≡ (h && s) → (l || (b && s)) ≡ ((h || b) && s)
-met_more l true true true e = rw e refl
-met_more l true true false e = rw e refl
-met_more l true false true e = rw e refl
-met_more l true false false e = rw e refl
-met_more l false true true e = rw e refl
-met_more l false true false e = rw e refl
-met_more l false false true e = rw e refl
-met_more l false false false e = rw e refl
-
 -- Where the keys are the names that both lists have, the entries whose names are not among them are those whose names the first lacks.
 pub others_left : (keys : List (List ℕ)) (first whole fs : List Field) → ((q : List ℕ) → list_any (bytes_eq q) keys ≡ (has_name first q && has_name whole q))
     → ((q : List ℕ) → has_name fs q ≡ true → has_name whole q ≡ true) → not_among keys fs ≡ others fs first
@@ -48,15 +37,6 @@ others_left keys first whole (f ∷ fs) met within =
     or_true : (b : Bool) → (b || true) ≡ true
     or_true true = refl
     or_true false = refl
-
--- an entry more, which is kept unless its name is among the keys
-pub kept_more : (keys : List (List ℕ)) (f : Field) (fs done now whole : List Field) → whole ≡ done ++ not_among keys (f ∷ fs)
-    → now ≡ done ++ cond (list_any (bytes_eq f.name) keys) [] (f ∷ []) → whole ≡ now ++ not_among keys fs
-kept_more keys f fs done now whole before after = by (list_any (bytes_eq f.name) keys) before after
-  where
-    by : (b : Bool) → whole ≡ done ++ cond (not b) (f ∷ not_among keys fs) (not_among keys fs) → now ≡ done ++ cond b [] (f ∷ []) → whole ≡ now ++ not_among keys fs
-    by true before after = before ∙ sym (ap (λ l. l ++ not_among keys fs) after ∙ append_assoc done [] (not_among keys fs))
-    by false before after = before ∙ sym (ap (λ l. l ++ not_among keys fs) after ∙ append_assoc done (f ∷ []) (not_among keys fs))
 
 -- The same, by the index of the second list.
 pub others_of : (table : List (List ℕ × ℕ)) (keys : List (List ℕ)) (first second : List Field) → IsIndex table second → HasMet keys table first → not_among keys second ≡ others second first

@@ -21,5 +21,5 @@ abbrev mutual
   depth_of_fields (field_and name at value more) = max (depth value) (depth_of_fields more)
 
 -- The fields of a map literal, or the fault of a map that is deeper than 64.
-abbrev pub nested : Place → List Field → Result (List Field) Fault
-nested at fs = if nat_le (depth (body fs)) 64 then Ok fs else Err (fault_at TooNested at)
+abbrev pub nested_fields : Place → List Field → Result (List Field) Fault
+nested_fields at fs = if nat_le (depth (body fs)) 64 then Ok fs else Err (fault_at TooNested at)

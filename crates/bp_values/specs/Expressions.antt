@@ -8,36 +8,30 @@ use Rattle.bp_faults.specs.declared.kind.FaultKind.TheVariants.{UnknownVariable,
 use Rattle.bp_faults.specs.Answers.{then_do}
 use Rattle.bp_faults.specs.Faults.{fault_on}
 use Rattle.bp_parser.specs.Trees as tree
-use Rattle.bp_parser.specs.Trees.{Tree, Atom, Trees, Terms, Entries, no_tree, tree_and, no_term, term_and, no_entry}
+use Rattle.bp_parser.specs.Trees.{Tree, Atom, Trees, Terms, Entries, no_tree, tree_and, no_term, term_and}
+use Rattle.bp_parser.specs.Trees.{no_entry, first_place}
 use Rattle.bp_parser.specs.Trees.{entry_and}
 use Rattle.bp_values.specs.Values.{Meaning, Truth, Number, Str, Items, Field, body}
-use Rattle.bp_values.specs.Depths.{nested}
+use Rattle.bp_values.specs.Depths.{nested_fields}
 use Rattle.bp_values.specs.Scopes.{Pairs, value_in}
-use Rattle.bp_values.specs.Sums.{sum, limited}
+use Rattle.bp_values.specs.Sums.{sum, list_within}
 
 -- The value of a name, where it has one.
-abbrev pub known : Place → List ℕ → Option Meaning → Result Meaning Fault
-known at name None = Err (fault_on UnknownVariable at name)
-known at name (Some value) = Ok value
+abbrev pub known_value : Place → List ℕ → Option Meaning → Result Meaning Fault
+known_value at name None = Err (fault_on UnknownVariable at name)
+known_value at name (Some value) = Ok value
 
 -- An item of a list must be a string.
 abbrev pub item_of : Place → Meaning → Result Item Fault
 item_of at (Str text) = Ok (record { text = text; at = at })
 item_of at value = Err (fault_on WrongType at (codes "list item"))
 
--- The place of an expression's first token.
-abbrev pub first_place : Tree → Place
-first_place (tree.Leaf at atom) = at
-first_place (tree.Items at items) = at
-first_place (tree.Body at entries) = at
-first_place (tree.Sum first terms) = first_place first
-
 -- The value of an atom.
 abbrev pub val_atom : Pairs → Place → Atom → Result Meaning Fault
 val_atom scope at (tree.Truth b) = Ok (Truth b)
 val_atom scope at (tree.Number n) = Ok (Number n)
 val_atom scope at (tree.Str text) = Ok (Str text)
-val_atom scope at (tree.Name name) = known at name (value_in scope name)
+val_atom scope at (tree.Name name) = known_value at name (value_in scope name)
 
 abbrev mutual
   -- The value of an expression: a list is tested for its length, and a map for its depth, once all that stands in it
@@ -45,9 +39,9 @@ abbrev mutual
   pub val : Pairs → Tree → Result Meaning Fault
   val scope (tree.Leaf at atom) = val_atom scope at atom
   val scope (tree.Items at items) =
-      then_do (val_items scope items) (λ l. then_do (limited (2 ^ 16) (codes "list") at l) (λ m. Ok (Items m)))
+      then_do (val_items scope items) (λ l. then_do (list_within (2 ^ 16) (codes "list") at l) (λ m. Ok (Items m)))
   val scope (tree.Body at entries) =
-      then_do (then_do (val_entries scope entries) (λ fs. nested at fs)) (λ fs. Ok (body fs))
+      then_do (then_do (val_entries scope entries) (λ fs. nested_fields at fs)) (λ fs. Ok (body fs))
   val scope (tree.Sum first terms) = then_do (val scope first) (λ value. val_terms scope value terms)
 
   -- The items are evaluated in turn, and each is checked to be a string before the next is evaluated.
@@ -72,4 +66,4 @@ abbrev mutual
 
 -- The fields of a map literal.
 abbrev pub val_map : Pairs → Place → Entries → Result (List Field) Fault
-val_map scope at entries = then_do (val_entries scope entries) (λ fs. nested at fs)
+val_map scope at entries = then_do (val_entries scope entries) (λ fs. nested_fields at fs)

@@ -70,23 +70,23 @@ HasPlaces total = PlacesOf total.places (Some (sum_so_far total))
 
 abbrev mutual
   -- A name is noted once those in an expression are, where it was noted before or is one of them.
-  pub noted : Bool → List ℕ → Tree → Bool
-  noted b name (tree.Leaf at atom) = b || is_atom name atom
-  noted b name (tree.Items at items) = noted_items b name items
-  noted b name (tree.Body at entries) = noted_entries b name entries
-  noted b name (tree.Sum first terms) = noted_terms (noted b name first) name terms
+  pub has_noted : Bool → List ℕ → Tree → Bool
+  has_noted b name (tree.Leaf at atom) = b || is_atom name atom
+  has_noted b name (tree.Items at items) = noted_items b name items
+  has_noted b name (tree.Body at entries) = noted_entries b name entries
+  has_noted b name (tree.Sum first terms) = noted_terms (has_noted b name first) name terms
 
   -- A name is noted once those in the items of a list are, where it was noted before or is one of them.
   pub noted_items : Bool → List ℕ → Trees → Bool
   noted_items b name no_tree = b
-  noted_items b name (tree_and item more) = noted_items (noted b name item) name more
+  noted_items b name (tree_and item more) = noted_items (has_noted b name item) name more
 
   -- A name is noted once those in the further terms of a sum are, where it was noted before or is one of them.
   pub noted_terms : Bool → List ℕ → Terms → Bool
   noted_terms b name no_term = b
-  noted_terms b name (term_and at term more) = noted_terms (noted b name term) name more
+  noted_terms b name (term_and at term more) = noted_terms (has_noted b name term) name more
 
   -- A name is noted once those in the values of entries are, where it was noted before or is one of them.
   pub noted_entries : Bool → List ℕ → Entries → Bool
   noted_entries b name no_entry = b
-  noted_entries b name (entry_and key at value more) = noted_entries (noted b name value) name more
+  noted_entries b name (entry_and key at value more) = noted_entries (has_noted b name value) name more

@@ -95,5 +95,6 @@ abbrev pub known_first : Pairs → Known
 known_first inherited = record { scope = inherited; is_used = λ name. false; modules = [] }
 
 -- The modules of a file and its final scope.
-abbrev pub evaluated : Pairs → List Definition → Result (List Raw × Pairs) Fault
-evaluated inherited ds = then_do (after_definitions inherited (known_first inherited) ds) (λ k. Ok (k.modules, k.scope))
+abbrev pub file_evaluation : Pairs → List Definition → Result (List Raw × Pairs) Fault
+file_evaluation inherited ds =
+    then_do (after_definitions inherited (known_first inherited) ds) (λ k. Ok (k.modules, k.scope))

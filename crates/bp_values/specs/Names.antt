@@ -7,9 +7,9 @@ use Rattle.bp_values.specs.Scopes.{Pairs}
 use Rattle.bp_values.specs.Meaning.{Raw}
 
 -- The names of a map's fields, in their order.
-abbrev pub names_of : Fields → List (List ℕ)
-names_of no_field = []
-names_of (field_and name at value more) = name ∷ names_of more
+abbrev pub field_names : Fields → List (List ℕ)
+field_names no_field = []
+field_names (field_and name at value more) = name ∷ field_names more
 
 abbrev mutual
   -- The names of each map in a value differ, all the way down.
@@ -18,7 +18,7 @@ abbrev mutual
   HasDistinctNames (Number n) = ⊤
   HasDistinctNames (Str text) = ⊤
   HasDistinctNames (Items items) = ⊤
-  HasDistinctNames (Body fields) = AreDistinct (names_of fields) × FieldsHaveDistinctNames fields
+  HasDistinctNames (Body fields) = AreDistinct (field_names fields) × FieldsHaveDistinctNames fields
 
   -- The names of each map in the values of entries differ, all the way down.
   pub FieldsHaveDistinctNames : Fields → Type 0

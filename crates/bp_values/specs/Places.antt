@@ -10,7 +10,7 @@ use Rattle.bp_faults.specs.Answers.{then_do}
 use Rattle.bp_values.specs.declared.value.Value.{Value}
 use Rattle.bp_values.specs.declared.place_table.PlaceTable.{PlaceTable}
 use Rattle.bp_values.specs.Values.{Meaning, meaning, Field}
-use Rattle.bp_values.specs.Sums.{sum, field_then, met}
+use Rattle.bp_values.specs.Sums.{sum, field_then, combined_value}
 use Rattle.bp_values.specs.PlaceTable.{found_place}
 
 -- The names of the entries, in their order.
@@ -52,8 +52,8 @@ value_for search place [] = None
 value_for search place (f ∷ fs) = if is_place (search f.name) place then Some f.value else value_for search place fs
 
 -- The entries whose names have no place.
-abbrev pub unplaced : Search → List Field → List Field
-unplaced search fs = filter (λ f. not (is_some (search f.name))) fs
+abbrev pub unplaced_fields : Search → List Field → List Field
+unplaced_fields search fs = filter (λ f. not (is_some (search f.name))) fs
 
 -- The value that a map of values has for a place.
 abbrev pub value_at_place : BTreeMap ℕ Value → ℕ → Option Meaning
@@ -63,7 +63,7 @@ value_at_place values place = option_map meaning (get nat_cmp values place)
 abbrev pub sum_places : Place → List Field → (ℕ → Option Meaning) → Result (List Field) Fault
 sum_places at [] others = Ok []
 sum_places at (f ∷ fs) others =
-    field_then f.name f.at (met f.value (sum at f.value) (others 0)) (sum_places at fs (λ i. others (suc i)))
+    field_then f.name f.at (combined_value f.value (sum at f.value) (others 0)) (sum_places at fs (λ i. others (suc i)))
 
 -- The entries, that at one place with its sum.
 abbrev pub sum_place : Place → List Field → ℕ → Meaning → Result (List Field) Fault

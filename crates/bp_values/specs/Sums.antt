@@ -26,24 +26,24 @@ unfoldable pub cannot_add : Place → Meaning → Meaning → Fault
 cannot_add at a b = fault_on BadSum at (word a ++ (codes " + " ++ word b))
 
 -- An integer of 64 bits.
-abbrev pub fits : ℤ → Bool
-fits n = int_le (negsuc (2 ^ 63 - 1)) n && int_le n (pos (2 ^ 63 - 1))
+abbrev pub is_i64 : ℤ → Bool
+is_i64 n = int_le (negsuc (2 ^ 63 - 1)) n && int_le n (pos (2 ^ 63 - 1))
 
 -- A list, or a fault where it is longer than the limit.
-abbrev pub limited : {X : Type 0} → ℕ → List ℕ → Place → List X → Result (List X) Fault
-limited limit what at xs = if nat_le (length xs) limit then Ok xs else Err (fault_on TooMany at what)
+abbrev pub list_within : {X : Type 0} → ℕ → List ℕ → Place → List X → Result (List X) Fault
+list_within limit what at xs = if nat_le (length xs) limit then Ok xs else Err (fault_on TooMany at what)
 
 -- The two joined, within the limit.
 abbrev pub sum_texts : Place → List ℕ → List ℕ → Result Meaning Fault
-sum_texts at a b = then_do (limited (2 ^ 20) (codes "string") at (a ++ b)) (λ c. Ok (Str c))
+sum_texts at a b = then_do (list_within (2 ^ 20) (codes "string") at (a ++ b)) (λ c. Ok (Str c))
 
 -- Two lists joined, within the limit.
 abbrev pub sum_items : Place → List Item → List Item → Result Meaning Fault
-sum_items at a b = then_do (limited (2 ^ 16) (codes "list") at (a ++ b)) (λ c. Ok (Items c))
+sum_items at a b = then_do (list_within (2 ^ 16) (codes "list") at (a ++ b)) (λ c. Ok (Items c))
 
 -- The sum of two integers, where it is one of 64 bits.
 abbrev pub sum_numbers : Place → ℤ → ℤ → Result Meaning Fault
-sum_numbers at a b = if fits (a +ℤ b) then Ok (Number (a +ℤ b)) else Err (cannot_add at (Number a) (Number b))
+sum_numbers at a b = if is_i64 (a +ℤ b) then Ok (Number (a +ℤ b)) else Err (cannot_add at (Number a) (Number b))
 
 -- The value of the first entry of that name.
 abbrev pub value_at : List ℕ → List Field → Option Meaning
@@ -59,9 +59,9 @@ abbrev pub others : List Field → List Field → List Field
 others fs ofs = filter (λ f. not (has_name ofs f.name)) fs
 
 -- A value alone, or met with another.
-abbrev pub met : Meaning → (Meaning → Result Meaning Fault) → Option Meaning → Result Meaning Fault
-met value add None = Ok value
-met value add (Some other) = add other
+abbrev pub combined_value : Meaning → (Meaning → Result Meaning Fault) → Option Meaning → Result Meaning Fault
+combined_value value add None = Ok value
+combined_value value add (Some other) = add other
 
 -- A field, and the fields behind it, if each has a value.
 abbrev pub field_then : List ℕ → Place → Result Meaning Fault → Result (List Field) Fault → Result (List Field) Fault
@@ -101,4 +101,4 @@ abbrev mutual
   pub sum_fields : Place → Fields → List Field → Result (List Field) Fault
   sum_fields at no_field second = Ok []
   sum_fields at (field_and name place value more) second =
-      field_then name place (met value (sum at value) (value_at name second)) (sum_fields at more second)
+      field_then name place (combined_value value (sum at value) (value_at name second)) (sum_fields at more second)

@@ -51,13 +51,13 @@ value_step (layer.Strs items) = Items items.items
 value_step (layer.Map entries) = Body (fields_then entries.items no_field)
 
 -- One layer of an entry of the code.
-abbrev pub entry_step : Entry-F Meaning Field → Field
-entry_step e = record { name = e.name; at = e.at; value = e.value }
+abbrev pub field_step : Entry-F Meaning Field → Field
+field_step e = record { name = e.name; at = e.at; value = e.value }
 
 -- What a value of the code means.
 abbrev pub meaning : Value → Meaning
-meaning = fold-Value Meaning Field value_step entry_step
+meaning = fold-Value Meaning Field value_step field_step
 
 -- What an entry of the code means.
 abbrev pub field_of : Entry → Field
-field_of = fold-Entry Meaning Field value_step entry_step
+field_of = fold-Entry Meaning Field value_step field_step

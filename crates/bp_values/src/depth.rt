@@ -1,7 +1,7 @@
 ghost use Rattle.std.specs.Prelude.{◌≡◌, map, nat_le};
 ghost use Rattle.bp_faults.specs.Answers.{Answers};
 ghost use Rattle.bp_values.specs.Values.{meaning, field_of, fields_then, no_field};
-ghost use Rattle.bp_values.specs.Depths.{nested, depth, depth_of_fields};
+ghost use Rattle.bp_values.specs.Depths.{nested_fields, depth, depth_of_fields};
 
 use crate::{Entry, EvalError, Value};
 use bp_faults::{Fault, FaultKind, Place};
@@ -9,7 +9,7 @@ use std::alloc::Global;
 
 /// The entries, where their map is not too deep.
 pub fn within_depth(alloc: Global, at: Place, entries: Vec<Entry>) -> Result<Vec<Entry>, EvalError>
-    ensures { Answers (λ es. map field_of es.items) result (nested at (map field_of entries.items)) }
+    ensures { Answers (λ es. map field_of es.items) result (nested_fields at (map field_of entries.items)) }
 {
     if are_within(entries.as_slice(), 63) {
         return Ok(entries);

@@ -1,13 +1,14 @@
 ghost use Rattle.std.specs.Prelude.{◌≡◌, map, ◌^◌, codes, Ok, IfOk};
-ghost use Rattle.bp_parser.specs.Trees.{tree_of, map_of, entry_of, term_of, trees_then, terms_then, entries_then};
+ghost use Rattle.bp_parser.specs.Trees.{tree_of, map_of, entry_of, term_of, trees_then, terms_then};
+ghost use Rattle.bp_parser.specs.Trees.{entries_then, first_place as place_of};
 ghost use Rattle.bp_parser.specs.Trees.{no_tree, no_term, no_entry};
 ghost use Rattle.bp_values.specs.Values.{meaning, field_of, Items, body};
 ghost use Rattle.bp_faults.specs.Answers.{Answers, then_do};
-ghost use Rattle.bp_values.specs.Sums.{limited, sum as sum_of};
+ghost use Rattle.bp_values.specs.Sums.{list_within, sum as sum_of};
 ghost use Rattle.bp_values.specs.Scopes.{pairs_of, value_in};
 ghost use Rattle.bp_values.specs.Inside.{sum_so_far, HasPlaces};
 ghost use Rattle.bp_values.specs.Expressions.{val, val_items, val_terms, val_entries, val_map, item_of};
-ghost use Rattle.bp_values.specs.Expressions.{first_place as place_of, known as known_as};
+ghost use Rattle.bp_values.specs.Expressions.{known_value as known_as};
 
 use crate::depth::within_depth;
 use crate::map_sum::MapSum;
@@ -109,7 +110,8 @@ pub fn value_of(alloc: Global, scope: &Scope, expr: &Expr) -> Result<Value, Eval
 
 /// A list value, within the limit.
 fn list_value(alloc: Global, at: Place, items: Vec<Item>) -> Result<Value, EvalError>
-    ensures { Answers meaning result (then_do (limited (2 ^ 16) (codes "list") at items.items) (λ l. Ok (Items l))) }
+    ensures { Answers meaning result
+        (then_do (list_within (2 ^ 16) (codes "list") at items.items) (λ l. Ok (Items l))) }
 {
     if items.len() > 1 << 16 {
         return Err(EvalError::Bad(too_many(alloc, at, "list")?));

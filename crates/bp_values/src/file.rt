@@ -4,7 +4,7 @@ ghost use Rattle.bp_faults.specs.Answers.{Answers, Leaves};
 ghost use Rattle.bp_values.specs.Scopes.{pairs_of, outer_pairs, value_in, count_of, HasOuter};
 ghost use Rattle.bp_values.specs.Inside.{known_of, inherited_by, IsConsistent};
 ghost use Rattle.bp_values.specs.Meaning.{raw_of, after_assignment, after_extension, after_module, after_definition};
-ghost use Rattle.bp_values.specs.Meaning.{after_definitions, evaluated};
+ghost use Rattle.bp_values.specs.Meaning.{after_definitions, file_evaluation};
 
 use crate::expression::{entries_of, value_of};
 use crate::kept_places::KeptPlaces;
@@ -169,7 +169,7 @@ pub fn evaluate(
     inherited: &Scope,
 ) -> Result<(Vec<RawModule>, Scope), EvalError>
     ensures { Answers (λ r. (map raw_of r.0.items, pairs_of r.1)) result
-        (evaluated (pairs_of inherited.now) (map definition_of tree.now.defs.items)) }
+        (file_evaluation (pairs_of inherited.now) (map definition_of tree.now.defs.items)) }
 {
     evaluate_from(alloc, tree, inherited.copy(alloc)?)
 }
@@ -182,7 +182,7 @@ pub fn evaluate_from(
     inherited: Scope,
 ) -> Result<(Vec<RawModule>, Scope), EvalError>
     ensures values { Answers (λ r. (map raw_of r.0.items, pairs_of r.1)) result
-        (evaluated (pairs_of inherited) (map definition_of tree.now.defs.items)) }
+        (file_evaluation (pairs_of inherited) (map definition_of tree.now.defs.items)) }
     ensures outer { IfOk result (λ r. HasOuter (count_of inherited) inherited r.1) }
     ensures count { IfOk result (λ r. count_of inherited ≤ count_of r.1) }
 {

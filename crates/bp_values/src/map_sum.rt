@@ -4,7 +4,8 @@ ghost use Rattle.std.specs.Option.{option_or};
 ghost use Rattle.bp_values.specs.Values.{meaning, field_of, body};
 ghost use Rattle.bp_values.specs.Sums.{sum as sum_of};
 ghost use Rattle.bp_values.specs.PlaceTable.{found_place};
-ghost use Rattle.bp_values.specs.Places.{IsPlaced, Places, names_in, value_for, unplaced, is_place, value_at_place};
+ghost use Rattle.bp_values.specs.Places.{IsPlaced, Places, names_in, value_for, unplaced_fields, is_place};
+ghost use Rattle.bp_values.specs.Places.{value_at_place};
 ghost use Rattle.bp_values.specs.Places.{sum_place};
 ghost use Rattle.bp_values.specs.MapPlaces.{PlacesOf, AreKnown};
 ghost use Rattle.bp_values.specs.Inside.{sum_so_far, HasPlaces};
@@ -192,7 +193,7 @@ fn split(
     ensures shared { IfOk result
         (λ r. (i : ℕ) → value_at_place r.0 i ≡ value_for (found_place names.now) i (map field_of second.items)) }
     ensures others { IfOk result
-        (λ r. map field_of r.1.items ≡ unplaced (found_place names.now) (map field_of second.items)) }
+        (λ r. map field_of r.1.items ≡ unplaced_fields (found_place names.now) (map field_of second.items)) }
 {
     let mut shared = BTreeMap::new(alloc);
     let mut others = Vec::new(alloc);

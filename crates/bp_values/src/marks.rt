@@ -2,7 +2,7 @@ ghost use Rattle.std.specs.Prelude.{◌≡◌, ℕ, List, Bool, true, false, not
 ghost use Rattle.std.specs.Str.{bytes_eq};
 ghost use Rattle.bp_parser.specs.Trees.{tree_of, entry_of, definition_of, trees_then, terms_then, entries_then};
 ghost use Rattle.bp_parser.specs.Trees.{no_tree, no_term, no_entry, term_of};
-ghost use Rattle.bp_values.specs.Inside.{is_noted, is_extended_or, noted, noted_items, noted_terms, noted_entries};
+ghost use Rattle.bp_values.specs.Inside.{is_noted, is_extended_or, has_noted, noted_items, noted_terms, noted_entries};
 
 use bp_faults::{OutOfMemory, Place};
 use bp_names::NameSet;
@@ -62,7 +62,7 @@ impl<'a> Marks<'a> {
 
 /// Notes the names in an expression, to which the file refers from then on.
 pub fn mark<'a>(used: &mut Marks<'a>, expr: &'a Expr) -> Result<(), OutOfMemory>
-    ensures { OnOk result ((q : List ℕ) → is_noted used.new q ≡ noted (is_noted used.old q) q (tree_of expr.now)) }
+    ensures { OnOk result ((q : List ℕ) → is_noted used.new q ≡ has_noted (is_noted used.old q) q (tree_of expr.now)) }
 {
     if used.are_idle() {
         return Ok(());
@@ -83,7 +83,7 @@ pub fn mark_entries<'a>(used: &mut Marks<'a>, entries: &'a [EntryExpr]) -> Resul
 
 #[cycle(marks)]
 fn note_names<'a>(used: &mut Marks<'a>, expr: &'a Expr) -> Result<(), OutOfMemory>
-    ensures { OnOk result ((q : List ℕ) → is_noted used.new q ≡ noted (is_noted used.old q) q (tree_of expr.now)) }
+    ensures { OnOk result ((q : List ℕ) → is_noted used.new q ≡ has_noted (is_noted used.old q) q (tree_of expr.now)) }
 {
     match expr {
         Expr::Name(_, name) => used.note(name.as_str()),

@@ -7,7 +7,8 @@ ghost use Rattle.bp_values.specs.Values.{Str, Items, Body, body};
 ghost use Rattle.bp_faults.specs.Answers.{Answers};
 ghost use Rattle.bp_faults.specs.Faults.{fault_on};
 ghost use Rattle.bp_values.specs.Sums.{sum as sum_of, sum_fields, sum_number, sum_text, sum_item, sum_texts, sum_items};
-ghost use Rattle.bp_values.specs.Sums.{sum_numbers, cannot_add as cannot_be_added, word as word_of, fits, met};
+ghost use Rattle.bp_values.specs.Sums.{sum_numbers, cannot_add as cannot_be_added, word as word_of, is_i64};
+ghost use Rattle.bp_values.specs.Sums.{combined_value};
 ghost use Rattle.bp_values.specs.Sums.{value_at};
 ghost use Rattle.bp_values.specs.Inside.{IsIndex, HasMet, not_among};
 
@@ -80,7 +81,7 @@ fn append(
 }
 
 fn added(a: i64, b: i64) -> Option<i64>
-    ensures { result ≡ (if fits (a +ℤ b) then Some (a +ℤ b) else None) }
+    ensures { result ≡ (if is_i64 (a +ℤ b) then Some (a +ℤ b) else None) }
 {
     let sum = a as i128 + b as i128;
     if sum < i64::MIN as i128 || sum > i64::MAX as i128 {
@@ -218,7 +219,8 @@ fn sum_each(
 #[cycle(sums)]
 fn meet(alloc: Global, value: Value, other: Option<&Entry>, at: Place) -> Result<Value, EvalError>
     ensures { Answers meaning result
-        (met (meaning value) (sum_of at (meaning value)) (option_map (λ e. (field_of e.now).value) other.entry)) }
+        (combined_value (meaning value) (sum_of at (meaning value))
+        (option_map (λ e. (field_of e.now).value) other.entry)) }
 {
     match other {
         Some(entry) => add_copy(alloc, value, &entry.value, at),

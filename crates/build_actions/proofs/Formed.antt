@@ -8,8 +8,8 @@ use Rattle.ninja_file.specs.declared.file.NinjaRule.{NinjaRule}
 use Rattle.ninja_file.specs.declared.file.Statement.{Statement}
 use Rattle.ninja_file.specs.Meaning.{AllDiffer, IsRule, IsStatement, outs_of, IsWellFormed}
 use Rattle.build_actions.specs.declared.actions.Actions.{Actions}
-use Rattle.build_actions.specs.Head.{head_rules, compile_command, dependencies, compile_rule, assemble_rule, archive_rule, link_rule}
-use Rattle.build_actions.specs.File.{all_path, outputs_of, all_step, all_statements, file_of}
+use Rattle.build_actions.specs.Head.{head_rules, compile_command, dependency_bindings, compile_rule, assemble_rule, archive_rule, link_rule}
+use Rattle.build_actions.specs.File.{all_path, outputs_of, all_step, all_statements, file_of_actions}
 use Rattle.build_actions.proofs.Differing.{Apart, pairs_apart, all_append, all_flat}
 use Rattle.build_actions.proofs.Outputs.{Differ}
 use Rattle.bp_faults.proofs.Lists.{all_map}
@@ -33,7 +33,7 @@ two_keys : Apart Differ (codes "command" ∷ codes "description" ∷ [])
 two_keys = ((apart_texts (codes "command") (codes "description") refl, tt), (tt, tt))
 
 compiles_c : IsRule (compile_rule (codes "cc") (codes "clang ") (codes "CC "))
-unfolding compile_command dependencies
+unfolding compile_command dependency_bindings
 compiles_c = record {
   name = refl;
   not_phony = apart_texts (codes "cc") (codes "phony") refl;
@@ -44,7 +44,7 @@ compiles_c = record {
 }
 
 compiles_cxx : IsRule (compile_rule (codes "cxx") (codes "clang++ ") (codes "CXX "))
-unfolding compile_command dependencies
+unfolding compile_command dependency_bindings
 compiles_cxx = record {
   name = refl;
   not_phony = apart_texts (codes "cxx") (codes "phony") refl;
@@ -153,13 +153,13 @@ module _ (made : List Actions) (good : AllByRecursion IsGood made) where
       (all_map IsGood (λ (a : Actions). AllByRecursion (IsStatement six) a.statements) (λ a g. g.statements) made good))
       (fits (all_step made) all_path refl refl (outputs_good made good) tt tt (rule_at 0 (codes "phony") (omega arith) refl) no_variables, tt)
 
-  pub well_formed : AllDiffer (outs_of (file_of made)) → IsWellFormed (file_of made)
+  pub well_formed : AllDiffer (outs_of (file_of_actions made)) → IsWellFormed (file_of_actions made)
   well_formed differ = record {
     rules = All-from_recursion IsRule head_rules rules_good;
     rules_differ = subst (λ l. AllDiffer l) (sym names_six) (pairs_apart Differ six six_differ);
     statements = subst (λ names. All (IsStatement names) (all_statements made)) (sym names_six) (All-from_recursion (IsStatement six) (all_statements made) statements_good);
     outs_differ = differ;
-    defaults = All-from_recursion (Contains (outs_of (file_of made))) (all_path ∷ []) (
+    defaults = All-from_recursion (Contains (outs_of (file_of_actions made))) (all_path ∷ []) (
       subst (λ l. Contains l all_path)
           (sym (flat_map-append (λ (s : Statement). s.outs) (flat_map (λ (node : Actions). node.statements) made) (all_step made ∷ [])))
           (last_contained (flat_map (λ (s : Statement). s.outs) (flat_map (λ (node : Actions). node.statements) made)) all_path),

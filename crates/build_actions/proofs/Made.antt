@@ -8,7 +8,7 @@ use Rattle.ninja_file.specs.declared.file.Statement.{Statement}
 use Rattle.build_actions.specs.declared.actions.Actions.{Actions}
 use Rattle.build_actions.specs.declared.compile.Compiler.{Compiler}
 use Rattle.module_graph.specs.declared.graph.Edge.{Edge}
-use Rattle.build_actions.specs.Paths.{output_in, product_of, link_of}
+use Rattle.build_actions.specs.Paths.{output_in, product_of, link_variation}
 use Rattle.build_actions.specs.Files.{results_of}
 use Rattle.build_actions.specs.Compiles.{compiler_of, compile_steps, outs_of_steps}
 use Rattle.build_actions.specs.Products.{is_whole, objects_over, product_step}
@@ -21,7 +21,7 @@ pub made_is : (ms : List Module) (nodes : List (Node Props)) (m : Module) (x : N
     → compiler ≡ compiler_of m x files → steps ≡ compile_steps compiler files
     → objects ≡ objects_over (outs_of_steps steps) (results_of (λ (e : Edge). is_whole e.kind) x.edges ins)
     → output ≡ output_in compiler.directory m x
-    → product ≡ product_step ms nodes x (product_of (link_of x)) output objects
+    → product ≡ product_step ms nodes x (product_of (link_variation x)) output objects
     → statements ≡ steps ++ product ∷ []
     → record { statements = statements; objects = objects; output = Some output; files = files } ≡ made_of ms nodes m x ins files
 made_is ms nodes m x ins files compiler steps objects output product statements compiler_is steps_are objects_are output_is product_is statements_are =
@@ -30,6 +30,6 @@ made_is ms nodes m x ins files compiler steps objects output product statements 
     let outs = ap outs_of_steps all_steps ∙ compiles_outs (compiler_of m x files) files in
     let own = objects_are ∙ ap (λ l. objects_over l whole) outs in
     let out = output_is ∙ ap (λ (tool : Compiler). output_in tool.directory m x) compiler_is in
-    let last = product_is ∙ (λ k. product_step ms nodes x (product_of (link_of x)) (out k) (own k)) in
+    let last = product_is ∙ (λ k. product_step ms nodes x (product_of (link_variation x)) (out k) (own k)) in
     let all = statements_are ∙ (λ k. all_steps k ++ last k ∷ []) in
     λ k. record { statements = all k; objects = own k; output = Some (out k); files = files }

@@ -17,7 +17,7 @@ use Rattle.build_actions.specs.declared.compile.Compiler.{Compiler}
 use Rattle.build_actions.specs.declared.sources.SourceKind.{SourceKind}
 use Rattle.build_actions.specs.declared.sources.SourceKind.TheVariants.{Compiled, Header}
 use Rattle.build_actions.specs.declared.sources.Language.{Language}
-use Rattle.build_actions.specs.Sources.{fault_of, source_kind, checked_by, sources_checked}
+use Rattle.build_actions.specs.Sources.{source_fault, source_kind, checked_by, sources_checked}
 use Rattle.build_actions.specs.Paths.{object_path}
 use Rattle.build_actions.specs.Compiles.{language_by, language_of, compile_step, compile_steps, objects_in}
 use Rattle.build_actions.proofs.Differing.{Apart, all_each, all_image}
@@ -67,7 +67,7 @@ checked_differ earlier (file ∷ files) h = by (source_kind file.text) refl h (c
     fewer rest = all_each (Others (earlier ++ file.text ∷ [])) (Others earlier) (λ path o. (others_split earlier file.text path o).0) (sources_in files) rest
 
     compile : (b : Bool) → knows earlier file.text ≡ b
-        → then_do (cond (not b) passed (Err (fault_of DuplicateSource file))) (λ done. sources_checked (earlier ++ file.text ∷ []) files) ≡ Ok tt → On → Rest (file.text ∷ sources_in files)
+        → then_do (cond (not b) passed (Err (source_fault DuplicateSource file))) (λ done. sources_checked (earlier ++ file.text ∷ []) files) ≡ Ok tt → On → Rest (file.text ∷ sources_in files)
     compile true e k on = cc
     compile false e k on =
         let rest = on k in (

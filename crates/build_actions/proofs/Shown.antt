@@ -7,7 +7,7 @@ use Rattle.std.proofs.lemmas.Bool.Decides.{nat_tests}
 use Rattle.bp_faults.specs.declared.target.Target.TheVariants as T
 use Rattle.module_graph.specs.declared.variation.Variation.{Variation}
 use Rattle.module_graph.specs.declared.variation.Variation.TheVariants.{Empty, Target as For, Common, Vendor, Recovery, Static, Shared, PerSource, Asan}
-use Rattle.module_graph.specs.Names.{is_plain}
+use Rattle.module_graph.specs.Names.{is_label_byte}
 use Rattle.module_graph.specs.Laws.{VariantNamesArePlain}
 use Rattle.ninja_file.specs.Names.{is_shown, is_value, is_path}
 use Rattle.build_actions.specs.Variables.{word_line, target_word, target_by, level_words, include_word}
@@ -88,10 +88,10 @@ clear_append a b h k = all_append IsClear a b h k
 pub shown_append : (a b : List ℕ) → Shown a → Shown b → Shown (a ++ b)
 shown_append a b h k = all_append IsShown a b h k
 
-plain_clear_byte : (c : ℕ) → is_plain c ≡ true → IsClear c
+plain_clear_byte : (c : ℕ) → is_label_byte c ≡ true → IsClear c
 plain_clear_byte c h = (grind (arith, nat_tests), grind (arith, nat_tests))
 
-pub plain_clear : (text : List ℕ) → AllByRecursion (λ c. is_plain c ≡ true) text → Clear text
+pub plain_clear : (text : List ℕ) → AllByRecursion (λ c. is_label_byte c ≡ true) text → Clear text
 plain_clear [] h = tt
 plain_clear (c ∷ text) h = (plain_clear_byte c h.0, plain_clear text h.1)
 
@@ -122,7 +122,7 @@ target_shown Asan = tt
 
 -- a number, which is part of some variant's name
 decimal_shown : VariantNamesArePlain → (n : ℕ) → Shown (decimal n)
-decimal_shown plain n = (clear_shown (codes "t" ++ decimal n) (plain_clear (codes "t" ++ decimal n) (subst (λ l. AllByRecursion (λ c. is_plain c ≡ true) l) (no_more (codes "t" ++ decimal n)) (plain (PerSource n ∷ []))))).1
+decimal_shown plain n = (clear_shown (codes "t" ++ decimal n) (plain_clear (codes "t" ++ decimal n) (subst (λ l. AllByRecursion (λ c. is_label_byte c ≡ true) l) (no_more (codes "t" ++ decimal n)) (plain (PerSource n ∷ []))))).1
   where
     no_more : (text : List ℕ) → text ++ [] ≡ text
     no_more [] = refl

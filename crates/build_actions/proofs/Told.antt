@@ -10,7 +10,7 @@ use Rattle.std.proofs.lemmas.Grind.{flat_map-append}
 use Rattle.bp_faults.specs.declared.place.Item.{Item}
 use Rattle.module_graph.specs.declared.graph.Node.{Node}
 use Rattle.std.proofs.lemmas.Bool.Decides.{nat_tests}
-use Rattle.module_graph.specs.Names.{is_plain, variant_name_of}
+use Rattle.module_graph.specs.Names.{is_label_byte, variant_name_of}
 use Rattle.module_graph.specs.Laws.{VariantNamesArePlain}
 use Rattle.build_actions.specs.Variants.{AreOnAxes}
 use Rattle.build_actions.proofs.Variants.{told_by_name}
@@ -24,12 +24,12 @@ use Rattle.build_actions.specs.declared.path.Role.TheVariants.{Makes, Gives, Nei
 use Rattle.build_actions.specs.declared.path.Product.{Product}
 use Rattle.build_actions.specs.declared.path.Product.TheVariants.{Archive, SharedObject, Program}
 use Rattle.build_actions.specs.Sources.{sources_checked}
-use Rattle.build_actions.specs.Paths.{directory_of, object_path, output_path, product_of, link_of, suffix_of, role_of}
+use Rattle.build_actions.specs.Paths.{output_directory, object_path, output_path, product_of, link_variation, product_suffix, role_of}
 use Rattle.build_actions.specs.Files.{files_of}
 use Rattle.build_actions.specs.Compiles.{compiler_of, compile_steps, objects_in}
 use Rattle.build_actions.specs.Products.{product_step}
-use Rattle.build_actions.specs.Acts.{idle, objects_of, made_of, acts_by, acts, acts_at}
-use Rattle.build_actions.specs.File.{all_path, all_step, file_of}
+use Rattle.build_actions.specs.Acts.{files_alone, objects_of, made_of, acts_by, acts, acts_at}
+use Rattle.build_actions.specs.File.{all_path, all_step, file_of_actions}
 use Rattle.build_actions.specs.Laws.{has_slash, AreTold, made_below, AreMade}
 use Rattle.build_actions.proofs.Differing.{all_append, Apart, Across, apart_pairs, pairs_apart, all_at, apart_append, apart_flat, all_flat, all_each}
 use Rattle.build_actions.proofs.Separated.{before_it}
@@ -49,38 +49,38 @@ before_slash a b r s ha hb e =
     (same, ap (drop 1) rest)
 
 -- A path below the directory of a variant, as two names between slashes.
-spread : (m : Module) (x : Node Props) (rest : List ℕ) → directory_of m x ++ 47 ∷ rest ≡ codes "out/m/" ++ (m.name ++ 47 ∷ (variant_name_of x.vars ++ 47 ∷ rest))
+spread : (m : Module) (x : Node Props) (rest : List ℕ) → output_directory m x ++ 47 ∷ rest ≡ codes "out/m/" ++ (m.name ++ 47 ∷ (variant_name_of x.vars ++ 47 ∷ rest))
 spread m x rest = ap (λ l. codes "out/m/" ++ l) (append_assoc m.name (codes "/" ++ variant_name_of x.vars) (47 ∷ rest))
 
 -- an output of a variant
 pub record IsBelow (m : Module) (x : Node Props) (out : List ℕ) : Type 0 where
   pub rest : List ℕ
-  pub is : out ≡ directory_of m x ++ 47 ∷ rest
+  pub is : out ≡ output_directory m x ++ 47 ∷ rest
 
 step_outs : (ms : List Module) (nodes : List (Node Props)) (x : Node Props) (product : Product) (out : List ℕ) (objects : List (List ℕ)) → outs (product_step ms nodes x product out objects ∷ []) ≡ out ∷ []
 step_outs ms nodes x Archive out objects = refl
 step_outs ms nodes x SharedObject out objects = refl
 step_outs ms nodes x Program out objects = refl
 
-made_outs : (ms : List Module) (nodes : List (Node Props)) (m : Module) (x : Node Props) (ins : List Actions) (files : List Item) → node_outs (made_of ms nodes m x ins files) ≡ objects_in (directory_of m x) files ++ output_path m x ∷ []
+made_outs : (ms : List Module) (nodes : List (Node Props)) (m : Module) (x : Node Props) (ins : List Actions) (files : List Item) → node_outs (made_of ms nodes m x ins files) ≡ objects_in (output_directory m x) files ++ output_path m x ∷ []
 made_outs ms nodes m x ins files =
-    let step = product_step ms nodes x (product_of (link_of x)) (output_path m x) (objects_of (directory_of m x) x ins files) in
+    let step = product_step ms nodes x (product_of (link_variation x)) (output_path m x) (objects_of (output_directory m x) x ins files) in
     flat_map-append (λ (s : Statement). s.outs) (compile_steps (compiler_of m x files) files) (step ∷ [])
-    ∙ (λ k. compiles_outs (compiler_of m x files) files k ++ step_outs ms nodes x (product_of (link_of x)) (output_path m x) (objects_of (directory_of m x) x ins files) k)
+    ∙ (λ k. compiles_outs (compiler_of m x files) files k ++ step_outs ms nodes x (product_of (link_variation x)) (output_path m x) (objects_of (output_directory m x) x ins files) k)
 
-object_below : (m : Module) (x : Node Props) (p : List ℕ) → IsBelow m x (object_path (directory_of m x) p)
+object_below : (m : Module) (x : Node Props) (p : List ℕ) → IsBelow m x (object_path (output_directory m x) p)
 object_below m x p = record { rest = codes "obj/" ++ (p ++ codes ".o"); is = refl }
 
 output_below : (m : Module) (x : Node Props) → IsBelow m x (output_path m x)
-output_below m x = record { rest = codes "bin/" ++ (m.name ++ suffix_of (product_of (link_of x))); is = refl }
+output_below m x = record { rest = codes "bin/" ++ (m.name ++ product_suffix (product_of (link_variation x))); is = refl }
 
 unlike : (a b : ℕ) → b < a → a ≡ b → ⊥
 unlike a b less same = omega arith
 
 -- an object is no output
-object_no_output : (m : Module) (x : Node Props) (p : List ℕ) → Differ (object_path (directory_of m x) p) (output_path m x)
+object_no_output : (m : Module) (x : Node Props) (p : List ℕ) → Differ (object_path (output_directory m x) p) (output_path m x)
 object_no_output m x p same =
-    let e = append_cancel_left (directory_of m x) (codes "/obj/" ++ (p ++ codes ".o")) (codes "/bin/" ++ (m.name ++ suffix_of (product_of (link_of x)))) same in
+    let e = append_cancel_left (output_directory m x) (codes "/obj/" ++ (p ++ codes ".o")) (codes "/bin/" ++ (m.name ++ product_suffix (product_of (link_variation x)))) same in
     unlike 111 98 (omega arith) (ap (λ l. get_or l 1 0) e)
 
 -- the outputs of a node of a module
@@ -92,18 +92,18 @@ made_outputs : (ms : List Module) (nodes : List (Node Props)) (m : Module) (x : 
 made_outputs ms nodes m x ins files checked =
     let is = sym (made_outs ms nodes m x ins files) in
     record {
-      below = subst (λ l. AllByRecursion (IsBelow m x) l) is (all_append (IsBelow m x) (objects_in (directory_of m x) files) (output_path m x ∷ []) (objects_all (IsBelow m x) (directory_of m x) (object_below m x) files) (output_below m x, tt));
+      below = subst (λ l. AllByRecursion (IsBelow m x) l) is (all_append (IsBelow m x) (objects_in (output_directory m x) files) (output_path m x ∷ []) (objects_all (IsBelow m x) (output_directory m x) (object_below m x) files) (output_below m x, tt));
       differ = subst (λ l. Apart Differ l) is
-          (apart_append Differ (objects_in (directory_of m x) files) (output_path m x ∷ []) (objects_differ (directory_of m x) files checked) (tt, tt)
-          (objects_all (λ o. AllByRecursion (Differ o) (output_path m x ∷ [])) (directory_of m x) (λ p. (object_no_output m x p, tt)) files));
+          (apart_append Differ (objects_in (output_directory m x) files) (output_path m x ∷ []) (objects_differ (output_directory m x) files checked) (tt, tt)
+          (objects_all (λ o. AllByRecursion (Differ o) (output_path m x ∷ [])) (output_directory m x) (λ p. (object_no_output m x p, tt)) files));
     }
 
-idle_outputs : (m : Module) (x : Node Props) (files : List Item) → Outputs m x (idle files)
+idle_outputs : (m : Module) (x : Node Props) (files : List Item) → Outputs m x (files_alone files)
 idle_outputs m x files = record { below = tt; differ = tt }
 
 acts_outputs : (ms : List Module) (nodes : List (Node Props)) (m : Module) (x : Node Props) (ins : List Actions) (made : Actions) (role : Role) → acts_by ms nodes role m x ins ≡ Ok made → Outputs m x made
-acts_outputs ms nodes m x ins made Neither h = let same : idle [] ≡ made = cc in subst (Outputs m x) same (idle_outputs m x [])
-acts_outputs ms nodes m x ins made Gives h = let same : idle (files_of ms nodes x ins) ≡ made = cc in subst (Outputs m x) same (idle_outputs m x (files_of ms nodes x ins))
+acts_outputs ms nodes m x ins made Neither h = let same : files_alone [] ≡ made = cc in subst (Outputs m x) same (idle_outputs m x [])
+acts_outputs ms nodes m x ins made Gives h = let same : files_alone (files_of ms nodes x ins) ≡ made = cc in subst (Outputs m x) same (idle_outputs m x (files_of ms nodes x ins))
 acts_outputs ms nodes m x ins made Makes h =
     let files = files_of ms nodes x ins in
     let ok = then_ok (sources_checked [] files) (λ done. Ok (made_of ms nodes m x ins files)) made h in
@@ -123,20 +123,20 @@ module _ (ms : List Module) (nodes : List (Node Props)) where
     pub each : AllByRecursion (IsOf n) (node_outs made)
     pub differ : Apart Differ (node_outs made)
 
-  nothing : (n : ℕ) (made : Actions) → idle [] ≡ made → OutputsOf n made
+  nothing : (n : ℕ) (made : Actions) → files_alone [] ≡ made → OutputsOf n made
   nothing n made same = subst (OutputsOf n) same (record { each = tt; differ = tt })
 
   pub outputs_at_node : (n : ℕ) (ins : List Actions) (made : Actions) → acts_at ms nodes n ins ≡ Ok made → OutputsOf n made
   outputs_at_node n ins made h = by_node (slice_get nodes n) refl h
     where
-      by_owner : (x : Node Props) → slice_get nodes n ≡ Some x → (o : Option Module) → slice_get ms x.module.0 ≡ o → option_map_or (λ m. acts ms nodes m x ins) o (Ok (idle [])) ≡ Ok made → OutputsOf n made
-      by_owner x node None e k = nothing n made (let same : idle [] ≡ made = cc in same)
+      by_owner : (x : Node Props) → slice_get nodes n ≡ Some x → (o : Option Module) → slice_get ms x.module.0 ≡ o → option_map_or (λ m. acts ms nodes m x ins) o (Ok (files_alone [])) ≡ Ok made → OutputsOf n made
+      by_owner x node None e k = nothing n made (let same : files_alone [] ≡ made = cc in same)
       by_owner x node (Some m) e k =
           let o = acts_outputs ms nodes m x ins made (role_of m.kind) k in
           record { each = all_each (IsBelow m x) (IsOf n) (λ out b. record { m = m; x = x; node = node; owner = e; below = b }) (node_outs made) o.below; differ = o.differ }
 
-      by_node : (o : Option (Node Props)) → slice_get nodes n ≡ o → option_map_or (λ (x : Node Props). option_map_or (λ m. acts ms nodes m x ins) (slice_get ms x.module.0) (Ok (idle []))) o (Ok (idle [])) ≡ Ok made → OutputsOf n made
-      by_node None e k = nothing n made (let same : idle [] ≡ made = cc in same)
+      by_node : (o : Option (Node Props)) → slice_get nodes n ≡ o → option_map_or (λ (x : Node Props). option_map_or (λ m. acts ms nodes m x ins) (slice_get ms x.module.0) (Ok (files_alone []))) o (Ok (files_alone [])) ≡ Ok made → OutputsOf n made
+      by_node None e k = nothing n made (let same : files_alone [] ≡ made = cc in same)
       by_node (Some x) e k = by_owner x e (slice_get ms x.module.0) refl k
 
   -- Each node is told by its module's name and its variant's.
@@ -146,13 +146,13 @@ module _ (ms : List Module) (nodes : List (Node Props)) where
     pub variants : AllByRecursion (λ (x : Node Props). has_slash (variant_name_of x.vars) ≡ false) nodes
     pub variants_differ : AllPairs (λ (x y : Node Props). x.module ≡ y.module → variant_name_of x.vars ≢ variant_name_of y.vars) nodes
 
-  plain_free : (text : List ℕ) → AllByRecursion (λ c. is_plain c ≡ true) text → has_slash text ≡ false
+  plain_free : (text : List ℕ) → AllByRecursion (λ c. is_label_byte c ≡ true) text → has_slash text ≡ false
   plain_free [] h = refl
   plain_free (c ∷ text) h = by (c == 47) refl (plain_free text h.1)
     where
       by : (b : Bool) → (c == 47) ≡ b → has_slash text ≡ false → (b || has_slash text) ≡ false
       by false e on = on
-      by true e on = absurd (let is : c ≡ 47 = grind (arith, nat_tests) in no (ap is_plain (sym is) ∙ h.0))
+      by true e on = absurd (let is : c ≡ 47 = grind (arith, nat_tests) in no (ap is_label_byte (sym is) ∙ h.0))
         where
           no : false ≡ true → ⊥
           no e = cc
@@ -240,8 +240,8 @@ module _ (ms : List Module) (nodes : List (Node Props)) where
       joined [] = refl
       joined (x ∷ xs) = flat_map-append (λ (s : Statement). s.outs) x.statements (flat_map (λ (node : Actions). node.statements) xs) ∙ ap (λ l. node_outs x ++ l) (joined xs)
 
-      pub outs_differ : AllDiffer (outs_of (file_of made))
-      outs_differ = pairs_apart Differ (outs_of (file_of made))
+      pub outs_differ : AllDiffer (outs_of (file_of_actions made))
+      outs_differ = pairs_apart Differ (outs_of (file_of_actions made))
           (subst (λ l. Apart Differ l)
           (sym (flat_map-append (λ (s : Statement). s.outs) (flat_map (λ (node : Actions). node.statements) made) (all_step made ∷ []) ∙ ap (λ l. l ++ all_path ∷ []) (joined made)))
           (apart_append Differ (flat_map node_outs made) (all_path ∷ []) nodes_outs (tt, tt) not_all))

@@ -29,14 +29,14 @@ use Rattle.build_actions.specs.declared.path.Product.TheVariants.{Archive, Share
 use Rattle.build_actions.specs.declared.sources.Language.{Language}
 use Rattle.build_actions.specs.declared.sources.Language.TheVariants.{C, Cxx, Assembler}
 use Rattle.build_actions.specs.Sources.{sources_checked}
-use Rattle.build_actions.specs.Paths.{directory_of, object_path, output_path, output_of, output_by, output_at, product_of, link_of, suffix_of, role_of}
+use Rattle.build_actions.specs.Paths.{output_directory, object_path, output_path, output_of, output_by, output_at, product_of, link_variation, product_suffix, role_of}
 use Rattle.build_actions.specs.Files.{results_of, leads_to_files, first_files, files_over, files_of}
-use Rattle.build_actions.specs.Variables.{target_of, flags_of, cflags_of, level_words, include_word, includes_of, compile_variables, link_variables}
+use Rattle.build_actions.specs.Variables.{node_target, flags_of, cflags_of, level_words, include_word, include_line, compile_variables, link_variables}
 use Rattle.build_actions.specs.Compiles.{is_header, compiler_of, compile_steps, objects_in, variables_in}
 use Rattle.build_actions.specs.Products.{is_whole, is_data, outputs_at, data_output, link_step, archive_step, product_step}
-use Rattle.build_actions.specs.Acts.{idle, objects_of, made_of, acts_by, acts, acts_at}
+use Rattle.build_actions.specs.Acts.{files_alone, objects_of, made_of, acts_by, acts, acts_at}
 use Rattle.build_actions.specs.Laws.{made_below, AreMade}
-use Rattle.build_actions.specs.Writable.{has_shown_bytes, words_of, AreWritable}
+use Rattle.build_actions.specs.Writable.{has_shown_bytes, flag_words, AreWritable}
 use Rattle.build_actions.proofs.Differing.{all_append, all_image, all_at, all_flat}
 use Rattle.build_actions.proofs.Outputs.{then_ok}
 use Rattle.build_actions.proofs.Shown.{IsPath, Shown, Clear, shown_of, clear_if, clear_append, path_clear, path_of, plain_clear, joined_shown, target_shown, level_shown, includes_shown}
@@ -53,7 +53,7 @@ pub record IsGood (made : Actions) : Type 0 where
   pub output : AllByRecursion IsPath (cons_option made.output [])
   pub files : AllByRecursion IsFile made.files
 
-idle_good : (files : List Item) → AllByRecursion IsFile files → IsGood (idle files)
+idle_good : (files : List Item) → AllByRecursion IsFile files → IsGood (files_alone files)
 idle_good files h = record { statements = tt; objects = tt; output = tt; files = h }
 
 wanted_all : (P : Actions → Type 0) (wanted : Edge → Bool) (es : List Edge) (ins : List Actions) → AllByRecursion P ins → AllByRecursion P (results_of wanted es ins)
@@ -104,9 +104,9 @@ pub record AreWords (p : Props) : Type 0 where
   pub ld : AllByRecursion Shown p.base.ldflags.items
   pub includes : AllByRecursion Shown p.includes
 
-words_are : (p : Props) → AllByRecursion (λ w. IsTrue (has_shown_bytes w)) (words_of p) → AreWords p
+words_are : (p : Props) → AllByRecursion (λ w. IsTrue (has_shown_bytes w)) (flag_words p) → AreWords p
 words_are p h =
-    let all = all_map (λ w. IsTrue (has_shown_bytes w)) Shown (λ w k. shown_of w k) (words_of p) h in
+    let all = all_map (λ w. IsTrue (has_shown_bytes w)) Shown (λ w k. shown_of w k) (flag_words p) h in
     let a = taken_first Shown p.base.cflags.items (p.base.conlyflags.items ++ (p.base.cppflags.items ++ (p.base.asflags.items ++ (p.base.ldflags.items ++ p.includes)))) all in
     let b = taken_first Shown p.base.conlyflags.items (p.base.cppflags.items ++ (p.base.asflags.items ++ (p.base.ldflags.items ++ p.includes))) a.1 in
     let d = taken_first Shown p.base.cppflags.items (p.base.asflags.items ++ (p.base.ldflags.items ++ p.includes)) b.1 in
@@ -122,7 +122,7 @@ module _ (plain : VariantNamesArePlain) where
 
   variables_good : (x : Node Props) → AreWords x.payload → (language : Language) → AreVariables (compile_variables x language)
   variables_good x w language =
-      three_variables (codes "target") (codes "cflags") (codes "includes") (target_of x) (cflags_of x.payload language) (includes_of x.payload) refl refl refl
+      three_variables (codes "target") (codes "cflags") (codes "includes") (node_target x) (cflags_of x.payload language) (include_line x.payload) refl refl refl
       (apart_texts (codes "target") (codes "cflags") refl) (apart_texts (codes "target") (codes "includes") refl) (apart_texts (codes "cflags") (codes "includes") refl)
       (target_shown _)
       (joined_shown (flags_of x.payload language ++ level_words x.payload.level) (all_append Shown (flags_of x.payload language) (level_words x.payload.level) (flags_shown x.payload w language) (level_shown plain x.payload.level)))
@@ -130,23 +130,23 @@ module _ (plain : VariantNamesArePlain) where
 
   link_good : (x : Node Props) → AreWords x.payload → AreVariables (link_variables x)
   link_good x w =
-      two_variables (codes "target") (codes "ldflags") (target_of x) _ refl refl (apart_texts (codes "target") (codes "ldflags") refl)
+      two_variables (codes "target") (codes "ldflags") (node_target x) _ refl refl (apart_texts (codes "target") (codes "ldflags") refl)
       (target_shown _) (joined_shown x.payload.base.ldflags.items w.ld)
 
-  directory_clear : (m : Module) (x : Node Props) → IsPath m.name → Clear (directory_of m x)
+  directory_clear : (m : Module) (x : Node Props) → IsPath m.name → Clear (output_directory m x)
   directory_clear m x h =
       clear_append (codes "out/m/") (m.name ++ (codes "/" ++ variant_name_of x.vars)) (clear_if (codes "out/m/") refl refl)
       (clear_append m.name (codes "/" ++ variant_name_of x.vars) (path_clear m.name h)
       (clear_append (codes "/") (variant_name_of x.vars) (clear_if (codes "/") refl refl) (plain_clear (variant_name_of x.vars) (plain x.vars))))
 
-  object_good : (m : Module) (x : Node Props) → IsPath m.name → (source : List ℕ) → IsPath source → IsPath (object_path (directory_of m x) source)
+  object_good : (m : Module) (x : Node Props) → IsPath m.name → (source : List ℕ) → IsPath source → IsPath (object_path (output_directory m x) source)
   object_good m x h source k =
-      path_of 111 (drop 1 (object_path (directory_of m x) source))
-      (clear_append (directory_of m x) (codes "/obj/" ++ (source ++ codes ".o")) (directory_clear m x h)
+      path_of 111 (drop 1 (object_path (output_directory m x) source))
+      (clear_append (output_directory m x) (codes "/obj/" ++ (source ++ codes ".o")) (directory_clear m x h)
       (clear_append (codes "/obj/") (source ++ codes ".o") (clear_if (codes "/obj/") refl refl)
       (clear_append source (codes ".o") (path_clear source k) (clear_if (codes ".o") refl refl))))
 
-  suffix_clear : (product : Product) → Clear (suffix_of product)
+  suffix_clear : (product : Product) → Clear (product_suffix product)
   suffix_clear Archive = clear_if (codes ".a") refl refl
   suffix_clear SharedObject = clear_if (codes ".so") refl refl
   suffix_clear Program = tt
@@ -154,9 +154,9 @@ module _ (plain : VariantNamesArePlain) where
   output_good : (m : Module) (x : Node Props) → IsPath m.name → IsPath (output_path m x)
   output_good m x h =
       path_of 111 (drop 1 (output_path m x))
-      (clear_append (directory_of m x) (codes "/bin/" ++ (m.name ++ suffix_of (product_of (link_of x)))) (directory_clear m x h)
-      (clear_append (codes "/bin/") (m.name ++ suffix_of (product_of (link_of x))) (clear_if (codes "/bin/") refl refl)
-      (clear_append m.name (suffix_of (product_of (link_of x))) (path_clear m.name h) (suffix_clear (product_of (link_of x))))))
+      (clear_append (output_directory m x) (codes "/bin/" ++ (m.name ++ product_suffix (product_of (link_variation x)))) (directory_clear m x h)
+      (clear_append (codes "/bin/") (m.name ++ product_suffix (product_of (link_variation x))) (clear_if (codes "/bin/") refl refl)
+      (clear_append m.name (product_suffix (product_of (link_variation x))) (path_clear m.name h) (suffix_clear (product_of (link_variation x))))))
 
   compiler_good : (m : Module) (x : Node Props) (files : List Item) → IsPath m.name → AreWords x.payload → AllByRecursion IsFile files → Fits (compiler_of m x files)
   compiler_good m x files h w k = record {
@@ -224,15 +224,15 @@ module _ (plain : VariantNamesArePlain) where
     made_good : (m : Module) (x : Node Props) (ins : List Actions) (files : List Item) → IsPath m.name → AreWords x.payload → AllByRecursion IsGood ins → AllByRecursion IsFile files → IsGood (made_of ms nodes m x ins files)
     made_good m x ins files h w good fine =
         let whole = results_of (λ (e : Edge). is_whole e.kind) x.edges ins in
-        let own = objects_in (directory_of m x) files in
+        let own = objects_in (output_directory m x) files in
         let wholes = all_flat (λ (made : Actions). made.objects) IsPath whole (all_map IsGood (λ (made : Actions). AllByRecursion IsPath made.objects) (λ made g. g.objects) whole (wanted_all IsGood (λ (e : Edge). is_whole e.kind) x.edges ins good)) in
         let objects = kept_all IsPath [] (own ++ flat_map (λ (made : Actions). made.objects) whole)
-        (all_append IsPath own (flat_map (λ (made : Actions). made.objects) whole) (objects_fit (directory_of m x) (object_good m x h) files fine) wholes) in
+        (all_append IsPath own (flat_map (λ (made : Actions). made.objects) whole) (objects_fit (output_directory m x) (object_good m x h) files fine) wholes) in
         let out = output_good m x h in
         record {
-          statements = all_append (IsStatement six) (compile_steps (compiler_of m x files) files) (product_step ms nodes x (product_of (link_of x)) (output_path m x) (objects_of (directory_of m x) x ins files) ∷ [])
+          statements = all_append (IsStatement six) (compile_steps (compiler_of m x files) files) (product_step ms nodes x (product_of (link_variation x)) (output_path m x) (objects_of (output_directory m x) x ins files) ∷ [])
               (steps_fit (compiler_of m x files) (compiler_good m x files h w fine) files fine)
-              (step_good x (product_of (link_of x)) (output_path m x) (objects_of (directory_of m x) x ins files) w out objects, tt);
+              (step_good x (product_of (link_variation x)) (output_path m x) (objects_of (output_directory m x) x ins files) w out objects, tt);
           objects = objects;
           output = (out, tt);
           files = fine;
@@ -246,16 +246,16 @@ module _ (plain : VariantNamesArePlain) where
     fine_at n x is = record {
       sources = subst (λ (y : Node Props). AllByRecursion (λ (s : Source). s.named ≡ false → IsTrue (is_path s.item.text)) y.payload.base.srcs.items) (get_or_from_slice_get nodes n x x is)
           (all_at (λ (y : Node Props). AllByRecursion (λ (s : Source). s.named ≡ false → IsTrue (is_path s.item.text)) y.payload.base.srcs.items) nodes n x (slice_get_within nodes n x is) write.sources);
-      words = words_are x.payload (subst (λ (y : Node Props). AllByRecursion (λ w. IsTrue (has_shown_bytes w)) (words_of y.payload)) (get_or_from_slice_get nodes n x x is)
-          (all_at (λ (y : Node Props). AllByRecursion (λ w. IsTrue (has_shown_bytes w)) (words_of y.payload)) nodes n x (slice_get_within nodes n x is) write.words));
+      words = words_are x.payload (subst (λ (y : Node Props). AllByRecursion (λ w. IsTrue (has_shown_bytes w)) (flag_words y.payload)) (get_or_from_slice_get nodes n x x is)
+          (all_at (λ (y : Node Props). AllByRecursion (λ w. IsTrue (has_shown_bytes w)) (flag_words y.payload)) nodes n x (slice_get_within nodes n x is) write.words));
     }
 
     files_good : (x : Node Props) (ins : List Actions) → IsFine x → AllByRecursion IsGood ins → AllByRecursion IsFile (files_of ms nodes x ins)
     files_good x ins fine good = over_good x.payload.base.srcs.items (results_of (leads_to_files ms nodes x) x.edges ins) fine.sources (wanted_all IsGood (leads_to_files ms nodes x) x.edges ins good)
 
     acts_good : (m : Module) (x : Node Props) (ins : List Actions) (made : Actions) (role : Role) → IsPath m.name → IsFine x → AllByRecursion IsGood ins → acts_by ms nodes role m x ins ≡ Ok made → IsGood made
-    acts_good m x ins made Neither h fine good e = let same : idle [] ≡ made = cc in subst IsGood same (idle_good [] tt)
-    acts_good m x ins made Gives h fine good e = let same : idle (files_of ms nodes x ins) ≡ made = cc in subst IsGood same (idle_good (files_of ms nodes x ins) (files_good x ins fine good))
+    acts_good m x ins made Neither h fine good e = let same : files_alone [] ≡ made = cc in subst IsGood same (idle_good [] tt)
+    acts_good m x ins made Gives h fine good e = let same : files_alone (files_of ms nodes x ins) ≡ made = cc in subst IsGood same (idle_good (files_of ms nodes x ins) (files_good x ins fine good))
     acts_good m x ins made Makes h fine good e =
         let files = files_of ms nodes x ins in
         let ok = then_ok (sources_checked [] files) (λ done. Ok (made_of ms nodes m x ins files)) made e in
@@ -265,12 +265,12 @@ module _ (plain : VariantNamesArePlain) where
     node_good : (n : ℕ) (ins : List Actions) (made : Actions) → AllByRecursion IsGood ins → acts_at ms nodes n ins ≡ Ok made → IsGood made
     node_good n ins made good h = by_node (slice_get nodes n) refl h
       where
-        by_owner : (x : Node Props) → slice_get nodes n ≡ Some x → (o : Option Module) → slice_get ms x.module.0 ≡ o → option_map_or (λ m. acts ms nodes m x ins) o (Ok (idle [])) ≡ Ok made → IsGood made
-        by_owner x node None e k = let same : idle [] ≡ made = cc in subst IsGood same (idle_good [] tt)
+        by_owner : (x : Node Props) → slice_get nodes n ≡ Some x → (o : Option Module) → slice_get ms x.module.0 ≡ o → option_map_or (λ m. acts ms nodes m x ins) o (Ok (files_alone [])) ≡ Ok made → IsGood made
+        by_owner x node None e k = let same : files_alone [] ≡ made = cc in subst IsGood same (idle_good [] tt)
         by_owner x node (Some m) e k = acts_good m x ins made (role_of m.kind) (name_good x.module.0 m e) (fine_at n x node) good k
 
-        by_node : (o : Option (Node Props)) → slice_get nodes n ≡ o → option_map_or (λ (x : Node Props). option_map_or (λ m. acts ms nodes m x ins) (slice_get ms x.module.0) (Ok (idle []))) o (Ok (idle [])) ≡ Ok made → IsGood made
-        by_node None e k = let same : idle [] ≡ made = cc in subst IsGood same (idle_good [] tt)
+        by_node : (o : Option (Node Props)) → slice_get nodes n ≡ o → option_map_or (λ (x : Node Props). option_map_or (λ m. acts ms nodes m x ins) (slice_get ms x.module.0) (Ok (files_alone []))) o (Ok (files_alone [])) ≡ Ok made → IsGood made
+        by_node None e k = let same : files_alone [] ≡ made = cc in subst IsGood same (idle_good [] tt)
         by_node (Some x) e k = by_owner x e (slice_get ms x.module.0) refl k
 
     module _ (inside : PredecessorsAreNodes) (less : PredecessorsAreLess) (targeted : PredecessorsAreTargets Props)

@@ -14,7 +14,7 @@ use Rattle.build_actions.specs.declared.sources.Language.{Language}
 use Rattle.build_actions.specs.declared.sources.Language.TheVariants.{C, Cxx, Assembler}
 use Rattle.build_actions.specs.Kept.{kept_first}
 use Rattle.build_actions.specs.Sources.{source_kind}
-use Rattle.build_actions.specs.Paths.{directory_of, object_path}
+use Rattle.build_actions.specs.Paths.{output_directory, object_path}
 use Rattle.build_actions.specs.Variables.{Variables, compile_variables}
 
 -- The language of a kind of source, where it is compiled.
@@ -48,7 +48,7 @@ rule_of Assembler = codes "as"
 -- What the compile steps of a node have in common.
 abbrev pub compiler_of : Module → Node Props → List Item → Compiler
 compiler_of m x files = record {
-  directory = directory_of m x;
+  directory = output_directory m x;
   headers = headers_of files;
   c = compile_variables x C;
   cxx = compile_variables x Cxx;

@@ -31,5 +31,5 @@ abbrev pub all_statements : List Actions → List Statement
 all_statements made = flat_map (λ (node : Actions). node.statements) made ++ all_step made ∷ []
 
 -- The file: the six rules, the statements, and what is built where nothing is named.
-abbrev pub file_of : List Actions → NinjaFile
-file_of made = record { rules = head_rules; statements = all_statements made; defaults = all_path ∷ [] }
+abbrev pub file_of_actions : List Actions → NinjaFile
+file_of_actions made = record { rules = head_rules; statements = all_statements made; defaults = all_path ∷ [] }

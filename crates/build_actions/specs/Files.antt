@@ -4,7 +4,7 @@ use Rattle.std.specs.Prelude.{slice_get, slice_index_or}
 use Rattle.std.specs.Option.{option_map_or}
 use Rattle.std.specs.Str.{bytes_eq}
 use Rattle.bp_faults.specs.declared.place.Item.{Item}
-use Rattle.module_graph.specs.Axes.{place_of}
+use Rattle.module_graph.specs.Axes.{axis_index}
 use Rattle.module_graph.specs.declared.variations.Axis.TheVariants as A
 use Rattle.module_graph.specs.declared.graph.Edge.{Edge}
 use Rattle.module_graph.specs.declared.graph.EdgeKind.{EdgeKind}
@@ -35,19 +35,19 @@ is_of_one_source variation = false
 
 -- A node is the variant of one source.
 abbrev pub has_one_source : Node Props → Bool
-has_one_source x = is_of_one_source (slice_index_or x.vars (place_of A.PerSource) V.Empty)
+has_one_source x = is_of_one_source (slice_index_or x.vars (axis_index A.PerSource) V.Empty)
 
 module _ (ms : List Module) (nodes : List (Node Props)) where
   -- Node n is of a module of that name.
-  abbrev pub is_named : ℕ → List ℕ → Bool
-  is_named n name =
+  abbrev pub is_of_module : ℕ → List ℕ → Bool
+  is_of_module n name =
       option_map_or
       (λ (x : Node Props). option_map_or (λ (m : Module). bytes_eq m.name name) (slice_get ms x.module.0) false)
       (slice_get nodes n) false
 
   -- Node n is of the module that the first source of x asks for.
   abbrev pub is_kept : Node Props → ℕ → Bool
-  is_kept x n = option_map_or (λ (s : Source). is_named n s.item.text) (slice_get x.payload.base.srcs.items 0) false
+  is_kept x n = option_map_or (λ (s : Source). is_of_module n s.item.text) (slice_get x.payload.base.srcs.items 0) false
 
   -- An edge leads to files of the node. A variant of one source has the edges of all its module's sources, of which
   -- those count that lead to what its own source asks for.
@@ -64,13 +64,13 @@ abbrev pub source_files : Source → List Actions → List Item
 source_files s given = if s.named then first_files given else s.item ∷ []
 
 -- The file groups that are left for the sources behind.
-abbrev pub behind : Source → List Actions → List Actions
-behind s given = if s.named then drop 1 given else given
+abbrev pub groups_behind : Source → List Actions → List Actions
+groups_behind s given = if s.named then drop 1 given else given
 
 -- A path is a file. The k-th source that asks a file group gets the files of the k-th one.
 abbrev pub files_over : List Source → List Actions → List Item
 files_over [] given = []
-files_over (s ∷ ss) given = source_files s given ++ files_over ss (behind s given)
+files_over (s ∷ ss) given = source_files s given ++ files_over ss (groups_behind s given)
 
 -- The files of a node, given what was made at its edges' targets.
 abbrev pub files_of : List Module → List (Node Props) → Node Props → List Actions → List Item

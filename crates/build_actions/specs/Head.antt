@@ -6,25 +6,25 @@ use Rattle.ninja_file.specs.declared.file.Piece.TheVariants.{Lit, Var}
 use Rattle.ninja_file.specs.declared.file.NinjaRule.{NinjaRule}
 
 -- A literal piece, where the text isn't empty.
-abbrev pub literal : List ℕ → List Piece
-literal [] = []
-literal (b ∷ bs) = Lit (b ∷ bs) ∷ []
+abbrev pub literal_pieces : List ℕ → List Piece
+literal_pieces [] = []
+literal_pieces (b ∷ bs) = Lit (b ∷ bs) ∷ []
 
 -- A variable, and the text behind it.
 abbrev pub reference : List ℕ × List ℕ → List Piece
-reference r = Var r.0 ∷ literal r.1
+reference r = Var r.0 ∷ literal_pieces r.1
 
 -- A text, and then variables with the text behind each.
 abbrev pub template : List ℕ → List (List ℕ × List ℕ) → List Piece
-template text references = literal text ++ flat_map reference references
+template text references = literal_pieces text ++ flat_map reference references
 
 -- The description of a rule: `WORD ${out}`.
 abbrev pub description : List ℕ → List Piece
 description word = template word ((codes "out", []) ∷ [])
 
 -- A rule's command and its description.
-abbrev pub commanded : List Piece → List ℕ → List (List ℕ × List Piece)
-commanded command word = (codes "command", command) ∷ (codes "description", description word) ∷ []
+abbrev pub command_bindings : List Piece → List ℕ → List (List ℕ × List Piece)
+command_bindings command word = (codes "command", command) ∷ (codes "description", description word) ∷ []
 
 -- What all commands that compile begin with: `PROGRAM ${target} ${cflags} ${includes}`, and the text behind.
 abbrev pub compiler : List ℕ → List ℕ → List Piece
@@ -38,21 +38,21 @@ compile_command program =
     ++ template [] ((codes "out", codes ".d -c ") ∷ (codes "in", codes " -o ") ∷ (codes "out", []) ∷ [])
 
 -- The compiler writes what a source includes beside the object, in gcc's form.
-unfoldable pub dependencies : List (List ℕ × List Piece)
-dependencies =
-    (codes "depfile", template [] ((codes "out", codes ".d") ∷ [])) ∷ (codes "deps", literal (codes "gcc")) ∷ []
+unfoldable pub dependency_bindings : List (List ℕ × List Piece)
+dependency_bindings =
+    (codes "depfile", template [] ((codes "out", codes ".d") ∷ [])) ∷ (codes "deps", literal_pieces (codes "gcc")) ∷ []
 
 -- A rule that compiles.
 abbrev pub compile_rule : List ℕ → List ℕ → List ℕ → NinjaRule
 compile_rule name program word =
-    record { name = name; bindings = commanded (compile_command program) word ++ dependencies }
+    record { name = name; bindings = command_bindings (compile_command program) word ++ dependency_bindings }
 
 -- The rule that assembles: `clang ${target} ${cflags} ${includes} -c ${in} -o ${out}`.
 unfoldable pub assemble_rule : NinjaRule
 assemble_rule = record {
   name = codes "as";
   bindings =
-      commanded
+      command_bindings
       (compiler (codes "clang ") (codes " -c ") ++ template [] ((codes "in", codes " -o ") ∷ (codes "out", []) ∷ []))
       (codes "AS ");
 }
@@ -62,7 +62,7 @@ unfoldable pub archive_rule : NinjaRule
 archive_rule = record {
   name = codes "ar";
   bindings =
-      commanded
+      command_bindings
       (template (codes "rm -f ")
       ((codes "out", codes " && llvm-ar rcs ") ∷ (codes "out", codes " ") ∷ (codes "in", []) ∷ []))
       (codes "AR ");
@@ -73,7 +73,7 @@ unfoldable pub link_rule : List ℕ → List ℕ → List ℕ → NinjaRule
 link_rule name program word = record {
   name = name;
   bindings =
-      commanded
+      command_bindings
       (template program
       ((codes "target", codes " ") ∷ (codes "in", codes " ") ∷ (codes "ldflags", codes " -o ")
       ∷ (codes "out", []) ∷ []))

@@ -9,13 +9,13 @@ use Rattle.module_graph.specs.Names.{variant_name_of}
 use Rattle.module_graph.specs.Planned.{plan_edges, plan_of}
 use Rattle.module_graph.specs.declared.direction.Direction.TheVariants.{BottomUp}
 use Rattle.pass_core.specs.Plans.{IsPlan, HasNoCycle}
-use Rattle.pass_core.specs.Outcomes.{IsOutcome}
+use Rattle.pass_core.specs.Outcomes.{PassOutcomeMeans}
 use Rattle.bp_props.specs.declared.module.Module.{Module}
 use Rattle.bp_props.specs.declared.props.Props.{Props}
 use Rattle.build_actions.specs.declared.actions.Actions.{Actions}
 use Rattle.build_actions.specs.Variants.{AreOnAxes}
 use Rattle.build_actions.specs.Acts.{acts_at}
-use Rattle.build_actions.specs.File.{file_of}
+use Rattle.build_actions.specs.File.{file_of_actions}
 use Rattle.build_actions.specs.Writable.{AreWritable}
 
 -- Whether a text holds `/`.
@@ -54,17 +54,17 @@ abbrev pub PassesMake : Type 0
 PassesMake =
     (ms : List Module) (nodes : List (Node Props)) (outs : List Actions) → IsPlan (plan_of BottomUp nodes)
     → HasNoCycle (plan_edges BottomUp nodes)
-    → IsOutcome (acts_at ms nodes) (plan_of BottomUp nodes) (Ok outs) → AreMade ms nodes outs
+    → PassOutcomeMeans (acts_at ms nodes) (plan_of BottomUp nodes) (Ok outs) → AreMade ms nodes outs
 
 -- Where the nodes are told apart, no output is named twice.
 abbrev pub NoOutputTwice : Type 0
 NoOutputTwice =
     (ms : List Module) (nodes : List (Node Props)) (made : List Actions) → AreTold ms nodes
-    → AreMade ms nodes made → AllDiffer (outs_of (file_of made))
+    → AreMade ms nodes made → AllDiffer (outs_of (file_of_actions made))
 
 -- Where the nodes are told apart, no walk returns and the texts can be written, the file of a graph is well formed.
 abbrev pub FilesAreWellFormed : Type 0
 FilesAreWellFormed =
     (ms : List Module) (nodes : List (Node Props)) (made : List Actions) → IsPlan (plan_of BottomUp nodes)
     → HasNoCycle (plan_edges BottomUp nodes) → AreTold ms nodes → AreWritable ms nodes → AreMade ms nodes made
-    → IsWellFormed (file_of made)
+    → IsWellFormed (file_of_actions made)

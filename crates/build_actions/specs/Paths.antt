@@ -1,7 +1,7 @@
 -- Where the outputs of nodes stand, and which nodes have one.
 use Rattle.std.specs.Prelude.{ℕ, List, [], ◌++◌, Option, Some, None, codes, slice_get, slice_index_or}
 use Rattle.std.specs.Option.{option_map_or}
-use Rattle.module_graph.specs.Axes.{place_of}
+use Rattle.module_graph.specs.Axes.{axis_index}
 use Rattle.module_graph.specs.declared.variations.Axis.TheVariants.{Link}
 use Rattle.module_graph.specs.declared.graph.Node.{Node}
 use Rattle.module_graph.specs.declared.variation.Variation.{Variation}
@@ -24,8 +24,8 @@ role_of Defaults = Neither
 role_of kind = Makes
 
 -- The link variation of a node.
-abbrev pub link_of : Node Props → Variation
-link_of x = slice_index_or x.vars (place_of Link) Empty
+abbrev pub link_variation : Node Props → Variation
+link_variation x = slice_index_or x.vars (axis_index Link) Empty
 
 -- What is made, by the link variation: a node that is neither static nor shared makes a program.
 abbrev pub product_of : Variation → Product
@@ -34,14 +34,14 @@ product_of Shared = SharedObject
 product_of link = Program
 
 -- The end of the name of what is made.
-abbrev pub suffix_of : Product → List ℕ
-suffix_of Archive = codes ".a"
-suffix_of SharedObject = codes ".so"
-suffix_of Program = []
+abbrev pub product_suffix : Product → List ℕ
+product_suffix Archive = codes ".a"
+product_suffix SharedObject = codes ".so"
+product_suffix Program = []
 
 -- The directory of the outputs of a node: `out/m/NAME/VARIANT`.
-abbrev pub directory_of : Module → Node Props → List ℕ
-directory_of m x = codes "out/m/" ++ (m.name ++ (codes "/" ++ variant_name_of x.vars))
+abbrev pub output_directory : Module → Node Props → List ℕ
+output_directory m x = codes "out/m/" ++ (m.name ++ (codes "/" ++ variant_name_of x.vars))
 
 -- An object is below the directory of the outputs, at the path of its source.
 abbrev pub object_path : List ℕ → List ℕ → List ℕ
@@ -49,11 +49,11 @@ object_path directory source = directory ++ (codes "/obj/" ++ (source ++ codes "
 
 -- What a node makes is below the directory of its outputs, by the name of its module.
 abbrev pub output_in : List ℕ → Module → Node Props → List ℕ
-output_in directory m x = directory ++ (codes "/bin/" ++ (m.name ++ suffix_of (product_of (link_of x))))
+output_in directory m x = directory ++ (codes "/bin/" ++ (m.name ++ product_suffix (product_of (link_variation x))))
 
 -- What a node makes: an archive, a shared object or a program.
 abbrev pub output_path : Module → Node Props → List ℕ
-output_path m x = output_in (directory_of m x) m x
+output_path m x = output_in (output_directory m x) m x
 
 -- A path is an output where the role is to make something.
 abbrev pub output_by : Role → List ℕ → Option (List ℕ)

@@ -28,14 +28,14 @@ source_kind path =
     else None
 
 -- The fault of a source stands at its place and names its path.
-abbrev pub fault_of : FaultKind → Item → Fault
-fault_of kind item = fault_on kind item.at item.text
+abbrev pub source_fault : FaultKind → Item → Fault
+source_fault kind item = fault_on kind item.at item.text
 
 -- The check of a source by its kind, and by whether its path is new.
 abbrev pub checked_by : Option SourceKind → Bool → Item → Result Unit Fault
-checked_by None is_new item = Err (fault_of BadSource item)
+checked_by None is_new item = Err (source_fault BadSource item)
 checked_by (Some Header) is_new item = Ok tt
-checked_by (Some (Compiled language)) is_new item = if is_new then Ok tt else Err (fault_of DuplicateSource item)
+checked_by (Some (Compiled language)) is_new item = if is_new then Ok tt else Err (source_fault DuplicateSource item)
 
 -- A source is of a known kind, and one that isn't a header has a path that didn't come before.
 abbrev pub source_checked : List (List ℕ) → Item → Result Unit Fault

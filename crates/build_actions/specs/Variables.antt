@@ -4,7 +4,7 @@ use Rattle.std.specs.List.{join_by}
 use Rattle.std.specs.Fmt.{decimal}
 use Rattle.bp_faults.specs.declared.target.Target.{Target}
 use Rattle.bp_faults.specs.declared.target.Target.TheVariants as T
-use Rattle.module_graph.specs.Axes.{place_of}
+use Rattle.module_graph.specs.Axes.{axis_index}
 use Rattle.module_graph.specs.declared.variations.Axis.TheVariants as A
 use Rattle.module_graph.specs.declared.graph.Node.{Node}
 use Rattle.module_graph.specs.declared.variation.Variation.{Variation}
@@ -41,8 +41,8 @@ target_by (For target) = target_word target
 target_by variation = []
 
 -- The word for a node's target.
-abbrev pub target_of : Node Props → List ℕ
-target_of x = target_by (slice_index_or x.vars (place_of A.Target) Empty)
+abbrev pub node_target : Node Props → List ℕ
+node_target x = target_by (slice_index_or x.vars (axis_index A.Target) Empty)
 
 -- The least version of the system that the code runs on, where one is asked for.
 abbrev pub level_words : ℕ → List (List ℕ)
@@ -64,16 +64,17 @@ include_word [] = codes "-I."
 include_word (b ∷ path) = codes "-I" ++ b ∷ path
 
 -- The directories that are searched for headers, in a row.
-abbrev pub includes_of : Props → List ℕ
-includes_of p = word_line (map include_word p.includes)
+abbrev pub include_line : Props → List ℕ
+include_line p = word_line (map include_word p.includes)
 
 -- The variables of a compile step.
 abbrev pub compile_variables : Node Props → Language → Variables
 compile_variables x language =
-    variable (codes "target") (target_of x)
-    ++ (variable (codes "cflags") (cflags_of x.payload language) ++ variable (codes "includes") (includes_of x.payload))
+    variable (codes "target") (node_target x)
+    ++ (variable (codes "cflags") (cflags_of x.payload language)
+    ++ variable (codes "includes") (include_line x.payload))
 
 -- The variables of a link step.
 abbrev pub link_variables : Node Props → Variables
 link_variables x =
-    variable (codes "target") (target_of x) ++ variable (codes "ldflags") (word_line x.payload.base.ldflags.items)
+    variable (codes "target") (node_target x) ++ variable (codes "ldflags") (word_line x.payload.base.ldflags.items)

@@ -12,8 +12,8 @@ abbrev pub has_shown_bytes : List ℕ → Bool
 has_shown_bytes text = list_all is_shown text
 
 -- The flags and directories that the statements of a node name.
-abbrev pub words_of : Props → List (List ℕ)
-words_of p =
+abbrev pub flag_words : Props → List (List ℕ)
+flag_words p =
     p.base.cflags.items
     ++ (p.base.conlyflags.items
     ++ (p.base.cppflags.items ++ (p.base.asflags.items ++ (p.base.ldflags.items ++ p.includes))))
@@ -29,4 +29,4 @@ pub record AreWritable (ms : List Module) (nodes : List (Node Props)) : Type 0 w
       nodes
   pub words :
       AllByRecursion
-      (λ (x : Node Props). AllByRecursion (λ w. IsTrue (has_shown_bytes w)) (words_of x.payload)) nodes
+      (λ (x : Node Props). AllByRecursion (λ w. IsTrue (has_shown_bytes w)) (flag_words x.payload)) nodes

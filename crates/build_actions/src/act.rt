@@ -1,7 +1,7 @@
 ghost use Rattle.std.specs.Prelude.{◌≡◌, IfOk, map};
 ghost use Rattle.std.specs.Arc.{arc_value};
 ghost use Rattle.bp_faults.specs.Answers.{Answers};
-ghost use Rattle.build_actions.specs.Acts.{idle, made_of, acts_by, acts};
+ghost use Rattle.build_actions.specs.Acts.{files_alone, made_of, acts_by, acts};
 
 use crate::Actions;
 use crate::compile::{compile_all, compiler_of};
@@ -19,7 +19,7 @@ use std::sync::Arc;
 
 /// Nothing is made.
 pub fn idle(alloc: Global, files: Vec<Item>) -> Actions
-    ensures { result ≡ idle files.items }
+    ensures { result ≡ files_alone files.items }
 {
     Actions {
         statements: Seq::new(Vec::new(alloc)),

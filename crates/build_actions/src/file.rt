@@ -2,7 +2,7 @@ ghost use Rattle.std.specs.Prelude.{◌≡◌, ◌++◌, IfOk, OnOk, map};
 ghost use Rattle.std.specs.Arc.{arc_value};
 ghost use Rattle.std.specs.List.{flat_map};
 ghost use Rattle.build_actions.specs.declared.actions.Actions.{Actions};
-ghost use Rattle.build_actions.specs.File.{outputs_of, all_step, all_statements, file_of};
+ghost use Rattle.build_actions.specs.File.{outputs_of, all_step, all_statements, file_of_actions};
 
 use crate::Actions;
 use crate::gather::{one, push_some};
@@ -95,7 +95,7 @@ fn all_statements(alloc: Global, made: Vec<Arc<Actions>>) -> Result<Vec<Statemen
 
 /// The file of what was made at all nodes, by node number.
 pub fn build_file(alloc: Global, made: Vec<Arc<Actions>>) -> Result<NinjaFile, OutOfMemory>
-    ensures { IfOk result (λ file. file ≡ file_of (map arc_value made.items)) }
+    ensures { IfOk result (λ file. file ≡ file_of_actions (map arc_value made.items)) }
 {
     Ok(NinjaFile {
         rules: Seq::new(head_rules(alloc)?),

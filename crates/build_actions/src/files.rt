@@ -1,7 +1,8 @@
 ghost use Rattle.std.specs.Prelude.{◌≡◌, ◌++◌, IfOk, OnOk, map};
 ghost use Rattle.std.specs.Arc.{arc_value};
-ghost use Rattle.build_actions.specs.Files.{results_of, is_sources, is_of_one_source, has_one_source, is_named};
-ghost use Rattle.build_actions.specs.Files.{is_kept, leads_to_files, first_files, source_files, behind, files_over};
+ghost use Rattle.build_actions.specs.Files.{results_of, is_sources, is_of_one_source, has_one_source, is_of_module};
+ghost use Rattle.build_actions.specs.Files.{is_kept, leads_to_files, first_files, source_files, groups_behind};
+ghost use Rattle.build_actions.specs.Files.{files_over};
 ghost use Rattle.build_actions.specs.Files.{files_of};
 
 use crate::Actions;
@@ -32,7 +33,7 @@ fn has_one_source(node: &Node<Record<'_>>) -> bool
 }
 
 fn is_named(modules: &[Module], graph: &Graph<Record<'_>>, n: NodeId, name: &Text) -> bool
-    ensures { result ≡ is_named modules.now graph.now.nodes n.0 name.now }
+    ensures { result ≡ is_of_module modules.now graph.now.nodes n.0 name.now }
 {
     let Some(node) = graph.nodes.as_slice().get(n.0 as usize) else {
         return false;
@@ -128,7 +129,7 @@ fn add_source(
 
 // What is left for the sources behind.
 fn behind<'a>(source: &Source, given: &'a [Arc<Actions>]) -> &'a [Arc<Actions>]
-    ensures { map arc_value result.now ≡ behind source.now (map arc_value given.now) }
+    ensures { map arc_value result.now ≡ groups_behind source.now (map arc_value given.now) }
 {
     if !source.named {
         return given;

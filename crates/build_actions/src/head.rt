@@ -1,5 +1,6 @@
 ghost use Rattle.std.specs.Prelude.{◌≡◌, [], ◌∷◌, ◌++◌, IfOk, OnOk, codes};
-ghost use Rattle.build_actions.specs.Head.{literal, reference, commanded, compiler, compile_command, dependencies};
+ghost use Rattle.build_actions.specs.Head.{literal_pieces, reference, command_bindings, compiler};
+ghost use Rattle.build_actions.specs.Head.{compile_command, dependency_bindings};
 ghost use Rattle.build_actions.specs.Head.{compile_rule, assemble_rule, archive_rule, link_rule, head_rules};
 
 use bp_faults::{OutOfMemory, Seq, Text};
@@ -8,7 +9,7 @@ use std::alloc::Global;
 
 // The beginning of a value, up to its first variable.
 fn begin(alloc: Global, text: &str) -> Result<Vec<Piece>, OutOfMemory>
-    ensures { IfOk result (λ pieces. pieces.items ≡ literal text.now) }
+    ensures { IfOk result (λ pieces. pieces.items ≡ literal_pieces text.now) }
 {
     let mut pieces = Vec::new(alloc);
     if !text.is_empty() {
@@ -62,7 +63,7 @@ fn commanded(
     command: Vec<Piece>,
     word: &str,
 ) -> Result<Vec<(Text, Seq<Piece>)>, OutOfMemory>
-    ensures { IfOk result (λ bindings. bindings.items ≡ commanded command.items word.now) }
+    ensures { IfOk result (λ bindings. bindings.items ≡ command_bindings command.items word.now) }
 {
     let mut bindings = Vec::new(alloc);
     bind(alloc, &mut bindings, "command", command)?;
@@ -84,12 +85,12 @@ fn compile_command(alloc: Global, program: &str) -> Result<Vec<Piece>, OutOfMemo
 }
 
 // The compiler writes what a source includes beside the object, in gcc's form.
-#[tactic(auto, unfolding(crate::specs::Head::dependencies))]
+#[tactic(auto, unfolding(crate::specs::Head::dependency_bindings))]
 fn bind_dependencies(
     alloc: Global,
     bindings: &mut Vec<(Text, Seq<Piece>)>,
 ) -> Result<(), OutOfMemory>
-    ensures { OnOk result (bindings.new.items ≡ bindings.old.items ++ dependencies) }
+    ensures { OnOk result (bindings.new.items ≡ bindings.old.items ++ dependency_bindings) }
 {
     let mut depfile = begin(alloc, "")?;
     refer(alloc, &mut depfile, "out", ".d")?;

@@ -1,5 +1,6 @@
 ghost use Rattle.std.specs.Prelude.{◌≡◌, IfOk};
-ghost use Rattle.build_actions.specs.Paths.{directory_of, object_path, link_of, product_of, suffix_of, role_of};
+ghost use Rattle.build_actions.specs.Paths.{output_directory, object_path, link_variation, product_of};
+ghost use Rattle.build_actions.specs.Paths.{product_suffix, role_of};
 ghost use Rattle.build_actions.specs.Paths.{output_in, output_of, output_at};
 
 use bp_faults::{NodeId, OutOfMemory, Text};
@@ -47,13 +48,13 @@ fn product_by(link: Variation) -> Product
 
 /// What a node makes, by its link variation.
 pub fn product_of(node: &Node<Record<'_>>) -> Product
-    ensures { result ≡ product_of (link_of node.now) }
+    ensures { result ≡ product_of (link_variation node.now) }
 {
     product_by(node.vars.get(Axis::Link))
 }
 
 fn suffix_of(product: Product) -> &'static str
-    ensures { result.now ≡ suffix_of product }
+    ensures { result.now ≡ product_suffix product }
 {
     match product {
         Product::Archive => ".a",
@@ -68,7 +69,7 @@ pub fn directory_of(
     module: &Module,
     node: &Node<Record<'_>>,
 ) -> Result<Text, OutOfMemory>
-    ensures { IfOk result (λ path. path ≡ directory_of «module».now node.now) }
+    ensures { IfOk result (λ path. path ≡ output_directory «module».now node.now) }
 {
     let variant = variant_name(alloc, &node.vars)?;
     let variant = variant.as_str();

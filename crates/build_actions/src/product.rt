@@ -6,7 +6,7 @@ ghost use Rattle.build_actions.specs.Compiles.{outs_of_steps};
 ghost use Rattle.build_actions.specs.Files.{results_of};
 ghost use Rattle.build_actions.specs.Products.{is_whole, is_data, objects_over, outputs_at, data_output, data_outputs};
 ghost use Rattle.build_actions.specs.Products.{archive_step, link_ins, link_step, product_step};
-ghost use Rattle.build_actions.specs.Paths.{product_of, link_of};
+ghost use Rattle.build_actions.specs.Paths.{product_of, link_variation};
 
 use crate::Actions;
 use crate::gather::{add_texts, keep_first, one, push_result, push_some};
@@ -211,7 +211,8 @@ pub fn product_step(
     objects: &[Text],
 ) -> Result<Statement, OutOfMemory>
     ensures { IfOk result (λ statement. statement
-        ≡ product_step modules.now graph.now.nodes node.now (product_of (link_of node.now)) output.now objects.now) }
+        ≡ product_step modules.now graph.now.nodes node.now (product_of (link_variation node.now)) output.now
+        objects.now) }
 {
     match product_of(node) {
         Product::Archive => archive(alloc, output, objects),

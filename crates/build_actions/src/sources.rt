@@ -1,7 +1,8 @@
 ghost use Rattle.std.specs.Prelude.{◌≡◌, [], IfOk, OnOk};
 ghost use Rattle.bp_faults.specs.Answers.{Answers};
 ghost use Rattle.bp_names.specs.Meaning.{Learns};
-ghost use Rattle.build_actions.specs.Sources.{ends, source_kind, fault_of, checked_by, source_checked, sources_checked};
+ghost use Rattle.build_actions.specs.Sources.{ends, source_kind, source_fault, checked_by, source_checked};
+ghost use Rattle.build_actions.specs.Sources.{sources_checked};
 
 use bp_faults::{Fault, FaultKind, Item, OutOfMemory, Refusal};
 use bp_names::NameSet;
@@ -47,7 +48,7 @@ pub fn source_kind(path: &str) -> Option<SourceKind>
 }
 
 fn fault(alloc: Global, kind: FaultKind, item: &Item) -> Result<Fault, OutOfMemory>
-    ensures { IfOk result (λ fault. fault ≡ fault_of kind item.now) }
+    ensures { IfOk result (λ fault. fault ≡ source_fault kind item.now) }
 {
     let subject = item.text.copy(alloc)?;
     Ok(Fault::on(alloc, kind, item.at, subject))

@@ -1,7 +1,7 @@
 ghost use Rattle.std.specs.Prelude.{◌≡◌, ◌++◌, IfOk, OnOk, codes, map};
 ghost use Rattle.std.specs.Fmt.{decimal};
-ghost use Rattle.build_actions.specs.Variables.{variable, target_word, target_by, target_of, level_words, flags_of};
-ghost use Rattle.build_actions.specs.Variables.{cflags_of, include_word, includes_of, compile_variables};
+ghost use Rattle.build_actions.specs.Variables.{variable, target_word, target_by, node_target, level_words, flags_of};
+ghost use Rattle.build_actions.specs.Variables.{cflags_of, include_word, include_line, compile_variables};
 ghost use Rattle.build_actions.specs.Variables.{link_variables};
 
 use crate::line::{add_words, join};
@@ -34,7 +34,7 @@ fn target_by(variation: Variation) -> &'static str
 }
 
 fn target_of(node: &Node<Record<'_>>) -> &'static str
-    ensures { result.now ≡ target_of node.now }
+    ensures { result.now ≡ node_target node.now }
 {
     target_by(node.vars.get(Axis::Target))
 }
@@ -128,7 +128,7 @@ fn include_words(alloc: Global, paths: &[Path]) -> Result<Vec<Text>, OutOfMemory
 }
 
 fn includes_of(alloc: Global, own: &Record<'_>) -> Result<Text, OutOfMemory>
-    ensures { IfOk result (λ line. line ≡ includes_of own.now) }
+    ensures { IfOk result (λ line. line ≡ include_line own.now) }
 {
     let words = include_words(alloc, own.includes())?;
     join(alloc, words.as_slice())

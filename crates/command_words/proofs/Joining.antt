@@ -10,7 +10,7 @@ use Rattle.command_words.specs.declared.option.OptionName.{OptionName}
 use Rattle.command_words.specs.declared.pairs.Pair.{Pair}
 use Rattle.command_words.specs.Plain.{parts_of_word, plain_words}
 use Rattle.command_words.specs.Values.{with_first, target_of, targets_named}
-use Rattle.command_words.specs.Words.{option_of, pairs_of}
+use Rattle.command_words.specs.Words.{option_of, option_pairs}
 
 -- What is made of the rest stands behind what is there.
 abbrev pub behind : {X : Type 0} → List X → Option (List X) → Option (List X)
@@ -32,7 +32,7 @@ nothing_after (x ∷ xs) = ap (λ ws. x ∷ ws) (nothing_after xs)
 pub plain_words-more : (words : List (List ℕ)) (i : ℕ) (word : List ℕ) → i < length words → plain_words (take (i + 1) words) ≡ plain_words (take i words) ++ parts_of_word (get_or words i word)
 plain_words-more words i word below = rw (take_more words i word below) (plain_words-append (take i words) (get_or words i word ∷ []) ∙ ap (λ ws. plain_words (take i words) ++ ws) (nothing_after (parts_of_word (get_or words i word))))
 
-pub odd_words : (c : CommandName) (words : List (Bor (List ℕ))) → length words < 2 → (length words ≡ 0 → ⊥) → pairs_of c (map (λ word. word.now) words) ≡ None
+pub odd_words : (c : CommandName) (words : List (Bor (List ℕ))) → length words < 2 → (length words ≡ 0 → ⊥) → option_pairs c (map (λ word. word.now) words) ≡ None
 odd_words c [] few some = absurd (some refl)
 odd_words c (word ∷ []) few some = refl
 odd_words c (word ∷ value ∷ rest) few some = absurd (omega arith)
@@ -40,12 +40,12 @@ odd_words c (word ∷ value ∷ rest) few some = absurd (omega arith)
 -- One pair more, as a loop takes it from the rest of the words.
 pub one_pair : (c : CommandName) (before : List Pair) (o : OptionName) (rest : List (Bor (List ℕ))) (d e : Bor (List ℕ)) → 2 ≤ length rest
     → option_of c (get_or rest 0 d).now ≡ Some o
-    → behind before (pairs_of c (map (λ w. w.now) rest)) ≡ behind (before ++ (record { option = o; value = (get_or rest 1 e).now }) ∷ []) (pairs_of c (map (λ w. w.now) (take (length rest - 2) (drop 2 rest))))
+    → behind before (option_pairs c (map (λ w. w.now) rest)) ≡ behind (before ++ (record { option = o; value = (get_or rest 1 e).now }) ∷ []) (option_pairs c (map (λ w. w.now) (take (length rest - 2) (drop 2 rest))))
 one_pair c before o [] d e two named = absurd (omega arith)
 one_pair c before o (x ∷ []) d e two named = absurd (omega arith)
 one_pair c before o (x ∷ y ∷ rest) d e two named =
     let rest_is : take (length (x ∷ y ∷ rest) - 2) rest ≡ rest = take_all (length (x ∷ y ∷ rest) - 2) rest (omega arith) in
-    rw (rest_is, named) (behind-first before (record { option = o; value = y.now }) (pairs_of c (map (λ w. w.now) rest)))
+    rw (rest_is, named) (behind-first before (record { option = o; value = y.now }) (option_pairs c (map (λ w. w.now) rest)))
 
 -- what the words of a list say
 abbrev pub said : List (Bor (List ℕ)) → List (List ℕ)

@@ -1,5 +1,4 @@
 mod Numbers
-mod Twice
 mod Joining
 mod Adding
 mod Walking

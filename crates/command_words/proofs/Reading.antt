@@ -17,9 +17,9 @@ use Rattle.command_words.specs.declared.option.OptionName.{OptionName}
 use Rattle.command_words.specs.declared.pairs.Pair.{Pair}
 use Rattle.command_words.specs.Once.{has_none_twice}
 use Rattle.command_words.specs.Options.{option_name, options_of, is_required, is_same}
-use Rattle.command_words.specs.Values.{is_value, with_first}
+use Rattle.command_words.specs.Values.{is_option_value, with_first}
 use Rattle.command_words.specs.Rules.{app_for}
-use Rattle.command_words.specs.Words.{option_of, pair_with, pairs_of, is_same_option, is_plain, has_option, has_required, value_in}
+use Rattle.command_words.specs.Words.{option_of, pair_with, option_pairs, is_same_option, are_plain_pairs, has_option, has_required, option_value}
 use Rattle.command_words.proofs.Walking.{Turn, awaits, both, built_rule, held, not_true, rules_are, rules_for, shape_for, simple, turn_of, value_met, value_passes}
 
 -- the row of a pair
@@ -82,11 +82,11 @@ pub record Walks (c : CommandName) (ps : List Pair) (rows : List Row) (pending :
   pub stands : Stands c ps last_rows last_pending
   pub turns : walk_passes (shape_for c) [] (walk_from (held rows pending)) words ≡ true
 
-not_dash : (value : Text) → is_value value ≡ true → (b : ℕ) × (bs : Text) × (value ≡ b ∷ bs) × ((b == 45) ≡ false)
+not_dash : (value : Text) → is_option_value value ≡ true → (b : ℕ) × (bs : Text) × (value ≡ b ∷ bs) × ((b == 45) ≡ false)
 not_dash [] h = absurd (cc)
 not_dash (b ∷ bs) h = (b, bs, refl, not_true (b == 45) h)
 
-both_met : (c : CommandName) (o : OptionName) (rows : List Row) (pending : Option (Text × List Text)) (word value : Text) → Turn c word o → is_value value ≡ true
+both_met : (c : CommandName) (o : OptionName) (rows : List Row) (pending : Option (Text × List Text)) (word value : Text) → Turn c word o → is_option_value value ≡ true
     → walked (rules_for c) [] (walked (rules_for c) [] (walk_from (held rows pending)) word) value ≡ walk_from (held (settled_rows (rules_for c) pending rows) (Some (option_name o, value ∷ [])))
 both_met c o rows pending word value turn is =
     let v = not_dash value is in
@@ -94,7 +94,7 @@ both_met c o rows pending word value turn is =
     ∙ subst (λ (t : Text). walked (rules_for c) [] (awaits o (settled_rows (rules_for c) pending rows)) t ≡ walk_from (held (settled_rows (rules_for c) pending rows) (Some (option_name o, t ∷ [])))) (sym v.2)
     (value_met c o (settled_rows (rules_for c) pending rows) v.0 v.1 turn.rule v.3)
 
-value_turn : (c : CommandName) (o : OptionName) (rows : List Row) (pending : Option (Text × List Text)) (word value : Text) → Turn c word o → is_value value ≡ true
+value_turn : (c : CommandName) (o : OptionName) (rows : List Row) (pending : Option (Text × List Text)) (word value : Text) → Turn c word o → is_option_value value ≡ true
     → turn_passes (shape_for c) [] (walked (rules_for c) [] (walk_from (held rows pending)) word) value ≡ true
 value_turn c o rows pending word value turn is =
     let v = not_dash value is in
@@ -108,20 +108,20 @@ pub record First (c : CommandName) (word value : Text) (rest : List Text) (ps : 
   pub option : OptionName
   pub more : List Pair
   pub named : option_of c word ≡ Some option
-  pub behind : pairs_of c rest ≡ Some more
+  pub behind : option_pairs c rest ≡ Some more
   pub are : ps ≡ (record { option = option; value = value }) ∷ more
 
-first_of_two : (c : CommandName) (word value : Text) (rest : List Text) (ps : List Pair) (o : Option OptionName) (more : Option (List Pair)) → option_of c word ≡ o → pairs_of c rest ≡ more
+first_of_two : (c : CommandName) (word value : Text) (rest : List Text) (ps : List Pair) (o : Option OptionName) (more : Option (List Pair)) → option_of c word ≡ o → option_pairs c rest ≡ more
     → with_first (pair_with value o) more ≡ Some ps → First c word value rest ps
 first_of_two c word value rest ps None more named behind e = absurd (cc)
 first_of_two c word value rest ps (Some o) None named behind e = absurd (cc)
 first_of_two c word value rest ps (Some o) (Some more) named behind e = record { option = o; more = more; named = named; behind = behind; are = cc }
 
-first_pair : (c : CommandName) (word value : Text) (rest : List Text) (ps : List Pair) → pairs_of c (word ∷ value ∷ rest) ≡ Some ps → First c word value rest ps
-first_pair c word value rest ps e = first_of_two c word value rest ps (option_of c word) (pairs_of c rest) refl refl e
+first_pair : (c : CommandName) (word value : Text) (rest : List Text) (ps : List Pair) → option_pairs c (word ∷ value ∷ rest) ≡ Some ps → First c word value rest ps
+first_pair c word value rest ps e = first_of_two c word value rest ps (option_of c word) (option_pairs c rest) refl refl e
 
 abbrev all_values : List Pair → Bool
-all_values ps = list_all (λ p. is_value p.value) ps
+all_values ps = list_all (λ p. is_option_value p.value) ps
 
 no_turns : (s : Shape) (w : Walk) → walk_passes s [] w [] ≡ true
 unfolding walk_passes
@@ -132,7 +132,7 @@ two_turns : (s : Shape) (w : Walk) (a b : Text) (rest : List Text) → turn_pass
 unfolding walk_passes
 two_turns s w a b rest first second others = ap₂ (λ (p q : Bool). p && q) first (ap₂ (λ (p q : Bool). p && q) second others)
 
-walks : (c : CommandName) (words : List Text) (before ps : List Pair) (rows : List Row) (pending : Option (Text × List Text)) → pairs_of c words ≡ Some ps → all_values ps ≡ true
+walks : (c : CommandName) (words : List Text) (before ps : List Pair) (rows : List Row) (pending : Option (Text × List Text)) → option_pairs c words ≡ Some ps → all_values ps ≡ true
     → has_none_twice is_same_option before ps ≡ true → Stands c before rows pending → Walks c (before ++ ps) rows pending words
 walks c [] before ps rows pending are values once stands =
     let none : [] ≡ ps = cc in
@@ -141,7 +141,7 @@ walks c (word ∷ []) before ps rows pending are values once stands = absurd (cc
 walks c (word ∷ value ∷ rest) before ps rows pending are values once stands =
     let first = first_pair c word value rest ps are in
     let p : Pair = record { option = first.option; value = value } in
-    let values_here = both (is_value value) (all_values first.more) (subst (λ (qs : List Pair). all_values qs ≡ true) first.are values) in
+    let values_here = both (is_option_value value) (all_values first.more) (subst (λ (qs : List Pair). all_values qs ≡ true) first.are values) in
     let new = fresh before p first.more (subst (λ (qs : List Pair). has_none_twice is_same_option before qs ≡ true) first.are once) in
     let turn = turn_of c first.option word first.named in
     let settled = settled_rows (rules_for c) pending rows in
@@ -202,11 +202,11 @@ valid : (c : CommandName) (ps : List Pair) → has_required c ps ≡ true → is
 valid c ps required =
     ap₂ (λ (x y : Bool). x && y) (all_free c) (ap (list_all (λ (a : Rule). not a.required || is_given a.id (rows_of ps))) (rules_are c) ∙ required_is (options_of c) ps ∙ required)
 
-first_found : (o : OptionName) (p : Pair) (ps : List Pair) (b : Bool) → is_same p.option o ≡ b → first_of (option_name o) (rows_of ps) ≡ value_in ps o → first_of (option_name o) (rows_of (p ∷ ps)) ≡ value_in (p ∷ ps) o
+first_found : (o : OptionName) (p : Pair) (ps : List Pair) (b : Bool) → is_same p.option o ≡ b → first_of (option_name o) (rows_of ps) ≡ option_value ps o → first_of (option_name o) (rows_of (p ∷ ps)) ≡ option_value (p ∷ ps) o
 first_found o p ps true is rest = rw is refl
 first_found o p ps false is rest = rw is rest
 
-pub first_is : (o : OptionName) (ps : List Pair) → first_of (option_name o) (rows_of ps) ≡ value_in ps o
+pub first_is : (o : OptionName) (ps : List Pair) → first_of (option_name o) (rows_of ps) ≡ option_value ps o
 first_is o [] = refl
 first_is o (p ∷ ps) = first_found o p ps (is_same p.option o) refl (first_is o ps)
 
@@ -218,7 +218,7 @@ pub record Line (c : CommandName) (words : List Text) (ps : List Pair) : Type 0 
 no_subcommands : (c : CommandName) → (built (app_for c)).subs ≡ []
 no_subcommands c = refl
 
-pub line : (c : CommandName) (words : List Text) (ps : List Pair) → pairs_of c (drop 1 words) ≡ Some ps → is_plain c ps ≡ true → Line c words ps
+pub line : (c : CommandName) (words : List Text) (ps : List Pair) → option_pairs c (drop 1 words) ≡ Some ps → are_plain_pairs c ps ≡ true → Line c words ps
 line c words ps are plain =
     let h = both (all_values ps) (has_none_twice is_same_option [] ps && has_required c ps) plain in
     let k = both (has_none_twice is_same_option [] ps) (has_required c ps) h.1 in

@@ -17,9 +17,9 @@ use Rattle.command_words.specs.declared.option.OptionName.TheVariants as option
 use Rattle.command_words.specs.Once.{has_none_twice}
 use Rattle.command_words.specs.Options.{command_named}
 use Rattle.command_words.specs.Plain.{plain_words}
-use Rattle.command_words.specs.Sound.{AreWorkers, AllDiffer, IsIdentifier, IsSound}
+use Rattle.command_words.specs.Sound.{AreWorkers, AreDistinctTargets, IsIdentifier, IsSoundConfiguration}
 use Rattle.command_words.specs.Values.{is_first_byte, is_further_byte, is_identifier, is_numeral, number_in, targets_once, targets_named, names_in, mutator_number, is_same_target}
-use Rattle.command_words.specs.Words.{Given, and_then, workers_of, default_targets, targets_or_default, items_or_none, is_other, build_of, replay_of, graph_of, synth_of, format_of, edit_of, configuration_by, configuration_of_plain, configuration_of, pairs_of, is_plain, value_in}
+use Rattle.command_words.specs.Words.{Given, and_then, workers_of, default_targets, targets_or_default, items_or_none, is_other, build_of, replay_of, graph_of, synth_of, format_of, edit_of, configuration_by, configuration_of_plain, configuration_of, option_pairs, are_plain_pairs, option_value}
 
 -- ---- what holds of a value that is there
 
@@ -82,14 +82,14 @@ different : (a b : Target) → is_same_target a b ≡ false → a ≢ b
 different a b apart same =
     true≢false (sym ((bytes_eq-Decides (target_name a) (target_name b)).1 (ap target_name same)) ∙ apart)
 
-all_differ : (targets : List Target) → has_none_twice is_same_target [] targets ≡ true → AllDiffer targets
+all_differ : (targets : List Target) → has_none_twice is_same_target [] targets ≡ true → AreDistinctTargets targets
 all_differ targets none = (stands_once is_same_target (λ a b. a ≢ b) different [] targets none).pairs
 
-targets_sound : (given : Option (List ℕ)) → IfSome (targets_or_default given) AllDiffer
+targets_sound : (given : Option (List ℕ)) → IfSome (targets_or_default given) AreDistinctTargets
 targets_sound None = all_differ default_targets refl
 targets_sound (Some text) =
-    with_any AllDiffer (targets_named (names_in text)) targets_once
-    (λ targets. where_true AllDiffer (has_none_twice is_same_target [] targets) targets (all_differ targets))
+    with_any AreDistinctTargets (targets_named (names_in text)) targets_once
+    (λ targets. where_true AreDistinctTargets (has_none_twice is_same_target [] targets) targets (all_differ targets))
 
 -- ---- mutators
 
@@ -124,13 +124,13 @@ other_paths out (Some path) other = other_path out path other
 
 -- ---- commands
 
-build_sound : (given : Given) → IfSome (build_of given) IsSound
+build_sound : (given : Given) → IfSome (build_of given) IsSoundConfiguration
 build_sound given =
-    with_any IsSound (given option.List) _ (λ list. with_any IsSound (given option.Out) _ (λ out.
-    and_then-holds AreWorkers IsSound (workers_of (given option.Jobs)) _ (workers_sound (given option.Jobs)) (λ workers few.
-    and_then-holds AllDiffer IsSound (targets_or_default (given option.Targets)) _ (targets_sound (given option.Targets))
+    with_any IsSoundConfiguration (given option.List) _ (λ list. with_any IsSoundConfiguration (given option.Out) _ (λ out.
+    and_then-holds AreWorkers IsSoundConfiguration (workers_of (given option.Jobs)) _ (workers_sound (given option.Jobs)) (λ workers few.
+    and_then-holds AreDistinctTargets IsSoundConfiguration (targets_or_default (given option.Targets)) _ (targets_sound (given option.Targets))
     (λ targets differ.
-    where_true IsSound (is_other out (Some list) && is_other out (given option.Journal)) _ (λ is.
+    where_true IsSoundConfiguration (is_other out (Some list) && is_other out (given option.Journal)) _ (λ is.
     let parts = and_parts (is_other out (Some list)) _ is in record {
       workers = few;
       targets = differ;
@@ -138,39 +138,39 @@ build_sound given =
       journal = other_paths out (given option.Journal) parts.1;
     })))))
 
-replay_sound : (given : Given) → IfSome (replay_of given) IsSound
+replay_sound : (given : Given) → IfSome (replay_of given) IsSoundConfiguration
 replay_sound given =
-    with_any IsSound (given option.List) _ (λ list. with_any IsSound (given option.Out) _ (λ out.
-    with_any IsSound (given option.Order) _ (λ order.
-    and_then-holds AllDiffer IsSound (targets_or_default (given option.Targets)) _ (targets_sound (given option.Targets))
+    with_any IsSoundConfiguration (given option.List) _ (λ list. with_any IsSoundConfiguration (given option.Out) _ (λ out.
+    with_any IsSoundConfiguration (given option.Order) _ (λ order.
+    and_then-holds AreDistinctTargets IsSoundConfiguration (targets_or_default (given option.Targets)) _ (targets_sound (given option.Targets))
     (λ targets differ.
-    where_true IsSound (is_other out (Some list) && is_other out (Some order)) _ (λ is.
+    where_true IsSoundConfiguration (is_other out (Some list) && is_other out (Some order)) _ (λ is.
     let parts = and_parts (is_other out (Some list)) _ is in record {
       targets = differ;
       list = other_path out list parts.0;
       order = other_path out order parts.1;
     })))))
 
-graph_sound : (given : Given) → IfSome (graph_of given) IsSound
+graph_sound : (given : Given) → IfSome (graph_of given) IsSoundConfiguration
 graph_sound given =
-    with_any IsSound (given option.List) _ (λ list.
-    and_then-holds (λ k. k ≤ 11) IsSound (and_then (given option.After) mutator_number) _
+    with_any IsSoundConfiguration (given option.List) _ (λ list.
+    and_then-holds (λ k. k ≤ 11) IsSoundConfiguration (and_then (given option.After) mutator_number) _
     (with_any (λ k. k ≤ 11) (given option.After) mutator_number mutator_sound) (λ after most.
-    and_then-holds AreWorkers IsSound (workers_of (given option.Jobs)) _ (workers_sound (given option.Jobs)) (λ workers few.
-    and_then-holds AllDiffer IsSound (targets_or_default (given option.Targets)) _ (targets_sound (given option.Targets))
+    and_then-holds AreWorkers IsSoundConfiguration (workers_of (given option.Jobs)) _ (workers_sound (given option.Jobs)) (λ workers few.
+    and_then-holds AreDistinctTargets IsSoundConfiguration (targets_or_default (given option.Targets)) _ (targets_sound (given option.Targets))
     (λ targets differ. record { after = most; workers = few; targets = differ }))))
 
-synth_sound : (given : Given) → IfSome (synth_of given) IsSound
+synth_sound : (given : Given) → IfSome (synth_of given) IsSoundConfiguration
 synth_sound given =
-    with_any IsSound (and_then (given option.Seed) (number_in 0 4294967295)) _ (λ seed.
-    and_then-holds (λ n. (1 ≤ n) × (n ≤ 100000)) IsSound (and_then (given option.Modules) (number_in 1 100000)) _
+    with_any IsSoundConfiguration (and_then (given option.Seed) (number_in 0 4294967295)) _ (λ seed.
+    and_then-holds (λ n. (1 ≤ n) × (n ≤ 100000)) IsSoundConfiguration (and_then (given option.Modules) (number_in 1 100000)) _
     (with_any (λ n. (1 ≤ n) × (n ≤ 100000)) (given option.Modules) (number_in 1 100000) (number_within 1 100000))
     (λ modules within.
-    and_then-holds AreWorkers IsSound (workers_of (given option.Jobs)) _ (workers_sound (given option.Jobs))
+    and_then-holds AreWorkers IsSoundConfiguration (workers_of (given option.Jobs)) _ (workers_sound (given option.Jobs))
     (λ workers few. record { some = within.0; few = within.1; workers = few })))
 
-format_sound : (given : Given) → IfSome (format_of given) IsSound
-format_sound given = with_any IsSound (given option.In) _ (λ file. with_any IsSound (given option.Out) _ (λ out. tt))
+format_sound : (given : Given) → IfSome (format_of given) IsSoundConfiguration
+format_sound given = with_any IsSoundConfiguration (given option.In) _ (λ file. with_any IsSoundConfiguration (given option.Out) _ (λ out. tt))
 
 identifier : (word : List ℕ) → is_identifier word ≡ true → IsIdentifier word
 identifier [] is = absurd (cc)
@@ -178,14 +178,14 @@ identifier (first ∷ more) is =
     let parts = and_parts (is_first_byte first) _ is in
     (first, more, refl, parts.0, (and_parts (is_further_byte first) _ parts.1).1)
 
-edit_sound : (given : Given) → IfSome (edit_of given) IsSound
+edit_sound : (given : Given) → IfSome (edit_of given) IsSoundConfiguration
 edit_sound given =
-    with_any IsSound (given option.In) _ (λ file. with_any IsSound (given option.Out) _ (λ out.
-    with_any IsSound (given option.Module) _ (λ name. with_any IsSound (given option.Property) _ (λ property.
-    with_any IsSound (items_or_none (given option.Items)) _ (λ items.
-    where_true IsSound (is_identifier property) _ (λ is. record { property = identifier property is }))))))
+    with_any IsSoundConfiguration (given option.In) _ (λ file. with_any IsSoundConfiguration (given option.Out) _ (λ out.
+    with_any IsSoundConfiguration (given option.Module) _ (λ name. with_any IsSoundConfiguration (given option.Property) _ (λ property.
+    with_any IsSoundConfiguration (items_or_none (given option.Items)) _ (λ items.
+    where_true IsSoundConfiguration (is_identifier property) _ (λ is. record { property = identifier property is }))))))
 
-by_command : (c : CommandName) (given : Given) → IfSome (configuration_by c given) IsSound
+by_command : (c : CommandName) (given : Given) → IfSome (configuration_by c given) IsSoundConfiguration
 by_command Build = build_sound
 by_command Replay = replay_sound
 by_command Graph = graph_sound
@@ -197,11 +197,11 @@ where_plain : {X : Type 0} (P : X → Type 0) (b : Bool) (x : Option X) → IfSo
 where_plain P true x holds = holds
 where_plain P false x holds = tt
 
-pub sound_plain : (words : List (List ℕ)) → IfSome (configuration_of_plain words) IsSound
+pub sound_plain : (words : List (List ℕ)) → IfSome (configuration_of_plain words) IsSoundConfiguration
 sound_plain [] = tt
 sound_plain (word ∷ words) =
-    with_any IsSound (command_named word) _ (λ c. with_any IsSound (pairs_of c words) _ (λ ps.
-    where_plain IsSound (is_plain c ps) _ (by_command c (value_in ps))))
+    with_any IsSoundConfiguration (command_named word) _ (λ c. with_any IsSoundConfiguration (option_pairs c words) _ (λ ps.
+    where_plain IsSoundConfiguration (are_plain_pairs c ps) _ (by_command c (option_value ps))))
 
-pub sound : (words : List (List ℕ)) → IfSome (configuration_of words) IsSound
+pub sound : (words : List (List ℕ)) → IfSome (configuration_of words) IsSoundConfiguration
 sound words = sound_plain (plain_words words)

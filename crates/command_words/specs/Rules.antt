@@ -7,7 +7,7 @@ use Rattle.command_words.specs.declared.command.CommandName.{CommandName}
 use Rattle.command_words.specs.declared.option.OptionName.{OptionName}
 use Rattle.command_words.specs.declared.pairs.Pair.{Pair}
 use Rattle.command_words.specs.Options.{option_name, short_name, is_required, options_of, command_name}
-use Rattle.command_words.specs.Words.{pairs_of, is_plain, value_in}
+use Rattle.command_words.specs.Words.{option_pairs, are_plain_pairs, option_value}
 
 -- What `clap` is told of an option: it takes one value.
 abbrev pub rule_for : OptionName → Rule
@@ -32,10 +32,10 @@ app_for c = app_with (command_name c) (options_of c)
 
 -- The words after the first are plain pairs of the command.
 abbrev pub IsPlainLine : CommandName → List (List ℕ) → Type 0
-IsPlainLine c words = IsSomeAnd (pairs_of c (drop 1 words)) (λ ps. is_plain c ps ≡ true)
+IsPlainLine c words = IsSomeAnd (option_pairs c (drop 1 words)) (λ ps. are_plain_pairs c ps ≡ true)
 
 -- Each option has the value that the pairs give it.
-abbrev pub Reads : CommandName → List (List ℕ) → ArgMatches → Type 0
-Reads c words m =
-    (ps : List Pair) → pairs_of c (drop 1 words) ≡ Some ps
-    → (o : OptionName) → first_value (found_of m) (option_name o) ≡ value_in ps o
+abbrev pub ReadsOptions : CommandName → List (List ℕ) → ArgMatches → Type 0
+ReadsOptions c words m =
+    (ps : List Pair) → option_pairs c (drop 1 words) ≡ Some ps
+    → (o : OptionName) → first_value (found_of m) (option_name o) ≡ option_value ps o

@@ -16,8 +16,8 @@ abbrev pub AreWorkers : ℕ → Type 0
 AreWorkers n = (1 ≤ n) × (n ≤ 64)
 
 -- The targets differ.
-abbrev pub AllDiffer : List Target → Type 0
-AllDiffer targets = AllPairs (λ a b. a ≢ b) targets
+abbrev pub AreDistinctTargets : List Target → Type 0
+AreDistinctTargets targets = AllPairs (λ a b. a ≢ b) targets
 
 -- An identifier: a letter of ASCII or `_`, and then letters, digits and `_`. So a name of a property is spelled.
 abbrev pub IsIdentifier : List ℕ → Type 0
@@ -28,13 +28,13 @@ IsIdentifier word =
 -- OUT differs from the list and from the journal.
 pub record IsSoundBuild (c : Build) : Type 0 where
   pub workers : AreWorkers c.workers
-  pub targets : AllDiffer c.targets
+  pub targets : AreDistinctTargets c.targets
   pub list : c.out ≢ c.list
   pub journal : IfSome c.journal (λ journal. c.out ≢ journal)
 
 -- OUT differs from the list and from the order.
 pub record IsSoundReplay (c : Replay) : Type 0 where
-  pub targets : AllDiffer c.targets
+  pub targets : AreDistinctTargets c.targets
   pub list : c.out ≢ c.list
   pub order : c.out ≢ c.order
 
@@ -42,7 +42,7 @@ pub record IsSoundReplay (c : Replay) : Type 0 where
 pub record IsSoundGraph (c : Graph) : Type 0 where
   pub after : c.after ≤ 11
   pub workers : AreWorkers c.workers
-  pub targets : AllDiffer c.targets
+  pub targets : AreDistinctTargets c.targets
 
 -- There are 1 to 100,000 modules.
 pub record IsSoundSynth (c : Synth) : Type 0 where
@@ -55,10 +55,10 @@ pub record IsSoundEdit (c : Edit) : Type 0 where
   pub property : IsIdentifier c.property
 
 -- What a configuration keeps, by its command.
-abbrev pub IsSound : Configuration → Type 0
-IsSound (configuration.Build c) = IsSoundBuild c
-IsSound (configuration.Replay c) = IsSoundReplay c
-IsSound (configuration.Graph c) = IsSoundGraph c
-IsSound (configuration.Synth c) = IsSoundSynth c
-IsSound (configuration.Format c) = ⊤
-IsSound (configuration.Edit c) = IsSoundEdit c
+abbrev pub IsSoundConfiguration : Configuration → Type 0
+IsSoundConfiguration (configuration.Build c) = IsSoundBuild c
+IsSoundConfiguration (configuration.Replay c) = IsSoundReplay c
+IsSoundConfiguration (configuration.Graph c) = IsSoundGraph c
+IsSoundConfiguration (configuration.Synth c) = IsSoundSynth c
+IsSoundConfiguration (configuration.Format c) = ⊤
+IsSoundConfiguration (configuration.Edit c) = IsSoundEdit c

@@ -12,17 +12,17 @@ use Rattle.bp_faults.specs.declared.target.Target.TheVariants.{LinuxGlibcX86_64,
 use Rattle.command_words.specs.Once.{has_none_twice}
 
 -- A value isn't empty and doesn't begin with `-`.
-abbrev pub is_value : List ℕ → Bool
-is_value [] = false
-is_value (b ∷ bs) = not (b == 45)
+abbrev pub is_option_value : List ℕ → Bool
+is_option_value [] = false
+is_option_value (b ∷ bs) = not (b == 45)
 
 -- A decimal digit.
-abbrev pub is_digit : ℕ → Bool
-is_digit b = nat_le 48 b && nat_le b 57
+abbrev pub is_decimal : ℕ → Bool
+is_decimal b = nat_le 48 b && nat_le b 57
 
 -- A number is 1 to 10 decimal digits.
 abbrev pub is_numeral : List ℕ → Bool
-is_numeral text = nat_lt 0 (length text) && (nat_le (length text) 10 && list_all is_digit text)
+is_numeral text = nat_lt 0 (length text) && (nat_le (length text) 10 && list_all is_decimal text)
 
 -- The number of a text, where it is one from `low` to `high`.
 abbrev pub number_in : ℕ → ℕ → List ℕ → Option ℕ

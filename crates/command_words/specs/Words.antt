@@ -16,7 +16,8 @@ use Rattle.command_words.specs.declared.configuration.Configuration.TheVariants 
 use Rattle.command_words.specs.Once.{has_none_twice}
 use Rattle.command_words.specs.Plain.{plain_words}
 use Rattle.command_words.specs.Options.{command_named, options_of, is_required, is_same, is_spelling}
-use Rattle.command_words.specs.Values.{is_value, number_in, targets_of, mutator_number, with_first, is_identifier}
+use Rattle.command_words.specs.Values.{is_option_value, number_in, targets_of, mutator_number, with_first}
+use Rattle.command_words.specs.Values.{is_identifier}
 use Rattle.command_words.specs.Values.{items_of}
 
 -- The option of a command that the word spells.
@@ -29,10 +30,10 @@ pair_with value None = None
 pair_with value (Some o) = Some (record { option = o; value = value })
 
 -- The words after the command are pairs of an option of that command and a value.
-abbrev pub pairs_of : CommandName → List (List ℕ) → Option (List Pair)
-pairs_of c [] = Some []
-pairs_of c (word ∷ []) = None
-pairs_of c (word ∷ value ∷ rest) = with_first (pair_with value (option_of c word)) (pairs_of c rest)
+abbrev pub option_pairs : CommandName → List (List ℕ) → Option (List Pair)
+option_pairs c [] = Some []
+option_pairs c (word ∷ []) = None
+option_pairs c (word ∷ value ∷ rest) = with_first (pair_with value (option_of c word)) (option_pairs c rest)
 
 -- The option is given.
 abbrev pub has_option : OptionName → List Pair → Bool
@@ -47,13 +48,13 @@ abbrev pub has_required : CommandName → List Pair → Bool
 has_required c ps = list_all (λ o. not (is_required o) || has_option o ps) (options_of c)
 
 -- The pairs are plain: each value is one, no option is given twice, and each that must be given is.
-abbrev pub is_plain : CommandName → List Pair → Bool
-is_plain c ps =
-    list_all (λ p. is_value p.value) ps && (has_none_twice is_same_option [] ps && has_required c ps)
+abbrev pub are_plain_pairs : CommandName → List Pair → Bool
+are_plain_pairs c ps =
+    list_all (λ p. is_option_value p.value) ps && (has_none_twice is_same_option [] ps && has_required c ps)
 
 -- The value of an option, where it is given.
-abbrev pub value_in : List Pair → OptionName → Option (List ℕ)
-value_in ps o = option_map (λ p. p.value) (find (λ p. is_same p.option o) ps)
+abbrev pub option_value : List Pair → OptionName → Option (List ℕ)
+option_value ps o = option_map (λ p. p.value) (find (λ p. is_same p.option o) ps)
 
 -- What is read of a value, or the default where none is given.
 abbrev pub read_or : {X Y : Type 0} → Option X → Y → (X → Option Y) → Option Y
@@ -180,11 +181,11 @@ configuration_by Edit given = edit_of given
 
 -- The configuration of a command and its pairs.
 abbrev pub configuration_of_pairs : CommandName → List Pair → Option Configuration
-configuration_of_pairs c ps = if is_plain c ps then configuration_by c (value_in ps) else None
+configuration_of_pairs c ps = if are_plain_pairs c ps then configuration_by c (option_value ps) else None
 
 -- The configuration of a command and the words behind it.
 abbrev pub configuration_behind : List (List ℕ) → CommandName → Option Configuration
-configuration_behind words c = and_then (pairs_of c words) (configuration_of_pairs c)
+configuration_behind words c = and_then (option_pairs c words) (configuration_of_pairs c)
 
 -- The configuration of plain words, of which the first is the command.
 abbrev pub configuration_of_plain : List (List ℕ) → Option Configuration

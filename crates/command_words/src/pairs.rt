@@ -1,9 +1,9 @@
 ghost use Rattle.std.specs.Prelude.{◌≡◌, [], map, option_map, IfOk};
 ghost use Rattle.std.specs.List.{list_all, list_any};
 ghost use Rattle.command_words.specs.Once.{has_none_twice};
-ghost use Rattle.command_words.specs.Values.{is_value};
+ghost use Rattle.command_words.specs.Values.{is_option_value};
 ghost use Rattle.command_words.specs.Options.{is_same};
-ghost use Rattle.command_words.specs.Words.{pairs_of, is_same_option, has_required, is_plain};
+ghost use Rattle.command_words.specs.Words.{option_pairs, is_same_option, has_required, are_plain_pairs};
 
 use crate::option::{option_spelled, options};
 use crate::{CommandName, OptionName};
@@ -18,7 +18,7 @@ pub struct Pair {
 }
 
 fn is_value_text(value: &str) -> bool
-    ensures { result ≡ is_value value.now }
+    ensures { result ≡ is_option_value value.now }
 {
     match value.as_bytes() {
         [] => false,
@@ -41,7 +41,8 @@ pub fn pairs(
     command: CommandName,
     words: &[&str],
 ) -> Result<Option<Vec<Pair>>, OutOfMemory>
-    ensures { IfOk result (λ pairs. option_map (λ v. v.items) pairs ≡ pairs_of command (map (λ w. w.now) words.now)) }
+    ensures { IfOk result
+        (λ pairs. option_map (λ v. v.items) pairs ≡ option_pairs command (map (λ w. w.now) words.now)) }
 {
     let mut pairs = Vec::new(alloc);
     let mut rest = words;
@@ -84,14 +85,14 @@ fn has_each_required(command: CommandName, pairs: &[Pair]) -> bool
 }
 
 fn has_values(pairs: &[Pair]) -> bool
-    ensures { result ≡ list_all (λ pair. is_value pair.value) pairs.now }
+    ensures { result ≡ list_all (λ pair. is_option_value pair.value) pairs.now }
 {
     pairs.iter().all(|pair| is_value_text(pair.value.as_str()))
 }
 
 /// Whether the pairs are plain.
 pub fn is_plain(command: CommandName, pairs: &[Pair]) -> bool
-    ensures { result ≡ is_plain command pairs.now }
+    ensures { result ≡ are_plain_pairs command pairs.now }
 {
     has_values(pairs) && has_no_option_twice(pairs) && has_each_required(command, pairs)
 }

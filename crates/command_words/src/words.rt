@@ -5,7 +5,7 @@ ghost use Rattle.command_words.specs.Words.{is_other, build_with, build_of, repl
 ghost use Rattle.command_words.specs.Words.{format_of, edit_with, edit_of, configuration_by, configuration_behind};
 ghost use Rattle.command_words.specs.Words.{configuration_of_plain, configuration_of};
 ghost use Rattle.command_words.specs.Found.{value_found};
-ghost use Rattle.command_words.specs.Sound.{IsSound};
+ghost use Rattle.command_words.specs.Sound.{IsSoundConfiguration};
 
 use crate::command::command_named;
 use crate::items::{is_identifier, items};
@@ -306,10 +306,10 @@ fn configuration_of_plain(
 /// The configuration of the words after the program's name, if they give one.
 ///
 /// Reading words takes memory, so it may run out before it is known that they give none. A configuration that is given
-/// meets `IsSound`: a caller needs no more to use it.
+/// meets `IsSoundConfiguration`: a caller needs no more to use it.
 pub fn configure(alloc: Global, words: &[Text]) -> Result<Option<Configuration>, OutOfMemory>
     ensures exact { IfOk result (λ configuration. configuration ≡ configuration_of words.now) }
-    ensures sound { IfOk result (λ configuration. IfSome configuration IsSound) }
+    ensures sound { IfOk result (λ configuration. IfSome configuration IsSoundConfiguration) }
 {
     let plain = plain(alloc, words)?;
     configuration_of_plain(alloc, plain.as_slice())

@@ -1,33 +1,20 @@
 -- The nearest names of what a line says is unknown, and the note that they end.
-use Rattle.std.proofs.Common.{◌≡◌, ◌≤◌, ℕ, List, Vec, [], ◌++◌, Option, Some, None, Result, Ok, Err, refl, sym, ap, subst, ◌∙◌}
+use Rattle.std.proofs.Common.{◌≡◌, ◌≤◌, ℕ, List, Vec, ◌++◌, Option, Some, None, Result, Ok, Err, sym, ap, subst, ◌∙◌}
 use Rattle.std.specs.Prelude.{IfOk, MatchOption}
 use Rattle.std.specs.FinMap.{get}
 use Rattle.bp_faults.specs.declared.limits.TheConstants.{LARGEST_ORDER_FILE}
 use Rattle.bp_ports.specs.Files.{Files}
 use Rattle.fault_view.specs.declared.fault_line.FaultLine.{FaultLine}
-use Rattle.fault_view.specs.declared.unknown.Unknown.{Unknown}
 use Rattle.fault_view.specs.Lines.{IsLineOf, IsReadAs, IsNoFaultLine}
 use Rattle.fault_view.specs.Unknown.{unknown_of}
-use Rattle.fault_view.specs.View.{Softly, AreNearest, IsNoteWith, IsNote, IsBehind, shown_of, within, names_line}
+use Rattle.fault_view.specs.View.{Softly, AreNearest, IsNoteWith, IsNote, IsBehind, shown_of, bytes_within, names_line}
 use Rattle.fault_view.specs.Inside.{IsReadNote}
 use Rattle.fault_view.proofs.Soft.{softly_both, softly_map, softly_always}
 
--- what is said of what a line says holds of the line
-pub hinted : (list : Option (List ℕ)) (files : Files) (path : List ℕ) (said known : Option (Unknown × List ℕ))
-    (names : List (List ℕ)) → said ≡ known → AreNearest list files path said names → AreNearest list files path known names
-hinted list files path said known names is h = subst (λ u. AreNearest list files path u names) is h
-
 module _ (told : Option Files) (list : Option (List ℕ)) (f : FaultLine) where
-  -- a file without that place has no note
-  pub no_note : (a b : ℕ)
-      → Softly told a b (λ files. None ≡ shown_of (within LARGEST_ORDER_FILE (get files f.path)) f)
-      → Softly told a b (λ files. IsNote list files f [])
-  no_note a b shown =
-      softly_map told a b _ _ (λ files is. subst (λ o. IsNoteWith list files f o []) is refl) shown
-
   -- an excerpt and the nearest names are the note
   pub note_is : (a b c : ℕ) (text note : List ℕ) (names : List (List ℕ)) → a ≤ b → b ≤ c → note ≡ text ++ names_line names
-      → Softly told a b (λ files. Some text ≡ shown_of (within LARGEST_ORDER_FILE (get files f.path)) f)
+      → Softly told a b (λ files. Some text ≡ shown_of (bytes_within LARGEST_ORDER_FILE (get files f.path)) f)
       → Softly told b c (λ files. AreNearest list files f.path (unknown_of f) names)
       → Softly told a c (λ files. IsNote list files f note)
   note_is a b c text note names ab bc is shown near =

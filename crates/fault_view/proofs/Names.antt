@@ -4,12 +4,12 @@ use Rattle.std.specs.List.{cons_option}
 use Rattle.bp_faults.specs.declared.fault.Fault.{Fault}
 use Rattle.bp_lexer.specs.declared.token.Token.{Token}
 use Rattle.bp_lexer.specs.Laws.{OneMeaning}
-use Rattle.bp_lexer.specs.Meaning.{IsTokenList, LexMeans}
-use Rattle.fault_view.specs.ModuleNames.{first_name, names_in, AreNames}
+use Rattle.bp_lexer.specs.Meaning.{LexMeans}
+use Rattle.fault_view.specs.ModuleNames.{first_name, token_names}
 
 -- one token more
 next : (text : List ℕ) (ts : List Token) (at : ℕ) → at < length ts
-    → names_in text (drop at ts) ≡ cons_option (first_name text (drop at ts)) (names_in text (drop (suc at) ts))
+    → token_names text (drop at ts) ≡ cons_option (first_name text (drop at ts)) (token_names text (drop (suc at) ts))
 next text [] at lt = absurd (omega arith)
 next text (t ∷ ts) zero lt = refl
 next text (t ∷ ts) (suc at) lt = next text ts at (omega arith)
@@ -20,21 +20,12 @@ put_before (Some name) rest = refl
 
 pub next_put : (text : List ℕ) (ts : List Token) (at : ℕ) (names new all : List (List ℕ)) (name : Option (List ℕ))
     → at < length ts → name ≡ first_name text (drop at ts) → new ≡ names ++ cons_option name []
-    → names ++ names_in text (drop at ts) ≡ all → new ++ names_in text (drop (at + 1) ts) ≡ all
+    → names ++ token_names text (drop at ts) ≡ all → new ++ token_names text (drop (at + 1) ts) ≡ all
 next_put text ts at names new all name lt is put before =
     let one : at + 1 ≡ suc at = omega arith in
-    let rest = names_in text (drop (suc at) ts) in
-    ap (λ xs. xs ++ names_in text (drop (at + 1) ts)) put
-    ∙ ap (λ k. (names ++ cons_option name []) ++ names_in text (drop k ts)) one
+    let rest = token_names text (drop (suc at) ts) in
+    ap (λ xs. xs ++ token_names text (drop (at + 1) ts)) put
+    ∙ ap (λ k. (names ++ cons_option name []) ++ token_names text (drop k ts)) one
     ∙ append_assoc names (cons_option name []) rest
     ∙ ap (λ xs. names ++ xs) (put_before name rest ∙ ap (λ (o : Option (List ℕ)). cons_option o rest) is ∙ sym (next text ts at lt))
     ∙ before
-
--- a text has the names of its only tokens
-pub names_of_tokens : (text : List ℕ) (ts : List Token) (names : List (List ℕ))
-    → ((us : List Token) → IsTokenList 0 text us → us ≡ ts) → IsTokenList 0 text ts → names ≡ names_in text ts
-    → AreNames text names
-names_of_tokens text ts names one has is = record {
-  lexed = λ us h. is ∙ ap (names_in text) (sym (one us h));
-  refused = λ none. absurd (none ts has);
-}

@@ -7,7 +7,7 @@ use Rattle.std.specs.Str.Pattern.{FindsTextPrefix}
 use Rattle.std.proofs.lemmas.List.{take-append-drop, append_cancel_right}
 use Rattle.std.proofs.lemmas.Slice.Eq.{bytes_eq-Decides}
 use denote.Ref.{Bor}
-use Rattle.fault_view.specs.Unknown.{behind}
+use Rattle.fault_view.specs.Unknown.{rest_behind}
 
 pub stripped : (p s x : List ℕ)
     → ((n : ℕ) × FindsTextPrefix p s (Some n) × (x ≡ drop n s) × (length x + n ≡ length s)) → s ≡ p ++ x
@@ -17,7 +17,7 @@ refuted : (t : Bool) (p s : List ℕ) → (t ≡ true → ⊥) → None ≡ cond
 refuted true p s never = absurd (never refl)
 refuted false p s never = refl
 
-none_behind : (p s : List ℕ) → ((rest : List ℕ) → s ≢ p ++ rest) → None ≡ behind p s
+none_behind : (p s : List ℕ) → ((rest : List ℕ) → s ≢ p ++ rest) → None ≡ rest_behind p s
 none_behind p s never =
     refuted (bytes_eq p (take (length p) s)) p s
     (λ e. never (drop (length p) s)
@@ -27,7 +27,7 @@ cut_at : (t : Bool) (p s : List ℕ) → t ≡ true → Some (drop (length p) s)
 cut_at true p s is = refl
 cut_at false p s is = absurd (cc)
 
-some_behind : (p s x : List ℕ) (n : ℕ) → n ≡ length p → s ≡ p ++ drop n s → x ≡ drop n s → Some x ≡ behind p s
+some_behind : (p s x : List ℕ) (n : ℕ) → n ≡ length p → s ≡ p ++ drop n s → x ≡ drop n s → Some x ≡ rest_behind p s
 some_behind p s x n is whole cut =
     let front : take (length p) s ≡ p =
     append_cancel_right (take (length p) s) p (drop (length p) s)
@@ -38,6 +38,6 @@ some_behind p s x n is whole cut =
 pub stripped_is : (p s : List ℕ) (r : Option (Bor (List ℕ)))
     → MatchOption r (FindsTextPrefix p s None)
     (λ x. (n : ℕ) × FindsTextPrefix p s (Some n) × (x.now ≡ drop n s) × (length x.now + n ≡ length s))
-    → option_map (λ rest. rest.now) r ≡ behind p s
+    → option_map (λ rest. rest.now) r ≡ rest_behind p s
 stripped_is p s None never = none_behind p s never
 stripped_is p s (Some x) (n, (is, whole, bound), cut, len) = some_behind p s x.now n is whole cut

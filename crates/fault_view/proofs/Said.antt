@@ -3,9 +3,9 @@ use Rattle.std.proofs.Common.{◌≡◌, ◌<◌, ◌^◌, ℕ, List, ◌∷◌,
 use Rattle.std.specs.Fmt.{decimal}
 use Rattle.bp_faults.specs.declared.kind.FaultKind.{FaultKind}
 use Rattle.bp_faults.specs.declared.kind.FaultKind.TheVariants as K
-use Rattle.bp_faults.specs.Kinds.{number_of}
+use Rattle.bp_faults.specs.Kinds.{fault_number}
 
-pub number_small : (kind : FaultKind) → number_of kind < 2 ^ 32
+pub number_small : (kind : FaultKind) → fault_number kind < 2 ^ 32
 number_small K.NotUtf8 = lit< tt
 number_small K.BadChar = lit< tt
 number_small K.OpenString = lit< tt

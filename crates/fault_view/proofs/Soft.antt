@@ -37,13 +37,6 @@ pub record ReadsOn (told : Option Files) (before now : ℕ) (all left names : Li
   pub exact : Softly told before now
       (λ files. (more : List (List ℕ)) → AreAllNames files left more → AreAllNames files all (names ++ more))
 
-pub reads_first : (told : Option Files) (count : ℕ) (all left : List (List ℕ)) → left ≡ all
-    → ReadsOn told count count all left []
-reads_first told count all left is = record {
-  later = omega arith;
-  exact = softly_always told count count _ (λ files more h. subst (λ paths. AreAllNames files paths more) is h);
-}
-
 pub reads_next : (told : Option Files) (a b c : ℕ) (all left rest : List (List ℕ)) (path : List ℕ)
     (names more new : List (List ℕ)) → left ≡ path ∷ rest → b ≤ c → new ≡ names ++ more
     → Softly told b c (λ files. AreFileNames files path more) → ReadsOn told a b all left names

@@ -4,16 +4,16 @@ use Rattle.std.specs.Prelude.{IfSome}
 use Rattle.std.specs.Io.BufRead.{take_through, drop_through}
 use Rattle.std.proofs.lemmas.Bool.{eqb-true}
 use Rattle.bp_ports.specs.Files.{Files, WhereTold}
-use Rattle.fault_view.specs.View.{Softly, IsView, Shows, IsBehind, Anything, ended_lines, with_first}
+use Rattle.fault_view.specs.View.{Softly, IsPrintedView, Shows, IsBehind, Anything, ended_lines, with_first_byte}
 use Rattle.fault_view.specs.Inside.{PutsLine}
 use Rattle.fault_view.proofs.Soft.{softly_both, softly_map, softly_always}
 
 first_at : (bs : List ℕ) (b : ℕ) (t : Bool) → (b == 10) ≡ t
-    → cond t ((10 ∷ []) ∷ ended_lines bs) (with_first b (ended_lines bs))
+    → cond t ((10 ∷ []) ∷ ended_lines bs) (with_first_byte b (ended_lines bs))
     ≡ cond t (b ∷ []) (b ∷ take_through 10 bs) ∷ ended_lines (cond t bs (drop_through 10 bs))
 first_at bs b true is = let e = eqb-true b 10 is in λ i. (sym e i ∷ []) ∷ ended_lines bs
 first_at [] b false is = refl
-first_at (c ∷ cs) b false is = ap (with_first b) (first_at cs c (c == 10) refl)
+first_at (c ∷ cs) b false is = ap (with_first_byte b) (first_at cs c (c == 10) refl)
 
 -- the first line is all through the first LF
 first_line : (b : ℕ) (bs : List ℕ)
@@ -25,14 +25,11 @@ module _ (Behind : List ℕ → List ℕ → Type 0) (all : List ℕ) where
   abbrev pub Printed : List ℕ → List ℕ → List ℕ → Type 0
   Printed rest before now =
       (seen : List ℕ) × (now ≡ before ++ seen)
-      × ((more : List ℕ) → IsView Behind (ended_lines rest) more → IsView Behind (ended_lines all) (seen ++ more))
-
-  pub nothing_printed : (before : List ℕ) → Printed all before before
-  nothing_printed before = ([], sym (append-nil before), λ more view. view)
+      × ((more : List ℕ) → IsPrintedView Behind (ended_lines rest) more → IsPrintedView Behind (ended_lines all) (seen ++ more))
 
   pub all_printed : (before now : List ℕ) → Printed [] before now → Shows Behind all before now
   all_printed before now (seen, is, view) =
-      (seen, is, subst (λ xs. IsView Behind (ended_lines all) xs) (append-nil seen) (view [] refl))
+      (seen, is, subst (λ xs. IsPrintedView Behind (ended_lines all) xs) (append-nil seen) (view [] refl))
 
   pub line_printed : (rest line note before now new : List ℕ) → take_through 10 rest ≡ line → 0 < length line
       → new ≡ now ++ (line ++ note) → Behind line note → Printed rest before now
@@ -42,16 +39,12 @@ module _ (Behind : List ℕ → List ℕ → Type 0) (all : List ℕ) where
     seen ++ (line ++ note),
     put ∙ ap (λ xs. xs ++ (line ++ note)) so_far ∙ append_assoc before seen (line ++ note),
     λ more rest.
-        let here : IsView Behind (take_through 10 (b ∷ bs) ∷ ended_lines (drop_through 10 (b ∷ bs))) (line ++ (note ++ more)) =
+        let here : IsPrintedView Behind (take_through 10 (b ∷ bs) ∷ ended_lines (drop_through 10 (b ∷ bs))) (line ++ (note ++ more)) =
         (note, more, ap (λ xs. xs ++ (note ++ more)) (sym is), subst (λ xs. Behind xs note) (sym is) behind, rest) in
-        subst (λ xs. IsView Behind (ended_lines all) xs)
+        subst (λ xs. IsPrintedView Behind (ended_lines all) xs)
         (ap (λ xs. seen ++ xs) (sym (append_assoc line note more)) ∙ sym (append_assoc seen (line ++ note) more))
-        (view (line ++ (note ++ more)) (subst (λ ls. IsView Behind ls (line ++ (note ++ more))) (sym (first_line b bs)) here)),
+        (view (line ++ (note ++ more)) (subst (λ ls. IsPrintedView Behind ls (line ++ (note ++ more))) (sym (first_line b bs)) here)),
   )
-
-  pub told_nothing : (before : Option (List ℕ)) → WhereTold (Printed all) before before
-  told_nothing None = tt
-  told_nothing (Some before) = nothing_printed before
 
   pub told_all : (before now : Option (List ℕ)) → WhereTold (Printed []) before now → WhereTold (Shows Behind all) before now
   told_all None None h = tt
@@ -89,15 +82,6 @@ pub record Stands (list : Option (List ℕ)) (told : Option Files) (reads_before
   pub exact : Softly told reads_before reads_now (λ files. WhereTold (Printed (IsBehind list files) all rest) before now)
 
 module _ (list : Option (List ℕ)) (told : Option Files) (all : List ℕ) where
-  pub stands_first : (reads : ℕ) (left before : Option (List ℕ)) → left ≡ Some all
-      → Stands list told reads reads all left before before
-  stands_first reads left before is = record {
-    rest = all;
-    is_left = is;
-    kept = told_nothing Anything all before;
-    exact = softly_always told reads reads _ (λ files. told_nothing (IsBehind list files) all before);
-  }
-
   pub stands_next : (a b c : ℕ) (left new_left : Option (List ℕ)) (before now new : Option (List ℕ)) (line : List ℕ)
       → a ≤ b → b ≤ c → 0 < length line
       → ((text : List ℕ) → left ≡ Some text → (line ≡ take_through 10 text) × (new_left ≡ Some (drop_through 10 text)))
@@ -136,11 +120,6 @@ at_some o P text is h = subst (λ o. IfSome o P) is h
 abbrev pub Goes : Option (List ℕ) → Option (List ℕ) → Option Files → ℕ → ℕ → Option (List ℕ) → Option (List ℕ)
     → Option (List ℕ) → Type 0
 Goes input list told a b left before now = IfSome input (λ all. Stands list told a b all left before now)
-
-pub goes_first : (list : Option (List ℕ)) (told : Option Files) (reads : ℕ) (input before : Option (List ℕ))
-    → Goes input list told reads reads input before before
-goes_first list told reads None before = tt
-goes_first list told reads (Some all) before = stands_first list told all reads (Some all) before refl
 
 pub goes_next : (input list : Option (List ℕ)) (told : Option Files) (a b c : ℕ)
     (left new_left before now new : Option (List ℕ)) (line : List ℕ) → a ≤ b → b ≤ c → 0 < length line

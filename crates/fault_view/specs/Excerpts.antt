@@ -7,15 +7,15 @@ use Rattle.std.specs.Option.{unwrap_or, option_and_then}
 use Rattle.std.specs.Str.{chars, is_utf8}
 use Rattle.std.specs.Fmt.{decimal}
 use Rattle.unicode_width.specs.Width.{char_width}
-use Rattle.bp_faults.specs.Line.{shown}
+use Rattle.bp_faults.specs.Line.{shown_char}
 
 -- A tab is kept, and another control character is shown as a question mark.
 abbrev pub shown_here : ℕ → ℕ
-shown_here c = if c == 9 then 9 else shown c
+shown_here c = if c == 9 then 9 else shown_char c
 
 -- A line as it is shown.
-abbrev pub shown_line : List ℕ → List ℕ
-shown_line line = encode_utf8_all (map shown_here (chars line))
+abbrev pub printed_line : List ℕ → List ℕ
+printed_line line = encode_utf8_all (map shown_here (chars line))
 
 -- The columns that a character takes in a terminal, by the tables of `unicode_width`: a wide one takes two.
 abbrev pub width : ℕ → ℕ
@@ -30,9 +30,9 @@ abbrev pub caret_line : List ℕ → ℕ → List ℕ
 caret_line line col = flat_map under (take (col - 1) (chars line)) ++ codes "^"
 
 -- A line with its number, and a caret under a column.
-abbrev pub quoted : List ℕ → ℕ → ℕ → List ℕ
-quoted line number col =
-    decimal number ++ (codes " | " ++ (shown_line line ++ (codes "\n"
+abbrev pub quoted_line : List ℕ → ℕ → ℕ → List ℕ
+quoted_line line number col =
+    decimal number ++ (codes " | " ++ (printed_line line ++ (codes "\n"
     ++ (replicate (length (decimal number)) 32 ++ (codes " | " ++ (caret_line line col ++ codes "\n"))))))
 
 -- The text, where it is UTF-8.
@@ -51,7 +51,7 @@ has_column line col = nat_lt 0 col && nat_le (col - 1) (length (chars line))
 -- What is shown of a line, where it is there and has the column.
 abbrev pub shown_at : Option (List ℕ) → ℕ → ℕ → Option (List ℕ)
 shown_at None number col = None
-shown_at (Some line) number col = if has_column line col then Some (quoted line number col) else None
+shown_at (Some line) number col = if has_column line col then Some (quoted_line line number col) else None
 
 -- What is shown of a file, where it has that place.
 abbrev pub excerpt_of : List ℕ → ℕ → ℕ → Option (List ℕ)

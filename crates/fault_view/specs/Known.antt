@@ -10,15 +10,15 @@ abbrev pub type_names : List (List ℕ)
 type_names = map (λ t. t.0) types ++ (codes "package" ∷ codes "license" ∷ [])
 
 -- The names of some properties.
-abbrev pub names_of : List Property → List (List ℕ)
-names_of table = map (λ p. p.name) table
+abbrev pub property_names : List Property → List (List ℕ)
+property_names table = map (λ p. p.name) table
 
 -- The properties that may stand in a group, and those of modules of any type where there is no group.
 abbrev pub table_names : List ℕ → List (List ℕ)
 table_names group =
     if bytes_eq group [] then map (λ o. o.property.name) properties
-    else if bytes_eq group (codes "sanitize") then names_of sanitize_table
-    else if bytes_eq group (codes "arch") then names_of arch_table
-    else if bytes_eq group (codes "multilib") then names_of multilib_table
-    else if bytes_eq group (codes "target") then names_of target_table
-    else names_of group_table
+    else if bytes_eq group (codes "sanitize") then property_names sanitize_table
+    else if bytes_eq group (codes "arch") then property_names arch_table
+    else if bytes_eq group (codes "multilib") then property_names multilib_table
+    else if bytes_eq group (codes "target") then property_names target_table
+    else property_names group_table

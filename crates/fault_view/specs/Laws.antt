@@ -1,8 +1,8 @@
 -- What bp_faults prints is read back.
 use Rattle.std.specs.Prelude.{◌≢◌, ◌<◌, ◌^◌, ℕ, List, ◌++◌, EachIndex, slice_index, IsUtf8}
 use Rattle.bp_faults.specs.declared.fault.Fault.{Fault}
-use Rattle.bp_faults.specs.Kinds.{number_of, text_of}
-use Rattle.bp_faults.specs.Line.{line_of, path_at, tail_of, what_of}
+use Rattle.bp_faults.specs.Kinds.{fault_number, fault_text}
+use Rattle.bp_faults.specs.Line.{line_of, path_at, subject_tail, what_of}
 use Rattle.fault_view.specs.declared.fault_line.FaultLine.{FaultLine}
 use Rattle.fault_view.specs.Lines.{IsLineOf}
 
@@ -12,8 +12,8 @@ said_of fault files = record {
   path = path_at files fault.at.file;
   line = fault.at.line;
   col = fault.at.col;
-  number = number_of fault.kind;
-  what = text_of fault.kind ++ tail_of (what_of fault.kind fault.subject fault.chain);
+  number = fault_number fault.kind;
+  what = fault_text fault.kind ++ subject_tail (what_of fault.kind fault.subject fault.chain);
 }
 
 -- The line of a fault says so, where it is UTF-8, its path has no colon, and its place has numbers of 32 bits.

@@ -15,14 +15,14 @@ is_string Raw = true
 is_string kind = false
 
 -- A token is a colon.
-abbrev pub is_colon : TokenKind → Bool
-is_colon (Mark Colon) = true
-is_colon kind = false
+abbrev pub is_colon_token : TokenKind → Bool
+is_colon_token (Mark Colon) = true
+is_colon_token kind = false
 
 -- Three tokens are the word `name`, a colon and a string.
-abbrev pub is_named : List ℕ → Token → Token → Token → Bool
-is_named text word colon string =
-    bytes_eq (word_of text word) (codes "name") && (is_colon colon.kind && is_string string.kind)
+abbrev pub is_name_entry : List ℕ → Token → Token → Token → Bool
+is_name_entry text word colon string =
+    bytes_eq (word_of text word) (codes "name") && (is_colon_token colon.kind && is_string string.kind)
 
 -- The string behind the word `name` and a colon, where the tokens begin with these.
 abbrev pub first_name : List ℕ → List Token → Option (List ℕ)
@@ -30,14 +30,14 @@ first_name text [] = None
 first_name text (a ∷ []) = None
 first_name text (a ∷ b ∷ []) = None
 first_name text (a ∷ b ∷ c ∷ more) =
-    if is_named text a b c then Some (string_of c.kind (word_of text c)) else None
+    if is_name_entry text a b c then Some (string_of c.kind (word_of text c)) else None
 
 -- The names that begin at each of the tokens.
-abbrev pub names_in : List ℕ → List Token → List (List ℕ)
-names_in text [] = []
-names_in text (t ∷ ts) = cons_option (first_name text (t ∷ ts)) (names_in text ts)
+abbrev pub token_names : List ℕ → List Token → List (List ℕ)
+token_names text [] = []
+token_names text (t ∷ ts) = cons_option (first_name text (t ∷ ts)) (token_names text ts)
 
 -- The names of a text are those in its tokens, and a text that has no tokens has none.
 pub record AreNames (text : List ℕ) (names : List (List ℕ)) : Type 0 where
-  pub lexed : (ts : List Token) → IsTokenList 0 text ts → names ≡ names_in text ts
+  pub lexed : (ts : List Token) → IsTokenList 0 text ts → names ≡ token_names text ts
   pub refused : ((ts : List Token) → IsTokenList 0 text ts → ⊥) → names ≡ []

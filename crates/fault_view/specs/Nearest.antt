@@ -38,5 +38,5 @@ abbrev pub is_nearest : List (List ℕ) → List ℕ → List ℕ → Bool
 is_nearest known word name = is_near word name && list_all (λ other. nat_le (reach word name) (reach word other)) known
 
 -- The nearest names, at most three, in the order of the known ones.
-abbrev pub nearest : List (List ℕ) → List ℕ → List (List ℕ)
-nearest known word = take 3 (filter (is_nearest known word) known)
+abbrev pub nearest_names : List (List ℕ) → List ℕ → List (List ℕ)
+nearest_names known word = take 3 (filter (is_nearest known word) known)

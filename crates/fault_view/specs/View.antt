@@ -12,19 +12,19 @@ use Rattle.fault_view.specs.declared.unknown.Unknown.{Unknown}
 use Rattle.fault_view.specs.declared.unknown.Unknown.TheVariants.{ModuleType, Property, Module}
 use Rattle.fault_view.specs.Lines.{IsLineOf, IsNoFaultLine}
 use Rattle.fault_view.specs.Excerpts.{as_text, excerpt_of}
-use Rattle.fault_view.specs.Nearest.{nearest}
+use Rattle.fault_view.specs.Nearest.{nearest_names}
 use Rattle.fault_view.specs.Known.{type_names, table_names}
 use Rattle.fault_view.specs.Unknown.{unknown_of, last_parts}
 use Rattle.fault_view.specs.ModuleNames.{AreNames}
 
 -- What a file holds, where it is no larger than the limit.
-abbrev pub within : ℕ → Option (List ℕ) → Option (List ℕ)
-within limit None = None
-within limit (Some bytes) = if nat_le (length bytes) limit then Some bytes else None
+abbrev pub bytes_within : ℕ → Option (List ℕ) → Option (List ℕ)
+bytes_within limit None = None
+bytes_within limit (Some bytes) = if nat_le (length bytes) limit then Some bytes else None
 
 -- The text that a file holds, where it is UTF-8 and no larger than the limit.
 abbrev pub text_within : ℕ → Option (List ℕ) → Option (List ℕ)
-text_within limit held = option_and_then as_text (within limit held)
+text_within limit held = option_and_then as_text (bytes_within limit held)
 
 -- The names of the modules of a file, which has none where it is no text.
 abbrev pub AreTextNames : Option (List ℕ) → List (List ℕ) → Type 0
@@ -55,11 +55,11 @@ AreModules (Some list) files path names = AreListedNames files (text_within LARG
 -- The known names that are nearest to what is unknown.
 abbrev pub AreNearest : Option (List ℕ) → Files → List ℕ → Option (Unknown × List ℕ) → List (List ℕ) → Type 0
 AreNearest list files path None names = names ≡ []
-AreNearest list files path (Some (ModuleType, word)) names = names ≡ nearest type_names word
+AreNearest list files path (Some (ModuleType, word)) names = names ≡ nearest_names type_names word
 AreNearest list files path (Some (Property, property)) names =
-    names ≡ nearest (table_names (last_parts property).0) (last_parts property).1
+    names ≡ nearest_names (table_names (last_parts property).0) (last_parts property).1
 AreNearest list files path (Some (Module, word)) names =
-    (known : List (List ℕ)) × AreModules list files path known × (names ≡ nearest known word)
+    (known : List (List ℕ)) × AreModules list files path known × (names ≡ nearest_names known word)
 
 -- Each name follows a comma.
 abbrev pub after_commas : List (List ℕ) → List ℕ
@@ -85,7 +85,7 @@ IsNoteWith list files f (Some shown) note =
 -- The note of a fault: an excerpt of its file, where that has the place, and the nearest names.
 abbrev pub IsNote : Option (List ℕ) → Files → FaultLine → List ℕ → Type 0
 IsNote list files f note =
-    IsNoteWith list files f (shown_of (within LARGEST_ORDER_FILE (get files f.path)) f) note
+    IsNoteWith list files f (shown_of (bytes_within LARGEST_ORDER_FILE (get files f.path)) f) note
 
 -- What stands behind a line: behind a fault line its note, and behind another line nothing.
 pub record IsBehind (list : Option (List ℕ)) (files : Files) (line note : List ℕ) : Type 0 where
@@ -93,24 +93,26 @@ pub record IsBehind (list : Option (List ℕ)) (files : Files) (line note : List
   pub other : IsNoFaultLine line → note ≡ []
 
 -- A byte before the first of some lines.
-abbrev pub with_first : ℕ → List (List ℕ) → List (List ℕ)
-with_first b [] = (b ∷ []) ∷ []
-with_first b (line ∷ lines) = (b ∷ line) ∷ lines
+abbrev pub with_first_byte : ℕ → List (List ℕ) → List (List ℕ)
+with_first_byte b [] = (b ∷ []) ∷ []
+with_first_byte b (line ∷ lines) = (b ∷ line) ∷ lines
 
 -- The lines of some bytes, each with its LF, which the last may lack.
 abbrev pub ended_lines : List ℕ → List (List ℕ)
 ended_lines [] = []
-ended_lines (b ∷ bs) = if b == 10 then (10 ∷ []) ∷ ended_lines bs else with_first b (ended_lines bs)
+ended_lines (b ∷ bs) = if b == 10 then (10 ∷ []) ∷ ended_lines bs else with_first_byte b (ended_lines bs)
 
 -- What is printed: each line, and behind it what may stand there.
-abbrev pub IsView : (List ℕ → List ℕ → Type 0) → List (List ℕ) → List ℕ → Type 0
-IsView Behind [] out = out ≡ []
-IsView Behind (line ∷ lines) out =
-    (note : List ℕ) × (rest : List ℕ) × (out ≡ line ++ (note ++ rest)) × Behind line note × IsView Behind lines rest
+abbrev pub IsPrintedView : (List ℕ → List ℕ → Type 0) → List (List ℕ) → List ℕ → Type 0
+IsPrintedView Behind [] out = out ≡ []
+IsPrintedView Behind (line ∷ lines) out =
+    (note : List ℕ) × (rest : List ℕ) × (out ≡ line ++ (note ++ rest)) × Behind line note
+    × IsPrintedView Behind lines rest
 
 -- The output gained such a view of the input.
 abbrev pub Shows : (List ℕ → List ℕ → Type 0) → List ℕ → List ℕ → List ℕ → Type 0
-Shows Behind input before after = (seen : List ℕ) × (after ≡ before ++ seen) × IsView Behind (ended_lines input) seen
+Shows Behind input before after =
+    (seen : List ℕ) × (after ≡ before ++ seen) × IsPrintedView Behind (ended_lines input) seen
 
 -- Anything may stand behind a line.
 abbrev pub Anything : List ℕ → List ℕ → Type 0

@@ -1,8 +1,8 @@
 ghost use Rattle.std.specs.Prelude.{◌≡◌, ◌++◌, IfOk, OnOk, string_bytes, option_map, replicate, take, chars, length};
 ghost use Rattle.std.specs.Prelude.{slice_get, ◌==◌};
 ghost use Rattle.std.specs.List.{slice_split, flat_map};
-ghost use Rattle.fault_view.specs.Excerpts.{shown_here, width, under, caret_line, shown_line, as_text, line_at};
-ghost use Rattle.fault_view.specs.Excerpts.{has_column, quoted, excerpt_of};
+ghost use Rattle.fault_view.specs.Excerpts.{shown_here, width, under, caret_line, printed_line, as_text, line_at};
+ghost use Rattle.fault_view.specs.Excerpts.{has_column, quoted_line, excerpt_of};
 
 use bp_faults::{OutOfMemory, is_control};
 use std::alloc::{AllocError, Global};
@@ -73,7 +73,7 @@ pub fn caret_line(alloc: Global, line: &str, col: u32) -> Result<String, OutOfMe
 
 // A line as it is shown: tabs are kept, and other control characters are question marks.
 fn shown_line(alloc: Global, line: &str) -> Result<String, AllocError>
-    ensures { IfOk result (λ shown. string_bytes shown ≡ shown_line line.now) }
+    ensures { IfOk result (λ shown. string_bytes shown ≡ printed_line line.now) }
 {
     line.chars().map(|c| shown_char(c)).collect(alloc)
 }
@@ -124,7 +124,7 @@ fn has_column(line: &str, col: u32) -> bool
 
 // A line with its number, and a caret under a column.
 fn quoted(alloc: Global, line: &str, number: u32, col: u32) -> Result<String, OutOfMemory>
-    ensures { IfOk result (λ text. string_bytes text ≡ quoted line.now number col) }
+    ensures { IfOk result (λ text. string_bytes text ≡ quoted_line line.now number col) }
 {
     let number = format!(in alloc; "{number}")?;
     let mut margin = String::new(alloc);

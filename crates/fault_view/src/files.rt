@@ -2,7 +2,7 @@ ghost use Rattle.std.specs.Prelude.{◌≡◌, ◌≤◌, length, IfOk, IfSome, 
 ghost use Rattle.std.specs.Str.Lines.{lines};
 ghost use Rattle.std.specs.FinMap.{get};
 ghost use Rattle.std.specs.Option.{option_copied};
-ghost use Rattle.fault_view.specs.View.{Softly, within, text_within, AreFileNames, AreAllNames, AreModules};
+ghost use Rattle.fault_view.specs.View.{Softly, bytes_within, text_within, AreFileNames, AreAllNames, AreModules};
 
 use crate::excerpt::as_text;
 use crate::module_names::module_names as names_of_text;
@@ -21,7 +21,7 @@ pub fn source<S: Store>(
     ensures files { S.files store.new ≡ S.files store.old }
     ensures reads { S.read_faults store.old ≤ S.read_faults store.new }
     ensures exact { IfOk result (λ held. Softly (S.files store.old) (S.read_faults store.old) (S.read_faults store.new)
-        (λ files. option_map (λ bytes. bytes.items) held ≡ within limit (get files path.now))) }
+        (λ files. option_map (λ bytes. bytes.items) held ≡ bytes_within limit (get files path.now))) }
     ensures bound { IfOk result (λ held. IfSome held (λ bytes. length bytes.items ≤ limit)) }
 {
     match store.read(alloc, path, limit) {

@@ -1,7 +1,8 @@
 ghost use Rattle.std.specs.Prelude.{◌≡◌, ◌++◌, ◌≤◌, ◌^◌, [], length, IfOk, OnOk, All};
 ghost use Rattle.std.specs.List.{cons_option};
 ghost use Rattle.bp_lexer.specs.Meaning.{IsToken, IsTokenList};
-ghost use Rattle.fault_view.specs.ModuleNames.{AreNames, is_colon, is_string, is_named, first_name, names_in};
+ghost use Rattle.fault_view.specs.ModuleNames.{AreNames, is_colon_token, is_string, is_name_entry, first_name};
+ghost use Rattle.fault_view.specs.ModuleNames.{token_names};
 
 use bp_faults::{OutOfMemory, Text};
 use bp_lexer::laws::{list_or_fault, lists_have_tokens, one_token_list};
@@ -9,7 +10,7 @@ use bp_lexer::{LexError, Punct, Token, TokenKind, tokens, value_of};
 use std::alloc::Global;
 
 fn is_colon(kind: TokenKind) -> bool
-    ensures { result ≡ is_colon kind }
+    ensures { result ≡ is_colon_token kind }
 {
     match kind {
         TokenKind::Punct(mark) => matches!(mark, Punct::Colon),
@@ -26,7 +27,7 @@ fn is_string(kind: TokenKind) -> bool
 // Whether three tokens are the word `name`, a colon and a string.
 fn is_named(text: &str, word: &Token, colon: &Token, string: &Token) -> bool
     requires { IsToken word.now.place.file text.now word.now }
-    ensures { result ≡ is_named text.now word.now colon.now string.now }
+    ensures { result ≡ is_name_entry text.now word.now colon.now string.now }
 {
     word.text(text) == "name" && is_colon(colon.kind) && is_string(string.kind)
 }
@@ -57,7 +58,7 @@ fn push_name(names: &mut Vec<Text>, name: Option<Text>) -> Result<(), OutOfMemor
 // The names that begin at each of the tokens.
 fn names_in(alloc: Global, text: &str, tokens: &[Token]) -> Result<Vec<Text>, OutOfMemory>
     requires { IsTokenList 0 text.now tokens.now }
-    ensures { IfOk result (λ names. names.items ≡ names_in text.now tokens.now) }
+    ensures { IfOk result (λ names. names.items ≡ token_names text.now tokens.now) }
 {
     // Law: so each token has a text.
     lists_have_tokens();

@@ -1,5 +1,5 @@
 ghost use Rattle.std.specs.Prelude.{◌≡◌, IfOk, filter};
-ghost use Rattle.fault_view.specs.Nearest.{distance, is_near_at, reach, nearest};
+ghost use Rattle.fault_view.specs.Nearest.{distance, is_near_at, reach, nearest_names};
 ghost use Rattle.fault_view.specs.Inside.{least_reach, is_within};
 
 use crate::excerpt::char_count;
@@ -70,7 +70,7 @@ fn within_reach(
 
 /// The known names that are nearest to a word, at most three, in their order.
 pub fn nearest(alloc: Global, known: &[Text], word: &str) -> Result<Vec<Text>, OutOfMemory>
-    ensures { IfOk result (λ names. names.items ≡ nearest known.now word.now) }
+    ensures { IfOk result (λ names. names.items ≡ nearest_names known.now word.now) }
 {
     let least = least_reach(alloc, known, word)?;
     let mut names = within_reach(alloc, known, word, least)?;

@@ -3,9 +3,9 @@ ghost use Rattle.std.specs.FinMap.{get};
 ghost use Rattle.std.specs.Option.{option_copied};
 ghost use Rattle.fault_view.specs.declared.unknown.Unknown.TheVariants.{Module};
 ghost use Rattle.fault_view.specs.Known.{table_names, type_names};
-ghost use Rattle.fault_view.specs.Nearest.{nearest};
+ghost use Rattle.fault_view.specs.Nearest.{nearest_names};
 ghost use Rattle.fault_view.specs.Unknown.{unknown_of, last_parts};
-ghost use Rattle.fault_view.specs.View.{Softly, within, AreNearest, names_line, shown_of, IsNote};
+ghost use Rattle.fault_view.specs.View.{Softly, bytes_within, AreNearest, names_line, shown_of, IsNote};
 
 use crate::excerpt::excerpt;
 use crate::fault_line::FaultLine;
@@ -21,7 +21,7 @@ use std::alloc::Global;
 // The properties that are nearest to a property.
 fn nearest_properties(alloc: Global, property: &str) -> Result<Vec<Text>, OutOfMemory>
     ensures { IfOk result
-        (λ names. names.items ≡ nearest (table_names (last_parts property.now).0) (last_parts property.now).1) }
+        (λ names. names.items ≡ nearest_names (table_names (last_parts property.now).0) (last_parts property.now).1) }
 {
     let (group, word) = last_parts(alloc, property)?;
     let known = property_names(alloc, group)?;
@@ -49,7 +49,7 @@ fn nearest_modules<S: Store>(
 
 // The types that are nearest to one.
 fn nearest_types(alloc: Global, word: &str) -> Result<Vec<Text>, OutOfMemory>
-    ensures { IfOk result (λ names. names.items ≡ nearest type_names word.now) }
+    ensures { IfOk result (λ names. names.items ≡ nearest_names type_names word.now) }
 {
     let known = type_names(alloc)?;
     let names = nearest(alloc, &known, word)?;
@@ -122,7 +122,7 @@ fn shown<S: Store>(
     ensures reads { S.read_faults store.old ≤ S.read_faults store.new }
     ensures exact { IfOk result (λ shown. Softly (S.files store.old) (S.read_faults store.old) (S.read_faults store.new)
         (λ files. option_map string_bytes shown
-        ≡ shown_of (within LARGEST_ORDER_FILE (get files line.now.path)) line.now)) }
+        ≡ shown_of (bytes_within LARGEST_ORDER_FILE (get files line.now.path)) line.now)) }
 {
     match source(alloc, store, &line.path, LARGEST_ORDER_FILE)? {
         Some(bytes) => excerpt(alloc, &bytes, line.line, line.col),

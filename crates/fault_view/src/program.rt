@@ -1,6 +1,6 @@
 ghost use Rattle.std.specs.Prelude.{◌≡◌, option_map};
 ghost use Rattle.std.specs.Option.{option_copied};
-ghost use Rattle.fault_view.specs.Program.{status_of, list_of};
+ghost use Rattle.fault_view.specs.Program.{view_status, list_option};
 
 use crate::view::{End, view};
 use bp_faults::Text;
@@ -21,7 +21,7 @@ fn read_words(rt: &(impl Env + AllocGlobal)) -> io::Result<Vec<Text>> {
 
 // The list that the words name. There is none where there are no words.
 fn list_of(words: &[Text]) -> Option<Option<&Text>>
-    ensures { option_map option_copied result ≡ list_of words.now }
+    ensures { option_map option_copied result ≡ list_option words.now }
 {
     match words {
         [] => Some(None),
@@ -31,7 +31,7 @@ fn list_of(words: &[Text]) -> Option<Option<&Text>>
 }
 
 fn status(end: Result<(), End>) -> u8
-    ensures { result ≡ status_of end }
+    ensures { result ≡ view_status end }
 {
     match end {
         Ok(()) => 0,

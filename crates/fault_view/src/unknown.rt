@@ -1,6 +1,6 @@
 ghost use Rattle.std.specs.Prelude.{◌≡◌, ◌==◌, [], option_map, map, IfOk};
 ghost use Rattle.std.specs.List.{slice_split};
-ghost use Rattle.fault_view.specs.Unknown.{behind, subject_of, unknown_of, last_two, last_parts};
+ghost use Rattle.fault_view.specs.Unknown.{rest_behind, subject_of, unknown_of, last_two, last_parts};
 
 use crate::fault_line::FaultLine;
 use bp_faults::{FaultKind, OutOfMemory};
@@ -16,7 +16,7 @@ pub enum Unknown {
 
 // What stands behind the first text in the second.
 fn behind<'a>(first: &str, text: &'a str) -> Option<&'a str>
-    ensures { option_map (λ rest. rest.now) result ≡ behind first.now text.now }
+    ensures { option_map (λ rest. rest.now) result ≡ rest_behind first.now text.now }
 {
     text.strip_prefix(first)
 }

@@ -1,44 +1,31 @@
 -- How bytes are read, line after line.
-use Rattle.std.proofs.Common.{◌≡◌, ◌∙◌, ◌+◌, ◌<◌, ◌≤◌, ◌++◌, ℕ, true, List, [], ◌∷◌, length, get_or, ap, sym, subst, refl, arith, append_assoc, append-nil, length-append, Some}
+use Rattle.std.proofs.Common.{◌≡◌, ◌∙◌, ◌+◌, ◌<◌, ◌≤◌, ◌++◌, ℕ, List, [], ◌∷◌, length, get_or, ap, sym, subst, refl, arith, append_assoc, length-append, Some}
 use Rattle.std.specs.List.{flat_map}
-use Rattle.std.proofs.lemmas.Grind.{flat_map-append}
 use Rattle.std.proofs.lemmas.List.{get_or_at}
-use Rattle.module_graph.specs.GraphText.{ended}
 use Rattle.graph_picture.specs.declared.variant.Variant.{Variant}
-use Rattle.graph_picture.specs.Inside.{IsFirstLine, IsRead, PutsLine}
+use Rattle.graph_picture.specs.Inside.{IsFirstLine, IsRead}
 use Rattle.module_graph.specs.Numbered.{by_number}
-use Rattle.graph_picture.specs.Lines.{HasNo, variant_lines, lines_of, text_of}
+use Rattle.graph_picture.specs.Lines.{HasNo, variant_lines, all_variant_lines, variants_text}
 use Rattle.graph_picture.specs.Reading.{IsStray, Stops}
 use Rattle.graph_picture.proofs.Parts.{cut_once}
+use Rattle.bp_faults.specs.Characters.{ended_line}
 
 -- there are at most as many lines as bytes
-pub ended_few : (lines : List (List ℕ)) → length lines ≤ length (flat_map ended lines)
+pub ended_few : (lines : List (List ℕ)) → length lines ≤ length (flat_map ended_line lines)
 ended_few [] = omega arith
 ended_few (line ∷ lines) =
-    omega (arith, ended_few lines, length-append (ended line) (flat_map ended lines), length-append line (10 ∷ []))
+    omega (arith, ended_few lines, length-append (ended_line line) (flat_map ended_line lines), length-append line (10 ∷ []))
 
-end_apart : (line behind : List ℕ) → ended line ++ behind ≡ line ++ (10 ∷ behind)
+end_apart : (line behind : List ℕ) → ended_line line ++ behind ≡ line ++ (10 ∷ behind)
 end_apart line behind = append_assoc line (10 ∷ []) behind
 
 module _ (bytes : List ℕ) (vs : List Variant) (rest : List ℕ) (n : ℕ) (r : IsRead bytes vs rest n) where
   pub few_read : 0 < length rest → n < length bytes
   few_read some =
-      omega (arith, r.line_is, ended_few (lines_of vs), ap length r.whole, length-append (text_of vs) rest)
-
-  pub read_more : (new : List Variant) (line behind : List ℕ) → IsFirstLine rest (Some (line, behind))
-      → PutsLine vs line true new → IsRead bytes new behind (n + 1)
-  read_more new line behind f p = record {
-    each = p.1 r.each;
-    whole =
-        r.whole ∙ ap (λ (l : List ℕ). text_of vs ++ l) f.1 ∙ sym (append_assoc (text_of vs) (ended line) behind)
-        ∙ ap (λ (l : List ℕ). l ++ behind)
-        (ap (λ (l : List ℕ). text_of vs ++ l) (sym (append-nil (ended line)))
-        ∙ sym (flat_map-append ended (lines_of vs) (line ∷ [])) ∙ ap (flat_map ended) (sym p.0));
-    line_is = omega (arith, r.line_is, ap length p.0, length-append (lines_of vs) (line ∷ []));
-  }
+      omega (arith, r.line_is, ended_few (all_variant_lines vs), ap length r.whole, length-append (variants_text vs) rest)
 
   stops : 0 < length rest
-      → ((line behind : List ℕ) → HasNo 10 line → rest ≡ ended line ++ behind → IsStray vs line)
+      → ((line behind : List ℕ) → HasNo 10 line → rest ≡ ended_line line ++ behind → IsStray vs line)
       → Stops bytes (n + 1)
   stops some stray = record {
     before = vs;
@@ -75,5 +62,5 @@ lines_few k (v ∷ vs) =
     omega (arith, lines_few (k + 1) vs, length-append (variant_lines k v) (by_number variant_lines (k + 1) vs))
 
 -- there are at most as many variants as bytes
-pub variants_few : (vs : List Variant) → length vs ≤ length (text_of vs)
-variants_few vs = omega (arith, lines_few 0 vs, ended_few (lines_of vs))
+pub variants_few : (vs : List Variant) → length vs ≤ length (variants_text vs)
+variants_few vs = omega (arith, lines_few 0 vs, ended_few (all_variant_lines vs))

@@ -1,21 +1,13 @@
 -- Lines that were put one behind another, an item more.
-use Rattle.std.proofs.Common.{◌≡◌, ◌∙◌, ◌+◌, ◌<◌, ◌≤◌, ◌++◌, ℕ, Bool, true, false, cond, List, [], ◌∷◌, length, map, get_or, take, ap, arith, append-nil, length-append}
+use Rattle.std.proofs.Common.{◌≡◌, ◌∙◌, ◌+◌, ◌<◌, ◌≤◌, ◌++◌, ℕ, Bool, true, false, cond, List, [], ◌∷◌, length, map, get_or, take, ap, arith, length-append}
 use Rattle.std.specs.List.{filter, flat_map}
 use Rattle.std.proofs.lemmas.Grind.{flat_map-append}
-use Rattle.std.proofs.lemmas.List.{map-append}
 use Rattle.std.proofs.lemmas.List.Elements.{filter-append}
-use Rattle.bp_faults.proofs.Lists.{take-more}
 use Rattle.module_graph.specs.Numbered.{by_number}
 use Rattle.graph_picture.specs.declared.variant.Arrow.{Arrow}
 use Rattle.graph_picture.specs.declared.variant.Variant.{Variant}
-use Rattle.graph_picture.specs.Drawing.{arrow_drawn, is_inside, marked, shown_arrows}
+use Rattle.graph_picture.specs.Drawing.{arrow_drawn, is_inside, marked_numbers, shown_arrows}
 use Rattle.graph_picture.proofs.Numbered.{by_number_taken}
-
-pub flat_map_taken : {X : Type 0} (f : X → List ℕ) (xs : List X) (i : ℕ) (x : X) → i < length xs → x ≡ get_or xs i x
-    → flat_map f (take (i + 1) xs) ≡ flat_map f (take i xs) ++ f x
-flat_map_taken f xs i x lt is =
-    ap (flat_map f) (take-more xs i x lt is) ∙ flat_map-append f (take i xs) (x ∷ [])
-    ∙ ap (λ (l : List ℕ). flat_map f (take i xs) ++ l) (append-nil (f x))
 
 module _ (marks : List Bool) where
   abbrev pub lines_for : List (ℕ × Arrow) → List ℕ
@@ -26,14 +18,6 @@ module _ (marks : List Bool) where
       ap (flat_map arrow_drawn) (filter-append (is_inside marks) xs ys)
       ∙ flat_map-append arrow_drawn (filter (is_inside marks) xs) (filter (is_inside marks) ys)
 
-  pub arrows_taken : (n : ℕ) (edges : List Arrow) (i : ℕ) (a : Arrow) → i < length edges → a ≡ get_or edges i a
-      → lines_for (map (λ (b : Arrow). (n, b)) (take (i + 1) edges))
-      ≡ lines_for (map (λ (b : Arrow). (n, b)) (take i edges)) ++ lines_for ((n, a) ∷ [])
-  arrows_taken n edges i a lt is =
-      ap (λ (l : List Arrow). lines_for (map (λ (b : Arrow). (n, b)) l)) (take-more edges i a lt is)
-      ∙ ap lines_for (map-append (λ (b : Arrow). (n, b)) (take i edges) (a ∷ []))
-      ∙ lines_apart (map (λ (b : Arrow). (n, b)) (take i edges)) ((n, a) ∷ [])
-
   pub all_taken : (vs : List Variant) (n : ℕ) (v : Variant) → n < length vs → v ≡ get_or vs n v
       → flat_map arrow_drawn (shown_arrows (take (n + 1) vs) marks)
       ≡ flat_map arrow_drawn (shown_arrows (take n vs) marks) ++ lines_for (map (λ (b : Arrow). (n, b)) v.edges)
@@ -43,7 +27,7 @@ module _ (marks : List Bool) where
 
 -- the marked numbers, a mark more
 pub marked_taken : (marks : List Bool) (n : ℕ) (mark : Bool) → n < length marks → mark ≡ get_or marks n mark
-    → marked (take (n + 1) marks) ≡ marked (take n marks) ++ cond mark (n ∷ []) []
+    → marked_numbers (take (n + 1) marks) ≡ marked_numbers (take n marks) ++ cond mark (n ∷ []) []
 marked_taken marks n mark lt is = by_number_taken (λ k (m : Bool). cond m (k ∷ []) []) marks n mark lt is
 
 marked_step : (k : ℕ) (mark : Bool) → length (cond mark (k ∷ []) []) ≤ 1
@@ -61,5 +45,5 @@ few_from k (mark ∷ marks) =
     )
 
 -- there are at most as many marked numbers as marks
-pub marked_few : (marks : List Bool) → length (marked marks) ≤ length marks
+pub marked_few : (marks : List Bool) → length (marked_numbers marks) ≤ length marks
 marked_few marks = few_from 0 marks

@@ -9,7 +9,7 @@ use Rattle.graph_picture.specs.declared.variant.Arrow.{Arrow}
 use Rattle.graph_picture.specs.declared.variant.Variant.{Variant}
 use Rattle.graph_picture.specs.Growing.{Has, IsWithin, MarkWithin, AreTurned, Joins, target, targets_of}
 use Rattle.graph_picture.specs.Lines.{LeadInside}
-use Rattle.graph_picture.specs.Reach.{Leads, Walk, IsOf, IsNear, AreMarks, mark_at}
+use Rattle.graph_picture.specs.Reach.{ArrowLeads, StepWalk, IsOf, IsNear, AreMarks, mark_at}
 use Rattle.graph_picture.proofs.Growth.{contains_pushed, contains_none}
 use Rattle.graph_picture.proofs.Levels.{walk_more}
 use Rattle.graph_picture.proofs.Turned.{beyond}
@@ -80,26 +80,26 @@ from_target (b ∷ edges) m a (zero, lt, is) e = (0, omega arith, ap target is �
 from_target (b ∷ edges) m a (suc k, lt, is) e =
     let r = from_target edges m a (k, omega arith, is) e in (suc r.0, omega (arith, r.1), r.2)
 
-pub leads_is : (variants : List Variant) (n m : ℕ) → Has (map targets_of variants) n m ↔ Leads variants n m
+pub leads_is : (variants : List Variant) (n m : ℕ) → Has (map targets_of variants) n m ↔ ArrowLeads variants n m
 leads_is [] n m = (λ h. absurd (contains_none m h), λ h. absurd (let f : None ≡ Some h.0 = h.2 in cc))
 leads_is (v ∷ variants) zero m = (to, from)
   where
-    to : Contains (map target v.edges) m → Leads (v ∷ variants) zero m
+    to : Contains (map target v.edges) m → ArrowLeads (v ∷ variants) zero m
     to h = let r = to_target v.edges m h in (v, r.0, refl, r.1, r.2)
 
-    from : Leads (v ∷ variants) zero m → Contains (map target v.edges) m
+    from : ArrowLeads (v ∷ variants) zero m → Contains (map target v.edges) m
     from h =
         let same : v ≡ h.0 = let f : Some v ≡ Some h.0 = h.2 in cc in
         from_target v.edges m h.1 (subst (λ (w : Variant). Contains w.edges h.1) (sym same) h.3) h.4
 leads_is (v ∷ variants) (suc n) m = leads_is variants n m
 
 module _ (Step Other : ℕ → ℕ → Type 0) where
-  walk_as : ((a b : ℕ) → Step a b → Other a b) → (k n m : ℕ) → Walk Step k n m → Walk Other k n m
+  walk_as : ((a b : ℕ) → Step a b → Other a b) → (k n m : ℕ) → StepWalk Step k n m → StepWalk Other k n m
   walk_as same zero n m w = w
   walk_as same (suc k) n m w = (w.0, same n w.0 w.1, walk_as same k w.0 m w.2)
 
   -- walks turned around
-  walk_turned : ((a b : ℕ) → Step a b → Other b a) → (k n m : ℕ) → Walk Step k n m → Walk Other k m n
+  walk_turned : ((a b : ℕ) → Step a b → Other b a) → (k n m : ℕ) → StepWalk Step k n m → StepWalk Other k m n
   walk_turned same zero n m w = sym w
   walk_turned same (suc k) n m w =
       walk_more Other k m w.0 n (walk_turned same k w.0 m w.2) (same n w.0 w.1)
@@ -116,10 +116,10 @@ module _ (variants : List Variant) (focus : Focus) (starts : List ℕ)
     pub ahead_size : length ahead ≡ length variants
     ahead_size = ap length is ∙ length-map variants targets_of
 
-    leads : (n m : ℕ) → Has ahead n m → Leads variants n m
+    leads : (n m : ℕ) → Has ahead n m → ArrowLeads variants n m
     leads n m h = (leads_is variants n m).0 (subst (λ (l : List (List ℕ)). Has l n m) is h)
 
-    follows : (n m : ℕ) → Leads variants n m → Has ahead n m
+    follows : (n m : ℕ) → ArrowLeads variants n m → Has ahead n m
     follows n m h = subst (λ (l : List (List ℕ)). Has l n m) (sym is) ((leads_is variants n m).1 h)
 
     pub ahead_inside : LeadInside (length variants) variants → (n m : ℕ) → Has ahead n m → m < length ahead
@@ -145,22 +145,22 @@ module _ (variants : List Variant) (focus : Focus) (starts : List ℕ)
           to : (n : ℕ) → (mark_at marks n ≡ true) ⊎ (mark_at others n ≡ true) → IsNear variants focus n
           to n (inl t) =
               let w = (m.exact n).0 t in
-              (w.0, w.1, (of w.0).0 w.2, w.3, inl (walk_as (Has ahead) (Leads variants) leads w.1 w.0 n w.4))
+              (w.0, w.1, (of w.0).0 w.2, w.3, inl (walk_as (Has ahead) (ArrowLeads variants) leads w.1 w.0 n w.4))
           to n (inr t) =
               let w = (o.exact n).0 t in (
                 w.0,
                 w.1,
                 (of w.0).0 w.2,
                 w.3,
-                inr (walk_turned (Has back) (Leads variants) (λ a b h. leads b a ((turned.turned a b).0 h)) w.1 w.0 n w.4),
+                inr (walk_turned (Has back) (ArrowLeads variants) (λ a b h. leads b a ((turned.turned a b).0 h)) w.1 w.0 n w.4),
               )
 
           from : (n s k : ℕ) → IsOf variants focus.module s → k ≤ focus.depth
-              → Walk (Leads variants) k s n ⊎ Walk (Leads variants) k n s
+              → StepWalk (ArrowLeads variants) k s n ⊎ StepWalk (ArrowLeads variants) k n s
               → (mark_at marks n ≡ true) ⊎ (mark_at others n ≡ true)
           from n s k h le (inl w) =
               let r : IsWithin ahead starts focus.depth n =
-              (s, k, (of s).1 h, le, walk_as (Leads variants) (Has ahead) follows k s n w) in
+              (s, k, (of s).1 h, le, walk_as (ArrowLeads variants) (Has ahead) follows k s n w) in
               inl ((m.exact n).1 r)
           from n s k h le (inr w) =
               let r : IsWithin back starts focus.depth n = (
@@ -168,6 +168,6 @@ module _ (variants : List Variant) (focus : Focus) (starts : List ℕ)
                 k,
                 (of s).1 h,
                 le,
-                walk_turned (Leads variants) (Has back) (λ a b u. (turned.turned b a).1 (follows a b u)) k n s w,
+                walk_turned (ArrowLeads variants) (Has back) (λ a b u. (turned.turned b a).1 (follows a b u)) k n s w,
               ) in
               inr ((o.exact n).1 r)

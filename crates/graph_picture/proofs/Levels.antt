@@ -3,17 +3,17 @@ use Rattle.std.proofs.Common.{◌≡◌, ◌≢◌, ◌∙◌, ◌+◌, ◌≤�
 use Rattle.std.proofs.lemmas.Bool.{cases_eq}
 use Rattle.std.proofs.Math.Seq.{take-append_seam}
 use Rattle.graph_picture.specs.Growing.{Has, Grows, IsNext, IsWithin, IsLevel, MarkWithin}
-use Rattle.graph_picture.specs.Reach.{Walk, mark_at}
+use Rattle.graph_picture.specs.Reach.{StepWalk, mark_at}
 use Rattle.graph_picture.proofs.Growth.{contains_none, true_or_false, not_both}
 
 module _ (Step : ℕ → ℕ → Type 0) where
   -- one step more at the end
-  pub walk_more : (k n t m : ℕ) → Walk Step k n t → Step t m → Walk Step (suc k) n m
+  pub walk_more : (k n t m : ℕ) → StepWalk Step k n t → Step t m → StepWalk Step (suc k) n m
   walk_more zero n t m w s = (m, subst (λ (x : ℕ). Step x m) (sym w) s, refl)
   walk_more (suc k) n t m w s = (w.0, w.1, walk_more k w.0 t m w.2 s)
 
   -- the last step
-  pub walk_last : (k n m : ℕ) → Walk Step (suc k) n m → (t : ℕ) × Walk Step k n t × Step t m
+  pub walk_last : (k n m : ℕ) → StepWalk Step (suc k) n m → (t : ℕ) × StepWalk Step k n t × Step t m
   walk_last zero n m w = (n, refl, subst (Step n) w.2 w.1)
   walk_last (suc k) n m w = let r = walk_last k w.0 m w.2 in (r.0, (w.0, w.1, r.1), r.2)
 
@@ -43,7 +43,7 @@ module _ (lists : List (List ℕ)) (starts : List ℕ) where
       start : (n : ℕ) → mark_at marks n ≡ true → Contains starts n
       start n t = from n ((g.marks n).0 t)
 
-      stay : (k s n : ℕ) → k ≤ 0 → Walk (Has lists) k s n → s ≡ n
+      stay : (k s n : ℕ) → k ≤ 0 → StepWalk (Has lists) k s n → s ≡ n
       stay zero s n le w = w
       stay (suc k) s n le w = absurd (omega arith)
 
@@ -64,11 +64,11 @@ module _ (lists : List (List ℕ)) (starts : List ℕ) where
       stepped t n h (inl c) = (g.marks n).1 (inr (t, c, h))
       stepped t n h (inr e) = (g.marks n).1 (inl e)
 
-      all : (n s k : ℕ) → Contains starts s → k ≤ d + 1 → Walk (Has lists) k s n → (k ≡ d + 1) ⊎ (k ≢ d + 1)
+      all : (n s k : ℕ) → Contains starts s → k ≤ d + 1 → StepWalk (Has lists) k s n → (k ≡ d + 1) ⊎ (k ≢ d + 1)
           → mark_at marks' n ≡ true
       all n s k c le w (inr ne) = (g.marks n).1 (inl (l.whole n (s, k, c, omega arith, w)))
       all n s k c le w (inl e) =
-          let r = walk_last (Has lists) d s n (subst (λ (j : ℕ). Walk (Has lists) j s n) (let u : k ≡ suc d = omega arith in u) w) in
+          let r = walk_last (Has lists) d s n (subst (λ (j : ℕ). StepWalk (Has lists) j s n) (let u : k ≡ suc d = omega arith in u) w) in
           let before : IsWithin lists starts d r.0 = (s, d, c, omega arith, r.1) in
           let t = l.whole r.0 before in
           stepped r.0 n r.2 (l.done r.0 n t r.2)
@@ -93,9 +93,6 @@ module _ (lists : List (List ℕ)) (starts : List ℕ) where
           past n m t h (inl e) = inr (stepped n m h (l.done n m e h))
           past n m t h (inr e) = inl ((g.fresh n).1 (inr (t, e)))
 
-    pub level_is : MarkWithin lists starts d marks
-    level_is = record { size = l.size; exact = λ n. (l.sound n, l.whole n) }
-
     -- where nothing is in front, nothing more is reached
     module _ (none : front ≡ []) where
       closed : (n m : ℕ) → mark_at marks n ≡ true → Has lists n m → mark_at marks m ≡ true
@@ -105,7 +102,7 @@ module _ (lists : List (List ℕ)) (starts : List ℕ) where
           by (inl c) = absurd (contains_none n (subst (λ (f : List ℕ). Contains f n) none c))
           by (inr e) = e
 
-      along : (k n m : ℕ) → mark_at marks n ≡ true → Walk (Has lists) k n m → mark_at marks m ≡ true
+      along : (k n m : ℕ) → mark_at marks n ≡ true → StepWalk (Has lists) k n m → mark_at marks m ≡ true
       along zero n m t w = subst (λ (x : ℕ). mark_at marks x ≡ true) w t
       along (suc k) n m t w = along k w.0 m (closed n w.0 t w.1) w.2
 

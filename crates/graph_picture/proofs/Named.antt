@@ -6,7 +6,7 @@ use Rattle.std.specs.List.{AllByRecursion}
 use Rattle.graph_picture.specs.declared.variant.Arrow.{Arrow}
 use Rattle.graph_picture.specs.declared.variant.Variant.{Variant}
 use Rattle.graph_picture.specs.Inside.{IsVariantOf}
-use Rattle.graph_picture.specs.Lines.{HasNo, IsWord, variant_line}
+use Rattle.graph_picture.specs.Lines.{HasNo, IsPrintedWord, variant_line}
 use Rattle.graph_picture.proofs.Parts.{utf8_sides, has_no_left, has_no_right, cut_once, from_places}
 
 module _ (n : ℕ) (line head : List ℕ) (head_is : head ≡ decimal n ++ (32 ∷ [])) where
@@ -44,12 +44,12 @@ module _ (n : ℕ) (line head : List ℕ) (head_is : head ≡ decimal n ++ (32 �
           let names_end : HasNo 10 names = has_no_right 10 head names (subst (HasNo 10) whole ends) in
           let joined : HasNo 10 (owner ++ (32 ∷ own)) = subst (HasNo 10) parts names_end in (
             record {
-              owner = subst IsWord (sym o) (record {
+              owner = subst IsPrintedWord (sym o) (record {
                 text = texts.0;
                 no_space = from_places 32 owner first;
                 no_end = has_no_left 10 owner (32 ∷ own) joined;
               });
-              variation = subst IsWord (sym w) (record {
+              variation = subst IsPrintedWord (sym w) (record {
                 text = texts.1;
                 no_space = from_places 32 own plain;
                 no_end = has_no_right 10 (32 ∷ []) own (has_no_right 10 owner (32 ∷ own) joined);

@@ -12,7 +12,7 @@ use Rattle.module_graph.specs.Numbered.{by_number}
 use Rattle.graph_picture.specs.declared.clusters.Cluster.{Cluster}
 use Rattle.graph_picture.specs.declared.variant.Arrow.{Arrow}
 use Rattle.graph_picture.specs.declared.variant.Variant.{Variant}
-use Rattle.graph_picture.specs.Drawing.{clusters_behind, is_inside, marked, module_at, numbers_in, put, shown_clusters}
+use Rattle.graph_picture.specs.Drawing.{clusters_behind, is_inside, marked_numbers, module_name_at, numbers_in, clusters_with, shown_clusters}
 use Rattle.graph_picture.specs.Laws.{HasOneModule, Differ, EachVariantStandsOnce, EachModuleHasOneCluster}
 use Rattle.graph_picture.specs.Laws.{EachEdgeIsShownOnce}
 use Rattle.graph_picture.specs.Reach.{IsKept, mark_at}
@@ -76,16 +76,16 @@ module _ (vs : List Variant) where
   joined = flat_map numbers_in
 
   -- a number that is put into the clusters is one more in them
-  joined_put : (n : ℕ) (cs : List Cluster) → IsPermutation (joined cs ++ n ∷ []) (joined (put vs n cs))
+  joined_put : (n : ℕ) (cs : List Cluster) → IsPermutation (joined cs ++ n ∷ []) (joined (clusters_with vs n cs))
   joined_put n [] = IsPermutation-refl (n ∷ [])
-  joined_put n (c ∷ cs) = by (joined_put n cs) (bytes_eq (module_at vs n) (module_at vs c.first))
+  joined_put n (c ∷ cs) = by (joined_put n cs) (bytes_eq (module_name_at vs n) (module_name_at vs c.first))
     where
       whole : numbers_in c ++ (joined cs ++ n ∷ []) ≡ joined (c ∷ cs) ++ n ∷ []
       whole = sym (append_assoc (numbers_in c) (joined cs) (n ∷ []))
 
-      by : IsPermutation (joined cs ++ n ∷ []) (joined (put vs n cs)) → (b : Bool)
+      by : IsPermutation (joined cs ++ n ∷ []) (joined (clusters_with vs n cs)) → (b : Bool)
           → IsPermutation (joined (c ∷ cs) ++ n ∷ [])
-          (joined (cond b (record { first = c.first; others = c.others ++ n ∷ [] } ∷ cs) (c ∷ put vs n cs)))
+          (joined (cond b (record { first = c.first; others = c.others ++ n ∷ [] } ∷ cs) (c ∷ clusters_with vs n cs)))
       by rest true =
           subst (λ (l : List ℕ). IsPermutation l ((numbers_in c ++ n ∷ []) ++ joined cs)) whole
           (subst (IsPermutation (numbers_in c ++ (joined cs ++ n ∷ [])))
@@ -93,19 +93,19 @@ module _ (vs : List Variant) where
           (IsPermutation-append_right (numbers_in c) (joined cs ++ n ∷ []) (n ∷ joined cs)
           (IsPermutation-append_comm (joined cs) (n ∷ []))))
       by rest false =
-          subst (λ (l : List ℕ). IsPermutation l (numbers_in c ++ joined (put vs n cs))) whole
-          (IsPermutation-append_right (numbers_in c) (joined cs ++ n ∷ []) (joined (put vs n cs)) rest)
+          subst (λ (l : List ℕ). IsPermutation l (numbers_in c ++ joined (clusters_with vs n cs))) whole
+          (IsPermutation-append_right (numbers_in c) (joined cs ++ n ∷ []) (joined (clusters_with vs n cs)) rest)
 
   joined_behind : (cs : List Cluster) (ns : List ℕ) → IsPermutation (joined cs ++ ns) (joined (clusters_behind vs cs ns))
   joined_behind cs [] =
       subst (λ (l : List ℕ). IsPermutation l (joined cs)) (sym (append-nil (joined cs))) (IsPermutation-refl (joined cs))
   joined_behind cs (n ∷ ns) =
-      subst (λ (l : List ℕ). IsPermutation l (joined (clusters_behind vs (put vs n cs) ns)))
+      subst (λ (l : List ℕ). IsPermutation l (joined (clusters_behind vs (clusters_with vs n cs) ns)))
       (append_assoc (joined cs) (n ∷ []) ns)
-      (IsPermutation-trans ((joined cs ++ n ∷ []) ++ ns) (joined (put vs n cs) ++ ns)
-      (joined (clusters_behind vs (put vs n cs) ns))
-      (IsPermutation-append_left ns (joined cs ++ n ∷ []) (joined (put vs n cs)) (joined_put n cs))
-      (joined_behind (put vs n cs) ns))
+      (IsPermutation-trans ((joined cs ++ n ∷ []) ++ ns) (joined (clusters_with vs n cs) ++ ns)
+      (joined (clusters_behind vs (clusters_with vs n cs) ns))
+      (IsPermutation-append_left ns (joined cs ++ n ∷ []) (joined (clusters_with vs n cs)) (joined_put n cs))
+      (joined_behind (clusters_with vs n cs) ns))
 
   all_put : (P : ℕ → Type 0) (ns : List ℕ) (n : ℕ) → AllByRecursion P ns → P n → AllByRecursion P (ns ++ n ∷ [])
   all_put P [] n all p = (p, tt)
@@ -113,29 +113,29 @@ module _ (vs : List Variant) where
 
   -- each cluster has one module still
   one_module : (n : ℕ) (cs : List Cluster) → AllByRecursion (HasOneModule vs) cs
-      → AllByRecursion (HasOneModule vs) (put vs n cs)
+      → AllByRecursion (HasOneModule vs) (clusters_with vs n cs)
   one_module n [] all = (tt, tt)
   one_module n (c ∷ cs) all =
-      by (one_module n cs all.1) (bytes_eq (module_at vs n) (module_at vs c.first)) (same_bytes (module_at vs n) (module_at vs c.first))
+      by (one_module n cs all.1) (bytes_eq (module_name_at vs n) (module_name_at vs c.first)) (same_bytes (module_name_at vs n) (module_name_at vs c.first))
     where
-      by : AllByRecursion (HasOneModule vs) (put vs n cs) → (b : Bool)
-          → (b ≡ true → module_at vs n ≡ module_at vs c.first)
+      by : AllByRecursion (HasOneModule vs) (clusters_with vs n cs) → (b : Bool)
+          → (b ≡ true → module_name_at vs n ≡ module_name_at vs c.first)
           → AllByRecursion (HasOneModule vs)
-          (cond b (record { first = c.first; others = c.others ++ n ∷ [] } ∷ cs) (c ∷ put vs n cs))
+          (cond b (record { first = c.first; others = c.others ++ n ∷ [] } ∷ cs) (c ∷ clusters_with vs n cs))
       by rest true same =
-          (all_put (λ k. module_at vs k ≡ module_at vs c.first) c.others n all.0 (same refl), all.1)
+          (all_put (λ k. module_name_at vs k ≡ module_name_at vs c.first) c.others n all.0 (same refl), all.1)
       by rest false same = (all.0, rest)
 
   -- a cluster differs from the others, and from that of one more variant
-  differs_put : (c : Cluster) (n : ℕ) (cs : List Cluster) → module_at vs c.first ≢ module_at vs n
-      → AllByRecursion (Differ vs c) cs → AllByRecursion (Differ vs c) (put vs n cs)
+  differs_put : (c : Cluster) (n : ℕ) (cs : List Cluster) → module_name_at vs c.first ≢ module_name_at vs n
+      → AllByRecursion (Differ vs c) cs → AllByRecursion (Differ vs c) (clusters_with vs n cs)
   differs_put c n [] other all = (other, tt)
   differs_put c n (d ∷ cs) other all =
-      by (differs_put c n cs other all.1) (bytes_eq (module_at vs n) (module_at vs d.first))
+      by (differs_put c n cs other all.1) (bytes_eq (module_name_at vs n) (module_name_at vs d.first))
     where
-      by : AllByRecursion (Differ vs c) (put vs n cs) → (b : Bool)
+      by : AllByRecursion (Differ vs c) (clusters_with vs n cs) → (b : Bool)
           → AllByRecursion (Differ vs c)
-          (cond b (record { first = d.first; others = d.others ++ n ∷ [] } ∷ cs) (d ∷ put vs n cs))
+          (cond b (record { first = d.first; others = d.others ++ n ∷ [] } ∷ cs) (d ∷ clusters_with vs n cs))
       by rest true = all
       by rest false = (all.0, rest)
 
@@ -143,14 +143,14 @@ module _ (vs : List Variant) where
   Apart [] = Unit {0}
   Apart (c ∷ cs) = AllByRecursion (Differ vs c) cs × Apart cs
 
-  apart_put : (n : ℕ) (cs : List Cluster) → Apart cs → Apart (put vs n cs)
+  apart_put : (n : ℕ) (cs : List Cluster) → Apart cs → Apart (clusters_with vs n cs)
   apart_put n [] apart = (tt, tt)
   apart_put n (c ∷ cs) apart =
-      by (apart_put n cs apart.1) (bytes_eq (module_at vs n) (module_at vs c.first))
-      (bytes_eq-Decides (module_at vs n) (module_at vs c.first)).1
+      by (apart_put n cs apart.1) (bytes_eq (module_name_at vs n) (module_name_at vs c.first))
+      (bytes_eq-Decides (module_name_at vs n) (module_name_at vs c.first)).1
     where
-      by : Apart (put vs n cs) → (b : Bool) → (module_at vs n ≡ module_at vs c.first → b ≡ true)
-          → Apart (cond b (record { first = c.first; others = c.others ++ n ∷ [] } ∷ cs) (c ∷ put vs n cs))
+      by : Apart (clusters_with vs n cs) → (b : Bool) → (module_name_at vs n ≡ module_name_at vs c.first → b ≡ true)
+          → Apart (cond b (record { first = c.first; others = c.others ++ n ∷ [] } ∷ cs) (c ∷ clusters_with vs n cs))
       by rest true same = apart
       by rest false same = (
         differs_put c n cs (λ e. let f : false ≡ true = same (sym e) in cc) apart.0,
@@ -160,7 +160,7 @@ module _ (vs : List Variant) where
   both_behind : (cs : List Cluster) (ns : List ℕ) → AllByRecursion (HasOneModule vs) cs → Apart cs
       → AllByRecursion (HasOneModule vs) (clusters_behind vs cs ns) × Apart (clusters_behind vs cs ns)
   both_behind cs [] all apart = (all, apart)
-  both_behind cs (n ∷ ns) all apart = both_behind (put vs n cs) ns (one_module n cs all) (apart_put n cs apart)
+  both_behind cs (n ∷ ns) all apart = both_behind (clusters_with vs n cs) ns (one_module n cs all) (apart_put n cs apart)
 
   pairs : (cs : List Cluster) → Apart cs → AllPairs (Differ vs) cs
   pairs [] apart i j d lt le = absurd (omega arith)
@@ -170,27 +170,27 @@ module _ (vs : List Variant) where
 
 pub each_variant_stands_once : EachVariantStandsOnce
 each_variant_stands_once vs focus marks m = record {
-  rising = marked marks;
-  rise = increasing 0 (marked marks) (marked_rise 0 marks);
+  rising = marked_numbers marks;
+  rise = increasing 0 (marked_numbers marks) (marked_rise 0 marks);
   exact = λ n. (to n, from n);
-  same = joined_behind vs [] (marked marks);
+  same = joined_behind vs [] (marked_numbers marks);
 }
   where
-    to : (n : ℕ) → Contains (marked marks) n → (n < length vs) × IsKept vs focus n
+    to : (n : ℕ) → Contains (marked_numbers marks) n → (n < length vs) × IsKept vs focus n
     to n h =
         let r = marked_to 0 marks n h in
         let set : mark_at marks n ≡ true = ap (mark_at marks) (let e : n ≡ r.0 = omega (arith, r.1) in e) ∙ r.2 in
         let inside : n < length vs = omega (arith, m.size, marked_inside marks n set) in
         (inside, (m.exact n inside).0 set)
 
-    from : (n : ℕ) → (n < length vs) × IsKept vs focus n → Contains (marked marks) n
+    from : (n : ℕ) → (n < length vs) × IsKept vs focus n → Contains (marked_numbers marks) n
     from n h =
-        subst (Contains (marked marks)) (let e : 0 + n ≡ n = omega arith in e)
+        subst (Contains (marked_numbers marks)) (let e : 0 + n ≡ n = omega arith in e)
         (marked_back 0 marks n ((m.exact n h.0).1 h.1))
 
 pub each_module_has_one_cluster : EachModuleHasOneCluster
 each_module_has_one_cluster vs marks =
-    let r = both_behind vs [] (marked marks) tt tt in
+    let r = both_behind vs [] (marked_numbers marks) tt tt in
     (r.0, pairs vs (shown_clusters vs marks) r.1)
 
 -- the edges at a number are the edges

@@ -9,15 +9,16 @@ use Rattle.bp_faults.proofs.Lists.{all_map, all_pushed}
 use Rattle.module_graph.specs.declared.graph.EdgeKind.{EdgeKind}
 use Rattle.module_graph.specs.declared.graph.EdgeKind.TheVariants.{Defaults, Whole, Static, Shared, Header, DataBin}
 use Rattle.module_graph.specs.declared.graph.EdgeKind.TheVariants.{Sources}
-use Rattle.module_graph.specs.GraphText.{ended, kind_word}
+use Rattle.module_graph.specs.GraphText.{kind_word}
 use Rattle.module_graph.specs.Numbered.{by_number}
 use Rattle.graph_picture.specs.declared.variant.Arrow.{Arrow}
 use Rattle.graph_picture.specs.declared.variant.Variant.{Variant}
 use Rattle.graph_picture.specs.Laws.{OneReading}
-use Rattle.graph_picture.specs.Lines.{HasNo, IsVariant, IsWord, arrow_line, lines_of, text_of, variant_line, variant_lines}
+use Rattle.graph_picture.specs.Lines.{HasNo, IsVariant, IsPrintedWord, arrow_line, all_variant_lines, variants_text, variant_line, variant_lines}
 use Rattle.graph_picture.proofs.Numbered.{by_number-append}
 use Rattle.graph_picture.proofs.Parts.{cut_once}
 use Rattle.graph_picture.proofs.Puts.{starts}
+use Rattle.bp_faults.specs.Characters.{ended_line}
 
 -- no byte of these is b
 abbrev Lacks : ℕ → List ℕ → Type 0
@@ -122,15 +123,15 @@ not_both k v a lt e =
 
 -- the lines of a text
 one_lines : (ls ms : List (List ℕ)) → AllByRecursion (Lacks 10) ls → AllByRecursion (Lacks 10) ms
-    → flat_map ended ls ≡ flat_map ended ms → ls ≡ ms
+    → flat_map ended_line ls ≡ flat_map ended_line ms → ls ≡ ms
 one_lines [] [] h k e = refl
 one_lines [] (m ∷ ms) h k e =
-    absurd (omega (arith, ap length (e ∙ append_assoc m (10 ∷ []) (flat_map ended ms)), length-append m (10 ∷ flat_map ended ms)))
+    absurd (omega (arith, ap length (e ∙ append_assoc m (10 ∷ []) (flat_map ended_line ms)), length-append m (10 ∷ flat_map ended_line ms)))
 one_lines (l ∷ ls) [] h k e =
-    absurd (omega (arith, ap length (sym e ∙ append_assoc l (10 ∷ []) (flat_map ended ls)), length-append l (10 ∷ flat_map ended ls)))
+    absurd (omega (arith, ap length (sym e ∙ append_assoc l (10 ∷ []) (flat_map ended_line ls)), length-append l (10 ∷ flat_map ended_line ls)))
 one_lines (l ∷ ls) (m ∷ ms) h k e =
-    let r = cut_once 10 l (flat_map ended ls) m (flat_map ended ms) (has_no 10 l h.0) (has_no 10 m k.0)
-    (sym (append_assoc l (10 ∷ []) (flat_map ended ls)) ∙ e ∙ append_assoc m (10 ∷ []) (flat_map ended ms)) in
+    let r = cut_once 10 l (flat_map ended_line ls) m (flat_map ended_line ms) (has_no 10 l h.0) (has_no 10 m k.0)
+    (sym (append_assoc l (10 ∷ []) (flat_map ended_line ls)) ∙ e ∙ append_assoc m (10 ∷ []) (flat_map ended_line ms)) in
     let rest = one_lines ls ms h.1 k.1 r.1 in
     λ i. r.0 i ∷ rest i
 
@@ -201,5 +202,5 @@ one_variants k (v ∷ vs) (w ∷ ws) le ge h j e =
 pub one_reading : OneReading
 one_reading vs ws g h e =
     one_variants 0 vs ws (omega (arith, g.few)) (omega (arith, h.few)) g.each h.each
-    (one_lines (lines_of vs) (lines_of ws) (lines_lack 0 vs (omega (arith, g.few)) g.each)
+    (one_lines (all_variant_lines vs) (all_variant_lines ws) (lines_lack 0 vs (omega (arith, g.few)) g.each)
     (lines_lack 0 ws (omega (arith, h.few)) h.each) e)

@@ -7,7 +7,7 @@ use Rattle.module_graph.specs.Numbered.{by_number}
 use Rattle.graph_picture.specs.declared.variant.Arrow.{Arrow}
 use Rattle.graph_picture.specs.declared.variant.Variant.{Variant}
 use Rattle.graph_picture.specs.Inside.{FindsFirst, IsOutside}
-use Rattle.graph_picture.specs.Lines.{LeadInside, variant_line, arrow_line, variant_lines, lines_of}
+use Rattle.graph_picture.specs.Lines.{LeadInside, variant_line, arrow_line, variant_lines, all_variant_lines}
 use Rattle.graph_picture.proofs.Numbered.{by_number-append, by_number_more}
 
 -- a list before a place, there, and behind it
@@ -20,39 +20,32 @@ pub first_is : (count : ℕ) (edges : List Arrow) (i : ℕ) (a : Arrow) → i < 
 first_is count edges i a lt is inside out =
     (take i edges, a, drop (i + 1) edges, cut_at edges i a lt is, length-take-le i edges (omega arith), inside, out)
 
-pub inside_more : (count : ℕ) (edges : List Arrow) (i : ℕ) (a : Arrow) → i < length edges → a ≡ get_or edges i a
-    → AllByRecursion (λ (b : Arrow). b.to < count) (take i edges) → a.to < count
-    → AllByRecursion (λ (b : Arrow). b.to < count) (take (i + 1) edges)
-inside_more count edges i a lt is inside here =
-    subst (AllByRecursion (λ (b : Arrow). b.to < count)) (sym (take-more edges i a lt is))
-    (all_pushed (λ (b : Arrow). b.to < count) (take i edges) a inside here)
-
 module _ (vs : List Variant) (i : ℕ) (v : Variant) (lt : i < length vs) (is : v ≡ get_or vs i v) where
   abbrev later : List (List ℕ)
   later = by_number variant_lines (i + 1) (drop (i + 1) vs)
 
-  lines_cut : lines_of vs ≡ lines_of (take i vs) ++ (variant_lines i v ++ later)
+  lines_cut : all_variant_lines vs ≡ all_variant_lines (take i vs) ++ (variant_lines i v ++ later)
   lines_cut =
-      ap lines_of (cut_at vs i v lt is) ∙ by_number-append variant_lines 0 (take i vs) (v ∷ drop (i + 1) vs)
-      ∙ ap (λ (n : ℕ). lines_of (take i vs) ++ by_number variant_lines n (v ∷ drop (i + 1) vs))
+      ap all_variant_lines (cut_at vs i v lt is) ∙ by_number-append variant_lines 0 (take i vs) (v ∷ drop (i + 1) vs)
+      ∙ ap (λ (n : ℕ). all_variant_lines (take i vs) ++ by_number variant_lines n (v ∷ drop (i + 1) vs))
       (let e : 0 + length (take i vs) ≡ i = omega (arith, length-take-le i vs (omega arith)) in e)
 
-  pub lines_next : length (lines_of (take (i + 1) vs)) ≡ length (lines_of (take i vs)) + (length v.edges + 1)
+  pub lines_next : length (all_variant_lines (take (i + 1) vs)) ≡ length (all_variant_lines (take i vs)) + (length v.edges + 1)
   lines_next =
       omega (
         arith,
-        ap (λ (l : List Variant). length (lines_of l)) (take-more vs i v lt is),
+        ap (λ (l : List Variant). length (all_variant_lines l)) (take-more vs i v lt is),
         ap length (by_number_more variant_lines (take i vs) v),
-        length-append (lines_of (take i vs)) (variant_lines (length (take i vs)) v),
+        length-append (all_variant_lines (take i vs)) (variant_lines (length (take i vs)) v),
         length-map v.edges arrow_line,
       )
 
-  pub lines_room : length (lines_of (take i vs)) + (length v.edges + 1) ≤ length (lines_of vs)
+  pub lines_room : length (all_variant_lines (take i vs)) + (length v.edges + 1) ≤ length (all_variant_lines vs)
   lines_room =
       omega (
         arith,
         ap length lines_cut,
-        length-append (lines_of (take i vs)) (variant_lines i v ++ later),
+        length-append (all_variant_lines (take i vs)) (variant_lines i v ++ later),
         length-append (variant_lines i v) later,
         length-map v.edges arrow_line,
       )
@@ -63,14 +56,14 @@ module _ (vs : List Variant) (i : ℕ) (v : Variant) (lt : i < length vs) (is : 
       subst (LeadInside (length vs)) (sym (take-more vs i v lt is))
       (all_pushed (λ (v : Variant). AllByRecursion (λ (a : Arrow). a.to < length vs) v.edges) (take i vs) v before here)
 
-  pub outside_is : (j n : ℕ) → LeadInside (length vs) (take i vs) → n ≡ length (lines_of (take i vs))
+  pub outside_is : (j n : ℕ) → LeadInside (length vs) (take i vs) → n ≡ length (all_variant_lines (take i vs))
       → FindsFirst (length vs) v.edges (Some j) → IsOutside vs (n + j + 2)
   outside_is j n inside n_is f =
       let edges = f.0 in
       let cut : Variant = record v { edges = edges } in
-      let same : lines_of (take i vs ++ cut ∷ []) ≡ lines_of (take i vs) ++ variant_lines i cut =
+      let same : all_variant_lines (take i vs ++ cut ∷ []) ≡ all_variant_lines (take i vs) ++ variant_lines i cut =
       by_number_more variant_lines (take i vs) cut
-      ∙ ap (λ (k : ℕ). lines_of (take i vs) ++ variant_lines k cut) (length-take-le i vs (omega arith)) in
+      ∙ ap (λ (k : ℕ). all_variant_lines (take i vs) ++ variant_lines k cut) (length-take-le i vs (omega arith)) in
       let tail : List (List ℕ) = map arrow_line f.2 in
       let whole : variant_lines i v ≡ variant_lines i cut ++ (arrow_line f.1 ∷ tail) =
       ap (λ (es : List Arrow). variant_line i v ∷ map arrow_line es) f.3
@@ -80,10 +73,10 @@ module _ (vs : List Variant) (i : ℕ) (v : Variant) (lt : i < length vs) (is : 
         arrow = f.1;
         behind = tail ++ later;
         lines =
-            lines_cut ∙ ap (λ (ls : List (List ℕ)). lines_of (take i vs) ++ (ls ++ later)) whole
-            ∙ ap (λ (ls : List (List ℕ)). lines_of (take i vs) ++ ls)
+            lines_cut ∙ ap (λ (ls : List (List ℕ)). all_variant_lines (take i vs) ++ (ls ++ later)) whole
+            ∙ ap (λ (ls : List (List ℕ)). all_variant_lines (take i vs) ++ ls)
             (append_assoc (variant_lines i cut) (arrow_line f.1 ∷ tail) later)
-            ∙ sym (append_assoc (lines_of (take i vs)) (variant_lines i cut) (arrow_line f.1 ∷ (tail ++ later)))
+            ∙ sym (append_assoc (all_variant_lines (take i vs)) (variant_lines i cut) (arrow_line f.1 ∷ (tail ++ later)))
             ∙ ap (λ (ls : List (List ℕ)). ls ++ (arrow_line f.1 ∷ (tail ++ later))) (sym same);
         inside =
             all_pushed (λ (v : Variant). AllByRecursion (λ (a : Arrow). a.to < length vs) v.edges) (take i vs) cut
@@ -95,7 +88,7 @@ module _ (vs : List Variant) (i : ℕ) (v : Variant) (lt : i < length vs) (is : 
               n_is,
               f.4,
               ap length same,
-              length-append (lines_of (take i vs)) (variant_lines i cut),
+              length-append (all_variant_lines (take i vs)) (variant_lines i cut),
               length-map edges arrow_line,
             );
       }

@@ -7,16 +7,17 @@ use Rattle.std.proofs.lemmas.Str.{IsUtf8-from_ascii}
 use Rattle.bp_faults.proofs.Lists.{all_map}
 use Rattle.module_graph.specs.declared.graph.Edge.{Edge}
 use Rattle.module_graph.specs.declared.graph.Node.{Node}
-use Rattle.module_graph.specs.GraphText.{dashed, edge_line, ended, node_line, node_lines}
+use Rattle.module_graph.specs.GraphText.{dashed_name, edge_line, node_line, node_lines}
 use Rattle.module_graph.specs.Graphs.{NameNodes}
 use Rattle.module_graph.specs.Laws.{VariantNamesArePlain}
-use Rattle.module_graph.specs.Names.{is_plain, name_at, variant_name_of}
+use Rattle.module_graph.specs.Names.{is_label_byte, name_at, variant_name_of}
 use Rattle.module_graph.specs.Numbered.{by_number}
 use Rattle.graph_picture.specs.declared.variant.Arrow.{Arrow}
 use Rattle.graph_picture.specs.declared.variant.Variant.{Variant}
 use Rattle.graph_picture.specs.Laws.{PrintedGraphsAreGraphs}
-use Rattle.graph_picture.specs.Lines.{IsGraph, IsVariant, IsWord, LeadInside, arrow_line, text_of, variant_lines}
+use Rattle.graph_picture.specs.Lines.{IsGraph, IsVariant, IsPrintedWord, LeadInside, arrow_line, variants_text, variant_lines}
 use Rattle.graph_picture.specs.Printed.{arrow_for, variant_for, variants_for}
+use Rattle.bp_faults.specs.Characters.{ended_line}
 
 -- characters of words
 abbrev IsFine : ℕ → Type 0
@@ -27,7 +28,7 @@ ascii [] all i = omega arith
 ascii (b ∷ bs) all zero = all.0.0
 ascii (b ∷ bs) all (suc i) = ascii bs all.1 i
 
-fine_word : (bs : List ℕ) → AllByRecursion IsFine bs → IsWord bs
+fine_word : (bs : List ℕ) → AllByRecursion IsFine bs → IsPrintedWord bs
 fine_word bs all = record {
   text = IsUtf8-from_ascii bs (ascii bs all);
   no_space = All-from_recursion (λ b. b ≢ 32) bs (all_map IsFine (λ b. b ≢ 32) (λ b f. f.1) bs all);
@@ -35,16 +36,16 @@ fine_word bs all = record {
 }
 
 abbrev IsPlain : ℕ → Type 0
-IsPlain c = is_plain c ≡ true
+IsPlain c = is_label_byte c ≡ true
 
 plain_fine : (c : ℕ) → IsPlain c → IsFine c
 plain_fine c h = (
   (let f : c < 128 = grind (arith, nat_tests) in f),
-  (λ e. let f : is_plain c ≡ false = ap is_plain e in cc),
-  λ e. let f : is_plain c ≡ false = ap is_plain e in cc,
+  (λ e. let f : is_label_byte c ≡ false = ap is_label_byte e in cc),
+  λ e. let f : is_label_byte c ≡ false = ap is_label_byte e in cc,
 )
 
-plain_word : (name : List ℕ) → AllByRecursion IsPlain name → IsWord (dashed name)
+plain_word : (name : List ℕ) → AllByRecursion IsPlain name → IsPrintedWord (dashed_name name)
 plain_word [] all =
     fine_word (45 ∷ []) ((omega arith, (λ e. absurd (omega (arith, e))), λ e. absurd (omega (arith, e))), tt)
 plain_word (c ∷ name) all = fine_word (c ∷ name) (all_map IsPlain IsFine plain_fine (c ∷ name) all)
@@ -80,7 +81,7 @@ module _ {P : Type 0} (names : List (List ℕ)) where
 
   module _ (plain : VariantNamesArePlain) (count : ℕ) (few : count ≤ 2 ^ 32) where
     all_variants : (k : ℕ) (nodes : List (Node P))
-        → ((n : ℕ) → k ≤ n → n < k + length nodes → IsWord (name_at names n))
+        → ((n : ℕ) → k ≤ n → n < k + length nodes → IsPrintedWord (name_at names n))
         → AllByRecursion (λ (x : Node P). AllByRecursion (λ (e : Edge). e.to.0 < count) x.edges) nodes
         → AllByRecursion IsVariant (from k nodes) × LeadInside count (from k nodes)
     all_variants k [] words ends = (tt, tt)
@@ -107,5 +108,5 @@ printed_graphs_are_graphs plain nodes names ends few words =
         ends = subst (λ (m : ℕ). LeadInside m (variants_for names nodes)) (sym same) all.1;
         few = omega (arith, same, few);
       },
-      ap (flat_map ended) (lines_are names 0 nodes),
+      ap (flat_map ended_line) (lines_are names 0 nodes),
     )

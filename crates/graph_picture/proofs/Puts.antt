@@ -17,7 +17,7 @@ use Rattle.module_graph.specs.Numbered.{by_number}
 use Rattle.graph_picture.specs.declared.variant.Arrow.{Arrow}
 use Rattle.graph_picture.specs.declared.variant.Variant.{Variant}
 use Rattle.graph_picture.specs.Inside.{PutsLine}
-use Rattle.graph_picture.specs.Lines.{IsWord, IsVariant, variant_line, arrow_line, variant_lines, lines_of}
+use Rattle.graph_picture.specs.Lines.{IsPrintedWord, IsVariant, variant_line, arrow_line, variant_lines, all_variant_lines}
 use Rattle.graph_picture.specs.Reading.{IsStray}
 use Rattle.graph_picture.proofs.Numbered.{by_number_more}
 
@@ -25,8 +25,8 @@ use Rattle.graph_picture.proofs.Numbered.{by_number_more}
 pub variant_put : (vs new : List Variant) (v : Variant) (line : List ℕ) → new ≡ vs ++ v ∷ [] → IsVariant v
     → line ≡ variant_line (length vs) v → v.edges ≡ [] → PutsLine vs line true new
 variant_put vs new v line e is l none = (
-  ap lines_of e ∙ by_number_more variant_lines vs v
-      ∙ (λ i. lines_of vs ++ (sym l i ∷ map arrow_line (none i))),
+  ap all_variant_lines e ∙ by_number_more variant_lines vs v
+      ∙ (λ i. all_variant_lines vs ++ (sym l i ∷ map arrow_line (none i))),
   λ each. subst (AllByRecursion IsVariant) (sym e) (all_pushed IsVariant vs v each is),
 )
 
@@ -58,8 +58,8 @@ module _ (v w : Variant) (a : Arrow) (o : w.module ≡ v.module) (n : w.variatio
 
   more_is : a.to < 2 ^ 32 → IsVariant v → IsVariant w
   more_is few is = record {
-    owner = subst IsWord (sym o) is.owner;
-    variation = subst IsWord (sym n) is.variation;
+    owner = subst IsPrintedWord (sym o) is.owner;
+    variation = subst IsPrintedWord (sym n) is.variation;
     targets = subst (AllByRecursion (λ (a : Arrow). a.to < 2 ^ 32)) (sym more)
         (all_pushed (λ (a : Arrow). a.to < 2 ^ 32) v.edges a is.targets few);
   }

@@ -16,18 +16,18 @@ use Rattle.graph_picture.specs.declared.variant.Variant.{Variant}
 use Rattle.graph_picture.specs.Reach.{mark_at}
 
 -- In a quoted name a backslash stands before `"` and `\`, and `&` is written `&amp;`.
-abbrev pub escaped : ℕ → List ℕ
-escaped b =
+abbrev pub escaped_byte_text : ℕ → List ℕ
+escaped_byte_text b =
     if b == 34 then codes "\\\"" else (if b == 92 then codes "\\\\" else (if b == 38 then codes "&amp;" else b ∷ []))
 
 -- A name between quotes.
-unfoldable pub quoted : List ℕ → List ℕ
-quoted name = codes "\"" ++ (flat_map escaped name ++ codes "\"")
+unfoldable pub name_in_quotes : List ℕ → List ℕ
+name_in_quotes name = codes "\"" ++ (flat_map escaped_byte_text name ++ codes "\"")
 
 -- The name of a variant's module, and the empty one beyond the variants.
-abbrev pub module_of : Option Variant → List ℕ
-module_of (Some v) = v.module
-module_of None = []
+abbrev pub variant_module : Option Variant → List ℕ
+variant_module (Some v) = v.module
+variant_module None = []
 
 -- A variant's own name, and the empty one beyond the variants.
 abbrev pub variation_of : Option Variant → List ℕ
@@ -35,25 +35,25 @@ variation_of (Some v) = v.variation
 variation_of None = []
 
 -- The name of the module of variant n.
-abbrev pub module_at : List Variant → ℕ → List ℕ
-module_at variants n = module_of (slice_get variants n)
+abbrev pub module_name_at : List Variant → ℕ → List ℕ
+module_name_at variants n = variant_module (slice_get variants n)
 
 -- The numbers that are marked.
-abbrev pub marked : List Bool → List ℕ
-marked marks = by_number (λ n mark. if mark then n ∷ [] else []) 0 marks
+abbrev pub marked_numbers : List Bool → List ℕ
+marked_numbers marks = by_number (λ n mark. if mark then n ∷ [] else []) 0 marks
 
 -- A variant goes into the cluster of its module, or into a new one behind the others.
-abbrev pub put : List Variant → ℕ → List Cluster → List Cluster
-put variants n [] = record { first = n; others = [] } ∷ []
-put variants n (c ∷ clusters) =
-    if bytes_eq (module_at variants n) (module_at variants c.first)
+abbrev pub clusters_with : List Variant → ℕ → List Cluster → List Cluster
+clusters_with variants n [] = record { first = n; others = [] } ∷ []
+clusters_with variants n (c ∷ clusters) =
+    if bytes_eq (module_name_at variants n) (module_name_at variants c.first)
     then record { first = c.first; others = c.others ++ n ∷ [] } ∷ clusters
-    else c ∷ put variants n clusters
+    else c ∷ clusters_with variants n clusters
 
 -- The clusters of some variants, behind those that are there.
 abbrev pub clusters_behind : List Variant → List Cluster → List ℕ → List Cluster
 clusters_behind variants clusters [] = clusters
-clusters_behind variants clusters (n ∷ numbers) = clusters_behind variants (put variants n clusters) numbers
+clusters_behind variants clusters (n ∷ numbers) = clusters_behind variants (clusters_with variants n clusters) numbers
 
 -- The numbers of a cluster.
 abbrev pub numbers_in : Cluster → List ℕ
@@ -65,7 +65,7 @@ box_head n = codes "    n" ++ (decimal n ++ codes " [label=")
 
 -- The line of a variant.
 unfoldable pub box_drawn : List Variant → ℕ → List ℕ
-box_drawn variants n = box_head n ++ (quoted (variation_of (slice_get variants n)) ++ codes "];\n")
+box_drawn variants n = box_head n ++ (name_in_quotes (variation_of (slice_get variants n)) ++ codes "];\n")
 
 -- What the lines of cluster m begin with.
 abbrev pub cluster_head : ℕ → List ℕ
@@ -74,7 +74,7 @@ cluster_head m = codes "  subgraph cluster_" ++ (decimal m ++ codes " {\n    gra
 -- The lines of cluster m: its module's name, and its variants.
 unfoldable pub cluster_drawn : List Variant → ℕ → Cluster → List ℕ
 cluster_drawn variants m c =
-    cluster_head m ++ (quoted (module_at variants c.first) ++ (FRAME.now ++ (box_drawn variants c.first
+    cluster_head m ++ (name_in_quotes (module_name_at variants c.first) ++ (FRAME.now ++ (box_drawn variants c.first
     ++ (flat_map (box_drawn variants) c.others ++ codes "  }\n"))))
 
 -- How an edge of a kind is drawn.
@@ -103,14 +103,14 @@ arrow_drawn a =
 
 -- The clusters that a picture shows: those of the marked variants.
 abbrev pub shown_clusters : List Variant → List Bool → List Cluster
-shown_clusters variants marks = clusters_behind variants [] (marked marks)
+shown_clusters variants marks = clusters_behind variants [] (marked_numbers marks)
 
 -- The edges that a picture shows: those of which both ends are marked.
 abbrev pub shown_arrows : List Variant → List Bool → List (ℕ × Arrow)
 shown_arrows variants marks = filter (is_inside marks) (arrows_of variants)
 
 -- The picture of the marked variants and of the edges between them, with the legend.
-unfoldable pub drawn : List Variant → List Bool → List ℕ
-drawn variants marks =
+unfoldable pub picture_of : List Variant → List Bool → List ℕ
+picture_of variants marks =
     HEAD.now ++ (by_number (cluster_drawn variants) 0 (shown_clusters variants marks)
     ++ (flat_map arrow_drawn (shown_arrows variants marks) ++ LEGEND.now))

@@ -4,7 +4,7 @@ use Rattle.std.specs.Prelude.{slice_index_or}
 use Rattle.std.specs.List.{AllByRecursion}
 use Rattle.graph_picture.specs.declared.variant.Arrow.{Arrow}
 use Rattle.graph_picture.specs.declared.variant.Variant.{Variant}
-use Rattle.graph_picture.specs.Reach.{Walk, mark_at}
+use Rattle.graph_picture.specs.Reach.{StepWalk, mark_at}
 
 -- List n of some lists has the number m. Beyond the lists there is none.
 abbrev pub Has : List (List ℕ) → ℕ → ℕ → Type 0
@@ -23,7 +23,7 @@ IsNext lists front m = (n : ℕ) × Contains front n × Has lists n m
 
 -- A walk of at most so many steps along the lists leads from one of the starts to n.
 abbrev pub IsWithin : List (List ℕ) → List ℕ → ℕ → ℕ → Type 0
-IsWithin lists starts depth n = (s : ℕ) × (k : ℕ) × Contains starts s × (k ≤ depth) × Walk (Has lists) k s n
+IsWithin lists starts depth n = (s : ℕ) × (k : ℕ) × Contains starts s × (k ≤ depth) × StepWalk (Has lists) k s n
 
 -- Marked is what is within so many steps. What is marked and isn't in front has all its next numbers marked.
 pub record IsLevel (lists : List (List ℕ)) (starts : List ℕ) (level : ℕ) (marks : List Bool) (front : List ℕ)

@@ -6,13 +6,15 @@ use Rattle.std.specs.Fmt.{decimal}
 use Rattle.std.specs.List.{AllByRecursion}
 use Rattle.std.specs.declared.alloc.Global.{Global}
 use Rattle.module_graph.specs.declared.graph.EdgeKind.{EdgeKind}
-use Rattle.module_graph.specs.GraphText.{kind_word, ended}
+use Rattle.module_graph.specs.GraphText.{kind_word}
 use Rattle.graph_picture.specs.declared.read.ReadError.{ReadError}
 use Rattle.graph_picture.specs.declared.read.ReadError.TheVariants.{BadLine, OutOfMemory}
 use Rattle.graph_picture.specs.declared.variant.Arrow.{Arrow}
 use Rattle.graph_picture.specs.declared.variant.Variant.{Variant}
-use Rattle.graph_picture.specs.Lines.{HasNo, IsVariant, LeadInside, variant_line, arrow_line, lines_of, text_of}
+use Rattle.graph_picture.specs.Lines.{HasNo, IsVariant, LeadInside, variant_line, arrow_line, all_variant_lines}
+use Rattle.graph_picture.specs.Lines.{variants_text}
 use Rattle.graph_picture.specs.Reading.{IsStray, Stops}
+use Rattle.bp_faults.specs.Characters.{ended_line}
 
 -- The number below 2^32 of which a text is the decimal, or none.
 abbrev pub IsNumber : List ℕ → Option ℕ → Type 0
@@ -36,24 +38,25 @@ IsVariantOf n line None = (v : Variant) → IsVariant v → line ≡ variant_lin
 
 -- The first line of some bytes and what is behind it, or none where LF isn't among them.
 abbrev pub IsFirstLine : List ℕ → Option (List ℕ × List ℕ) → Type 0
-IsFirstLine bytes (Some (line, behind)) = HasNo 10 line × (bytes ≡ ended line ++ behind)
+IsFirstLine bytes (Some (line, behind)) = HasNo 10 line × (bytes ≡ ended_line line ++ behind)
 IsFirstLine bytes None = HasNo 10 bytes
 
 -- A line was put behind those of some variants, or it is none that goes on.
 abbrev pub PutsLine : List Variant → List ℕ → Bool → List Variant → Type 0
 PutsLine old line true new =
-    (lines_of new ≡ lines_of old ++ line ∷ []) × (AllByRecursion IsVariant old → AllByRecursion IsVariant new)
+    (all_variant_lines new ≡ all_variant_lines old ++ line ∷ [])
+    × (AllByRecursion IsVariant old → AllByRecursion IsVariant new)
 PutsLine old line false new = IsStray old line
 
 -- Some first lines of the bytes are those of the variants so far.
 pub record IsRead (bytes : List ℕ) (variants : List Variant) (rest : List ℕ) (line : ℕ) : Type 0 where
   pub each : AllByRecursion IsVariant variants
-  pub whole : bytes ≡ text_of variants ++ rest
-  pub line_is : line ≡ length (lines_of variants)
+  pub whole : bytes ≡ variants_text variants ++ rest
+  pub line_is : line ≡ length (all_variant_lines variants)
 
 -- What reading line by line comes to.
 abbrev pub ReadsLines : List ℕ → Result (Vec Variant Global) ReadError → Type 0
-ReadsLines bytes (Ok variants) = AllByRecursion IsVariant variants.items × (bytes ≡ text_of variants.items)
+ReadsLines bytes (Ok variants) = AllByRecursion IsVariant variants.items × (bytes ≡ variants_text variants.items)
 ReadsLines bytes (Err (BadLine number)) = Stops bytes number
 ReadsLines bytes (Err OutOfMemory) = ⊤
 
@@ -69,10 +72,10 @@ pub record IsOutside (variants : List Variant) (number : ℕ) : Type 0 where
   pub before : List Variant
   pub arrow : Arrow
   pub behind : List (List ℕ)
-  pub lines : lines_of variants ≡ lines_of before ++ arrow_line arrow ∷ behind
+  pub lines : all_variant_lines variants ≡ all_variant_lines before ++ arrow_line arrow ∷ behind
   pub inside : LeadInside (length variants) before
   pub outside : length variants ≤ arrow.to
-  pub number_is : number ≡ suc (length (lines_of before))
+  pub number_is : number ≡ suc (length (all_variant_lines before))
 
 -- That line, or none where all edges lead inside.
 abbrev pub FindsOutside : List Variant → Option ℕ → Type 0

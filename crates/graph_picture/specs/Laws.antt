@@ -10,8 +10,8 @@ use Rattle.module_graph.specs.Names.{name_at}
 use Rattle.graph_picture.specs.declared.clusters.Cluster.{Cluster}
 use Rattle.graph_picture.specs.declared.focus.Focus.{Focus}
 use Rattle.graph_picture.specs.declared.variant.Variant.{Variant}
-use Rattle.graph_picture.specs.Drawing.{module_at, numbers_in, arrows_of, shown_clusters, shown_arrows}
-use Rattle.graph_picture.specs.Lines.{IsGraph, IsWord, text_of}
+use Rattle.graph_picture.specs.Drawing.{module_name_at, numbers_in, arrows_of, shown_clusters, shown_arrows}
+use Rattle.graph_picture.specs.Lines.{IsGraph, IsPrintedWord, variants_text}
 use Rattle.graph_picture.specs.Printed.{variants_for}
 use Rattle.graph_picture.specs.Reach.{IsKept, AreMarks}
 
@@ -31,11 +31,11 @@ EachVariantStandsOnce =
 
 -- The variants of a cluster are of one module.
 abbrev pub HasOneModule : List Variant → Cluster → Type 0
-HasOneModule variants c = AllByRecursion (λ n. module_at variants n ≡ module_at variants c.first) c.others
+HasOneModule variants c = AllByRecursion (λ n. module_name_at variants n ≡ module_name_at variants c.first) c.others
 
 -- Two clusters are of different modules.
 abbrev pub Differ : List Variant → Cluster → Cluster → Type 0
-Differ variants c d = module_at variants c.first ≢ module_at variants d.first
+Differ variants c d = module_name_at variants c.first ≢ module_name_at variants d.first
 
 -- A cluster shows variants of one module, and no two clusters show the same module.
 abbrev pub EachModuleHasOneCluster : Type 0
@@ -54,7 +54,7 @@ EachEdgeIsShownOnce =
 -- A text is the text of at most one graph.
 abbrev pub OneReading : Type 0
 OneReading =
-    (variants other : List Variant) → IsGraph variants → IsGraph other → text_of variants ≡ text_of other
+    (variants other : List Variant) → IsGraph variants → IsGraph other → variants_text variants ≡ variants_text other
     → variants ≡ other
 
 -- Where the names of the nodes' modules are words, what is printed of a module graph is the text of its nodes as
@@ -62,5 +62,5 @@ OneReading =
 abbrev pub PrintedGraphsAreGraphs : Type 0 → Type 0
 PrintedGraphsAreGraphs P =
     (nodes : List (Node P)) (names : List (List ℕ)) → NameNodes nodes → length nodes < 2 ^ 32
-    → ((n : ℕ) → n < length nodes → IsWord (name_at names n))
-    → IsGraph (variants_for names nodes) × (graph_text_of nodes names ≡ text_of (variants_for names nodes))
+    → ((n : ℕ) → n < length nodes → IsPrintedWord (name_at names n))
+    → IsGraph (variants_for names nodes) × (graph_text_of nodes names ≡ variants_text (variants_for names nodes))

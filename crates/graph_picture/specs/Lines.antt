@@ -2,25 +2,26 @@
 use Rattle.std.specs.Prelude.{◌≢◌, ◌<◌, ◌^◌, ℕ, List, ◌∷◌, ◌++◌, map, length, codes, All, IsUtf8}
 use Rattle.std.specs.Fmt.{decimal}
 use Rattle.std.specs.List.{AllByRecursion, flat_map}
-use Rattle.module_graph.specs.GraphText.{kind_word, ended}
+use Rattle.module_graph.specs.GraphText.{kind_word}
 use Rattle.module_graph.specs.Numbered.{by_number}
 use Rattle.graph_picture.specs.declared.variant.Arrow.{Arrow}
 use Rattle.graph_picture.specs.declared.variant.Variant.{Variant}
+use Rattle.bp_faults.specs.Characters.{ended_line}
 
 -- None of the bytes is this one.
 abbrev pub HasNo : ℕ → List ℕ → Type 0
 HasNo byte bytes = All (λ b. b ≢ byte) bytes
 
 -- A word is a text without a space and without LF.
-pub record IsWord (word : List ℕ) : Type 0 where
+pub record IsPrintedWord (word : List ℕ) : Type 0 where
   pub text : IsUtf8 word
   pub no_space : HasNo 32 word
   pub no_end : HasNo 10 word
 
 -- The names of a variant are words, and a `u32` numbers the targets of its edges.
 pub record IsVariant (v : Variant) : Type 0 where
-  pub owner : IsWord v.module
-  pub variation : IsWord v.variation
+  pub owner : IsPrintedWord v.module
+  pub variation : IsPrintedWord v.variation
   pub targets : AllByRecursion (λ (a : Arrow). a.to < 2 ^ 32) v.edges
 
 -- The line of variant n: its number, the name of its module and its own name, with one space between.
@@ -36,12 +37,12 @@ abbrev pub variant_lines : ℕ → Variant → List (List ℕ)
 variant_lines n v = variant_line n v ∷ map arrow_line v.edges
 
 -- The lines of some variants, which are numbered from 0.
-abbrev pub lines_of : List Variant → List (List ℕ)
-lines_of variants = by_number variant_lines 0 variants
+abbrev pub all_variant_lines : List Variant → List (List ℕ)
+all_variant_lines variants = by_number variant_lines 0 variants
 
 -- The text of some variants: LF ends each of their lines.
-abbrev pub text_of : List Variant → List ℕ
-text_of variants = flat_map ended (lines_of variants)
+abbrev pub variants_text : List Variant → List ℕ
+variants_text variants = flat_map ended_line (all_variant_lines variants)
 
 -- Each edge leads to one of so many variants.
 abbrev pub LeadInside : ℕ → List Variant → Type 0

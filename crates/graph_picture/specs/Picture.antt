@@ -5,8 +5,8 @@ use Rattle.graph_picture.specs.declared.focus.Focus.{Focus}
 use Rattle.graph_picture.specs.declared.picture.PictureError.{PictureError}
 use Rattle.graph_picture.specs.declared.picture.PictureError.TheVariants.{BadLine, NoModule, OutOfMemory}
 use Rattle.graph_picture.specs.declared.variant.Variant.{Variant}
-use Rattle.graph_picture.specs.Drawing.{drawn}
-use Rattle.graph_picture.specs.Lines.{IsGraph, text_of}
+use Rattle.graph_picture.specs.Drawing.{picture_of}
+use Rattle.graph_picture.specs.Lines.{IsGraph, variants_text}
 use Rattle.graph_picture.specs.Reach.{IsOf, AreMarks}
 use Rattle.graph_picture.specs.Reading.{Stops, LeadsOutside}
 
@@ -25,15 +25,15 @@ pub record IsPicture (bytes : List ℕ) (focus : Option Focus) (text : List ℕ)
   pub variants : List Variant
   pub marks : List Bool
   pub graph : IsGraph variants
-  pub read : bytes ≡ text_of variants
+  pub read : bytes ≡ variants_text variants
   pub kept : AreMarks variants focus marks
-  pub text_is : text ≡ drawn variants marks
+  pub text_is : text ≡ picture_of variants marks
 
 -- The bytes are the text of a graph without a variant of the module in focus.
 pub record HasNoModule (bytes : List ℕ) (focus : Option Focus) : Type 0 where
   pub variants : List Variant
   pub graph : IsGraph variants
-  pub read : bytes ≡ text_of variants
+  pub read : bytes ≡ variants_text variants
   pub lost : IsLost variants focus
 
 -- The picture of some bytes, or why there is none.

@@ -2,7 +2,7 @@
 use Rattle.std.specs.Prelude.{ℕ, List, [], ◌∷◌, map}
 use Rattle.module_graph.specs.declared.graph.Edge.{Edge}
 use Rattle.module_graph.specs.declared.graph.Node.{Node}
-use Rattle.module_graph.specs.GraphText.{dashed}
+use Rattle.module_graph.specs.GraphText.{dashed_name}
 use Rattle.module_graph.specs.Names.{name_at, variant_name_of}
 use Rattle.module_graph.specs.Numbered.{by_number}
 use Rattle.graph_picture.specs.declared.variant.Arrow.{Arrow}
@@ -17,7 +17,7 @@ module _ {P : Type 0} (names : List (List ℕ)) where
   abbrev pub variant_for : ℕ → Node P → Variant
   variant_for n x = record {
     «module» = name_at names n;
-    variation = dashed (variant_name_of x.vars);
+    variation = dashed_name (variant_name_of x.vars);
     edges = map arrow_for x.edges;
   }
 

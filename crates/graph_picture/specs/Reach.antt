@@ -7,14 +7,14 @@ use Rattle.graph_picture.specs.declared.variant.Arrow.{Arrow}
 use Rattle.graph_picture.specs.declared.variant.Variant.{Variant}
 
 -- Some edge of variant n leads to variant m.
-abbrev pub Leads : List Variant → ℕ → ℕ → Type 0
-Leads variants n m =
+abbrev pub ArrowLeads : List Variant → ℕ → ℕ → Type 0
+ArrowLeads variants n m =
     (v : Variant) × (a : Arrow) × (slice_get variants n ≡ Some v) × Contains v.edges a × (a.to ≡ m)
 
 -- A walk of k steps leads from n to m.
-abbrev pub Walk : (ℕ → ℕ → Type 0) → ℕ → ℕ → ℕ → Type 0
-Walk Step zero n m = n ≡ m
-Walk Step (suc k) n m = (t : ℕ) × Step n t × Walk Step k t m
+abbrev pub StepWalk : (ℕ → ℕ → Type 0) → ℕ → ℕ → ℕ → Type 0
+StepWalk Step zero n m = n ≡ m
+StepWalk Step (suc k) n m = (t : ℕ) × Step n t × StepWalk Step k t m
 
 -- Variant n is one of a module.
 abbrev pub IsOf : List Variant → List ℕ → ℕ → Type 0
@@ -24,7 +24,7 @@ IsOf variants owner n = (v : Variant) × (slice_get variants n ≡ Some v) × (v
 abbrev pub IsNear : List Variant → Focus → ℕ → Type 0
 IsNear variants focus n =
     (s : ℕ) × (k : ℕ) × IsOf variants focus.module s × (k ≤ focus.depth)
-    × (Walk (Leads variants) k s n ⊎ Walk (Leads variants) k n s)
+    × (StepWalk (ArrowLeads variants) k s n ⊎ StepWalk (ArrowLeads variants) k n s)
 
 -- A focus keeps what is near. Without one all variants are kept.
 abbrev pub IsKept : List Variant → Option Focus → ℕ → Type 0

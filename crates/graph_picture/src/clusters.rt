@@ -1,5 +1,5 @@
 ghost use Rattle.std.specs.Prelude.{◌≡◌, ◌<◌, ◌^◌, [], length, IfOk, IfSome, OnOk};
-ghost use Rattle.graph_picture.specs.Drawing.{clusters_behind, module_at};
+ghost use Rattle.graph_picture.specs.Drawing.{clusters_behind, module_name_at};
 ghost use Rattle.graph_picture.specs.Grouping.{PutsNumber};
 
 use crate::Variant;
@@ -17,7 +17,7 @@ pub struct Cluster {
 
 /// The name of the module of a variant, and the empty one beyond the variants.
 pub fn module_at(variants: &[Variant], n: u32) -> &str
-    ensures { result.now ≡ module_at variants.now n }
+    ensures { result.now ≡ module_name_at variants.now n }
 {
     match variants.get(n as usize) {
         Some(variant) => variant.module.as_str(),

@@ -1,8 +1,9 @@
 ghost use Rattle.std.specs.Prelude.{◌≡◌, ◌<◌, ◌^◌, ◌++◌, ◌∷◌, [], map, length, slice_get, IfOk, OnOk};
 ghost use Rattle.std.specs.Fmt.{decimal};
 ghost use Rattle.std.specs.List.{filter, flat_map};
-ghost use Rattle.graph_picture.specs.Drawing.{arrow_drawn, box_drawn, cluster_drawn, drawn, escaped, is_inside, marked};
-ghost use Rattle.graph_picture.specs.Drawing.{quoted, shown_arrows, variation_of};
+ghost use Rattle.graph_picture.specs.Drawing.{arrow_drawn, box_drawn, cluster_drawn, picture_of};
+ghost use Rattle.graph_picture.specs.Drawing.{escaped_byte_text, is_inside, marked_numbers};
+ghost use Rattle.graph_picture.specs.Drawing.{name_in_quotes, shown_arrows, variation_of};
 ghost use Rattle.graph_picture.specs.Reach.{mark_at};
 ghost use Rattle.module_graph.specs.Numbered.{by_number};
 
@@ -21,7 +22,7 @@ fn put(text: &mut Vec<u8>, more: &str) -> Result<(), OutOfMemory>
 }
 
 fn put_escaped(text: &mut Vec<u8>, byte: u8) -> Result<(), OutOfMemory>
-    ensures { OnOk result (text.new.items ≡ text.old.items ++ escaped byte) }
+    ensures { OnOk result (text.new.items ≡ text.old.items ++ escaped_byte_text byte) }
 {
     match byte {
         b'"' => put(text, "\\\""),
@@ -34,9 +35,9 @@ fn put_escaped(text: &mut Vec<u8>, byte: u8) -> Result<(), OutOfMemory>
     }
 }
 
-#[tactic(auto, unfolding(crate::specs::Drawing::quoted))]
+#[tactic(auto, unfolding(crate::specs::Drawing::name_in_quotes))]
 fn put_quoted(text: &mut Vec<u8>, name: &str) -> Result<(), OutOfMemory>
-    ensures { OnOk result (text.new.items ≡ text.old.items ++ quoted name.now) }
+    ensures { OnOk result (text.new.items ≡ text.old.items ++ name_in_quotes name.now) }
 {
     put(text, "\"")?;
     for byte in name.as_bytes() {
@@ -188,7 +189,7 @@ fn put_all_arrows(
 /// The numbers that are marked.
 fn marked(alloc: Global, marks: &[bool]) -> Result<Vec<u32>, OutOfMemory>
     requires { length marks.now < 2 ^ 32 }
-    ensures { IfOk result (λ numbers. numbers.items ≡ marked marks.now) }
+    ensures { IfOk result (λ numbers. numbers.items ≡ marked_numbers marks.now) }
 {
     let mut numbers = Vec::new(alloc);
     for (n, mark) in marks.iter().enumerate() {
@@ -200,10 +201,10 @@ fn marked(alloc: Global, marks: &[bool]) -> Result<Vec<u32>, OutOfMemory>
 }
 
 /// The picture of the marked variants and of the edges between them.
-#[tactic(auto, unfolding(crate::specs::Drawing::drawn))]
+#[tactic(auto, unfolding(crate::specs::Drawing::picture_of))]
 pub fn drawn(alloc: Global, variants: &[Variant], marks: &[bool]) -> Result<Vec<u8>, OutOfMemory>
     requires { length marks.now < 2 ^ 32 }
-    ensures { IfOk result (λ text. text.items ≡ drawn variants.now marks.now) }
+    ensures { IfOk result (λ text. text.items ≡ picture_of variants.now marks.now) }
 {
     let numbers = marked(alloc, marks)?;
     let clusters = clusters_of(alloc, variants, &numbers)?;

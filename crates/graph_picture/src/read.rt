@@ -1,6 +1,6 @@
 ghost use Rattle.std.specs.Prelude.{◌<◌, ◌^◌, IfOk, length};
 ghost use Rattle.graph_picture.specs.Inside.{PutsLine, ReadsLines, FindsFirst, FindsOutside};
-ghost use Rattle.graph_picture.specs.Lines.{HasNo, arrow_line, lines_of};
+ghost use Rattle.graph_picture.specs.Lines.{HasNo, arrow_line, all_variant_lines};
 ghost use Rattle.graph_picture.specs.Reading.{ReadMeans};
 
 use crate::line::{arrow_of, first_line, variant_of};
@@ -96,7 +96,7 @@ fn first_outside(edges: &[Arrow], count: usize) -> Option<usize>
 
 /// The number of the line of the first edge that leads to none of the variants.
 fn outside_line(variants: &[Variant]) -> Option<u64>
-    requires { length (lines_of variants.now) < 2 ^ 32 }
+    requires { length (all_variant_lines variants.now) < 2 ^ 32 }
     ensures { FindsOutside variants.now result }
 {
     let mut line = 0;

@@ -130,10 +130,3 @@ module _ (nodes : List NodeId) (i : ℕ) (d : NodeId) (within : i < length nodes
       short_then nat_eq after (insert_key nat_eq keys (get_or nodes i d).0) (reverse (numbers (take i nodes))) e
       ∙ ap (λ zs. if_short (insert_all nat_eq keys zs)) (
       sym (reverse-append (numbers (take i nodes)) ((get_or nodes i d).0 ∷ [])) ∙ ap reverse (sym numbers_more) ∙ ap (λ k. reverse (numbers (take k nodes))) (sym next))
-
--- a library and its link line, from the last on
-pub static_part : (old keys after : List ℕ) (node : NodeId) (line : List NodeId) → if_short keys ≡ if_short (insert_all nat_eq old (reverse (numbers line)))
-    → if_short after ≡ if_short (insert_key nat_eq keys node.0) → if_short after ≡ if_short (insert_all nat_eq old (reverse (numbers (node ∷ line))))
-static_part old keys after node line e f =
-    short_behind nat_eq old keys after (reverse (numbers line)) (node.0 ∷ []) e f
-    ∙ ap (λ zs. if_short (insert_all nat_eq old zs)) (sym (reverse-append (node.0 ∷ []) (numbers line)))

@@ -101,10 +101,6 @@ none_short xs long = ap (λ b. cond b (Some xs) None) (by (is_short xs) refl)
     by true e = absurd (grind (arith, e, long))
     by false e = refl
 
--- a list that is too long stays as long as any other that is, with one more or not
-pub stays_long : {A : Type 0} (same : A → A → Bool) (keys : List A) (x : A) → LONGEST_LINE < length keys → if_short keys ≡ if_short (insert_key same keys x)
-stays_long same keys x long = let more = grows same keys x in none_short keys long ∙ sym (none_short (insert_key same keys x) (omega (arith, long, more)))
-
 pub some_short : {A : Type 0} (xs : List A) → length xs ≤ LONGEST_LINE → if_short xs ≡ Some xs
 some_short xs few = ap (λ b. cond b (Some xs) None) (by (is_short xs) refl)
   where
@@ -172,12 +168,6 @@ module _ {A : Type 0} (same : A → A → Bool) where
         → if_short after ≡ if_short (insert_all same keys (f d)) → if_short after ≡ if_short (insert_all same old (flat_map f (take (i + 1) ds)))
     part_noted old keys after e g =
         short_behind old keys after (flat_map f (take i ds)) (f d) e g ∙ ap (λ zs. if_short (insert_all same old zs)) (sym flat_take)
-
-    -- the same without a limit
-    pub all_noted : (old keys after : List A) → keys ≡ insert_all same old (flat_map f (take i ds))
-        → after ≡ insert_all same keys (f d) → after ≡ insert_all same old (flat_map f (take (i + 1) ds))
-    all_noted old keys after e g =
-        g ∙ ap (λ ks. insert_all same ks (f d)) e ∙ sym (ap (insert_all same old) flat_take ∙ fold-append (insert_key same) old (flat_map f (take i ds)) (f d))
 
     -- what is made of the items from the last on, with one more
     pub end_noted : (p : ℕ) → p ≡ i + 1 → (old keys after : List A) → if_short keys ≡ if_short (insert_all same old (reverse (flat_map f (drop p ds))))

@@ -68,12 +68,3 @@ module _ (mods : List Module) (nodes : List (Node Props)) (n : ℕ) (ins : List 
           → cond b (Ok (one_variant (with_lists node.payload ds) [])) (Err (too_long item node.vars)) ≡ Ok made
       by true e = let same : props ≡ with_lists node.payload ds = cc in ap Ok (sym (is_one ∙ ap (λ (p : Props). one_variant p []) same))
       by false e = cc
-
-  pub meant_fault : (fault : Fault) → None ≡ cond (has_short_lists node.payload ds) (Some (with_lists node.payload ds)) None
-      → fault ≡ too_long item node.vars → info_meant mods nodes n ins ≡ Err fault
-  meant_fault fault long is_fault = meant_over ∙ by (has_short_lists node.payload ds) long
-    where
-      by : (b : Bool) → None ≡ cond b (Some (with_lists node.payload ds)) None
-          → cond b (Ok (one_variant (with_lists node.payload ds) [])) (Err (too_long item node.vars)) ≡ Err fault
-      by true e = cc
-      by false e = ap Err (sym is_fault)

@@ -1,7 +1,7 @@
 -- What holds of each item of a list.
-use Rattle.std.proofs.Common.{◌≡◌, ◌+◌, ◌<◌, ◌≤◌, ◌++◌, arith, zero-add, suc, ℕ, List, [], ◌∷◌, map, length, take, get_or, subst, sym}
+use Rattle.std.proofs.Common.{◌≡◌, ◌+◌, ◌<◌, ◌++◌, arith, zero-add, suc, ℕ, List, [], ◌∷◌, map, length, take, get_or, subst, sym}
 use Rattle.std.specs.List.{AllByRecursion}
-use Rattle.std.proofs.lemmas.List.{take_more, take_all}
+use Rattle.std.proofs.lemmas.List.{take_more}
 use Rattle.pass_core.specs.declared.plan.PlanEdge.{PlanEdge}
 use Rattle.pass_core.specs.Plans.{HaveEndsBelow}
 use Rattle.bp_faults.proofs.Lists.{all_pushed}
@@ -10,7 +10,7 @@ use Rattle.module_graph.specs.declared.graph.Edge.{Edge}
 use Rattle.module_graph.specs.declared.graph.Node.{Node}
 use Rattle.module_graph.specs.Numbered.{by_number}
 use Rattle.module_graph.specs.Graphs.{outward, edges_of, NameNodes}
-use Rattle.module_graph.specs.Planned.{turned, plan_edges}
+use Rattle.module_graph.specs.Planned.{turned_edge, plan_edges}
 
 pub all_append : {A : Type 0} (P : A → Type 0) (xs ys : List A) → AllByRecursion P xs → AllByRecursion P ys → AllByRecursion P (xs ++ ys)
 all_append P [] ys h k = k
@@ -19,10 +19,6 @@ all_append P (x ∷ xs) ys h k = (h.0, all_append P xs ys h.1 k)
 -- one item more
 pub all_taken : {A : Type 0} (P : A → Type 0) (xs : List A) (i : ℕ) (d : A) → i < length xs → AllByRecursion P (take i xs) → P (get_or xs i d) → AllByRecursion P (take (i + 1) xs)
 all_taken P xs i d lt h here = subst (λ l. AllByRecursion P l) (sym (take_more xs i d lt)) (all_pushed P (take i xs) (get_or xs i d) h here)
-
--- all items
-pub all_of_taken : {A : Type 0} (P : A → Type 0) (xs : List A) (i : ℕ) → length xs ≤ i → AllByRecursion P (take i xs) → AllByRecursion P xs
-all_of_taken P xs i le h = subst (λ l. AllByRecursion P l) (take_all i xs le) h
 
 pub all_image : {A B : Type 0} (P : A → Type 0) (Q : B → Type 0) (f : A → B) → ((x : A) → P x → Q (f x)) → (xs : List A) → AllByRecursion P xs → AllByRecursion Q (map f xs)
 all_image P Q f imp [] h = tt
@@ -51,5 +47,5 @@ module _ {P : Type 0} (nodes : List (Node P)) (ends : NameNodes nodes) where
       (λ n x lt h. all_image (λ (e : Edge). e.to.0 < length nodes) (λ (e : PlanEdge). (e.from.0 < length nodes) × (e.to.0 < length nodes)) (outward n) (λ e k. (lt, k)) x.edges h) 0 nodes (zero-add (length nodes)) ends
 
   pub turned_ends : HaveEndsBelow (length nodes) (plan_edges BottomUp nodes)
-  turned_ends = all_by_number (λ (x : Node P). AllByRecursion (λ (e : Edge). e.to.0 < length nodes) x.edges) (λ (e : PlanEdge). (e.from.0 < length nodes) × (e.to.0 < length nodes)) (length nodes) (λ n (x : Node P). map (turned n) x.edges)
-      (λ n x lt h. all_image (λ (e : Edge). e.to.0 < length nodes) (λ (e : PlanEdge). (e.from.0 < length nodes) × (e.to.0 < length nodes)) (turned n) (λ e k. (k, lt)) x.edges h) 0 nodes (zero-add (length nodes)) ends
+  turned_ends = all_by_number (λ (x : Node P). AllByRecursion (λ (e : Edge). e.to.0 < length nodes) x.edges) (λ (e : PlanEdge). (e.from.0 < length nodes) × (e.to.0 < length nodes)) (length nodes) (λ n (x : Node P). map (turned_edge n) x.edges)
+      (λ n x lt h. all_image (λ (e : Edge). e.to.0 < length nodes) (λ (e : PlanEdge). (e.from.0 < length nodes) × (e.to.0 < length nodes)) (turned_edge n) (λ e k. (k, lt)) x.edges h) 0 nodes (zero-add (length nodes)) ends

@@ -1,9 +1,7 @@
 -- Steps of a loop over numbered items, as the nodes of a graph.
-use Rattle.std.proofs.Common.{◌≡◌, ◌+◌, ◌<◌, ◌≤◌, ◌++◌, ℕ, suc, List, [], ◌∷◌, map, length, get_or, take, ap, ◌∙◌, sym, arith, append-nil, append_assoc, add-zero, zero-add, length-append}
-use Rattle.std.proofs.lemmas.List.{take_more, length-take-le, take_all, length-map}
-use Rattle.module_graph.specs.declared.graph.Node.{Node}
+use Rattle.std.proofs.Common.{◌≡◌, ◌+◌, ◌<◌, ◌≤◌, ◌++◌, ℕ, suc, List, [], ◌∷◌, map, length, get_or, take, ap, ◌∙◌, sym, arith, append-nil, append_assoc, add-zero, zero-add}
+use Rattle.std.proofs.lemmas.List.{take_more, length-take-le, take_all}
 use Rattle.module_graph.specs.Numbered.{by_number}
-use Rattle.module_graph.specs.Graphs.{outward, edges_of}
 
 module _ {X A : Type 0} where
   by_number_more : (f : ℕ → X → List A) (k : ℕ) (xs : List X) (x : X) → by_number f k (xs ++ x ∷ []) ≡ by_number f k xs ++ f (k + length xs) x
@@ -30,10 +28,3 @@ piece_done {X} w part xs i n x ys j r lt read whole done same e =
     e ∙ ap (λ (l : List _). by_number (λ n x. map (w n) (part x)) 0 (take i xs) ++ map (w n) l) (take_all j ys done ∙ whole ∙ ap part read)
     ∙ ap (λ k. by_number (λ n x. map (w n) (part x)) 0 (take i xs) ++ map (w k) (part (get_or xs i x))) same
     ∙ sym (by_number_step (λ n x. map (w n) (part x)) xs i x lt)
-
--- how many edges the graph has with one node more
-pub edges_more : {P : Type 0} (nodes : List (Node P)) (i : ℕ) (x : Node P) → i < length nodes → x ≡ get_or nodes i x → length (edges_of (take (i + 1) nodes)) ≡ length (edges_of (take i nodes)) + length x.edges
-edges_more {P} nodes i x lt read =
-    ap length (by_number_step (λ n (y : Node P). map (outward n) y.edges) nodes i x lt)
-    ∙ length-append (edges_of (take i nodes)) (map (outward i) (get_or nodes i x).edges)
-    ∙ ap (λ k. length (edges_of (take i nodes)) + k) (length-map (get_or nodes i x).edges (outward i) ∙ ap (λ (y : Node P). length y.edges) (sym read))

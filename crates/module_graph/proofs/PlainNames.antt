@@ -9,20 +9,20 @@ use Rattle.bp_faults.specs.declared.target.Target.TheVariants.{AndroidArm64, And
 use Rattle.bp_faults.specs.Targets.{target_name}
 use Rattle.module_graph.specs.declared.variation.Variation.{Variation}
 use Rattle.module_graph.specs.declared.variation.Variation.TheVariants.{Empty, Target as ForTarget, Common, Vendor, Recovery, Static, Shared, PerSource, Asan}
-use Rattle.module_graph.specs.Names.{spelling, is_set, is_plain, variant_name_of}
+use Rattle.module_graph.specs.Names.{spelling, is_set, is_label_byte, variant_name_of}
 use Rattle.module_graph.proofs.Alls.{all_append}
 
 abbrev IsPlain : ℕ → Type 0
-IsPlain c = is_plain c ≡ true
+IsPlain c = is_label_byte c ≡ true
 
-one_more : (c : ℕ) (cs : List ℕ) (b : Bool) → is_plain c ≡ b → (list_all is_plain cs ≡ true → AllByRecursion IsPlain cs) → (b && list_all is_plain cs) ≡ true → AllByRecursion IsPlain (c ∷ cs)
+one_more : (c : ℕ) (cs : List ℕ) (b : Bool) → is_label_byte c ≡ b → (list_all is_label_byte cs ≡ true → AllByRecursion IsPlain cs) → (b && list_all is_label_byte cs) ≡ true → AllByRecursion IsPlain (c ∷ cs)
 one_more c cs true is rest h = (is, rest h)
 one_more c cs false is rest h = cc
 
 -- a text whose characters are tested
-plain_if : (cs : List ℕ) → list_all is_plain cs ≡ true → AllByRecursion IsPlain cs
+plain_if : (cs : List ℕ) → list_all is_label_byte cs ≡ true → AllByRecursion IsPlain cs
 plain_if [] h = tt
-plain_if (c ∷ cs) h = one_more c cs (is_plain c) refl (plain_if cs) h
+plain_if (c ∷ cs) h = one_more c cs (is_label_byte c) refl (plain_if cs) h
 
 digit_plain : (n : ℕ) → IsPlain (digit_glyph false (n % 10))
 digit_plain n = let less : n % 10 < 10 = omega arith in grind (arith, nat_tests)

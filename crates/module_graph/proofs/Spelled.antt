@@ -9,7 +9,7 @@ use Rattle.bp_faults.specs.declared.target.Target.TheVariants.{AndroidArm64, And
 use Rattle.bp_faults.specs.Targets.{target_name}
 use Rattle.module_graph.specs.declared.variation.Variation.{Variation}
 use Rattle.module_graph.specs.declared.variation.Variation.TheVariants.{Empty, Target as ForTarget, Common, Vendor, Recovery, Static, Shared, PerSource, Asan}
-use Rattle.module_graph.specs.Inside.{added}
+use Rattle.module_graph.specs.Inside.{name_with}
 use Rattle.module_graph.specs.Names.{spelling, is_set, variant_name_of}
 
 target_named : (t : Target) → target_name t ≢ []
@@ -35,11 +35,11 @@ not_empty : (xs ys : List ℕ) → xs ≢ [] → (xs ++ ys) ≢ []
 not_empty [] ys ne = absurd (ne refl)
 not_empty (x ∷ xs) ys ne = λ e. cc
 
-added_none : (name : List ℕ) → added name [] ≡ name
+added_none : (name : List ℕ) → name_with name [] ≡ name
 added_none [] = refl
 added_none (c ∷ name) = refl
 
-added_both : (name more : List ℕ) → name ≢ [] → more ≢ [] → added name more ≡ name ++ (codes "_" ++ more)
+added_both : (name more : List ℕ) → name ≢ [] → more ≢ [] → name_with name more ≡ name ++ (codes "_" ++ more)
 added_both [] more n m = absurd (n refl)
 added_both (c ∷ name) [] n m = absurd (m refl)
 added_both (c ∷ name) (d ∷ more) n m = refl
@@ -47,13 +47,13 @@ added_both (c ∷ name) (d ∷ more) n m = refl
 abbrev joined : List Variation → List ℕ
 joined vs = join_by spelling (codes "_") vs
 
-joined_set : (vs : List Variation) → All (λ v. is_set v ≡ true) vs → (v : Variation) → is_set v ≡ true → added (joined vs) (spelling v) ≡ joined (vs ++ v ∷ [])
+joined_set : (vs : List Variation) → All (λ v. is_set v ≡ true) vs → (v : Variation) → is_set v ≡ true → name_with (joined vs) (spelling v) ≡ joined (vs ++ v ∷ [])
 joined_set [] all v set = sym (append-nil (spelling v))
 joined_set (w ∷ vs) all v set =
     added_both (joined (w ∷ vs)) (spelling v) (not_empty (spelling w) (flat_map (λ y. codes "_" ++ spelling y) vs) (spelled w (all 0 w (omega arith)))) (spelled v set)
     ∙ flat_map_more (λ y. codes "_" ++ spelling y) (spelling w) vs v
 
-joined_more : (vs : List Variation) → All (λ v. is_set v ≡ true) vs → (v : Variation) → added (joined vs) (spelling v) ≡ joined (vs ++ filter is_set (v ∷ []))
+joined_more : (vs : List Variation) → All (λ v. is_set v ≡ true) vs → (v : Variation) → name_with (joined vs) (spelling v) ≡ joined (vs ++ filter is_set (v ∷ []))
 joined_more vs all Empty = added_none (joined vs) ∙ sym (ap joined (append-nil vs))
 joined_more vs all (ForTarget t) = joined_set vs all (ForTarget t) refl
 joined_more vs all Common = joined_set vs all Common refl
@@ -65,7 +65,7 @@ joined_more vs all (PerSource k) = joined_set vs all (PerSource k) refl
 joined_more vs all Asan = joined_set vs all Asan refl
 
 -- one variation more
-pub name_more : (vs : List Variation) (i : ℕ) (d : Variation) → i < length vs → added (variant_name_of (take i vs)) (spelling (get_or vs i d)) ≡ variant_name_of (take (i + 1) vs)
+pub name_more : (vs : List Variation) (i : ℕ) (d : Variation) → i < length vs → name_with (variant_name_of (take i vs)) (spelling (get_or vs i d)) ≡ variant_name_of (take (i + 1) vs)
 name_more vs i d lt =
     joined_more (filter is_set (take i vs)) (filter_passes is_set (take i vs)) (get_or vs i d)
     ∙ ap joined (sym (filter-append is_set (take i vs) (get_or vs i d ∷ []))) ∙ ap variant_name_of (sym (take_more vs i d lt))

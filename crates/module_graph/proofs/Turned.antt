@@ -12,7 +12,7 @@ use Rattle.module_graph.specs.declared.graph.Edge.{Edge}
 use Rattle.module_graph.specs.declared.graph.Node.{Node}
 use Rattle.module_graph.specs.Numbered.{by_number}
 use Rattle.module_graph.specs.Graphs.{outward, edges_of, NameNodes}
-use Rattle.module_graph.specs.Planned.{turned, by_target, plan_edges}
+use Rattle.module_graph.specs.Planned.{turned_edge, by_target, plan_edges}
 use Rattle.module_graph.specs.Walks.{Leads, Walk, NoneReturns}
 use Rattle.bp_faults.proofs.Lists.{all_map}
 use Rattle.module_graph.proofs.Alls.{all_image, edges_of_ends, turned_ends}
@@ -27,14 +27,14 @@ flip_twice : (es : List PlanEdge) → map flip (map flip es) ≡ es
 flip_twice [] = refl
 flip_twice (e ∷ es) = ap (λ r. e ∷ r) (flip_twice es)
 
-flip_each : (n : ℕ) (es : List Edge) → map (turned n) es ≡ map flip (map (outward n) es)
+flip_each : (n : ℕ) (es : List Edge) → map (turned_edge n) es ≡ map flip (map (outward n) es)
 flip_each n [] = refl
-flip_each n (e ∷ es) = ap (λ r. turned n e ∷ r) (flip_each n es)
+flip_each n (e ∷ es) = ap (λ r. turned_edge n e ∷ r) (flip_each n es)
 
-flip_all : {P : Type 0} (k : ℕ) (xs : List (Node P)) → by_number (λ n (x : Node P). map (turned n) x.edges) k xs ≡ map flip (by_number (λ n (x : Node P). map (outward n) x.edges) k xs)
+flip_all : {P : Type 0} (k : ℕ) (xs : List (Node P)) → by_number (λ n (x : Node P). map (turned_edge n) x.edges) k xs ≡ map flip (by_number (λ n (x : Node P). map (outward n) x.edges) k xs)
 flip_all k [] = refl
 flip_all {P} k (x ∷ xs) =
-    ap (λ (l : List PlanEdge). l ++ by_number (λ n (x : Node P). map (turned n) x.edges) (k + 1) xs) (flip_each k x.edges)
+    ap (λ (l : List PlanEdge). l ++ by_number (λ n (x : Node P). map (turned_edge n) x.edges) (k + 1) xs) (flip_each k x.edges)
     ∙ ap (λ (l : List PlanEdge). map flip (map (outward k) x.edges) ++ l) (flip_all (k + 1) xs)
     ∙ sym (map-append flip (map (outward k) x.edges) (by_number (λ n (x : Node P). map (outward n) x.edges) (k + 1) xs))
 

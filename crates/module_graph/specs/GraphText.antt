@@ -10,6 +10,7 @@ use Rattle.module_graph.specs.declared.graph.Node.{Node}
 use Rattle.module_graph.specs.declared.variation.Variation.{Variation}
 use Rattle.module_graph.specs.Names.{name_at, variant_name_of}
 use Rattle.module_graph.specs.Numbered.{by_number}
+use Rattle.bp_faults.specs.Characters.{ended_line}
 
 -- How the kind of an edge is spelled.
 abbrev pub kind_word : EdgeKind → List ℕ
@@ -22,21 +23,17 @@ kind_word DataBin = codes "data"
 kind_word Sources = codes "sources"
 
 -- A dash stands for an empty name.
-abbrev pub dashed : List ℕ → List ℕ
-dashed [] = codes "-"
-dashed (c ∷ name) = c ∷ name
+abbrev pub dashed_name : List ℕ → List ℕ
+dashed_name [] = codes "-"
+dashed_name (c ∷ name) = c ∷ name
 
 -- The line of a node: its number, the module's name and the variant's name, with one space between.
 abbrev pub node_line : ℕ → List ℕ → List Variation → List ℕ
-node_line n name vars = decimal n ++ (codes " " ++ (name ++ (codes " " ++ dashed (variant_name_of vars))))
+node_line n name vars = decimal n ++ (codes " " ++ (name ++ (codes " " ++ dashed_name (variant_name_of vars))))
 
 -- The line of an edge: two spaces, the kind, one space and the target's number.
 abbrev pub edge_line : Edge → List ℕ
 edge_line e = codes "  " ++ (kind_word e.kind ++ (codes " " ++ decimal e.to.0))
-
--- A line ends with LF.
-abbrev pub ended : List ℕ → List ℕ
-ended line = line ++ codes "\n"
 
 module _ {P : Type 0} where
   -- The lines of node n: its own, and one for each of its edges, in order.
@@ -45,4 +42,4 @@ module _ {P : Type 0} where
 
   -- The text: the lines of each node in order, by the names of the nodes' modules.
   abbrev pub graph_text_of : List (Node P) → List (List ℕ) → List ℕ
-  graph_text_of nodes names = flat_map ended (by_number (node_lines names) 0 nodes)
+  graph_text_of nodes names = flat_map ended_line (by_number (node_lines names) 0 nodes)

@@ -1,6 +1,6 @@
 -- Module graphs (Blueprint package documentation: modules, variants and dependencies).
 use Rattle.std.specs.Prelude.{◌≡◌, ◌<◌, ◌^◌, ℕ, zero, suc, List, [], ◌∷◌, map, length}
-use Rattle.std.specs.List.{AllByRecursion, AllPairs}
+use Rattle.std.specs.List.{AllByRecursion, AllPairs, flat_map}
 use Rattle.pass_core.specs.declared.plan.PlanEdge.{PlanEdge}
 use Rattle.module_graph.specs.declared.graph.Edge.{Edge}
 use Rattle.module_graph.specs.declared.graph.Node.{Node}
@@ -15,6 +15,10 @@ module _ {P : Type 0} where
   -- The edges of a graph, each from its node to its target, by node and place.
   abbrev pub edges_of : List (Node P) → List PlanEdge
   edges_of nodes = by_number (λ n (x : Node P). map (outward n) x.edges) 0 nodes
+
+  -- The edges of a graph, in node order.
+  abbrev pub all_edges : List (Node P) → List Edge
+  all_edges nodes = flat_map (λ (x : Node P). x.edges) nodes
 
   -- The targets of a node's edges, in order.
   abbrev pub targets : List (Node P) → ℕ → List ℕ

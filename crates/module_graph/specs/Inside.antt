@@ -2,7 +2,7 @@
 use Rattle.std.specs.Prelude.{ℕ, List, [], ◌∷◌, ◌++◌, codes}
 
 -- A name with one part more, behind `_` where both aren't empty.
-abbrev pub added : List ℕ → List ℕ → List ℕ
-added [] part = part
-added (c ∷ name) [] = c ∷ name
-added (c ∷ name) (d ∷ part) = (c ∷ name) ++ (codes "_" ++ d ∷ part)
+abbrev pub name_with : List ℕ → List ℕ → List ℕ
+name_with [] part = part
+name_with (c ∷ name) [] = c ∷ name
+name_with (c ∷ name) (d ∷ part) = (c ∷ name) ++ (codes "_" ++ d ∷ part)

@@ -13,7 +13,7 @@ use Rattle.module_graph.specs.declared.graph.Node.{Node}
 use Rattle.module_graph.specs.declared.variation.Variation.{Variation}
 use Rattle.module_graph.specs.Cycles.{IsCycle, IsReported, CycleMeans, edges_at}
 use Rattle.module_graph.specs.Graphs.{outward, edges_of, targets, NameNodes, IsNumbered, IsValid}
-use Rattle.module_graph.specs.Names.{variant_name_of, is_plain}
+use Rattle.module_graph.specs.Names.{variant_name_of, is_label_byte}
 use Rattle.module_graph.specs.Numbered.{by_number}
 use Rattle.module_graph.specs.Same.{same}
 use Rattle.module_graph.specs.Planned.{by_target, plan_edges, plan_of}
@@ -32,7 +32,7 @@ InEdgesStayByTarget =
 -- The name of a variant has no character but the letters a to z, the digits and `_`.
 abbrev pub VariantNamesArePlain : Type 0
 VariantNamesArePlain =
-    (variations : List Variation) → AllByRecursion (λ c. is_plain c ≡ true) (variant_name_of variations)
+    (variations : List Variation) → AllByRecursion (λ c. is_label_byte c ≡ true) (variant_name_of variations)
 
 -- The test of two variations tells whether they are equal.
 abbrev pub SameMeansEqual : Type 0

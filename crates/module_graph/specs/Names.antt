@@ -30,17 +30,17 @@ abbrev pub variant_name_of : List Variation → List ℕ
 variant_name_of variations = join_by spelling (codes "_") (filter is_set variations)
 
 -- A variant's name in braces, unless it is empty.
-abbrev pub braced : List ℕ → List ℕ
-braced [] = []
-braced (c ∷ name) = codes "{" ++ ((c ∷ name) ++ codes "}")
+abbrev pub braced_name : List ℕ → List ℕ
+braced_name [] = []
+braced_name (c ∷ name) = codes "{" ++ ((c ∷ name) ++ codes "}")
 
 -- The label of a node: the name of its module, and behind it the name of its variant in braces.
 abbrev pub label_of : List ℕ → List Variation → List ℕ
-label_of name variations = name ++ braced (variant_name_of variations)
+label_of name variations = name ++ braced_name (variant_name_of variations)
 
 -- The letters a to z, the digits and `_`.
-abbrev pub is_plain : ℕ → Bool
-is_plain c = (nat_le 97 c && nat_le c 122) || ((nat_le 48 c && nat_le c 57) || (c == 95))
+abbrev pub is_label_byte : ℕ → Bool
+is_label_byte c = (nat_le 97 c && nat_le c 122) || ((nat_le 48 c && nat_le c 57) || (c == 95))
 
 -- The name of node n in a list of names by node number, and the empty one beyond the list.
 abbrev pub name_at : List (List ℕ) → ℕ → List ℕ

@@ -1,7 +1,7 @@
 ghost use Rattle.std.specs.Prelude.{◌≡◌, IfOk, map};
 ghost use Rattle.module_graph.specs.Graphs.{IsNumbered};
 ghost use Rattle.module_graph.specs.Numbered.{by_number};
-ghost use Rattle.module_graph.specs.Planned.{directed};
+ghost use Rattle.module_graph.specs.Planned.{directed_edge};
 
 use crate::{Direction, Edge, Graph};
 use bp_faults::{NodeId, OutOfMemory};
@@ -10,7 +10,7 @@ use std::alloc::Global;
 
 /// An edge of node n as a pass in a direction has it.
 fn plan_edge(dir: Direction, n: u32, edge: &Edge) -> PlanEdge
-    ensures { result ≡ directed dir n edge.now }
+    ensures { result ≡ directed_edge dir n edge.now }
 {
     let (node, to) = (NodeId(n), edge.to);
     match dir {
@@ -26,7 +26,7 @@ pub fn edges_along<P>(
     dir: Direction,
 ) -> Result<Vec<PlanEdge>, OutOfMemory>
     requires { IsNumbered g.now.nodes }
-    ensures { IfOk result (λ edges. edges.items ≡ by_number (λ n x. map (directed dir n) x.edges) 0 g.now.nodes) }
+    ensures { IfOk result (λ edges. edges.items ≡ by_number (λ n x. map (directed_edge dir n) x.edges) 0 g.now.nodes) }
 {
     let mut edges = Vec::new(alloc);
     let mut n = 0;

@@ -1,6 +1,7 @@
 ghost use Rattle.std.specs.Prelude.{◌≡◌, ◌++◌, ◌∷◌, map, IfOk, OnOk, string_bytes};
 ghost use Rattle.std.specs.List.{flat_map};
-ghost use Rattle.module_graph.specs.GraphText.{kind_word, node_line, edge_line, node_lines, ended, graph_text_of};
+ghost use Rattle.module_graph.specs.GraphText.{kind_word, node_line, edge_line, node_lines, graph_text_of};
+ghost use Rattle.bp_faults.specs.Characters.{ended_line};
 
 use crate::names::{name_of, variant_name};
 use crate::{Edge, EdgeKind, Graph, Node};
@@ -24,7 +25,7 @@ fn word_of(kind: EdgeKind) -> &'static str
 
 /// Adds the line of an edge.
 fn put_edge(text: &mut String, edge: &Edge) -> Result<(), OutOfMemory>
-    ensures { OnOk result (string_bytes text.new ≡ string_bytes text.old ++ ended (edge_line edge.now)) }
+    ensures { OnOk result (string_bytes text.new ≡ string_bytes text.old ++ ended_line (edge_line edge.now)) }
 {
     let word = word_of(edge.kind);
     let target = edge.to.0;
@@ -41,7 +42,7 @@ fn put_node<P>(
     node: &Node<P>,
 ) -> Result<(), OutOfMemory>
     ensures { OnOk result
-        (string_bytes text.new ≡ string_bytes text.old ++ ended (node_line n name.now node.now.vars)) }
+        (string_bytes text.new ≡ string_bytes text.old ++ ended_line (node_line n name.now node.now.vars)) }
 {
     let variant = variant_name(alloc, &node.vars)?;
     let mut shown = variant.as_str();
@@ -54,7 +55,8 @@ fn put_node<P>(
 
 /// Adds the lines of some edges.
 fn put_edges(text: &mut String, edges: &[Edge]) -> Result<(), OutOfMemory>
-    ensures { OnOk result (string_bytes text.new ≡ string_bytes text.old ++ flat_map ended (map edge_line edges.now)) }
+    ensures { OnOk result
+        (string_bytes text.new ≡ string_bytes text.old ++ flat_map ended_line (map edge_line edges.now)) }
 {
     for edge in edges {
         put_edge(text, edge)?;
@@ -71,7 +73,7 @@ fn put_lines<P>(
     node: &Node<P>,
 ) -> Result<(), OutOfMemory>
     ensures { OnOk result
-        (string_bytes text.new ≡ string_bytes text.old ++ flat_map ended (node_lines names.now n node.now)) }
+        (string_bytes text.new ≡ string_bytes text.old ++ flat_map ended_line (node_lines names.now n node.now)) }
 {
     put_node(alloc, text, n, name_of(names, n), node)?;
     put_edges(text, node.edges.as_slice())

@@ -1,5 +1,5 @@
 ghost use Rattle.std.specs.Prelude.{◌≡◌, ◌++◌, IfOk, OnOk, string_bytes};
-ghost use Rattle.module_graph.specs.Inside.{added};
+ghost use Rattle.module_graph.specs.Inside.{name_with};
 ghost use Rattle.module_graph.specs.Names.{spelling, variant_name_of, label_of, name_at};
 
 use crate::{Variation, Variations};
@@ -26,7 +26,7 @@ fn push_spelling(alloc: Global, name: &mut String, variation: Variation) -> Resu
 
 /// Adds a variation to a variant's name, behind `_` where others stand there, unless it is empty.
 fn append(alloc: Global, name: &mut String, variation: Variation) -> Result<(), OutOfMemory>
-    ensures { OnOk result (string_bytes name.new ≡ added (string_bytes name.old) (spelling variation)) }
+    ensures { OnOk result (string_bytes name.new ≡ name_with (string_bytes name.old) (spelling variation)) }
 {
     if variation == Variation::Empty {
         return Ok(());

@@ -1,6 +1,6 @@
 ghost use Rattle.std.specs.Prelude.{◌≡◌, length, replicate, slice_index_or, slice_set};
 ghost use Rattle.module_graph.specs.declared.variation.Variation.TheVariants.{Empty};
-ghost use Rattle.module_graph.specs.Axes.{place_of};
+ghost use Rattle.module_graph.specs.Axes.{axis_index};
 
 use crate::Variation;
 use smallvec::SmallVec;
@@ -19,7 +19,7 @@ pub enum Axis {
 
 impl Axis {
     fn place(self) -> usize
-        ensures { result ≡ place_of self }
+        ensures { result ≡ axis_index self }
     {
         match self {
             Axis::Target => 0,
@@ -68,14 +68,14 @@ impl Variations {
 
     /// The variation along an axis.
     pub fn get(&self, axis: Axis) -> Variation
-        ensures { result ≡ slice_index_or self.now (place_of axis) Empty }
+        ensures { result ≡ slice_index_or self.now (axis_index axis) Empty }
     {
         self.variations.as_slice()[axis.place()]
     }
 
     /// Gives an axis another variation. Those along the other axes stay.
     pub fn set(&mut self, axis: Axis, variation: Variation)
-        ensures { self.new ≡ slice_set self.old (place_of axis) variation }
+        ensures { self.new ≡ slice_set self.old (axis_index axis) variation }
     {
         self.variations.as_mut_slice()[axis.place()] = variation;
     }

@@ -5,13 +5,13 @@ use Rattle.module_graph.specs.declared.graph.EdgeKind.{EdgeKind}
 use Rattle.module_graph.specs.declared.variation.Variation.{Variation}
 use Rattle.module_graph.specs.declared.variation.Variation.TheVariants.{Empty, Common}
 use Rattle.module_graph.specs.declared.variations.Axis.{Axis}
-use Rattle.module_graph.specs.Axes.{place_of}
+use Rattle.module_graph.specs.Axes.{axis_index}
 use Rattle.mutator_rules.specs.declared.request.Request.{Request}
 use Rattle.mutator_rules.specs.declared.request.Wanted.{Wanted}
 
 -- The variation of a node along an axis, out of its list of five.
 abbrev pub variation_on : Axis → List Variation → Variation
-variation_on axis vars = slice_index_or vars (place_of axis) Empty
+variation_on axis vars = slice_index_or vars (axis_index axis) Empty
 
 -- Before any split all three variations are wanted empty.
 abbrev pub no_variations : Wanted

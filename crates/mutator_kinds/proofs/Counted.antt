@@ -6,7 +6,7 @@ use Rattle.std.proofs.lemmas.List.{drop_more}
 use Rattle.bp_faults.specs.declared.limits.TheConstants.{MOST_EDGES}
 use Rattle.module_graph.specs.declared.graph.Edge.{Edge}
 use Rattle.module_graph.specs.declared.graph.Node.{Node}
-use Rattle.variant_graphs.specs.Limits.{all_edges}
+use Rattle.module_graph.specs.Graphs.{all_edges}
 
 slice_get-append : {X : Type 0} (xs ys : List X) (n : ℕ) (x : X) → n < length xs → slice_get (xs ++ ys) n ≡ Some (get_or xs n x)
 slice_get-append [] ys n x lt = absurd (omega arith)
@@ -39,11 +39,3 @@ pub none_there : {X : Type 0} (xs : List X) (n : ℕ) → slice_get xs n ≡ Non
 none_there [] n is = omega arith
 none_there (x ∷ xs) zero is = cc
 none_there (x ∷ xs) (suc n) is = let rest = none_there xs n is in omega arith
-
--- where there is none, there are no more than the limit
-pub few_where_none : {X Y : Type 0} (f : X → Y) (xs : List X) (n : ℕ) → None ≡ option_map f (slice_get xs n) → length xs ≤ n
-few_where_none f xs n is = by (slice_get xs n) refl is
-  where
-    by : (o : Option _) → slice_get xs n ≡ o → None ≡ option_map f o → length xs ≤ n
-    by None here h = none_there xs n here
-    by (Some x) here h = cc

@@ -9,7 +9,7 @@ use Rattle.bp_faults.specs.declared.fault.Fault.{Fault}
 use Rattle.bp_faults.specs.declared.ids.NodeId.{NodeId}
 use Rattle.pass_core.specs.declared.plan.Plan.{Plan}
 use Rattle.pass_core.specs.Laws.{OutsMeetTheirEquation}
-use Rattle.pass_core.specs.Outcomes.{IsOutcome}
+use Rattle.pass_core.specs.Outcomes.{PassOutcomeMeans}
 use Rattle.pass_core.specs.Plans.{IsPlan, HasNoCycle}
 use Rattle.module_graph.specs.declared.graph.Edge.{Edge}
 use Rattle.module_graph.specs.declared.graph.Node.{Node}
@@ -56,7 +56,7 @@ abbrev wanting : ℕ → Request → NodeId × Request
 wanting n r = (record { 0 = n }, r)
 
 -- what holds of whatever the meaning gives holds of each result
-module _ {O : Type 0} (mean : ℕ → List O → Result O Fault) (plan : Plan) (outs : List O) (equation : OutsMeetTheirEquation O) (is_plan : IsPlan plan) (free : HasNoCycle plan.edges) (outcome : IsOutcome mean plan (Ok outs)) (many : length outs ≡ plan.count) where
+module _ {O : Type 0} (mean : ℕ → List O → Result O Fault) (plan : Plan) (outs : List O) (equation : OutsMeetTheirEquation O) (is_plan : IsPlan plan) (free : HasNoCycle plan.edges) (outcome : PassOutcomeMeans mean plan (Ok outs)) (many : length outs ≡ plan.count) where
   pub all_outs : (Q : O → Type 0) → ((n : ℕ) (ins : List O) (out : O) → n < plan.count → mean n ins ≡ Ok out → Q out) → AllByRecursion Q outs
   all_outs Q each = recursion_from_All Q outs (λ n d lt. let inside : n < plan.count = omega (arith, many, lt) in
       each n _ (get_or outs n d) inside (equation mean plan outs n d is_plan free outcome inside))

@@ -14,17 +14,17 @@ use Rattle.module_graph.specs.declared.graph.Edge.{Edge}
 use Rattle.module_graph.specs.declared.graph.Node.{Node}
 use Rattle.module_graph.specs.declared.variation.Variation.{Variation}
 use Rattle.module_graph.specs.declared.variations.Axis.{Axis}
-use Rattle.module_graph.specs.Axes.{place_of}
-use Rattle.module_graph.specs.Graphs.{NameNodes}
+use Rattle.module_graph.specs.Axes.{axis_index}
+use Rattle.module_graph.specs.Graphs.{NameNodes, all_edges}
 use Rattle.module_graph.specs.Numbered.{by_number}
 use Rattle.mutator_rules.specs.declared.error.KindError.{KindError}
 use Rattle.mutator_rules.specs.declared.error.KindError.TheVariants.{At, Nodes, Edges, OutOfMemory}
 use Rattle.mutator_rules.specs.declared.request.Request.{Request}
 use Rattle.mutator_rules.specs.declared.split.Split.{Split}
 use Rattle.mutator_rules.specs.Outcomes.{AnswersKind}
-use Rattle.variant_graphs.specs.Limits.{all_edges, IsWithinLimits, IsFirstNodeBeyond, IsFirstEdgeBeyond}
+use Rattle.variant_graphs.specs.Limits.{IsWithinLimits, IsFirstNodeBeyond, IsFirstEdgeBeyond}
 use Rattle.variant_graphs.specs.Payloads.{with_payload, with_payloads}
-use Rattle.variant_graphs.specs.Splitting.{Splitting, splitting, variants_at, variant_node, first_of, led}
+use Rattle.variant_graphs.specs.Splitting.{Splitting, splitting, variants_at, variant_node, first_of, led_edge}
 use Rattle.mutator_kinds.specs.BottomUp.{chosen, rule_along, variants_of, first_payload, first_payloads, new_nodes, ResultsMean}
 use Rattle.mutator_kinds.specs.Inside.{AnswersLimits, HaveOneEach, has_one_variant, with_first, with_firsts}
 use Rattle.mutator_kinds.proofs.Firsts.{length-with_firsts}
@@ -72,7 +72,7 @@ module _ {P : Type 0} (axis : Axis) (lists : List (List (Variation × P))) (sing
   abbrev edge_to : Edge → ℕ → Edge
   edge_to e t = record { kind = e.kind; to = record { 0 = t }; at = e.at }
 
-  led-own : (n : ℕ) (v : Variation) (e : Edge) → e.to.0 < length lists → led along_axis n v e ≡ Some e
+  led-own : (n : ℕ) (v : Variation) (e : Edge) → e.to.0 < length lists → led_edge along_axis n v e ≡ Some e
   led-own n v e lt =
       let one : length (variations_at e.to.0) ≡ 1 =
       length-map (get_or lists e.to.0 []) (λ (b : Variation × P). b.0) ∙ single_at lists e.to.0 single lt in
@@ -83,16 +83,16 @@ module _ {P : Type 0} (axis : Axis) (lists : List (List (Variation × P))) (sing
       ∙ ap (λ t. Some (edge_to e t)) own
 
   edges_stay : (n : ℕ) (v : Variation) (es : List Edge) → EndsBelow (length lists) es
-      → filter_map (led along_axis n v) es ≡ es
+      → filter_map (led_edge along_axis n v) es ≡ es
   edges_stay n v [] h = refl
   edges_stay n v (e ∷ es) h =
-      ap (λ o. cons_option o (filter_map (led along_axis n v) es)) (led-own n v e h.0)
+      ap (λ o. cons_option o (filter_map (led_edge along_axis n v) es)) (led-own n v e h.0)
       ∙ ap (λ l. e ∷ l) (edges_stay n v es h.1)
 
   abbrev variant_with : Node P → Variation × P → List Edge → Node P
   variant_with x b es = record {
     «module» = x.«module»;
-    vars = slice_set x.vars (place_of axis) b.0;
+    vars = slice_set x.vars (axis_index axis) b.0;
     payload = b.1;
     edges = es;
   }

@@ -7,7 +7,7 @@ use Rattle.bp_faults.specs.declared.ids.NodeId.{NodeId}
 use Rattle.bp_faults.specs.declared.limits.TheConstants.{MOST_EDGES, MOST_NODES}
 use Rattle.pass_core.specs.declared.plan.Plan.{Plan}
 use Rattle.pass_core.specs.Laws.{AtMostOneOutcome}
-use Rattle.pass_core.specs.Outcomes.{IsOutcome}
+use Rattle.pass_core.specs.Outcomes.{PassOutcomeMeans}
 use Rattle.module_graph.specs.declared.direction.Direction.TheVariants.{BottomUp, TopDown}
 use Rattle.module_graph.specs.declared.graph.Edge.{Edge}
 use Rattle.module_graph.specs.declared.graph.EdgeKind.{EdgeKind}
@@ -17,10 +17,10 @@ use Rattle.module_graph.specs.Planned.{plan_of}
 use Rattle.mutator_rules.specs.declared.request.Request.{Request}
 use Rattle.mutator_rules.specs.declared.split.Split.{Split}
 use Rattle.mutator_rules.specs.Outcomes.{KindOutcome, Made, FaultAt, NodesBeyond, EdgesBeyond}
-use Rattle.variant_graphs.specs.Limits.{all_edges}
 use Rattle.variant_graphs.specs.Payloads.{with_payloads}
 use Rattle.mutator_kinds.specs.BottomUp.{new_nodes, ResultsMean, BottomUpMeans}
 use Rattle.mutator_kinds.specs.TopDown.{from_above, TopDownMeans}
+use Rattle.module_graph.specs.Graphs.{all_edges}
 
 there : {X Y : Type 0} (f : X → Y) (xs : List X) (n : ℕ) (y : Y) → option_map f (slice_get xs n) ≡ Some y → n < length xs
 there f [] n y is = cc
@@ -54,7 +54,7 @@ module _ {O : Type 0} where
       (once : (outs : List O) (a b : KindOutcome G) → Follows outs a → Follows outs b → a ≡ b) where
     -- how an outcome came about
     abbrev pub Came : KindOutcome G → Type 0
-    Came a = ((outs : List O) × IsOutcome mean plan (whole outs) × Follows outs a) ⊎ ((n : ℕ) × (fault : Fault) × (a ≡ FaultAt n fault) × IsOutcome mean plan (at_node (n, fault)))
+    Came a = ((outs : List O) × PassOutcomeMeans mean plan (whole outs) × Follows outs a) ⊎ ((n : ℕ) × (fault : Fault) × (a ≡ FaultAt n fault) × PassOutcomeMeans mean plan (at_node (n, fault)))
 
     pub came_once : (a b : KindOutcome G) → Came a → Came b → a ≡ b
     came_once a b (inl x) (inl y) =

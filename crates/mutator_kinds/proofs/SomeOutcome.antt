@@ -5,7 +5,7 @@ use Rattle.bp_faults.specs.declared.ids.ModuleId.{ModuleId}
 use Rattle.bp_faults.specs.declared.ids.NodeId.{NodeId}
 use Rattle.bp_faults.specs.declared.place.Place.{Place}
 use Rattle.pass_core.specs.Laws.{OneOutcome}
-use Rattle.pass_core.specs.Outcomes.{IsOutcome}
+use Rattle.pass_core.specs.Outcomes.{PassOutcomeMeans}
 use Rattle.module_graph.specs.declared.direction.Direction.TheVariants.{BottomUp, TopDown}
 use Rattle.module_graph.specs.declared.graph.EdgeKind.{EdgeKind}
 use Rattle.module_graph.specs.declared.graph.Node.{Node}
@@ -28,7 +28,7 @@ module _ {P : Type 0} (plans : PlansOfGraphsArePlans P) (acyclic : ValidPlansHav
     abbrev Down : Type 0
     Down = (outcome : KindOutcome (List (Node P))) × TopDownMeans mean nodes outcome
 
-    down_by : (o : Result (List P) (ℕ × Fault)) → IsOutcome (from_above mean nodes) (plan_of TopDown nodes) o → Down
+    down_by : (o : Result (List P) (ℕ × Fault)) → PassOutcomeMeans (from_above mean nodes) (plan_of TopDown nodes) o → Down
     down_by (Ok outs) is = (Made (with_payloads nodes outs), (outs, is, refl))
     down_by (Err at) is = (FaultAt at.0 at.1, is)
 
@@ -43,7 +43,7 @@ module _ {P : Type 0} (plans : PlansOfGraphsArePlans P) (acyclic : ValidPlansHav
     abbrev Up : Type 0
     Up = (outcome : KindOutcome (List (Node P) × List (NodeId × Request))) × BottomUpMeans mean nodes along outcome
 
-    within_by : (outs : List (Split P)) → IsOutcome (mean nodes) (plan_of BottomUp nodes) (Ok outs)
+    within_by : (outs : List (Split P)) → PassOutcomeMeans (mean nodes) (plan_of BottomUp nodes) (Ok outs)
         → IsWithinLimits (new_nodes along nodes outs)
         ⊎ (((m : ModuleId) × IsFirstNodeBeyond (new_nodes along nodes outs) m)
         ⊎ ((p : Place) × IsFirstEdgeBeyond (new_nodes along nodes outs) p))
@@ -53,7 +53,7 @@ module _ {P : Type 0} (plans : PlansOfGraphsArePlans P) (acyclic : ValidPlansHav
     within_by outs is (inr (inl beyond)) = (NodesBeyond beyond.0, (outs, is, beyond.1))
     within_by outs is (inr (inr beyond)) = (EdgesBeyond beyond.0, (outs, is, beyond.1))
 
-    up_by : (o : Result (List (Split P)) (ℕ × Fault)) → IsOutcome (mean nodes) (plan_of BottomUp nodes) o → Up
+    up_by : (o : Result (List (Split P)) (ℕ × Fault)) → PassOutcomeMeans (mean nodes) (plan_of BottomUp nodes) o → Up
     up_by (Ok outs) is = within_by outs is (tell (new_nodes along nodes outs))
     up_by (Err at) is = (FaultAt at.0 at.1, is)
 

@@ -4,7 +4,7 @@ use Rattle.std.specs.Prelude.{unwrap_or}
 use Rattle.std.specs.List.{AllPairs, position}
 use Rattle.bp_faults.specs.declared.fault.Fault.{Fault}
 use Rattle.bp_faults.specs.declared.ids.NodeId.{NodeId}
-use Rattle.pass_core.specs.Outcomes.{IsOutcome}
+use Rattle.pass_core.specs.Outcomes.{PassOutcomeMeans}
 use Rattle.module_graph.specs.declared.direction.Direction.TheVariants.{BottomUp}
 use Rattle.module_graph.specs.declared.graph.Node.{Node}
 use Rattle.module_graph.specs.declared.variation.Variation.{Variation}
@@ -72,7 +72,7 @@ module _ {P : Type 0} where
 module _ {P : Type 0} (mean : List (Node P) → ℕ → List (Split P) → Result (Split P) Fault) (nodes : List (Node P)) where
   -- The results of the nodes, or a node has a fault.
   abbrev pub VisitsMeans : Result (List (Split P)) (ℕ × Fault) → Type 0
-  VisitsMeans = IsOutcome (mean nodes) (plan_of BottomUp nodes)
+  VisitsMeans = PassOutcomeMeans (mean nodes) (plan_of BottomUp nodes)
 
   -- What all results make of the graph, or the fault of a node.
   abbrev pub BottomUpMeans : Option Axis → KindOutcome (List (Node P) × List (NodeId × Request)) → Type 0

@@ -6,7 +6,7 @@ use Rattle.module_graph.specs.declared.graph.EdgeKind.{EdgeKind}
 use Rattle.module_graph.specs.declared.graph.Node.{Node}
 use Rattle.module_graph.specs.declared.variation.Variation.{Variation}
 use Rattle.module_graph.specs.declared.variations.Axis.{Axis}
-use Rattle.module_graph.specs.Axes.{place_of}
+use Rattle.module_graph.specs.Axes.{axis_index}
 use Rattle.mutator_rules.specs.declared.error.KindError.{KindError}
 use Rattle.mutator_rules.specs.declared.error.KindError.TheVariants.{At, Nodes, Edges, OutOfMemory}
 use Rattle.mutator_rules.specs.declared.split.Split.{Split}
@@ -34,7 +34,7 @@ module _ {P : Type 0} where
   with_first None x (b ∷ bs) = with_payload x b.1
   with_first (Some axis) x (b ∷ bs) = record {
     «module» = x.«module»;
-    vars = slice_set x.vars (place_of axis) b.0;
+    vars = slice_set x.vars (axis_index axis) b.0;
     payload = b.1;
     edges = x.edges;
   }

@@ -1,7 +1,7 @@
 -- What a rule from the top down makes of a graph.
 use Rattle.std.specs.Prelude.{◌≡◌, ℕ, List, Result, Ok, Err}
 use Rattle.bp_faults.specs.declared.fault.Fault.{Fault}
-use Rattle.pass_core.specs.Outcomes.{IsOutcome}
+use Rattle.pass_core.specs.Outcomes.{PassOutcomeMeans}
 use Rattle.module_graph.specs.declared.direction.Direction.TheVariants.{TopDown}
 use Rattle.module_graph.specs.declared.graph.EdgeKind.{EdgeKind}
 use Rattle.module_graph.specs.declared.graph.Node.{Node}
@@ -18,7 +18,7 @@ module _ {P : Type 0} (mean : List (Node P) → ℕ → List EdgeKind → List P
   -- Each payload becomes its node's result, or a node has a fault. The graph is as large as before.
   abbrev pub TopDownMeans : KindOutcome (List (Node P)) → Type 0
   TopDownMeans (Made new) =
-      (outs : List P) × IsOutcome from_above (plan_of TopDown nodes) (Ok outs) × (new ≡ with_payloads nodes outs)
-  TopDownMeans (FaultAt n fault) = IsOutcome from_above (plan_of TopDown nodes) (Err (n, fault))
+      (outs : List P) × PassOutcomeMeans from_above (plan_of TopDown nodes) (Ok outs) × (new ≡ with_payloads nodes outs)
+  TopDownMeans (FaultAt n fault) = PassOutcomeMeans from_above (plan_of TopDown nodes) (Err (n, fault))
   TopDownMeans (NodesBeyond m) = ⊥
   TopDownMeans (EdgesBeyond p) = ⊥

@@ -7,7 +7,7 @@ ghost use Rattle.mutator_rules.specs.Arrivals.{kinds_into};
 ghost use Rattle.mutator_rules.specs.Conditions.{MayRun, MayVisit};
 ghost use Rattle.pass_ways.specs.Ways.{AnswersWay, Follows, IsPassWay, RefusesPass, Runs};
 ghost use Rattle.variant_graphs.specs.Splitting.{StayFree};
-ghost use Rattle.variant_graphs.specs.Steps.{AnswersStep, HasFollowed};
+ghost use Rattle.variant_graphs.specs.Steps.{AnswersStep, FollowedMeans};
 ghost use Rattle.mutator_kinds.specs.Answers.{AnswersTopDown};
 ghost use Rattle.mutator_kinds.specs.Inside.{all_kinds};
 ghost use Rattle.mutator_kinds.specs.TopDown.{from_above, TopDownMeans};
@@ -152,7 +152,7 @@ where
     requires follows { Follows way.now before.now }
     ensures means { AnswersStep (λ made. made.graph.nodes) (TopDownMeans (M.meaning rule.now) g.nodes)
         (RefusesPass way.now before.now pass (plan_of TopDown g.nodes)) result }
-    ensures followed { HasFollowed (λ made. made.order)
+    ensures followed { FollowedMeans (λ made. made.order)
         (Runs (Follows way.now) (plan_of TopDown g.nodes) pass before.now) result }
     ensures asked { IfOk result (λ made. made.asked ≡ []) }
     ensures valid { IfOk result (λ made. IsValid made.graph.nodes) }

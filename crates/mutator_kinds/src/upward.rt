@@ -9,7 +9,7 @@ ghost use Rattle.mutator_rules.specs.Outcomes.{AnswersKind};
 ghost use Rattle.mutator_rules.specs.Shapes.{AreShaped};
 ghost use Rattle.pass_ways.specs.Ways.{AnswersWay, Follows, IsPassWay, RefusesPass, Runs};
 ghost use Rattle.variant_graphs.specs.Splitting.{StayFree};
-ghost use Rattle.variant_graphs.specs.Steps.{AnswersStep, HasFollowed};
+ghost use Rattle.variant_graphs.specs.Steps.{AnswersStep, FollowedMeans};
 ghost use Rattle.mutator_kinds.specs.BottomUp.{BottomUpMeans, DifferFor, IsFreeFor};
 ghost use Rattle.mutator_kinds.specs.Inside.{AreFit};
 
@@ -131,7 +131,7 @@ where
     ensures means { AnswersStep (λ made. (made.graph.nodes, made.asked))
         (BottomUpMeans (M.meaning rule.now) g.nodes (M.splits_along rule.now))
         (RefusesPass way.now before.now pass (plan_of BottomUp g.nodes)) result }
-    ensures followed { HasFollowed (λ made. made.order)
+    ensures followed { FollowedMeans (λ made. made.order)
         (Runs (Follows way.now) (plan_of BottomUp g.nodes) pass before.now) result }
     ensures valid { IfOk result (λ made. IsValid made.graph.nodes) }
     ensures may { IfOk result (λ made. MayRun (M.accepts rule.now) made.graph.nodes) }

@@ -68,10 +68,6 @@ all_numbered nodes i many le so_far few =
       ends = subst (λ (l : List (Node NodeId)). AllByRecursion (λ (x : Node NodeId). AllByRecursion (λ (e : Edge). e.to.0 < length nodes) x.edges) l) whole so_far.ends;
     }
 
-pub inside_more : (count : ℕ) (es : List Edge) (i : ℕ) (e : Edge) → i < length es → e ≡ get_or es i e → AllByRecursion (λ (x : Edge). x.to.0 < count) (take i es) → e.to.0 < count → AllByRecursion (λ (x : Edge). x.to.0 < count) (take (i + 1) es)
-inside_more count es i e lt read h inside =
-    subst (λ (l : List Edge). AllByRecursion (λ (x : Edge). x.to.0 < count) l) (sym (take-more es i e lt read)) (all_pushed (λ (x : Edge). x.to.0 < count) (take i es) e h inside)
-
 source_of : Variation → ℕ
 source_of (PerSource i) = i
 source_of v = 0

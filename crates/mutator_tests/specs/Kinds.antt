@@ -61,25 +61,25 @@ abbrev pub asking : ℕ → Result (Split NodeId) Fault
 asking n = Ok (record { variants = (Empty, record { 0 = n }) ∷ []; requests = lib_request n ∷ lib_request n ∷ [] })
 
 -- Whether an edge is of kind Whole.
-abbrev pub is_whole : EdgeKind → Bool
-is_whole Whole = true
-is_whole Defaults = false
-is_whole Static = false
-is_whole Shared = false
-is_whole Header = false
-is_whole DataBin = false
-is_whole Sources = false
+abbrev pub is_whole_kind : EdgeKind → Bool
+is_whole_kind Whole = true
+is_whole_kind Defaults = false
+is_whole_kind Static = false
+is_whole_kind Shared = false
+is_whole_kind Header = false
+is_whole_kind DataBin = false
+is_whole_kind Sources = false
 
 -- What the source of the first edge made, if that edge is of kind Whole, else the node's own number.
-abbrev pub handed : ℕ → List EdgeKind → List NodeId → NodeId
-handed n (kind ∷ kinds) (first ∷ ins) = if is_whole kind then first else record { 0 = n }
-handed n (kind ∷ kinds) [] = record { 0 = n }
-handed n [] ins = record { 0 = n }
+abbrev pub handed_node : ℕ → List EdgeKind → List NodeId → NodeId
+handed_node n (kind ∷ kinds) (first ∷ ins) = if is_whole_kind kind then first else record { 0 = n }
+handed_node n (kind ∷ kinds) [] = record { 0 = n }
+handed_node n [] ins = record { 0 = n }
 
 -- The same, but a node is refused.
 abbrev pub handed_unless : ℕ → ℕ → List EdgeKind → List NodeId → Result NodeId Fault
 handed_unless refused n kinds ins =
-    if n == refused then Err (fault_at BadSource (file_start n)) else Ok (handed n kinds ins)
+    if n == refused then Err (fault_at BadSource (file_start n)) else Ok (handed_node n kinds ins)
 
 made_or : Split NodeId → Result (Split NodeId) Fault → Split NodeId
 made_or d (Ok made) = made

@@ -3,7 +3,7 @@ ghost use Rattle.std.specs.Prelude.{◌≡◌, ◌<◌, length, map, IfOk, OnOk,
 ghost use Rattle.std.specs.List.{AllByRecursion, range_with_len};
 ghost use Rattle.module_graph.specs.declared.graph.Edge.{Edge as AnEdge};
 ghost use Rattle.module_graph.specs.Graphs.{IsNumbered, IsValid};
-ghost use Rattle.mutator_tests.specs.Kinds.{AreNew, is_whole, lib_request};
+ghost use Rattle.mutator_tests.specs.Kinds.{AreNew, is_whole_kind, lib_request};
 ghost use Rattle.mutator_tests.specs.Kinds.{number_at, numbered_variant};
 
 use bp_faults::{Fault, FaultKind, ModuleId, NodeId, OutOfMemory, Place, Refusal, Seq, Text};
@@ -129,7 +129,7 @@ impl BottomUp<NodeId> for Asks {
 }
 
 fn is_whole(kind: EdgeKind) -> bool
-    ensures { result ≡ is_whole kind }
+    ensures { result ≡ is_whole_kind kind }
 {
     match kind {
         EdgeKind::Whole => true,

@@ -3,14 +3,7 @@
 use Rattle.std.specs.Prelude.{ℕ, Bool, ◌||◌, ◌==◌}
 use Rattle.ninja_file.specs.declared.escape.Escape.{Escape}
 use Rattle.ninja_file.specs.declared.escape.Escape.TheVariants.{Path, Value}
-
--- The byte that begins each escape and each variable.
-abbrev pub dollar : ℕ
-dollar = 36
-
--- The byte between two paths.
-abbrev pub space : ℕ
-space = 32
+use Rattle.bp_faults.specs.Characters.{dollar, space}
 
 -- The byte between the outs of a statement and its rule.
 abbrev pub colon : ℕ

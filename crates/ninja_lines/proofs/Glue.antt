@@ -3,7 +3,8 @@ use Rattle.std.proofs.Common.{◌≡◌, ℕ, suc, ◌+◌, ◌-◌, ◌<◌, Bo
 use Rattle.std.specs.Str.{is_utf8}
 use Rattle.std.proofs.Math.Seq.{get_or-append_seam}
 use Rattle.std.proofs.lemmas.Str.{IsUtf8-from_is_utf8}
-use Rattle.ninja_lines.specs.Meaning.{JoinedLine, glue_text, glue, dangles, drop_spaces, without_last, space, dollar}
+use Rattle.ninja_lines.specs.Meaning.{JoinedLine, glue_text, glue, dangles, drop_spaces, without_last}
+use Rattle.bp_faults.specs.Characters.{dollar, space}
 
 pub not_utf8 : (bytes : List ℕ) (e : Bool) → is_utf8 bytes ≡ e → (IsUtf8 bytes → ⊥) → e ≡ false
 not_utf8 bytes true is h = absurd (h (IsUtf8-from_is_utf8 bytes is))

@@ -4,7 +4,7 @@ use Rattle.std.specs.Borrow.{Bor}
 use Rattle.std.specs.Str.{is_utf8}
 use Rattle.std.proofs.lemmas.List.{get_or-map, length-map}
 use Rattle.ninja_lines.specs.declared.line.Line.{Line}
-use Rattle.ninja_lines.specs.Meaning.{JoinedLine, glue, joined, dangles, without_last, drop_spaces}
+use Rattle.ninja_lines.specs.Meaning.{JoinedLine, glue, joined_from, dangles, without_last, drop_spaces}
 use Rattle.ninja_lines.specs.Shown.{texts, shown_line}
 use Rattle.ninja_lines.specs.Inside.{IsNextLine}
 use Rattle.ninja_lines.proofs.Glue.{glue_twice, dangles_spaces, without_last_spaces}
@@ -13,17 +13,17 @@ use Rattle.ninja_lines.proofs.Glue.{glue_twice, dangles_spaces, without_last_spa
 pub text_at : (lines : List (Bor (List ℕ))) (i : ℕ) (d : Bor (List ℕ)) → i < length lines → get_or (texts lines) i [] ≡ (get_or lines i d).now
 text_at lines i d h = get_or-map (λ l. l.now) lines i d [] h
 
-at : (lines : List (Bor (List ℕ))) (i : ℕ) (d : Bor (List ℕ)) → i < length lines → joined (i + 1) (drop i (texts lines)) ≡ joined (i + 1) ((get_or lines i d).now ∷ drop (i + 1) (texts lines))
+at : (lines : List (Bor (List ℕ))) (i : ℕ) (d : Bor (List ℕ)) → i < length lines → joined_from (i + 1) (drop i (texts lines)) ≡ joined_from (i + 1) ((get_or lines i d).now ∷ drop (i + 1) (texts lines))
 at lines i d h =
     let within : i < length (texts lines) = simp length-map h in
-    ap (joined (i + 1)) (drop-cons (texts lines) i [] within ∙ ap (λ j. get_or (texts lines) i [] ∷ drop j (texts lines)) (sym (add-one i)) ∙ ap (λ x. x ∷ drop (i + 1) (texts lines)) (text_at lines i d h))
+    ap (joined_from (i + 1)) (drop-cons (texts lines) i [] within ∙ ap (λ j. get_or (texts lines) i [] ∷ drop j (texts lines)) (sym (add-one i)) ∙ ap (λ x. x ∷ drop (i + 1) (texts lines)) (text_at lines i d h))
 
 -- the joined lines behind an index
 abbrev behind : List (Bor (List ℕ)) → ℕ → List JoinedLine
-behind lines i = joined (i + 1 + 1) (drop (i + 1) (texts lines))
+behind lines i = joined_from (i + 1 + 1) (drop (i + 1) (texts lines))
 
 abbrev Begins : List (Bor (List ℕ)) → ℕ → List JoinedLine → Type 0
-Begins lines i found = joined (i + 1) (drop i (texts lines)) ≡ found
+Begins lines i found = joined_from (i + 1) (drop i (texts lines)) ≡ found
 
 not_text_at : (lines : List (Bor (List ℕ))) (i : ℕ) (d : Bor (List ℕ)) → i < length lines → is_utf8 (get_or lines i d).now ≡ false → Begins lines i (record { number = i + 1; text = None } ∷ behind lines i)
 not_text_at lines i d h bad = at lines i d h ∙ rw bad refl
@@ -45,11 +45,7 @@ one_whole lines i d line text h good same whole is =
 
 -- what was joined so far, before the joined line that begins at an index
 abbrev pub IsOpen : List (Bor (List ℕ)) → ℕ → List ℕ → ℕ → Type 0
-IsOpen lines first text i = joined (first + 1) (drop first (texts lines)) ≡ glue (first + 1) text (joined (i + 1) (drop i (texts lines)))
-
-pub opened : (lines : List (Bor (List ℕ))) (first : ℕ) (d : Bor (List ℕ)) (front text : List ℕ) → first < length lines → front ≡ (get_or lines first d).now → is_utf8 front ≡ true → dangles false front ≡ true → text ≡ without_last front → IsOpen lines first text (first + 1)
-opened lines first d front text h same good joins is =
-    glued_at lines first d h (ap is_utf8 (sym same) ∙ good) (ap (dangles false) (sym same) ∙ joins) ∙ ap (λ t. glue (first + 1) t (behind lines first)) (ap without_last (sym same) ∙ sym is)
+IsOpen lines first text i = joined_from (first + 1) (drop first (texts lines)) ≡ glue (first + 1) text (joined_from (i + 1) (drop i (texts lines)))
 
 pub closed_by_not_text : (lines : List (Bor (List ℕ))) (first i : ℕ) (text : List ℕ) (d : Bor (List ℕ)) (line : Line) → first < i → i < length lines → IsOpen lines first text i → is_utf8 (get_or lines i d).now ≡ false → shown_line line ≡ record { number = i + 1; text = None } → IsNextLine lines first line (i + 1)
 closed_by_not_text lines first i text d line less h open_ bad is = record {

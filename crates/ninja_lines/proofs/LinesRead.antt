@@ -1,5 +1,5 @@
 -- Lines, one after another.
-use Rattle.std.proofs.Common.{◌≡◌, ℕ, suc, ◌+◌, ◌<◌, ◌≤◌, Bool, true, false, cond, List, [], ◌∷◌, ◌++◌, eqb, length, take, drop, get_or, add-one, drop-cons, ap, sym, ◌∙◌, refl, append_assoc, arith}
+use Rattle.std.proofs.Common.{◌≡◌, ℕ, suc, ◌+◌, ◌<◌, ◌≤◌, Bool, true, false, cond, List, [], ◌∷◌, ◌++◌, eqb, length, take, drop, add-one, ap, sym, ◌∙◌, refl, append_assoc, arith}
 use Rattle.std.specs.List.{onto_first}
 use Rattle.ninja_lines.specs.Meaning.{lines, line_feed}
 use Rattle.ninja_lines.specs.Inside.{line_length}
@@ -13,9 +13,6 @@ line_off_by b (c ∷ bytes) false more = ap (onto_first b) (more (omega arith))
 pub line_off : (bytes : List ℕ) → 0 < length bytes → lines bytes ≡ take (line_length bytes) bytes ∷ lines (drop (suc (line_length bytes)) bytes)
 line_off [] h = absurd (omega arith)
 line_off (b ∷ bytes) h = line_off_by b bytes (eqb b line_feed) (λ k. line_off bytes k)
-
-pub line_length-drop : (bytes : List ℕ) (i : ℕ) → i < length bytes → line_length (drop i bytes) ≡ cond (eqb (get_or bytes i 0) line_feed) 0 (suc (line_length (drop (i + 1) bytes)))
-line_length-drop bytes i h = ap line_length (drop-cons bytes i 0 h) ∙ ap (λ j. cond (eqb (get_or bytes i 0) line_feed) 0 (suc (line_length (drop j bytes)))) (sym (add-one i))
 
 length_within : (e : Bool) (m n : ℕ) → m ≤ n → cond e 0 (suc m) ≤ suc n
 length_within true m n h = omega arith

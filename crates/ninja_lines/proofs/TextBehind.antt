@@ -1,7 +1,8 @@
 -- Texts behind an ASCII character.
 use Rattle.std.proofs.Common.{◌≡◌, ℕ, ◌<◌, List, [], ◌∷◌, IsUtf8, sym, refl, ap, cond, eqb, eqb-true, Bool, true, false}
 use Rattle.std.proofs.lemmas.Str.{IsUtf8-past_char, encode_ascii}
-use Rattle.ninja_lines.specs.Meaning.{drop_spaces, space}
+use Rattle.ninja_lines.specs.Meaning.{drop_spaces}
+use Rattle.bp_faults.specs.Characters.{space}
 
 pub utf8_behind : (text rest : List ℕ) (c : ℕ) → c < 128 → IsUtf8 text → text ≡ c ∷ rest → IsUtf8 rest
 utf8_behind text rest c ascii utf8 is = IsUtf8-past_char text rest c utf8 (rw (encode_ascii c ascii) is)

@@ -2,9 +2,10 @@
 use Rattle.std.specs.Prelude.{◌≡◌, ℕ, suc, ◌+◌, ◌<◌, ◌≤◌, Bool, true, false, List, [], ◌∷◌, ◌==◌, length}
 use Rattle.std.specs.Prelude.{drop, if◌then◌else◌}
 use Rattle.std.specs.Borrow.{Bor}
-use Rattle.ninja_lines.specs.Meaning.{dollar, line_feed, joined}
+use Rattle.ninja_lines.specs.Meaning.{line_feed, joined_from}
 use Rattle.ninja_lines.specs.Shown.{shown_line, texts}
 use Rattle.ninja_lines.specs.declared.line.Line.{Line}
+use Rattle.bp_faults.specs.Characters.{dollar}
 
 -- How far the first line goes.
 abbrev pub line_length : List ℕ → ℕ
@@ -22,4 +23,5 @@ reach at false (b ∷ bytes) =
 pub record IsNextLine (lines : List (Bor (List ℕ))) (at : ℕ) (line : Line) (next : ℕ) : Type 0 where
   pub more : at < next
   pub within : next ≤ length lines
-  pub same : joined (at + 1) (drop at (texts lines)) ≡ shown_line line ∷ joined (next + 1) (drop next (texts lines))
+  pub same :
+      joined_from (at + 1) (drop at (texts lines)) ≡ shown_line line ∷ joined_from (next + 1) (drop next (texts lines))

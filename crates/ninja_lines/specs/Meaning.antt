@@ -4,14 +4,7 @@ use Rattle.std.specs.Prelude.{ℕ, ◌+◌, Bool, false, List, [], ◌∷◌, �
 use Rattle.std.specs.Prelude.{Option, Some, None, if◌then◌else◌}
 use Rattle.std.specs.List.{onto_first}
 use Rattle.std.specs.Str.{is_utf8}
-
--- The byte `$`.
-abbrev pub dollar : ℕ
-dollar = 36
-
--- The byte ` `.
-abbrev pub space : ℕ
-space = 32
+use Rattle.bp_faults.specs.Characters.{dollar, space}
 
 -- The byte LF.
 abbrev pub line_feed : ℕ
@@ -65,10 +58,10 @@ joined_line number line rest =
     if is_utf8 line then text_line number line rest else (record { number = number; text = None } ∷ rest)
 
 -- The joined lines of some lines, which are counted from a number.
-abbrev pub joined : ℕ → List (List ℕ) → List JoinedLine
-joined number [] = []
-joined number (line ∷ more) = joined_line number line (joined (number + 1) more)
+abbrev pub joined_from : ℕ → List (List ℕ) → List JoinedLine
+joined_from number [] = []
+joined_from number (line ∷ more) = joined_line number line (joined_from (number + 1) more)
 
 -- The joined lines of a text, which are counted from 1.
 abbrev pub joined_lines : List ℕ → List JoinedLine
-joined_lines text = joined 1 (lines text)
+joined_lines text = joined_from 1 (lines text)

@@ -1,5 +1,5 @@
 ghost use Rattle.std.specs.Prelude.{◌≡◌, ◌<◌, ◌≤◌, false, length, map, IfOk, take, drop, ◌+◌, IsUtf8};
-ghost use Rattle.ninja_lines.specs.Cuts.{cut, words};
+ghost use Rattle.ninja_lines.specs.Cuts.{parts_between, words};
 ghost use Rattle.ninja_lines.specs.Inside.{reach};
 
 use bp_faults::OutOfMemory;
@@ -27,7 +27,7 @@ fn reach(bytes: &[u8], at: u8) -> usize
 /// takes with it cut nothing.
 pub fn parts_at<'a>(alloc: Global, text: &'a str, at: u8) -> Result<Vec<&'a str>, OutOfMemory>
     requires { at < 128 }
-    ensures { IfOk result (λ parts. map (λ part. part.now) parts.items ≡ cut at false text.now) }
+    ensures { IfOk result (λ parts. map (λ part. part.now) parts.items ≡ parts_between at false text.now) }
 {
     let mut parts = Vec::new(alloc);
     let mut rest = text;

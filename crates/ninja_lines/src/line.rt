@@ -1,5 +1,5 @@
 ghost use Rattle.std.specs.Prelude.{◌≡◌, option_map};
-ghost use Rattle.ninja_lines.specs.Shown.{shown_text};
+ghost use Rattle.ninja_lines.specs.Shown.{text_in};
 
 use bp_faults::Text;
 
@@ -22,7 +22,7 @@ pub struct Line<'a> {
 impl Line<'_> {
     /// The text, where there is one.
     pub fn text(&self) -> Option<&str>
-        ensures { option_map (λ text. text.now) result ≡ shown_text self.now.content }
+        ensures { option_map (λ text. text.now) result ≡ text_in self.now.content }
     {
         match &self.content {
             LineText::NotText => None,

@@ -2,11 +2,10 @@
 use Rattle.std.proofs.Common.{◌≡◌, ℕ, suc, ◌<◌, ◌≤◌, take, Bool, true, false, cond, List, [], ◌∷◌, ◌++◌, eqb, eqb-true, eq-eqb, length, drop, get_or, Option, Some, None, MatchOption, option_map, ap, sym, ◌∙◌, refl, arith}
 use Rattle.std.specs.Borrow.{Bor}
 use Rattle.std.specs.Str.{bytes_eq}
-use Rattle.std.proofs.lemmas.List.{length-map}
-use Rattle.ninja_lines.specs.Cuts.{cut, words}
+use Rattle.ninja_lines.specs.Cuts.{parts_between, words}
 use Rattle.ninja_lines.specs.Meaning.{drop_spaces}
 use Rattle.ninja_lines.specs.Shown.{texts}
-use Rattle.ninja_read.specs.Heads.{behind_word, before_mark, behind_mark, value_behind, binding_behind, binding_of, defaults_of_parts, defaults_of, statement_of_parts, statement_of_words, some_paths, build_of}
+use Rattle.ninja_read.specs.Heads.{behind_word, before_mark, behind_mark, value_behind, binding_behind, binding_of, defaults_of_parts, defaults_of, statement_of_parts, statement_of_words, some_paths, build_statement}
 use Rattle.ninja_read.specs.Values.{name_length}
 
 pub behind_some : (word rest : List ℕ) → behind_word word (word ++ rest) ≡ Some rest
@@ -69,23 +68,6 @@ no_binding text spaced key behind rest is k r h = sym (
     ap binding_behind (sym is)
     ∙ either_none (eqb (name_length spaced) 0) (value_behind (take (name_length spaced) spaced) (drop_spaces (drop (name_length spaced) spaced))) (ap (value_behind (take (name_length spaced) spaced)) (ap drop_spaces (sym k) ∙ sym r) ∙ no_value (take (name_length spaced) spaced) rest h))
 
-pub no_defaults : (parts : List (List ℕ)) → (length parts ≡ 1 → ⊥) → defaults_of_parts parts ≡ None
-no_defaults [] h = refl
-no_defaults (text ∷ []) h = absurd (h refl)
-no_defaults (text ∷ other ∷ more) h = refl
-
-pub no_statement : (parts : List (List ℕ)) → (length parts ≡ 2 → ⊥) → statement_of_parts parts ≡ None
-no_statement [] h = refl
-no_statement (makes ∷ []) h = refl
-no_statement (makes ∷ takes ∷ []) h = absurd (h refl)
-no_statement (makes ∷ takes ∷ other ∷ more) h = refl
-
-pub no_defaults_of : (text : List ℕ) (parts : List (Bor (List ℕ))) → texts parts ≡ cut 58 false text → (length parts ≡ 1 → ⊥) → None ≡ defaults_of text
-no_defaults_of text parts is h = sym (ap defaults_of_parts (sym is) ∙ no_defaults (texts parts) (λ n. h (simp length-map at n)))
-
-pub no_build_of : (text : List ℕ) (parts : List (Bor (List ℕ))) → texts parts ≡ cut 58 false text → (length parts ≡ 2 → ⊥) → None ≡ build_of text
-no_build_of text parts is h = sym (ap statement_of_parts (sym is) ∙ no_statement (texts parts) (λ n. h (simp length-map at n)))
-
 one_part : (parts : List (Bor (List ℕ))) (p : Bor (List ℕ)) → length parts ≡ 1 → p ≡ get_or parts 0 p → parts ≡ p ∷ []
 one_part [] p n is = absurd (cc)
 one_part (x ∷ []) p n is = ap (λ y. y ∷ []) (sym is)
@@ -97,8 +79,8 @@ two_parts (x ∷ []) p q n is js = absurd (omega arith)
 two_parts (x ∷ y ∷ []) p q n is js = cc
 two_parts (x ∷ y ∷ z ∷ more) p q n is js = absurd (omega arith)
 
-pub defaults_cut : (text : List ℕ) (parts : List (Bor (List ℕ))) (p : Bor (List ℕ)) (found : List (List ℕ)) → texts parts ≡ cut 58 false text → length parts ≡ 1 → p ≡ get_or parts 0 p → found ≡ words p.now → some_paths found ≡ defaults_of text
+pub defaults_cut : (text : List ℕ) (parts : List (Bor (List ℕ))) (p : Bor (List ℕ)) (found : List (List ℕ)) → texts parts ≡ parts_between 58 false text → length parts ≡ 1 → p ≡ get_or parts 0 p → found ≡ words p.now → some_paths found ≡ defaults_of text
 defaults_cut text parts p found is n at ws = ap some_paths ws ∙ ap defaults_of_parts (ap texts (sym (one_part parts p n at)) ∙ is)
 
-pub build_cut : (text : List ℕ) (parts : List (Bor (List ℕ))) (p q : Bor (List ℕ)) (makes takes : List (List ℕ)) → texts parts ≡ cut 58 false text → length parts ≡ 2 → p ≡ get_or parts 0 p → q ≡ get_or parts 1 q → makes ≡ words p.now → takes ≡ words q.now → statement_of_words makes takes ≡ build_of text
+pub build_cut : (text : List ℕ) (parts : List (Bor (List ℕ))) (p q : Bor (List ℕ)) (makes takes : List (List ℕ)) → texts parts ≡ parts_between 58 false text → length parts ≡ 2 → p ≡ get_or parts 0 p → q ≡ get_or parts 1 q → makes ≡ words p.now → takes ≡ words q.now → statement_of_words makes takes ≡ build_statement text
 build_cut text parts p q makes takes is n at behind ms ts = ap (λ m. statement_of_words m takes) ms ∙ ap (statement_of_words (words p.now)) ts ∙ ap statement_of_parts (ap texts (sym (two_parts parts p q n at behind)) ∙ is)

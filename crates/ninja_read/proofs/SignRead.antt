@@ -3,16 +3,17 @@ use Rattle.std.proofs.Common.{◌≡◌, ℕ, suc, ◌+◌, ◌<◌, ◌≤◌, 
 use Rattle.std.proofs.lemmas.Bool.{eqb-false}
 use Rattle.std.proofs.lemmas.Bool.Decides.{nat_tests}
 use Rattle.std.proofs.lemmas.Str.{IsCharBoundary-after_ascii}
-use Rattle.ninja_read.specs.Inside.{with_text, with_sign, built, dollar_at}
+use Rattle.ninja_read.specs.Inside.{with_text, with_sign, built_pieces, dollar_at}
 use Rattle.ninja_read.specs.declared.value.Sign.{Sign}
 use Rattle.ninja_read.specs.declared.value.Pieces.{Pieces}
 use Rattle.ninja_file.specs.declared.file.Piece.{Piece}
 use Rattle.ninja_file.specs.declared.file.Piece.TheVariants.{Var}
 use Rattle.ninja_file.specs.declared.escape.Escape.TheVariants.{Path}
-use Rattle.ninja_file.specs.Escapes.{dollar, is_escaped}
+use Rattle.ninja_file.specs.Escapes.{is_escaped}
 use Rattle.ninja_read.specs.Values.{in_text, behind_dollar, in_name, in_braces, name_length, with_variable, pieces_from, pieces_of}
 use Rattle.ninja_file.specs.Names.{is_name_byte, is_nil}
 use Rattle.ninja_read.proofs.ValueRead.{in_name_reads, run, last_run, option_map_twice, option_map_same, dollar_within}
+use Rattle.bp_faults.specs.Characters.{dollar}
 
 -- a name between braces ends at a brace
 abbrev closes : List ℕ → List ℕ → Option (List Piece)
@@ -63,9 +64,6 @@ braces_closed text name behind rest is back some brace =
 pub sign_escaped : (text : List ℕ) (b : ℕ) (rest front back : List ℕ) → text ≡ b ∷ rest → is_escaped Path b ≡ true → front ≡ take 1 text → back ≡ drop 1 text → pieces_from behind_dollar text ≡ option_map (with_text front) (pieces_from in_text back)
 sign_escaped text b rest front back is escaped f k = rw (f, k, is, escaped) refl
 
-pub sign_braces : (text : List ℕ) (b : ℕ) (rest back : List ℕ) → text ≡ b ∷ rest → is_escaped Path b ≡ false → b ≡ 123 → back ≡ drop 1 text → pieces_from behind_dollar text ≡ pieces_from (in_braces []) back
-sign_braces text b rest back is plain brace k = let e : eqb b 123 ≡ true = rw brace refl in rw (k, is, plain, e) refl
-
 bare_by : (b : ℕ) (rest : List ℕ) (e : Bool) → is_name_byte b ≡ e → cond e (pieces_from (in_name (b ∷ [])) rest) None ≡ cond e (with_variable (take (cond e (suc (name_length rest)) 0) (b ∷ rest)) (pieces_from in_text (drop (cond e (suc (name_length rest)) 0) (b ∷ rest)))) None
 bare_by b rest true is = in_name_reads rest (b ∷ [])
 bare_by b rest false is = refl
@@ -88,11 +86,6 @@ unnamed_by : (b : ℕ) (rest name : List ℕ) (e : Bool) → name ≡ take (cond
 unnamed_by b rest name true is some = absurd (omega (arith, eqb-true (length name) 0 some, ap length is))
 unnamed_by b rest name false is some = refl
 
-pub sign_nothing : (text : List ℕ) (b : ℕ) (rest name : List ℕ) → text ≡ b ∷ rest → is_escaped Path b ≡ false → (b ≡ 123 → ⊥) → name ≡ take (name_length text) text → eqb (length name) 0 ≡ true → pieces_from behind_dollar text ≡ None
-sign_nothing text b rest name is plain other n none =
-    let e : is_name_byte b ≡ false = unnamed_by b rest name (is_name_byte b) (n ∙ ap (λ t. take (name_length t) t) is) none in
-    ap (pieces_from behind_dollar) is ∙ sign_bare b rest plain other ∙ ap (λ t. cond t (with_variable (take (name_length (b ∷ rest)) (b ∷ rest)) (pieces_from in_text (drop (name_length (b ∷ rest)) (b ∷ rest)))) None) e
-
 dollar_is_by : (b : ℕ) (bytes : List ℕ) (e : Bool) → eqb b dollar ≡ e → (dollar_at bytes < length bytes → get_or bytes (dollar_at bytes) 0 ≡ dollar) → cond e 0 (suc (dollar_at bytes)) < suc (length bytes) → get_or (b ∷ bytes) (cond e 0 (suc (dollar_at bytes))) 0 ≡ dollar
 dollar_is_by b bytes true is more h = eqb-true b dollar is
 dollar_is_by b bytes false is more h = more (omega arith)
@@ -111,21 +104,21 @@ run_at bytes at is h = rw (add-one, is) (run bytes (rw (← is) h))
 pub run_refused : (bytes back : List ℕ) (at : ℕ) → at ≡ dollar_at bytes → at < length bytes → back ≡ drop (at + 1) bytes → pieces_from behind_dollar back ≡ None → pieces_from in_text bytes ≡ None
 run_refused bytes back at is h k none = run_at bytes at is h ∙ ap (option_map (with_text (take at bytes))) (ap (pieces_from behind_dollar) (sym k) ∙ none)
 
-pub run_put : (old mid new : Pieces) (bytes front back rest written : List ℕ) (sign : Sign) (at : ℕ) → at ≡ dollar_at bytes → at < length bytes → front ≡ take at bytes → back ≡ drop (at + 1) bytes → pieces_from behind_dollar back ≡ option_map (with_sign sign) (pieces_from in_text rest) → ((more : List Piece) → built mid more ≡ built old (with_text front more)) → ((more : List Piece) → built new more ≡ built mid (with_sign sign more)) → option_map (built old) (pieces_from in_text bytes) ≡ pieces_of written → option_map (built new) (pieces_from in_text rest) ≡ pieces_of written
+pub run_put : (old mid new : Pieces) (bytes front back rest written : List ℕ) (sign : Sign) (at : ℕ) → at ≡ dollar_at bytes → at < length bytes → front ≡ take at bytes → back ≡ drop (at + 1) bytes → pieces_from behind_dollar back ≡ option_map (with_sign sign) (pieces_from in_text rest) → ((more : List Piece) → built_pieces mid more ≡ built_pieces old (with_text front more)) → ((more : List Piece) → built_pieces new more ≡ built_pieces mid (with_sign sign more)) → option_map (built_pieces old) (pieces_from in_text bytes) ≡ pieces_of written → option_map (built_pieces new) (pieces_from in_text rest) ≡ pieces_of written
 run_put old mid new bytes front back rest written sign at is h f k found put_front put_sign whole =
     let r = run_at bytes at is h in
     let s : pieces_from behind_dollar (drop (at + 1) bytes) ≡ option_map (with_sign sign) (pieces_from in_text rest) = ap (pieces_from behind_dollar) (sym k) ∙ found in
     let o = pieces_from in_text rest in
-    option_map_same (built new) (λ more. built old (with_text (take at bytes) (with_sign sign more))) o (λ more. put_sign more ∙ put_front (with_sign sign more) ∙ ap (λ t. built old (with_text t (with_sign sign more))) f)
-    ∙ sym (option_map_twice (built old) (λ more. with_text (take at bytes) (with_sign sign more)) o)
-    ∙ ap (option_map (built old)) (sym (option_map_twice (with_text (take at bytes)) (with_sign sign) o))
-    ∙ ap (λ x. option_map (built old) (option_map (with_text (take at bytes)) x)) (sym s)
-    ∙ ap (option_map (built old)) (sym r) ∙ whole
+    option_map_same (built_pieces new) (λ more. built_pieces old (with_text (take at bytes) (with_sign sign more))) o (λ more. put_sign more ∙ put_front (with_sign sign more) ∙ ap (λ t. built_pieces old (with_text t (with_sign sign more))) f)
+    ∙ sym (option_map_twice (built_pieces old) (λ more. with_text (take at bytes) (with_sign sign more)) o)
+    ∙ ap (option_map (built_pieces old)) (sym (option_map_twice (with_text (take at bytes)) (with_sign sign) o))
+    ∙ ap (λ x. option_map (built_pieces old) (option_map (with_text (take at bytes)) x)) (sym s)
+    ∙ ap (option_map (built_pieces old)) (sym r) ∙ whole
 
-pub last_run_put : (old new : Pieces) (bytes written : List ℕ) (at : ℕ) → at ≡ dollar_at bytes → length bytes ≤ at → ((more : List Piece) → built new more ≡ built old (with_text bytes more)) → option_map (built old) (pieces_from in_text bytes) ≡ pieces_of written → Some (built new []) ≡ pieces_of written
+pub last_run_put : (old new : Pieces) (bytes written : List ℕ) (at : ℕ) → at ≡ dollar_at bytes → length bytes ≤ at → ((more : List Piece) → built_pieces new more ≡ built_pieces old (with_text bytes more)) → option_map (built_pieces old) (pieces_from in_text bytes) ≡ pieces_of written → Some (built_pieces new []) ≡ pieces_of written
 last_run_put old new bytes written at is h put whole =
     let end : dollar_at bytes ≡ length bytes = omega (arith, dollar_within bytes) in
-    ap Some (put []) ∙ ap (option_map (built old)) (sym (last_run bytes end)) ∙ whole
+    ap Some (put []) ∙ ap (option_map (built_pieces old)) (sym (last_run bytes end)) ∙ whole
 
 pub escaped_ascii : (b : ℕ) → is_escaped Path b ≡ true → b < 128
 escaped_ascii b h = grind (arith, nat_tests)

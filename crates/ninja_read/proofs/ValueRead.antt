@@ -1,13 +1,13 @@
 -- Reading the written form of a value, a part at a time.
-use Rattle.std.proofs.Common.{◌≡◌, ℕ, suc, ◌+◌, ◌<◌, ◌≤◌, Bool, true, false, cond, List, [], ◌∷◌, ◌++◌, eqb, eqb-true, length, take, drop, get_or, drop-cons, add-one, IsUtf8, IsCharBoundary, Option, Some, None, option_map, append_assoc, append-nil, ap, sym, ◌∙◌, refl, arith}
+use Rattle.std.proofs.Common.{◌≡◌, ℕ, suc, ◌+◌, ◌<◌, ◌≤◌, Bool, true, false, cond, List, [], ◌∷◌, ◌++◌, eqb, eqb-true, length, take, drop, IsUtf8, IsCharBoundary, Option, Some, None, option_map, append_assoc, append-nil, ap, sym, ◌∙◌, refl, arith}
 use Rattle.std.proofs.lemmas.Bool.Decides.{nat_tests}
 use Rattle.std.proofs.lemmas.Str.{IsUtf8-past_char, encode_ascii, IsCharBoundary-from_drop}
 use Rattle.ninja_read.specs.Inside.{with_text, dollar_at}
 use Rattle.ninja_file.specs.declared.file.Piece.{Piece}
 use Rattle.ninja_file.specs.declared.file.Piece.TheVariants.{Lit, Var}
-use Rattle.ninja_file.specs.Escapes.{dollar}
 use Rattle.ninja_read.specs.Values.{name_length, in_text, behind_dollar, in_name, with_byte, with_variable, text_byte, pieces_from}
 use Rattle.ninja_file.specs.Names.{is_name_byte}
+use Rattle.bp_faults.specs.Characters.{dollar}
 
 pub option_map_twice : {A B C : Type 0} (f : B → C) (g : A → B) (o : Option A) → option_map f (option_map g o) ≡ option_map (λ x. f (g x)) o
 option_map_twice f g None = refl
@@ -38,13 +38,6 @@ with_text-variable b (c ∷ text) name pieces = ap (with_byte b) (with_text-vari
 pub ends_at_variable : (text name : List ℕ) (pieces : List Piece) → with_text text (Var name ∷ pieces) ≡ with_text text [] ++ Var name ∷ pieces
 ends_at_variable [] name pieces = refl
 ends_at_variable (b ∷ text) name pieces = with_text-variable b text name pieces ∙ sym (ap (λ x. x ++ Var name ∷ pieces) (with_text-nil b text))
-
--- the way to the first dollar
-pub dollar_at-drop : (bytes : List ℕ) (i : ℕ) → i < length bytes → dollar_at (drop i bytes) ≡ cond (eqb (get_or bytes i 0) dollar) 0 (suc (dollar_at (drop (i + 1) bytes)))
-dollar_at-drop bytes i h = ap dollar_at (drop-cons bytes i 0 h) ∙ ap (λ j. cond (eqb (get_or bytes i 0) dollar) 0 (suc (dollar_at (drop j bytes)))) (sym (add-one i))
-
-pub name_length-drop : (bytes : List ℕ) (i : ℕ) → i < length bytes → name_length (drop i bytes) ≡ cond (is_name_byte (get_or bytes i 0)) (suc (name_length (drop (i + 1) bytes))) 0
-name_length-drop bytes i h = ap name_length (drop-cons bytes i 0 h) ∙ ap (λ j. cond (is_name_byte (get_or bytes i 0)) (suc (name_length (drop j bytes))) 0) (sym (add-one i))
 
 -- what text up to a dollar stands for
 run_by : (b : ℕ) (bytes : List ℕ) (e : Bool) → eqb b dollar ≡ e → (dollar_at bytes < length bytes → pieces_from in_text bytes ≡ option_map (with_text (take (dollar_at bytes) bytes)) (pieces_from behind_dollar (drop (suc (dollar_at bytes)) bytes))) → cond e 0 (suc (dollar_at bytes)) < suc (length bytes) → cond e (pieces_from behind_dollar bytes) (option_map (with_byte b) (pieces_from in_text bytes)) ≡ option_map (with_text (take (cond e 0 (suc (dollar_at bytes))) (b ∷ bytes))) (pieces_from behind_dollar (drop (suc (cond e 0 (suc (dollar_at bytes)))) (b ∷ bytes)))

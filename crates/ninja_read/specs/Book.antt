@@ -46,17 +46,17 @@ abbrev pub statements_of : Book → List (ℕ × Statement)
 statements_of book = book.statements ++ open_statement book.last
 
 -- A new rule or statement, to which bindings belong from now on.
-abbrev pub opened : Open → Book → Book
-opened new book =
+abbrev pub book_with_open : Open → Book → Book
+book_with_open new book =
     record { rules = rules_of book; statements = statements_of book; defaults = book.defaults; last = new }
 
 -- A list has a text.
-abbrev pub has : List (List ℕ) → List ℕ → Bool
-has texts text = list_any (bytes_eq text) texts
+abbrev pub has_text : List (List ℕ) → List ℕ → Bool
+has_text texts text = list_any (bytes_eq text) texts
 
 -- The names of the rules.
-abbrev pub names_of : Book → List (List ℕ)
-names_of book = map (λ rule. rule.name) (rules_of book)
+abbrev pub names_of_rules : Book → List (List ℕ)
+names_of_rules book = map (λ rule. rule.name) (rules_of book)
 
 -- A rule without bindings.
 abbrev pub bare_rule : List ℕ → Open
@@ -65,13 +65,14 @@ bare_rule name = Rule (record { name = name; bindings = [] })
 -- A rule has a name of its own, and `command` among its keys.
 abbrev pub with_rule : Bool → Book → List ℕ → Option Book
 with_rule has_command book name =
-    if has_command && not (has (names_of book) name) then Some (opened (bare_rule name) book) else None
+    if has_command && not (has_text (names_of_rules book) name)
+    then Some (book_with_open (bare_rule name) book) else None
 
 -- A statement's rule stands before it.
 abbrev pub with_statement : ℕ → Book → Statement → Option Book
 with_statement number book s =
-    if bytes_eq s.rule (codes "phony") || has (names_of book) s.rule
-    then Some (opened (Build number s) book) else None
+    if bytes_eq s.rule (codes "phony") || has_text (names_of_rules book) s.rule
+    then Some (book_with_open (Build number s) book) else None
 
 -- Defaults, by the number of their line.
 abbrev pub with_defaults : ℕ → Book → List (List ℕ) → Book
@@ -89,7 +90,7 @@ bound_rule rule key pieces = Rule (record { name = rule.name; bindings = rule.bi
 -- A key of a rule is known, and none is repeated.
 abbrev pub bind_to_rule : List ℕ × List ℕ → NinjaRule → Option Open
 bind_to_rule binding rule =
-    if is_rule_key binding.0 && not (has (keys_of rule.bindings) binding.0)
+    if is_rule_key binding.0 && not (has_text (keys_of rule.bindings) binding.0)
     then option_map (λ pieces. bound_rule rule binding.0 pieces) (pieces_of binding.1) else None
 
 -- A statement with one more variable.
@@ -106,7 +107,7 @@ bound_statement number s key value = Build number (record {
 -- No key of a statement is repeated.
 abbrev pub bind_to_statement : List ℕ × List ℕ → ℕ → Statement → Option Open
 bind_to_statement binding number s =
-    if not (has (keys_of s.vars) binding.0)
+    if not (has_text (keys_of s.vars) binding.0)
     then option_map (λ value. bound_statement number s binding.0 value) (value_of binding.1) else None
 
 -- A binding belongs to the last rule or statement.
@@ -129,8 +130,8 @@ abbrev pub outs_of_book : Book → List (List ℕ)
 outs_of_book book = flat_map (λ statement. statement.1.outs) (statements_of book)
 
 -- The file that the lines give.
-abbrev pub file_of : Book → NinjaFile
-file_of book = record {
+abbrev pub book_file : Book → NinjaFile
+book_file book = record {
   rules = rules_of book;
   statements = map (λ statement. statement.1) (statements_of book);
   defaults = map (λ path. path.1) book.defaults;

@@ -3,11 +3,12 @@ use Rattle.std.specs.Prelude.{ℕ, Bool, true, false, List, [], ◌∷◌, ◌==
 use Rattle.std.specs.Prelude.{option_and_then, take, drop, codes, if◌then◌else◌}
 use Rattle.std.specs.Str.{bytes_eq}
 use Rattle.ninja_lines.specs.Meaning.{dangles, drop_spaces}
-use Rattle.ninja_lines.specs.Cuts.{cut, words}
-use Rattle.ninja_file.specs.Escapes.{colon, space}
+use Rattle.ninja_lines.specs.Cuts.{parts_between, words}
+use Rattle.ninja_file.specs.Escapes.{colon}
 use Rattle.ninja_file.specs.Names.{is_name, is_path}
 use Rattle.ninja_file.specs.declared.file.Statement.{Statement}
 use Rattle.ninja_read.specs.Values.{name_length, value_of}
+use Rattle.bp_faults.specs.Characters.{space}
 
 -- What stands behind a word that a text begins with.
 abbrev pub behind_word : List ℕ → List ℕ → Option (List ℕ)
@@ -116,14 +117,14 @@ abbrev pub order_only_of : List (List ℕ) → Option (List (List ℕ))
 order_only_of takes = marked_paths (behind_mark bars takes)
 
 -- A statement by its parts. It has no variables yet.
-abbrev pub bare : List (List ℕ) → List ℕ → List (List ℕ) → List (List ℕ) → List (List ℕ) → Statement
-bare outs rule ins implicit order_only =
+abbrev pub bare_statement : List (List ℕ) → List ℕ → List (List ℕ) → List (List ℕ) → List (List ℕ) → Statement
+bare_statement outs rule ins implicit order_only =
     record { outs = outs; rule = rule; ins = ins; implicit = implicit; order_only = order_only; vars = [] }
 
 -- The statement of some outs, ins and implicit ins.
 abbrev pub with_implicit : List (List ℕ) → List ℕ → List (List ℕ) → List (List ℕ) → List (List ℕ) → Option Statement
 with_implicit outs rule takes ins implicit =
-    option_map (λ order_only. bare outs rule ins implicit order_only) (order_only_of takes)
+    option_map (λ order_only. bare_statement outs rule ins implicit order_only) (order_only_of takes)
 
 -- The statement of some outs and ins.
 abbrev pub with_ins : List (List ℕ) → List ℕ → List (List ℕ) → List (List ℕ) → Option Statement
@@ -151,8 +152,8 @@ statement_of_parts (makes ∷ takes ∷ []) = statement_of_words (words makes) (
 statement_of_parts (makes ∷ takes ∷ other ∷ more) = None
 
 -- The statement behind `build `.
-abbrev pub build_of : List ℕ → Option Statement
-build_of text = statement_of_parts (cut colon false text)
+abbrev pub build_statement : List ℕ → Option Statement
+build_statement text = statement_of_parts (parts_between colon false text)
 
 -- No colon stands among defaults.
 abbrev pub defaults_of_parts : List (List ℕ) → Option (List (List ℕ))
@@ -162,7 +163,7 @@ defaults_of_parts (text ∷ other ∷ more) = None
 
 -- The paths behind `default `.
 abbrev pub defaults_of : List ℕ → Option (List (List ℕ))
-defaults_of text = defaults_of_parts (cut colon false text)
+defaults_of text = defaults_of_parts (parts_between colon false text)
 
 -- No rule is called `phony`.
 abbrev pub unless_phony : List ℕ → Option (List ℕ)

@@ -5,12 +5,11 @@ use Rattle.std.specs.Prelude.{option_map, if◌then◌else◌}
 use Rattle.std.specs.Borrow.{Bor}
 use Rattle.std.specs.Map.{keys_of}
 use Rattle.bp_names.specs.Meaning.{IsSetOf}
-use Rattle.ninja_file.specs.Escapes.{dollar}
 use Rattle.ninja_file.specs.declared.file.Piece.{Piece}
 use Rattle.ninja_file.specs.declared.file.Piece.TheVariants.{Var}
 use Rattle.ninja_read.specs.Values.{Mode, in_text, with_byte, pieces_from}
 use Rattle.ninja_read.specs.Heads.{Form, no_form, skipped, a_binding, a_rule, a_build, a_default}
-use Rattle.ninja_read.specs.Book.{Book, names_of}
+use Rattle.ninja_read.specs.Book.{Book, names_of_rules}
 use Rattle.ninja_read.specs.declared.value.Sign.{Sign}
 use Rattle.ninja_read.specs.declared.value.Sign.TheVariants.{Escaped, Variable}
 use Rattle.ninja_read.specs.declared.value.Pieces.{Pieces}
@@ -20,6 +19,7 @@ use Rattle.ninja_read.specs.declared.form.LineForm.TheVariants.{Build as BuildFo
 use Rattle.ninja_read.specs.declared.book.Book as code
 use Rattle.ninja_read.specs.declared.book.Open.{Open}
 use Rattle.ninja_read.specs.declared.book.Open.TheVariants.{Nothing, Rule, Build}
+use Rattle.bp_faults.specs.Characters.{dollar}
 
 -- Text before pieces.
 abbrev pub with_text : List ℕ → List Piece → List Piece
@@ -32,8 +32,8 @@ with_sign (Escaped text) pieces = with_text text.now pieces
 with_sign (Variable name) pieces = Var name.now ∷ pieces
 
 -- The pieces that are there, before others.
-abbrev pub built : Pieces → List Piece → List Piece
-built pieces more = pieces.done.items ++ with_text pieces.text more
+abbrev pub built_pieces : Pieces → List Piece → List Piece
+built_pieces pieces more = pieces.done.items ++ with_text pieces.text more
 
 -- What stands for the front of a text, from a mode on, and what is left.
 abbrev pub IsSign : Mode → List ℕ → Option (Sign × Bor (List ℕ)) → Type 0
@@ -71,7 +71,7 @@ open_keys (Build number statement) = keys_of statement.vars
 
 -- The sets have the names of the rules and the keys of the last rule or statement.
 pub record IsLearnt (book : code.Book) : Type 0 where
-  pub names : IsSetOf (names_of (shown_book book)) book.names
+  pub names : IsSetOf (names_of_rules (shown_book book)) book.names
   pub keys : IsSetOf (open_keys book.last) book.keys
 
 -- A line is taken, or refused.

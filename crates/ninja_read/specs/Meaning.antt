@@ -9,9 +9,9 @@ use Rattle.ninja_file.specs.declared.file.Statement.{Statement}
 use Rattle.ninja_read.specs.declared.reader.NinjaError.{NinjaError}
 use Rattle.ninja_read.specs.declared.reader.NinjaError.TheVariants.{BadLine, OutOfMemory}
 use Rattle.ninja_read.specs.Heads.{Form, no_form, skipped, a_binding, a_rule, a_build, a_default, form_of}
-use Rattle.ninja_read.specs.Heads.{build_of, defaults_of, rule_name_of, binding_of}
-use Rattle.ninja_read.specs.Book.{Book, no_book, has, with_rule, with_statement, with_defaults, with_binding}
-use Rattle.ninja_read.specs.Book.{statements_of, outs_of_book, file_of}
+use Rattle.ninja_read.specs.Heads.{build_statement, defaults_of, rule_name_of, binding_of}
+use Rattle.ninja_read.specs.Book.{Book, no_book, has_text, with_rule, with_statement, with_defaults, with_binding}
+use Rattle.ninja_read.specs.Book.{statements_of, outs_of_book, book_file}
 
 -- What a line of a form makes of the lines so far; nothing where it is refused.
 abbrev pub with_form : ℕ → Bool → Book → List ℕ → Form → Option Book
@@ -21,7 +21,7 @@ with_form number has_command book text a_binding = option_and_then (with_binding
 with_form number has_command book text (a_rule rest) =
     option_and_then (with_rule has_command book) (rule_name_of rest)
 with_form number has_command book text (a_build rest) =
-    option_and_then (with_statement number book) (build_of rest)
+    option_and_then (with_statement number book) (build_statement rest)
 with_form number has_command book text (a_default rest) = option_map (with_defaults number book) (defaults_of rest)
 
 -- What a line makes of the lines so far: one that isn't UTF-8 is refused.
@@ -67,18 +67,18 @@ read_lines book (line ∷ more) =
 -- One of the outs was named before.
 abbrev pub repeats : List (List ℕ) → List (List ℕ) → Bool
 repeats seen [] = false
-repeats seen (out ∷ outs) = has seen out || repeats (seen ++ out ∷ []) outs
+repeats seen (out ∷ outs) = has_text seen out || repeats (seen ++ out ∷ []) outs
 
 -- The first statement that names an out again.
-abbrev pub repeated : List (List ℕ) → List (ℕ × Statement) → Option ℕ
-repeated seen [] = None
-repeated seen (statement ∷ more) =
-    if repeats seen statement.1.outs then Some statement.0 else repeated (seen ++ statement.1.outs) more
+abbrev pub repeated_out : List (List ℕ) → List (ℕ × Statement) → Option ℕ
+repeated_out seen [] = None
+repeated_out seen (statement ∷ more) =
+    if repeats seen statement.1.outs then Some statement.0 else repeated_out (seen ++ statement.1.outs) more
 
 -- The first default that is no out.
 abbrev pub stray : List (List ℕ) → List (ℕ × List ℕ) → Option ℕ
 stray outs [] = None
-stray outs (path ∷ more) = if has outs path.1 then stray outs more else Some path.0
+stray outs (path ∷ more) = if has_text outs path.1 then stray outs more else Some path.0
 
 -- The first of two lines that may be there.
 abbrev pub or_line : Option ℕ → Option ℕ → Option ℕ
@@ -87,9 +87,9 @@ or_line (Some line) other = Some line
 
 -- The line that is refused, if any. A statement that names an out again stands before the line at which reading
 -- stopped. Defaults are tested last.
-abbrev pub refused : Book → Option ℕ → Option ℕ
-refused book stop =
-    or_line (repeated [] (statements_of book)) (or_line stop (stray (outs_of_book book) book.defaults))
+abbrev pub refused_line : Book → Option ℕ → Option ℕ
+refused_line book stop =
+    or_line (repeated_out [] (statements_of book)) (or_line stop (stray (outs_of_book book) book.defaults))
 
 -- A file, unless a line is refused.
 abbrev pub unless_refused : Option ℕ → NinjaFile → Result NinjaFile ℕ
@@ -98,7 +98,7 @@ unless_refused (Some line) file = Err line
 
 -- What the lines stand for, up to the one at which reading stopped.
 abbrev pub answer : Book × Option ℕ → Result NinjaFile ℕ
-answer read = unless_refused (refused read.0 read.1) (file_of read.0)
+answer read = unless_refused (refused_line read.0 read.1) (book_file read.0)
 
 -- The file that a text stands for, or the first line that is refused.
 abbrev pub reading : List ℕ → Result NinjaFile ℕ

@@ -2,11 +2,12 @@
 -- are the byte behind the dollar, `$name` and `${name}` a variable.
 use Rattle.std.specs.Prelude.{ℕ, suc, List, [], ◌∷◌, ◌++◌, ◌==◌, Option, Some, None, option_map}
 use Rattle.std.specs.Prelude.{option_and_then, if◌then◌else◌}
-use Rattle.ninja_file.specs.Escapes.{dollar, is_escaped}
+use Rattle.ninja_file.specs.Escapes.{is_escaped}
 use Rattle.ninja_file.specs.Names.{is_name_byte, is_nil}
 use Rattle.ninja_file.specs.declared.escape.Escape.TheVariants.{Path}
 use Rattle.ninja_file.specs.declared.file.Piece.{Piece}
 use Rattle.ninja_file.specs.declared.file.Piece.TheVariants.{Lit, Var}
+use Rattle.bp_faults.specs.Characters.{dollar}
 
 -- How many bytes of a name a text begins with.
 abbrev pub name_length : List ℕ → ℕ

@@ -2,12 +2,12 @@ ghost use Rattle.std.specs.Prelude.{◌≡◌, ◌∷◌, ◌++◌, [], ℕ, Lis
 ghost use Rattle.std.specs.Prelude.{option_and_then, option_map};
 ghost use Rattle.std.specs.Map.{keys_of};
 ghost use Rattle.std.specs.Str.{bytes_eq};
-ghost use Rattle.ninja_lines.specs.Shown.{shown_line, shown_text};
+ghost use Rattle.ninja_lines.specs.Shown.{shown_line, text_in};
 ghost use Rattle.bp_names.specs.Meaning.{IsSetOf};
 ghost use Rattle.ninja_read.specs.Inside.{shown_book, IsLearnt, Takes, Binds, open_keys};
-ghost use Rattle.ninja_read.specs.Heads.{form_of, binding_of, rule_name_of, build_of, defaults_of};
-ghost use Rattle.ninja_read.specs.Book.{no_book, bind, opened, with_rule, with_statement, with_defaults};
-ghost use Rattle.ninja_read.specs.Book.{with_binding, statements_of, rules_of, names_of, has};
+ghost use Rattle.ninja_read.specs.Heads.{form_of, binding_of, rule_name_of, build_statement, defaults_of};
+ghost use Rattle.ninja_read.specs.Book.{no_book, bind, book_with_open, with_rule, with_statement, with_defaults};
+ghost use Rattle.ninja_read.specs.Book.{with_binding, statements_of, rules_of, names_of_rules, has_text};
 ghost use Rattle.ninja_read.specs.Meaning.{with_form, with_line, binds_command};
 
 use crate::command::binds_command;
@@ -138,7 +138,7 @@ impl<'a> Book<'a> {
 
     // Ends the last rule or statement, and begins a new one.
     fn begin(&mut self, alloc: Global, new: Open) -> Result<(), OutOfMemory>
-        ensures shown { OnOk result (shown_book self.new ≡ opened new (shown_book self.old)) }
+        ensures shown { OnOk result (shown_book self.new ≡ book_with_open new (shown_book self.old)) }
         ensures names { OnOk result (self.new.names ≡ self.old.names) }
         ensures keys { OnOk result (IsSetOf [] self.new.keys) }
     {
@@ -201,7 +201,8 @@ impl<'a> Book<'a> {
     // Whether a statement may use a rule.
     fn knows(&self, rule: &str) -> bool
         requires { IsLearnt self.now }
-        ensures { result ≡ (bytes_eq rule.now (codes "phony") || has (names_of (shown_book self.now)) rule.now) }
+        ensures { result
+            ≡ (bytes_eq rule.now (codes "phony") || has_text (names_of_rules (shown_book self.now)) rule.now) }
     {
         rule == "phony" || self.names.knows(rule)
     }
@@ -252,7 +253,7 @@ impl<'a> Book<'a> {
     fn take_build(&mut self, alloc: Global, number: u32, rest: &str) -> Result<bool, OutOfMemory>
         requires { IsLearnt self.old }
         ensures { IfOk result (λ taken. Takes taken self.new
-            (option_and_then (with_statement number (shown_book self.old)) (build_of rest.now))
+            (option_and_then (with_statement number (shown_book self.old)) (build_statement rest.now))
             (shown_book self.old)) }
     {
         let Some(statement) = build_of(alloc, rest)? else {
@@ -326,7 +327,7 @@ impl<'a> Book<'a> {
     ) -> Result<bool, OutOfMemory>
         requires { IsLearnt self.old }
         ensures { IfOk result (λ taken. Takes taken self.new
-            (with_line line.now.number (shown_text line.now.content)
+            (with_line line.now.number (text_in line.now.content)
             (binds_command (map shown_line more.now)) (shown_book self.old))
             (shown_book self.old)) }
     {

@@ -1,5 +1,5 @@
 ghost use Rattle.std.specs.Prelude.{◌≡◌, Bool, map, unwrap_or};
-ghost use Rattle.ninja_lines.specs.Shown.{shown_line, shown_text};
+ghost use Rattle.ninja_lines.specs.Shown.{shown_line, text_in};
 ghost use Rattle.ninja_read.specs.Heads.{binding_of, form_of};
 ghost use Rattle.ninja_read.specs.Meaning.{is_command, binds_command_in, binds_command_by, binds_command};
 
@@ -28,7 +28,7 @@ fn text_says(text: &str) -> Option<bool>
 }
 
 fn line_says(line: &Line<'_>) -> Option<bool>
-    ensures { (behind : Bool) → binds_command_in (shown_text line.now.content) behind ≡ unwrap_or result behind }
+    ensures { (behind : Bool) → binds_command_in (text_in line.now.content) behind ≡ unwrap_or result behind }
 {
     text_says(line.text()?)
 }

@@ -1,6 +1,6 @@
 ghost use Rattle.std.specs.Prelude.{◌≡◌, [], IfOk, IfSome, length, option_map};
 ghost use Rattle.ninja_read.specs.Heads.{path_of, paths_of, some_paths, before_mark, behind_mark};
-ghost use Rattle.ninja_read.specs.Heads.{marked_paths, statement_of, statement_of_words, build_of};
+ghost use Rattle.ninja_read.specs.Heads.{marked_paths, statement_of, statement_of_words, build_statement};
 ghost use Rattle.ninja_read.specs.Heads.{defaults_of, rule_name_of, binding_of};
 ghost use Rattle.ninja_lines.specs.Shown.{texts};
 
@@ -130,7 +130,7 @@ fn statement_of_words(
 
 /// The statement that stands behind `build`, without variables.
 pub fn build_of(alloc: Global, text: &str) -> Result<Option<Statement>, OutOfMemory>
-    ensures meant { IfOk result (λ statement. statement ≡ build_of text.now) }
+    ensures meant { IfOk result (λ statement. statement ≡ build_statement text.now) }
     ensures no_vars { IfOk result (λ statement. IfSome statement (λ s. s.vars ≡ [])) }
 {
     let parts = parts_at(alloc, text, b':')?;

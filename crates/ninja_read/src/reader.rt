@@ -5,7 +5,7 @@ ghost use Rattle.ninja_lines.specs.Shown.{shown_line};
 ghost use Rattle.bp_names.specs.Meaning.{IsSetOf};
 ghost use Rattle.ninja_read.specs.Inside.{shown_book};
 ghost use Rattle.ninja_read.specs.Book.{no_book};
-ghost use Rattle.ninja_read.specs.Meaning.{read_lines, reading, or_line, repeated, repeats, stray};
+ghost use Rattle.ninja_read.specs.Meaning.{read_lines, reading, or_line, repeated_out, repeats, stray};
 ghost use Rattle.ninja_read.specs.Meaning.{Reads};
 
 use crate::book::Book;
@@ -73,8 +73,8 @@ fn outs_of<'a>(
     statements: &'a [(u32, Statement)],
 ) -> Result<Result<NameSet<'a>, u32>, OutOfMemory>
     ensures { IfOk result (λ found. MatchResult found
-        (λ outs. (repeated [] statements.now ≡ None) × IsSetOf (flat_map (λ s. s.1.outs) statements.now) outs)
-        (λ line. repeated [] statements.now ≡ Some line)) }
+        (λ outs. (repeated_out [] statements.now ≡ None) × IsSetOf (flat_map (λ s. s.1.outs) statements.now) outs)
+        (λ line. repeated_out [] statements.now ≡ Some line)) }
 {
     let mut seen = NameSet::new(alloc);
     for (number, statement) in statements {
@@ -104,7 +104,7 @@ fn refused(
     defaults: &[(u32, Text)],
     stop: Option<u32>,
 ) -> Result<Option<u32>, OutOfMemory>
-    ensures { IfOk result (λ line. line ≡ or_line (repeated [] statements.now)
+    ensures { IfOk result (λ line. line ≡ or_line (repeated_out [] statements.now)
         (or_line stop (stray (flat_map (λ s. s.1.outs) statements.now) defaults.now))) }
 {
     match outs_of(alloc, statements)? {

@@ -1,7 +1,7 @@
 ghost use Rattle.std.specs.Prelude.{◌≡◌, ◌∷◌, [], ℕ, List, MatchOption, IfOk, IfSome, OnOk, None, ◌≤◌, map};
 ghost use Rattle.std.specs.Prelude.{option_map, take, drop, length};
 ghost use Rattle.ninja_file.specs.declared.file.Piece.{Piece};
-ghost use Rattle.ninja_read.specs.Inside.{built, with_text, with_sign, IsSign, dollar_at};
+ghost use Rattle.ninja_read.specs.Inside.{built_pieces, with_text, with_sign, IsSign, dollar_at};
 ghost use Rattle.ninja_read.specs.Values.{behind_dollar, in_braces, name_length, pieces_of, value_of};
 
 use bp_faults::{OutOfMemory, Text};
@@ -25,7 +25,7 @@ pub struct Pieces {
 
 impl Pieces {
     fn new(alloc: Global) -> Pieces
-        ensures { (more : List Piece) → built result more ≡ more }
+        ensures { (more : List Piece) → built_pieces result more ≡ more }
     {
         Pieces {
             done: Vec::new(alloc),
@@ -34,7 +34,8 @@ impl Pieces {
     }
 
     fn put_text(&mut self, text: &str) -> Result<(), OutOfMemory>
-        ensures { OnOk result ((more : List Piece) → built self.new more ≡ built self.old (with_text text.now more)) }
+        ensures { OnOk result
+            ((more : List Piece) → built_pieces self.new more ≡ built_pieces self.old (with_text text.now more)) }
     {
         self.text.push_str(text)?;
         Ok(())
@@ -42,7 +43,7 @@ impl Pieces {
 
     // Ends the text that stands behind the last piece.
     fn end_text(&mut self, alloc: Global) -> Result<(), OutOfMemory>
-        ensures { OnOk result ((self.new.text ≡ []) × (self.new.done.items ≡ built self.old [])) }
+        ensures { OnOk result ((self.new.text ≡ []) × (self.new.done.items ≡ built_pieces self.old [])) }
     {
         if self.text.as_str().is_empty() {
             return Ok(());
@@ -53,7 +54,8 @@ impl Pieces {
     }
 
     fn put_variable(&mut self, alloc: Global, name: &str) -> Result<(), OutOfMemory>
-        ensures { OnOk result ((more : List Piece) → built self.new more ≡ built self.old (Piece.Var name.now ∷ more)) }
+        ensures { OnOk result
+            ((more : List Piece) → built_pieces self.new more ≡ built_pieces self.old (Piece.Var name.now ∷ more)) }
     {
         self.end_text(alloc)?;
         self.done.push(Piece::Var(Text::from_str(alloc, name)?))?;
@@ -61,7 +63,8 @@ impl Pieces {
     }
 
     fn put(&mut self, alloc: Global, sign: Sign<'_>) -> Result<(), OutOfMemory>
-        ensures { OnOk result ((more : List Piece) → built self.new more ≡ built self.old (with_sign sign.entry more)) }
+        ensures { OnOk result
+            ((more : List Piece) → built_pieces self.new more ≡ built_pieces self.old (with_sign sign.entry more)) }
     {
         match sign {
             Sign::Escaped(text) => self.put_text(text),
@@ -70,7 +73,7 @@ impl Pieces {
     }
 
     fn finish(mut self, alloc: Global) -> Result<Vec<Piece>, OutOfMemory>
-        ensures { IfOk result (λ pieces. pieces.items ≡ built self []) }
+        ensures { IfOk result (λ pieces. pieces.items ≡ built_pieces self []) }
     {
         self.end_text(alloc)?;
         Ok(self.done)

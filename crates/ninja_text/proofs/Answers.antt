@@ -6,13 +6,13 @@ use Rattle.ninja_read.specs.declared.reader.NinjaError.{NinjaError}
 use Rattle.ninja_read.specs.declared.reader.NinjaError.TheVariants.{BadLine, OutOfMemory}
 use Rattle.ninja_read.specs.Meaning.{reading, Reads}
 use Rattle.ninja_write.specs.Laws.{LinesAreLines}
-use Rattle.ninja_text.specs.Meaning.{IsWritten, IsReadBack, WrittenIsReadBack}
+use Rattle.ninja_text.specs.Meaning.{IsWritten, ReadBackMeans, WrittenIsReadBack}
 use Rattle.ninja_text.proofs.Files.{read_back}
 
 same_Ok : (a b : NinjaFile) → ◌≡◌ {A = Result NinjaFile ℕ} (Ok a) (Ok b) → b ≡ a
 same_Ok a b h = cc
 
-answered : (f : NinjaFile) (answer : Result NinjaFile NinjaError) (meant : Result NinjaFile ℕ) → meant ≡ Ok f → Reads answer meant → IsReadBack f answer
+answered : (f : NinjaFile) (answer : Result NinjaFile NinjaError) (meant : Result NinjaFile ℕ) → meant ≡ Ok f → Reads answer meant → ReadBackMeans f answer
 answered f (Ok back) meant is reads = same_Ok f back (sym is ∙ reads)
 answered f (Err (BadLine line)) meant is reads = absurd (cc)
 answered f (Err OutOfMemory) meant is reads = tt

@@ -10,8 +10,8 @@ use Rattle.ninja_file.specs.declared.escape.Escape.TheVariants.{Value}
 use Rattle.ninja_file.specs.declared.file.Piece.{Piece}
 use Rattle.ninja_file.specs.declared.file.Piece.TheVariants.{Lit, Var}
 use Rattle.ninja_file.specs.Escapes.{is_escaped}
-use Rattle.ninja_write.specs.Escaped.{escaped_byte, escaped, lead, value_text}
-use Rattle.ninja_write.specs.Meaning.{piece_text, pieces_text, bound}
+use Rattle.ninja_write.specs.Escaped.{escaped_byte, escaped_bytes, lead, value_text}
+use Rattle.ninja_write.specs.Meaning.{piece_text, pieces_text, line_of_binding}
 use Rattle.ninja_read.specs.Heads.{a_binding, form_of, value_behind, binding_behind, binding_of}
 use Rattle.ninja_read.specs.Values.{name_length}
 use Rattle.ninja_file.specs.Meaning.{AllDiffer, is_piece, is_rule_value, are_apart}
@@ -31,7 +31,7 @@ spaced_form k text h =
     let hash : eqb k 35 ≡ false = named_byte k 35 refl h in
     rw (space, hash) refl
 
-pub binding_form : (key value : List ℕ) → is_name key ≡ true → form_of (bound key value) ≡ a_binding
+pub binding_form : (key value : List ℕ) → is_name key ≡ true → form_of (line_of_binding key value) ≡ a_binding
 binding_form [] value h = absurd (cc)
 binding_form (k ∷ key) value h = spaced_form k (key ++ (codes " = " ++ value)) ((and_parts (is_name_byte k) (list_all is_name_byte key) ((and_parts (not (is_nil (k ∷ key))) (list_all is_name_byte (k ∷ key)) h).1)).0)
 
@@ -53,7 +53,7 @@ key_behind key value h =
 key_first : (k : ℕ) (text : List ℕ) → is_name_byte k ≡ true → drop_spaces (32 ∷ 32 ∷ k ∷ text) ≡ k ∷ text
 key_first k text h = let space : eqb k 32 ≡ false = named_byte k 32 refl h in rw space refl
 
-pub binding_found : (key value : List ℕ) → is_name key ≡ true → binding_of (bound key value) ≡ Some (key, drop_spaces value)
+pub binding_found : (key value : List ℕ) → is_name key ≡ true → binding_of (line_of_binding key value) ≡ Some (key, drop_spaces value)
 binding_found [] value h = absurd (cc)
 binding_found (k ∷ key) value h = ap binding_behind (key_first k (key ++ (codes " = " ++ value)) ((and_parts (is_name_byte k) (list_all is_name_byte key) ((and_parts (not (is_nil (k ∷ key))) (list_all is_name_byte (k ∷ key)) h).1)).0)) ∙ key_behind (k ∷ key) value h
 
@@ -68,14 +68,14 @@ leads_first b text rest false e = plain_first b rest (is_escaped Value b) refl e
 
 pub value_first : (value : List ℕ) → drop_spaces (value_text value) ≡ value_text value
 value_first [] = refl
-value_first (b ∷ value) = leads_first b value (escaped Value value) (eqb b 32) refl
+value_first (b ∷ value) = leads_first b value (escaped_bytes Value value) (eqb b 32) refl
 
 pub pieces_first : (pieces : List Piece) → is_rule_value pieces ≡ true → drop_spaces (pieces_text pieces) ≡ pieces_text pieces
 pieces_first [] h = refl
 pieces_first (Lit [] ∷ pieces) h = absurd (let e : false ≡ true = (and_parts (is_value []) (list_all is_piece pieces) ((and_parts (list_all is_piece (Lit [] ∷ pieces)) (are_apart (Lit [] ∷ pieces)) ((and_parts (not (is_nil (Lit [] ∷ pieces))) (list_all is_piece (Lit [] ∷ pieces) && are_apart (Lit [] ∷ pieces)) h).1)).0)).0 in cc)
 pieces_first (Lit (b ∷ text) ∷ pieces) h =
-    let same = append_assoc (escaped_byte Value b) (escaped Value text) (flat_map piece_text pieces) in
-    ap (λ t. drop_spaces (lead (b ∷ text) ++ t)) same ∙ leads_first b text (escaped Value text ++ flat_map piece_text pieces) (eqb b 32) refl ∙ ap (λ t. lead (b ∷ text) ++ t) (sym same)
+    let same = append_assoc (escaped_byte Value b) (escaped_bytes Value text) (flat_map piece_text pieces) in
+    ap (λ t. drop_spaces (lead (b ∷ text) ++ t)) same ∙ leads_first b text (escaped_bytes Value text ++ flat_map piece_text pieces) (eqb b 32) refl ∙ ap (λ t. lead (b ∷ text) ++ t) (sym same)
 pieces_first (Var name ∷ pieces) h = refl
 
 -- the keys of rules are names

@@ -2,13 +2,14 @@
 use Rattle.std.proofs.Common.{◌≡◌, ℕ, Bool, true, false, cond, not, ◌&&◌, ◌||◌, List, [], ◌∷◌, ◌++◌, eqb, append_assoc, ap, sym, subst, ◌∙◌, refl, arith}
 use Rattle.std.specs.List.{flat_map, list_all, onto_first}
 use Rattle.ninja_lines.specs.Meaning.{dangles}
-use Rattle.ninja_lines.specs.Cuts.{cut}
+use Rattle.ninja_lines.specs.Cuts.{parts_between}
 use Rattle.ninja_file.specs.declared.escape.Escape.{Escape}
 use Rattle.ninja_file.specs.declared.escape.Escape.TheVariants.{Path, Value}
-use Rattle.ninja_file.specs.Escapes.{dollar, is_escaped}
-use Rattle.ninja_write.specs.Escaped.{escaped_byte, escaped, path_text}
+use Rattle.ninja_file.specs.Escapes.{is_escaped}
+use Rattle.ninja_write.specs.Escaped.{escaped_byte, escaped_bytes, path_text}
 use Rattle.std.proofs.lemmas.Bool.{and_parts}
 use Rattle.std.proofs.lemmas.Bool.Decides.{nat_tests}
+use Rattle.bp_faults.specs.Characters.{dollar}
 
 apart : (p : ℕ → Bool) (b n : ℕ) (e : Bool) → eqb b n ≡ e → p b ≡ true → p n ≡ false → e ≡ false
 apart p b n true e passes fails =
@@ -52,7 +53,7 @@ pub closed_all : {X : Type 0} (text : X → List ℕ) → (xs : List X) → ((x 
 closed_all text [] each = refl
 closed_all text (x ∷ xs) each = closed_beside (text x) (flat_map text xs) (each x) (closed_all text xs each)
 
-pub closed_escaped : (escape : Escape) (text : List ℕ) → IsClosed (escaped escape text)
+pub closed_escaped : (escape : Escape) (text : List ℕ) → IsClosed (escaped_bytes escape text)
 closed_escaped escape text = closed_all (escaped_byte escape) text (λ b. closed_byte escape b (is_escaped escape b) refl)
 
 -- text before the first part
@@ -66,14 +67,14 @@ onto_text-cons (b ∷ text) part parts = ap (onto_first b) (onto_text-cons text 
 
 -- cutting passes over a text
 abbrev pub Passes : ℕ → List ℕ → Type 0
-Passes at text = (rest : List ℕ) → cut at false (text ++ rest) ≡ onto_text text (cut at false rest)
+Passes at text = (rest : List ℕ) → parts_between at false (text ++ rest) ≡ onto_text text (parts_between at false rest)
 
 onto_append : (xs ys : List ℕ) (parts : List (List ℕ)) → onto_text (xs ++ ys) parts ≡ onto_text xs (onto_text ys parts)
 onto_append [] ys parts = refl
 onto_append (x ∷ xs) ys parts = ap (onto_first x) (onto_append xs ys parts)
 
 pub passes_beside : (at : ℕ) (xs ys : List ℕ) → Passes at xs → Passes at ys → Passes at (xs ++ ys)
-passes_beside at xs ys h k = λ rest. ap (cut at false) (append_assoc xs ys rest) ∙ h (ys ++ rest) ∙ ap (onto_text xs) (k rest) ∙ sym (onto_append xs ys (cut at false rest))
+passes_beside at xs ys h k = λ rest. ap (parts_between at false) (append_assoc xs ys rest) ∙ h (ys ++ rest) ∙ ap (onto_text xs) (k rest) ∙ sym (onto_append xs ys (parts_between at false rest))
 
 other_byte : (at b : ℕ) → is_escaped Path at ≡ true → is_escaped Path b ≡ false → eqb b at ≡ false
 other_byte at b h k = apart_by (λ x. not (is_escaped Path x)) b at (ap not k) (ap not h)

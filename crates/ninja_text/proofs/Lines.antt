@@ -6,10 +6,10 @@ use Rattle.std.proofs.Math.Seq.{get_or-append_seam, take-append_seam}
 use Rattle.std.proofs.lemmas.List.Elements.{All-cons}
 use Rattle.std.proofs.lemmas.List.Prefix.{front_rest}
 use Rattle.std.proofs.lemmas.Str.{IsUtf8-take, IsUtf8-drop, IsCharBoundary-before_ascii, IsCharBoundary-after_ascii, is_utf8-from_IsUtf8}
-use Rattle.ninja_lines.specs.Meaning.{JoinedLine, lines, joined, dangles}
+use Rattle.ninja_lines.specs.Meaning.{JoinedLine, lines, joined_from, dangles}
 use Rattle.ninja_write.specs.Laws.{IsOneLine}
-use Rattle.ninja_write.specs.Meaning.{ended}
 use Rattle.std.proofs.lemmas.Bool.{and_parts}
+use Rattle.bp_faults.specs.Characters.{ended_line}
 
 -- lines with their numbers
 abbrev pub plain : ℕ → List (List ℕ) → List JoinedLine
@@ -24,9 +24,9 @@ line_ended : (line rest : List ℕ) → IsOneLine line → lines (line ++ 10 ∷
 line_ended [] rest h = refl
 line_ended (b ∷ line) rest h = line_by b line rest (line ++ 10 ∷ rest) (lines rest) (eqb b 10) ((and_parts (not (eqb b 10)) (list_all (λ c. not (eqb c 10)) line) h).0) (line_ended line rest ((and_parts (not (eqb b 10)) (list_all (λ c. not (eqb c 10)) line) h).1))
 
-pub lines_joined : (list : List (List ℕ)) → All IsOneLine list → lines (flat_map ended list) ≡ list
+pub lines_joined : (list : List (List ℕ)) → All IsOneLine list → lines (flat_map ended_line list) ≡ list
 lines_joined [] h = refl
-lines_joined (line ∷ list) h = ap lines (append_assoc line (10 ∷ []) (flat_map ended list)) ∙ line_ended line (flat_map ended list) (h 0 line (omega arith)) ∙ ap (λ x. line ∷ x) (lines_joined list (λ k d inside. h (suc k) d (omega arith)))
+lines_joined (line ∷ list) h = ap lines (append_assoc line (10 ∷ []) (flat_map ended_line list)) ∙ line_ended line (flat_map ended_line list) (h 0 line (omega arith)) ∙ ap (λ x. line ∷ x) (lines_joined list (λ k d inside. h (suc k) d (omega arith)))
 
 -- no line has a dollar open at its end
 abbrev pub AreWhole : List (List ℕ) → Type 0
@@ -36,7 +36,7 @@ closed_of : (e : Bool) → not e ≡ true → e ≡ false
 closed_of true h = absurd (cc)
 closed_of false h = refl
 
-pub joined_plain : (n : ℕ) (list : List (List ℕ)) → All (λ line. is_utf8 line ≡ true) list → AreWhole list → joined n list ≡ plain n list
+pub joined_plain : (n : ℕ) (list : List (List ℕ)) → All (λ line. is_utf8 line ≡ true) list → AreWhole list → joined_from n list ≡ plain n list
 joined_plain n [] utf8 whole = refl
 joined_plain n (line ∷ list) utf8 whole =
     let u : is_utf8 line ≡ true = utf8 0 line (omega arith) in
@@ -53,8 +53,8 @@ cut_utf8 line rest utf8 =
     let behind : drop (length line + 1) text ≡ rest = ap (λ n. drop n text) (sym (length-append line (10 ∷ []))) ∙ front_rest text (line ++ 10 ∷ []) rest (sym (append_assoc line (10 ∷ []) rest)) in
     (subst IsUtf8 front (IsUtf8-take text (length line) utf8 (IsCharBoundary-before_ascii text (length line) inside ascii)), subst IsUtf8 behind (IsUtf8-drop text (length line + 1) utf8 (IsCharBoundary-after_ascii text (length line) utf8 inside ascii)))
 
-pub utf8_lines : (list : List (List ℕ)) → IsUtf8 (flat_map ended list) → All (λ line. is_utf8 line ≡ true) list
+pub utf8_lines : (list : List (List ℕ)) → IsUtf8 (flat_map ended_line list) → All (λ line. is_utf8 line ≡ true) list
 utf8_lines [] utf8 = λ k d inside. absurd (omega arith)
 utf8_lines (line ∷ list) utf8 =
-    let parts = cut_utf8 line (flat_map ended list) (subst IsUtf8 (append_assoc line (10 ∷ []) (flat_map ended list)) utf8) in
+    let parts = cut_utf8 line (flat_map ended_line list) (subst IsUtf8 (append_assoc line (10 ∷ []) (flat_map ended_line list)) utf8) in
     All-cons (λ l. is_utf8 l ≡ true) line list (is_utf8-from_IsUtf8 line parts.0) (utf8_lines list parts.1)

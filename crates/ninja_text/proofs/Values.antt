@@ -6,7 +6,7 @@ use Rattle.ninja_file.specs.declared.escape.Escape.TheVariants.{Path, Value}
 use Rattle.ninja_file.specs.declared.file.Piece.{Piece}
 use Rattle.ninja_file.specs.declared.file.Piece.TheVariants.{Lit, Var}
 use Rattle.ninja_file.specs.Escapes.{is_escaped}
-use Rattle.ninja_write.specs.Escaped.{escaped_byte, escaped, path_text, lead, value_text}
+use Rattle.ninja_write.specs.Escaped.{escaped_byte, escaped_bytes, path_text, lead, value_text}
 use Rattle.ninja_write.specs.Meaning.{piece_text, pieces_text}
 use Rattle.ninja_read.specs.Values.{in_text, in_braces, name_length, with_byte, with_variable, closed_name, pieces_from, pieces_of, literal, value_of}
 use Rattle.ninja_read.specs.Heads.{path_of, paths_of, if_path}
@@ -36,11 +36,11 @@ reads_byte Value b true e rest = let is : b ≡ 36 = eqb-true b 36 e in rw (e, i
 reads_byte escape b false e rest = rw (e, no_dollar escape b e) refl
 
 -- text, as it is written
-pub reads_text : (escape : Escape) (text rest : List ℕ) → pieces_from in_text (escaped escape text ++ rest) ≡ option_map (onto_pieces text) (pieces_from in_text rest)
+pub reads_text : (escape : Escape) (text rest : List ℕ) → pieces_from in_text (escaped_bytes escape text ++ rest) ≡ option_map (onto_pieces text) (pieces_from in_text rest)
 reads_text escape [] rest = sym (map_id (pieces_from in_text rest))
 reads_text escape (b ∷ text) rest =
-    ap (pieces_from in_text) (append_assoc (escaped_byte escape b) (escaped escape text) rest)
-    ∙ reads_byte escape b (is_escaped escape b) refl (escaped escape text ++ rest)
+    ap (pieces_from in_text) (append_assoc (escaped_byte escape b) (escaped_bytes escape text) rest)
+    ∙ reads_byte escape b (is_escaped escape b) refl (escaped_bytes escape text ++ rest)
     ∙ ap (option_map (with_byte b)) (reads_text escape text rest)
     ∙ map_twice (with_byte b) (onto_pieces text) (pieces_from in_text rest)
 
@@ -102,11 +102,11 @@ reads_pieces (Var name ∷ pieces) h k =
     ∙ ap (option_map (λ more. Var name ∷ more)) (reads_pieces pieces ((and_parts (is_name name) (list_all is_piece pieces) h).1) k)
 
 -- a dollar before a space that begins a value changes nothing
-leads_by : (b : ℕ) (text rest : List ℕ) (e : Bool) → eqb b 32 ≡ e → pieces_from in_text (cond e (36 ∷ []) [] ++ (escaped Value (b ∷ text) ++ rest)) ≡ pieces_from in_text (escaped Value (b ∷ text) ++ rest)
+leads_by : (b : ℕ) (text rest : List ℕ) (e : Bool) → eqb b 32 ≡ e → pieces_from in_text (cond e (36 ∷ []) [] ++ (escaped_bytes Value (b ∷ text) ++ rest)) ≡ pieces_from in_text (escaped_bytes Value (b ∷ text) ++ rest)
 leads_by b text rest true e = let is : b ≡ 32 = eqb-true b 32 e in rw is refl
 leads_by b text rest false e = refl
 
-lead_reads : (text rest : List ℕ) → pieces_from in_text (lead text ++ (escaped Value text ++ rest)) ≡ pieces_from in_text (escaped Value text ++ rest)
+lead_reads : (text rest : List ℕ) → pieces_from in_text (lead text ++ (escaped_bytes Value text ++ rest)) ≡ pieces_from in_text (escaped_bytes Value text ++ rest)
 lead_reads [] rest = refl
 lead_reads (b ∷ text) rest = leads_by b text rest (eqb b 32) refl
 
@@ -121,7 +121,7 @@ pieces_read_back (Var name ∷ pieces) h =
 
 pub value_read_back : (value : List ℕ) → is_value value ≡ true → value_of (value_text value) ≡ Some value
 value_read_back value h =
-    ap (λ t. option_and_then literal (pieces_from in_text (lead value ++ t))) (sym (append-nil (escaped Value value)))
+    ap (λ t. option_and_then literal (pieces_from in_text (lead value ++ t))) (sym (append-nil (escaped_bytes Value value)))
     ∙ ap (option_and_then literal) (lead_reads value [] ∙ reads_text Value value [])
     ∙ ap (λ ps. option_and_then literal (Some ps)) (literal_first value [] h refl)
 

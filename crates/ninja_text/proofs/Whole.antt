@@ -10,8 +10,8 @@ use Rattle.ninja_file.specs.declared.file.NinjaRule.{NinjaRule}
 use Rattle.ninja_file.specs.declared.file.Piece.{Piece}
 use Rattle.ninja_file.specs.declared.file.Piece.TheVariants.{Lit, Var}
 use Rattle.ninja_file.specs.declared.file.Statement.{Statement}
-use Rattle.ninja_write.specs.Escaped.{escaped, path_text, lead, value_text}
-use Rattle.ninja_write.specs.Meaning.{piece_text, pieces_text, bound, binding_line, variable_line, spaced_path, spaced, marked, ins_text, build_line, rule_line, rule_lines, statement_lines, default_lines, head_line, lines_of}
+use Rattle.ninja_write.specs.Escaped.{escaped_bytes, path_text, lead, value_text}
+use Rattle.ninja_write.specs.Meaning.{piece_text, pieces_text, line_of_binding, binding_line, variable_line, spaced_path, spaced_paths, paths_behind, ins_text, build_line, rule_line, rule_lines, statement_lines, default_lines, head_line, lines_of}
 use Rattle.ninja_file.specs.Names.{is_nil, is_name, is_name_byte, is_rule_key}
 use Rattle.ninja_file.specs.Meaning.{is_piece, are_apart, is_rule_value, IsRule, IsStatement, IsWellFormed, rule_names}
 use Rattle.std.proofs.lemmas.Bool.{and_parts, and_from}
@@ -23,11 +23,11 @@ named : (name : List ℕ) → is_name name ≡ true → IsClosed name
 named name h = closed_test is_name_byte refl name ((and_parts (not (is_nil name)) (list_all is_name_byte name) h).1)
 
 -- a dollar before a space that begins a value takes the space
-leads_by : (b : ℕ) (text rest : List ℕ) (e : Bool) → eqb b 32 ≡ e → dangles false (cond e (36 ∷ []) [] ++ (escaped Value (b ∷ text) ++ rest)) ≡ dangles false (escaped Value (b ∷ text) ++ rest)
+leads_by : (b : ℕ) (text rest : List ℕ) (e : Bool) → eqb b 32 ≡ e → dangles false (cond e (36 ∷ []) [] ++ (escaped_bytes Value (b ∷ text) ++ rest)) ≡ dangles false (escaped_bytes Value (b ∷ text) ++ rest)
 leads_by b text rest true e = let is : b ≡ 32 = eqb-true b 32 e in rw is refl
 leads_by b text rest false e = refl
 
-lead_closed : (text rest : List ℕ) → IsClosed (escaped Value text ++ rest) → IsClosed (lead text ++ (escaped Value text ++ rest))
+lead_closed : (text rest : List ℕ) → IsClosed (escaped_bytes Value text ++ rest) → IsClosed (lead text ++ (escaped_bytes Value text ++ rest))
 lead_closed [] rest h = h
 lead_closed (b ∷ text) rest h = leads_by b text rest (eqb b 32) refl ∙ h
 
@@ -48,25 +48,25 @@ rule_value_closed : (pieces : List Piece) → is_rule_value pieces ≡ true → 
 rule_value_closed pieces h = led_pieces pieces (all_closed pieces ((and_parts (list_all is_piece pieces) (are_apart pieces) ((and_parts (not (is_nil pieces)) (list_all is_piece pieces && are_apart pieces) h).1)).0))
 
 value_closed : (value : List ℕ) → IsClosed (value_text value)
-value_closed value = ap (λ t. dangles false (lead value ++ t)) (sym (append-nil (escaped Value value))) ∙ lead_closed value [] (ap (dangles false) (append-nil (escaped Value value)) ∙ closed_escaped Value value)
+value_closed value = ap (λ t. dangles false (lead value ++ t)) (sym (append-nil (escaped_bytes Value value))) ∙ lead_closed value [] (ap (dangles false) (append-nil (escaped_bytes Value value)) ∙ closed_escaped Value value)
 
-bound_closed : (key value : List ℕ) → is_name key ≡ true → IsClosed value → IsClosed (bound key value)
+bound_closed : (key value : List ℕ) → is_name key ≡ true → IsClosed value → IsClosed (line_of_binding key value)
 bound_closed key value h k = closed_beside (codes "  ") (key ++ (codes " = " ++ value)) refl (closed_beside key (codes " = " ++ value) (named key h) (closed_beside (codes " = ") value refl k))
 
-spaced_closed : (paths : List (List ℕ)) → IsClosed (spaced paths)
+spaced_closed : (paths : List (List ℕ)) → IsClosed (spaced_paths paths)
 spaced_closed paths = closed_all spaced_path paths (λ path. closed_beside (32 ∷ []) (path_text path) refl (closed_escaped Path path))
 
-marked_closed : (mark : List ℕ) → IsClosed mark → (paths : List (List ℕ)) → IsClosed (marked mark paths)
+marked_closed : (mark : List ℕ) → IsClosed mark → (paths : List (List ℕ)) → IsClosed (paths_behind mark paths)
 marked_closed mark h [] = refl
-marked_closed mark h (path ∷ paths) = closed_beside mark (spaced (path ∷ paths)) h (spaced_closed (path ∷ paths))
+marked_closed mark h (path ∷ paths) = closed_beside mark (spaced_paths (path ∷ paths)) h (spaced_closed (path ∷ paths))
 
 ins_closed : (s : Statement) → IsClosed (ins_text s)
-ins_closed s = closed_beside (spaced s.ins) (marked (codes " |") s.implicit ++ marked (codes " ||") s.order_only) (spaced_closed s.ins) (closed_beside (marked (codes " |") s.implicit) (marked (codes " ||") s.order_only) (marked_closed (codes " |") refl s.implicit) (marked_closed (codes " ||") refl s.order_only))
+ins_closed s = closed_beside (spaced_paths s.ins) (paths_behind (codes " |") s.implicit ++ paths_behind (codes " ||") s.order_only) (spaced_closed s.ins) (closed_beside (paths_behind (codes " |") s.implicit) (paths_behind (codes " ||") s.order_only) (marked_closed (codes " |") refl s.implicit) (marked_closed (codes " ||") refl s.order_only))
 
 build_closed : (s : Statement) → is_name s.rule ≡ true → IsClosed (build_line s)
 build_closed s h =
-    closed_beside (codes "build") (spaced s.outs ++ (codes ": " ++ (s.rule ++ ins_text s))) refl
-    (closed_beside (spaced s.outs) (codes ": " ++ (s.rule ++ ins_text s)) (spaced_closed s.outs) (closed_beside (codes ": ") (s.rule ++ ins_text s) refl (closed_beside s.rule (ins_text s) (named s.rule h) (ins_closed s))))
+    closed_beside (codes "build") (spaced_paths s.outs ++ (codes ": " ++ (s.rule ++ ins_text s))) refl
+    (closed_beside (spaced_paths s.outs) (codes ": " ++ (s.rule ++ ins_text s)) (spaced_closed s.outs) (closed_beside (codes ": ") (s.rule ++ ins_text s) refl (closed_beside s.rule (ins_text s) (named s.rule h) (ins_closed s))))
 
 whole_line : (line : List ℕ) → IsClosed line → not (dangles false line) ≡ true
 whole_line line h = ap not h
@@ -101,7 +101,7 @@ lines_of_statement names h s good = and_from _ _ (whole_line (build_line s) (bui
 
 lines_of_defaults : (paths : List (List ℕ)) → AreWhole (default_lines paths)
 lines_of_defaults [] = refl
-lines_of_defaults (path ∷ paths) = and_from _ _ (whole_line (codes "default" ++ spaced (path ∷ paths)) (closed_beside (codes "default") (spaced (path ∷ paths)) refl (spaced_closed (path ∷ paths)))) refl
+lines_of_defaults (path ∷ paths) = and_from _ _ (whole_line (codes "default" ++ spaced_paths (path ∷ paths)) (closed_beside (codes "default") (spaced_paths (path ∷ paths)) refl (spaced_closed (path ∷ paths)))) refl
 
 head_whole : not (dangles false head_line) ≡ true
 unfolding head_line

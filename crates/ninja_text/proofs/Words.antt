@@ -3,13 +3,13 @@ use Rattle.std.proofs.Common.{◌≡◌, ℕ, Bool, true, false, cond, not, List
 use Rattle.std.specs.List.{list_all}
 use Rattle.std.specs.Str.{bytes_eq}
 use Rattle.std.proofs.lemmas.Bool.Decides.{nat_tests}
-use Rattle.ninja_lines.specs.Cuts.{cut, words}
+use Rattle.ninja_lines.specs.Cuts.{parts_between, words}
 use Rattle.ninja_file.specs.declared.escape.Escape.TheVariants.{Path}
 use Rattle.ninja_file.specs.declared.file.Statement.{Statement}
 use Rattle.ninja_file.specs.Escapes.{is_escaped}
 use Rattle.ninja_write.specs.Escaped.{escaped_byte, path_text}
-use Rattle.ninja_write.specs.Meaning.{spaced, marked, ins_text}
-use Rattle.ninja_read.specs.Heads.{paths_of, some_paths, before_mark, behind_mark, marked_paths, bar, bars, statement_of, statement_of_words, statement_of_parts, build_of, defaults_of, defaults_of_parts}
+use Rattle.ninja_write.specs.Meaning.{spaced_paths, paths_behind, ins_text}
+use Rattle.ninja_read.specs.Heads.{paths_of, some_paths, before_mark, behind_mark, marked_paths, bar, bars, statement_of, statement_of_words, statement_of_parts, build_statement, defaults_of, defaults_of_parts}
 use Rattle.ninja_file.specs.Names.{is_nil, is_name, is_name_byte, is_value, is_path}
 use Rattle.std.proofs.lemmas.Bool.{and_parts}
 use Rattle.ninja_text.proofs.Bytes.{Passes, onto_text, onto_text-cons, passes_beside, plain_byte, passes_test, path_passes}
@@ -21,13 +21,13 @@ is_word part = not (eqb (length part) 0)
 -- a word ends here
 pub record Ends (rest : List ℕ) : Type 0 where
   pub parts : List (List ℕ)
-  pub is : cut 32 false rest ≡ [] ∷ parts
+  pub is : parts_between 32 false rest ≡ [] ∷ parts
 
 pub ends_nil : Ends []
 ends_nil = record { parts = []; is = refl }
 
 pub ends_space : (rest : List ℕ) → Ends (32 ∷ rest)
-ends_space rest = record { parts = cut 32 false rest; is = refl }
+ends_space rest = record { parts = parts_between 32 false rest; is = refl }
 
 word_then : (word rest : List ℕ) → Passes 32 word → is_word word ≡ true → Ends rest → words (word ++ rest) ≡ word ∷ words rest
 word_then word rest passes some ends =
@@ -50,34 +50,34 @@ name_some name h = (and_parts (not (is_nil name)) (list_all is_name_byte name) h
 pub word_alone : (name : List ℕ) → is_name name ≡ true → words name ≡ name ∷ []
 word_alone name h = ap words (sym (append-nil name)) ∙ word_then name [] (passes_test 32 is_name_byte refl refl name ((and_parts (not (is_nil name)) (list_all is_name_byte name) h).1)) (name_some name h) ends_nil
 
-spaced_ends : (paths : List (List ℕ)) (rest : List ℕ) → Ends rest → Ends (spaced paths ++ rest)
+spaced_ends : (paths : List (List ℕ)) (rest : List ℕ) → Ends rest → Ends (spaced_paths paths ++ rest)
 spaced_ends [] rest ends = ends
 spaced_ends (path ∷ paths) rest ends = ends_space _
 
-pub spaced_words : (paths : List (List ℕ)) (rest : List ℕ) → list_all is_path paths ≡ true → Ends rest → words (spaced paths ++ rest) ≡ map path_text paths ++ words rest
+pub spaced_words : (paths : List (List ℕ)) (rest : List ℕ) → list_all is_path paths ≡ true → Ends rest → words (spaced_paths paths ++ rest) ≡ map path_text paths ++ words rest
 spaced_words [] rest h ends = refl
 spaced_words (path ∷ paths) rest h ends =
-    ap words (ap (λ t. 32 ∷ t) (append_assoc (path_text path) (spaced paths) rest))
-    ∙ word_then (path_text path) (spaced paths ++ rest) (path_passes 32 refl path) (path_some path ((and_parts (is_path path) (list_all is_path paths) h).0)) (spaced_ends paths rest ends)
+    ap words (ap (λ t. 32 ∷ t) (append_assoc (path_text path) (spaced_paths paths) rest))
+    ∙ word_then (path_text path) (spaced_paths paths ++ rest) (path_passes 32 refl path) (path_some path ((and_parts (is_path path) (list_all is_path paths) h).0)) (spaced_ends paths rest ends)
     ∙ ap (λ ws. path_text path ∷ ws) (spaced_words paths rest ((and_parts (is_path path) (list_all is_path paths) h).1) ends)
 
-pub path_words : (path : List ℕ) (paths : List (List ℕ)) (rest : List ℕ) → is_path path ≡ true → list_all is_path paths ≡ true → Ends rest → words (path_text path ++ (spaced paths ++ rest)) ≡ path_text path ∷ (map path_text paths ++ words rest)
-path_words path paths rest h k ends = word_then (path_text path) (spaced paths ++ rest) (path_passes 32 refl path) (path_some path h) (spaced_ends paths rest ends) ∙ ap (λ ws. path_text path ∷ ws) (spaced_words paths rest k ends)
+pub path_words : (path : List ℕ) (paths : List (List ℕ)) (rest : List ℕ) → is_path path ≡ true → list_all is_path paths ≡ true → Ends rest → words (path_text path ++ (spaced_paths paths ++ rest)) ≡ path_text path ∷ (map path_text paths ++ words rest)
+path_words path paths rest h k ends = word_then (path_text path) (spaced_paths paths ++ rest) (path_passes 32 refl path) (path_some path h) (spaced_ends paths rest ends) ∙ ap (λ ws. path_text path ∷ ws) (spaced_words paths rest k ends)
 
 -- the words behind a mark, where there are any
 abbrev mark_words : List ℕ → List (List ℕ) → List (List ℕ)
 mark_words mark [] = []
 mark_words mark (path ∷ paths) = mark ∷ map path_text (path ∷ paths)
 
-marked_ends : (mark : List ℕ) (paths : List (List ℕ)) (rest : List ℕ) → Ends rest → Ends (marked (32 ∷ mark) paths ++ rest)
+marked_ends : (mark : List ℕ) (paths : List (List ℕ)) (rest : List ℕ) → Ends rest → Ends (paths_behind (32 ∷ mark) paths ++ rest)
 marked_ends mark [] rest ends = ends
 marked_ends mark (path ∷ paths) rest ends = ends_space _
 
-mark_then : (mark : List ℕ) → Passes 32 mark → is_word mark ≡ true → (paths : List (List ℕ)) (rest : List ℕ) → list_all is_path paths ≡ true → Ends rest → words (marked (32 ∷ mark) paths ++ rest) ≡ mark_words mark paths ++ words rest
+mark_then : (mark : List ℕ) → Passes 32 mark → is_word mark ≡ true → (paths : List (List ℕ)) (rest : List ℕ) → list_all is_path paths ≡ true → Ends rest → words (paths_behind (32 ∷ mark) paths ++ rest) ≡ mark_words mark paths ++ words rest
 mark_then mark passes some [] rest h ends = refl
 mark_then mark passes some (path ∷ paths) rest h ends =
-    ap words (ap (λ t. 32 ∷ t) (append_assoc mark (spaced (path ∷ paths)) rest))
-    ∙ word_then mark (spaced (path ∷ paths) ++ rest) passes some (spaced_ends (path ∷ paths) rest ends)
+    ap words (ap (λ t. 32 ∷ t) (append_assoc mark (spaced_paths (path ∷ paths)) rest))
+    ∙ word_then mark (spaced_paths (path ∷ paths) ++ rest) passes some (spaced_ends (path ∷ paths) rest ends)
     ∙ ap (λ ws. mark ∷ ws) (spaced_words (path ∷ paths) rest h ends)
 
 -- the words behind the rule
@@ -88,14 +88,14 @@ abbrev pub HasPaths : Statement → Type 0
 HasPaths s = (list_all is_path s.ins ≡ true) × (list_all is_path s.implicit ≡ true) × (list_all is_path s.order_only ≡ true)
 
 ins_ends : (s : Statement) → Ends (ins_text s)
-ins_ends s = spaced_ends s.ins _ (marked_ends bar s.implicit _ (subst Ends (append-nil (marked (32 ∷ bars) s.order_only)) (marked_ends bars s.order_only [] ends_nil)))
+ins_ends s = spaced_ends s.ins _ (marked_ends bar s.implicit _ (subst Ends (append-nil (paths_behind (32 ∷ bars) s.order_only)) (marked_ends bars s.order_only [] ends_nil)))
 
 ins_words : (s : Statement) → HasPaths s → words (ins_text s) ≡ takes_words s
 ins_words s h =
-    let last : words (marked (32 ∷ bars) s.order_only) ≡ mark_words bars s.order_only = ap words (sym (append-nil (marked (32 ∷ bars) s.order_only))) ∙ mark_then bars (λ rest. refl) refl s.order_only [] h.2 ends_nil ∙ append-nil (mark_words bars s.order_only) in
-    let last_ends : Ends (marked (32 ∷ bars) s.order_only) = subst Ends (append-nil (marked (32 ∷ bars) s.order_only)) (marked_ends bars s.order_only [] ends_nil) in
-    spaced_words s.ins (marked (32 ∷ bar) s.implicit ++ marked (32 ∷ bars) s.order_only) h.0 (marked_ends bar s.implicit _ last_ends)
-    ∙ ap (λ ws. map path_text s.ins ++ ws) (mark_then bar (λ rest. refl) refl s.implicit (marked (32 ∷ bars) s.order_only) h.1 last_ends ∙ ap (λ ws. mark_words bar s.implicit ++ ws) last)
+    let last : words (paths_behind (32 ∷ bars) s.order_only) ≡ mark_words bars s.order_only = ap words (sym (append-nil (paths_behind (32 ∷ bars) s.order_only))) ∙ mark_then bars (λ rest. refl) refl s.order_only [] h.2 ends_nil ∙ append-nil (mark_words bars s.order_only) in
+    let last_ends : Ends (paths_behind (32 ∷ bars) s.order_only) = subst Ends (append-nil (paths_behind (32 ∷ bars) s.order_only)) (marked_ends bars s.order_only [] ends_nil) in
+    spaced_words s.ins (paths_behind (32 ∷ bar) s.implicit ++ paths_behind (32 ∷ bars) s.order_only) h.0 (marked_ends bar s.implicit _ last_ends)
+    ∙ ap (λ ws. map path_text s.ins ++ ws) (mark_then bar (λ rest. refl) refl s.implicit (paths_behind (32 ∷ bars) s.order_only) h.1 last_ends ∙ ap (λ ws. mark_words bar s.implicit ++ ws) last)
 
 -- no path is a mark
 no_mark_by : (b : ℕ) (rest mark : List ℕ) (e : Bool) → is_escaped Path b ≡ e → eqb b 124 ≡ false → bytes_eq (escaped_byte Path b ++ rest) (124 ∷ mark) ≡ false
@@ -165,41 +165,41 @@ statement_read s makes h outs =
     ∙ ap (parts_of s.rule (Some s.outs) (Some s.ins) (Some s.implicit)) last
 
 -- nothing before the colon, or behind it, is a colon
-spaced_passes : (paths : List (List ℕ)) → Passes 58 (spaced paths)
+spaced_passes : (paths : List (List ℕ)) → Passes 58 (spaced_paths paths)
 spaced_passes [] = λ rest. refl
-spaced_passes (path ∷ paths) = passes_beside 58 (32 ∷ path_text path) (spaced paths) (passes_beside 58 (32 ∷ []) (path_text path) (plain_byte 58 32 refl refl) (path_passes 58 refl path)) (spaced_passes paths)
+spaced_passes (path ∷ paths) = passes_beside 58 (32 ∷ path_text path) (spaced_paths paths) (passes_beside 58 (32 ∷ []) (path_text path) (plain_byte 58 32 refl refl) (path_passes 58 refl path)) (spaced_passes paths)
 
-marked_passes : (mark : List ℕ) → Passes 58 mark → (paths : List (List ℕ)) → Passes 58 (marked mark paths)
+marked_passes : (mark : List ℕ) → Passes 58 mark → (paths : List (List ℕ)) → Passes 58 (paths_behind mark paths)
 marked_passes mark h [] = λ rest. refl
-marked_passes mark h (path ∷ paths) = passes_beside 58 mark (spaced (path ∷ paths)) h (spaced_passes (path ∷ paths))
+marked_passes mark h (path ∷ paths) = passes_beside 58 mark (spaced_paths (path ∷ paths)) h (spaced_passes (path ∷ paths))
 
 ins_passes : (s : Statement) → Passes 58 (ins_text s)
-ins_passes s = passes_beside 58 (spaced s.ins) _ (spaced_passes s.ins) (passes_beside 58 (marked (32 ∷ bar) s.implicit) (marked (32 ∷ bars) s.order_only) (marked_passes (32 ∷ bar) (λ rest. refl) s.implicit) (marked_passes (32 ∷ bars) (λ rest. refl) s.order_only))
+ins_passes s = passes_beside 58 (spaced_paths s.ins) _ (spaced_passes s.ins) (passes_beside 58 (paths_behind (32 ∷ bar) s.implicit) (paths_behind (32 ∷ bars) s.order_only) (marked_passes (32 ∷ bar) (λ rest. refl) s.implicit) (marked_passes (32 ∷ bars) (λ rest. refl) s.order_only))
 
-one_part : (text : List ℕ) → Passes 58 text → cut 58 false text ≡ text ∷ []
-one_part text h = ap (cut 58 false) (sym (append-nil text)) ∙ h [] ∙ onto_text-cons text [] [] ∙ ap (λ t. t ∷ []) (append-nil text)
+one_part : (text : List ℕ) → Passes 58 text → parts_between 58 false text ≡ text ∷ []
+one_part text h = ap (parts_between 58 false) (sym (append-nil text)) ∙ h [] ∙ onto_text-cons text [] [] ∙ ap (λ t. t ∷ []) (append-nil text)
 
-two_parts : (makes takes : List ℕ) → Passes 58 makes → Passes 58 takes → cut 58 false (makes ++ 58 ∷ takes) ≡ makes ∷ takes ∷ []
+two_parts : (makes takes : List ℕ) → Passes 58 makes → Passes 58 takes → parts_between 58 false (makes ++ 58 ∷ takes) ≡ makes ∷ takes ∷ []
 two_parts makes takes h k = h (58 ∷ takes) ∙ ap (λ ps. onto_text makes ([] ∷ ps)) (one_part takes k) ∙ onto_text-cons makes [] (takes ∷ []) ∙ ap (λ t. t ∷ takes ∷ []) (append-nil makes)
 
-pub build_read : (s : Statement) (out : List ℕ) (outs : List (List ℕ)) → s.outs ≡ out ∷ outs → list_all is_path (out ∷ outs) ≡ true → is_name s.rule ≡ true → HasPaths s → build_of (path_text out ++ (spaced outs ++ (codes ": " ++ (s.rule ++ ins_text s)))) ≡ Some (record { outs = s.outs; rule = s.rule; ins = s.ins; implicit = s.implicit; order_only = s.order_only; vars = [] })
+pub build_read : (s : Statement) (out : List ℕ) (outs : List (List ℕ)) → s.outs ≡ out ∷ outs → list_all is_path (out ∷ outs) ≡ true → is_name s.rule ≡ true → HasPaths s → build_statement (path_text out ++ (spaced_paths outs ++ (codes ": " ++ (s.rule ++ ins_text s)))) ≡ Some (record { outs = s.outs; rule = s.rule; ins = s.ins; implicit = s.implicit; order_only = s.order_only; vars = [] })
 build_read s out outs is paths name h =
-    let makes : List ℕ = path_text out ++ spaced outs in
+    let makes : List ℕ = path_text out ++ spaced_paths outs in
     let takes : List ℕ = 32 ∷ (s.rule ++ ins_text s) in
     let h0 : is_path out ≡ true = (and_parts (is_path out) (list_all is_path outs) paths).0 in
     let h1 : list_all is_path outs ≡ true = (and_parts (is_path out) (list_all is_path outs) paths).1 in
     let rule_passes : Passes 58 s.rule = passes_test 58 is_name_byte refl refl s.rule ((and_parts (not (is_nil s.rule)) (list_all is_name_byte s.rule) name).1) in
     let rule_word : Passes 32 s.rule = passes_test 32 is_name_byte refl refl s.rule ((and_parts (not (is_nil s.rule)) (list_all is_name_byte s.rule) name).1) in
-    let parts : cut 58 false (path_text out ++ (spaced outs ++ (58 ∷ takes))) ≡ makes ∷ takes ∷ [] = ap (cut 58 false) (sym (append_assoc (path_text out) (spaced outs) (58 ∷ takes))) ∙ two_parts makes takes (passes_beside 58 (path_text out) (spaced outs) (path_passes 58 refl out) (spaced_passes outs)) (passes_beside 58 (32 ∷ []) (s.rule ++ ins_text s) (plain_byte 58 32 refl refl) (passes_beside 58 s.rule (ins_text s) rule_passes (ins_passes s))) in
-    let made : words makes ≡ map path_text (out ∷ outs) = ap words (ap (λ t. path_text out ++ t) (sym (append-nil (spaced outs)))) ∙ path_words out outs [] h0 h1 ends_nil ∙ ap (λ ws. path_text out ∷ ws) (append-nil (map path_text outs)) in
+    let parts : parts_between 58 false (path_text out ++ (spaced_paths outs ++ (58 ∷ takes))) ≡ makes ∷ takes ∷ [] = ap (parts_between 58 false) (sym (append_assoc (path_text out) (spaced_paths outs) (58 ∷ takes))) ∙ two_parts makes takes (passes_beside 58 (path_text out) (spaced_paths outs) (path_passes 58 refl out) (spaced_passes outs)) (passes_beside 58 (32 ∷ []) (s.rule ++ ins_text s) (plain_byte 58 32 refl refl) (passes_beside 58 s.rule (ins_text s) rule_passes (ins_passes s))) in
+    let made : words makes ≡ map path_text (out ∷ outs) = ap words (ap (λ t. path_text out ++ t) (sym (append-nil (spaced_paths outs)))) ∙ path_words out outs [] h0 h1 ends_nil ∙ ap (λ ws. path_text out ∷ ws) (append-nil (map path_text outs)) in
     let took : words takes ≡ s.rule ∷ takes_words s = word_then s.rule (ins_text s) rule_word (name_some s.rule name) (ins_ends s) ∙ ap (λ ws. s.rule ∷ ws) (ins_words s h) in
     ap statement_of_parts parts ∙ ap (λ ws. statement_of_words ws (words takes)) made ∙ ap (statement_of_words (map path_text (out ∷ outs))) took
     ∙ statement_read s (map path_text (out ∷ outs)) h (paths_read_back (out ∷ outs) paths ∙ ap Some (sym is))
 
-pub defaults_read : (path : List ℕ) (paths : List (List ℕ)) → list_all is_path (path ∷ paths) ≡ true → defaults_of (path_text path ++ spaced paths) ≡ Some (path ∷ paths)
+pub defaults_read : (path : List ℕ) (paths : List (List ℕ)) → list_all is_path (path ∷ paths) ≡ true → defaults_of (path_text path ++ spaced_paths paths) ≡ Some (path ∷ paths)
 defaults_read path paths h =
     let h0 : is_path path ≡ true = (and_parts (is_path path) (list_all is_path paths) h).0 in
     let h1 : list_all is_path paths ≡ true = (and_parts (is_path path) (list_all is_path paths) h).1 in
-    ap defaults_of_parts (one_part (path_text path ++ spaced paths) (passes_beside 58 (path_text path) (spaced paths) (path_passes 58 refl path) (spaced_passes paths)))
-    ∙ ap some_paths (ap words (ap (λ t. path_text path ++ t) (sym (append-nil (spaced paths)))) ∙ path_words path paths [] h0 h1 ends_nil ∙ ap (λ ws. path_text path ∷ ws) (append-nil (map path_text paths)))
+    ap defaults_of_parts (one_part (path_text path ++ spaced_paths paths) (passes_beside 58 (path_text path) (spaced_paths paths) (path_passes 58 refl path) (spaced_passes paths)))
+    ∙ ap some_paths (ap words (ap (λ t. path_text path ++ t) (sym (append-nil (spaced_paths paths)))) ∙ path_words path paths [] h0 h1 ends_nil ∙ ap (λ ws. path_text path ∷ ws) (append-nil (map path_text paths)))
     ∙ paths_read_back (path ∷ paths) h

@@ -13,13 +13,13 @@ pub record IsWritten (f : NinjaFile) (text : List ℕ) : Type 0 where
   pub utf8 : IsUtf8 text
 
 -- What a reader may answer where a file was written: that file, or that memory ran out.
-abbrev pub IsReadBack : NinjaFile → Result NinjaFile NinjaError → Type 0
-IsReadBack f (Ok back) = back ≡ f
-IsReadBack f (Err (BadLine line)) = ⊥
-IsReadBack f (Err OutOfMemory) = ⊤
+abbrev pub ReadBackMeans : NinjaFile → Result NinjaFile NinjaError → Type 0
+ReadBackMeans f (Ok back) = back ≡ f
+ReadBackMeans f (Err (BadLine line)) = ⊥
+ReadBackMeans f (Err OutOfMemory) = ⊤
 
 -- What is written for a well-formed file stands for that file, and so `read` answers it.
 abbrev pub WrittenIsReadBack : Type 0
 WrittenIsReadBack =
     (f : NinjaFile) (text : List ℕ) (answer : Result NinjaFile NinjaError) →
-    IsWellFormed f → IsWritten f text → Reads answer (reading text) → IsReadBack f answer
+    IsWellFormed f → IsWritten f text → Reads answer (reading text) → ReadBackMeans f answer

@@ -1,7 +1,7 @@
 //! What ties writing to reading.
 ghost use Rattle.std.specs.Prelude.{◌≡◌, ◌≤◌, IfOk, IsErr, IsErrOf};
 ghost use Rattle.ninja_file.specs.Meaning.{IsWellFormed};
-ghost use Rattle.ninja_text.specs.Meaning.{IsReadBack, WrittenIsReadBack};
+ghost use Rattle.ninja_text.specs.Meaning.{ReadBackMeans, WrittenIsReadBack};
 
 use ninja_file::NinjaFile;
 use ninja_read::{NinjaError, read};
@@ -23,7 +23,7 @@ pub fn written_and_read(
     f: &NinjaFile,
 ) -> Result<Result<NinjaFile, NinjaError>, WriteError>
     requires { IsWellFormed f.now }
-    ensures { IfOk result (IsReadBack f.now) }
+    ensures { IfOk result (ReadBackMeans f.now) }
 {
     what_was_written_is_read_back();
     let text = write(alloc, f)?;

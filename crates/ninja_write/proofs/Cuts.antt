@@ -1,5 +1,5 @@
 -- The text of statements, and those of parts of them.
-use Rattle.std.proofs.Common.{◌≡◌, ℕ, ◌+◌, ◌^◌, ◌<◌, List, [], ◌++◌, length, length-append, append_assoc, arith, ap, ◌∙◌, sym, Result, Ok, Err}
+use Rattle.std.proofs.Common.{◌≡◌, ℕ, ◌+◌, ◌^◌, ◌<◌, List, ◌++◌, length, length-append, append_assoc, arith, ap, ◌∙◌, sym, Result, Ok, Err}
 use Rattle.std.proofs.lemmas.Grind.{flat_map-append}
 use Rattle.std.specs.Result.{IsErrAnd}
 use Rattle.ninja_file.specs.declared.file.NinjaFile.{NinjaFile}
@@ -8,11 +8,12 @@ use Rattle.ninja_write.proofs.Lines.{text-parts}
 use Rattle.ninja_write.specs.declared.output.WriteError.{WriteError}
 use Rattle.ninja_write.specs.declared.output.WriteError.TheVariants.{TooLarge}
 use Rattle.ninja_write.specs.Inside.{Puts, Prints, front_text, statements_text}
-use Rattle.ninja_write.specs.Meaning.{joined, ended, head_line, statement_lines, default_lines, text_of}
+use Rattle.ninja_write.specs.Meaning.{joined_text, head_line, statement_lines, default_lines, text_of}
+use Rattle.bp_faults.specs.Characters.{ended_line}
 
 -- the text of statements in two parts
 text-cut : (front back all : List Statement) → all ≡ front ++ back → statements_text all ≡ statements_text front ++ statements_text back
-text-cut front back all e = ap statements_text e ∙ flat_map-append (λ statement. joined (statement_lines statement)) front back
+text-cut front back all e = ap statements_text e ∙ flat_map-append (λ statement. joined_text (statement_lines statement)) front back
 
 -- the text of the first part behind what was there, and then that of the second
 pub text-joined : (old first new : List ℕ) (front back all : List Statement) → all ≡ front ++ back → first ≡ old ++ statements_text front → new ≡ first ++ statements_text back → new ≡ old ++ statements_text all
@@ -24,9 +25,6 @@ IsShorter before part old all = (limit : ℕ) → limit < length before + length
 
 pub front-shorter : (old : List ℕ) (front back all : List Statement) → all ≡ front ++ back → IsShorter old front old all
 front-shorter old front back all e limit h = let l = ap length (text-cut front back all e) in omega (arith, simp length-append at l)
-
-pub back-shorter : (old : List ℕ) (front back all : List Statement) → all ≡ front ++ back → IsShorter [] back old all
-back-shorter old front back all e limit h = let l = ap length (text-cut front back all e) in omega (arith, simp length-append at l)
 
 pub joined-shorter : (old first : List ℕ) (front back all : List Statement) → all ≡ front ++ back → first ≡ old ++ statements_text front → IsShorter first back old all
 joined-shorter old first front back all e f limit h =
@@ -45,5 +43,5 @@ append_refused part all before now old e (Ok x) shorter same puts = absurd same
 append_refused part all before now old e (Err x) shorter same puts = record { ok = tt; too_large = λ h. let large : x ≡ TooLarge = cc in shorter (2 ^ 29) (puts.too_large (ap Err (sym same ∙ large))) }
 
 -- the text of a file by what stands before the statements, the statements and the defaults
-pub text-thirds : (f : NinjaFile) → text_of f ≡ (front_text f ++ statements_text f.statements) ++ joined (default_lines f.defaults)
-text-thirds f = text-parts f ∙ sym (append_assoc (ended head_line) _ _) ∙ sym (append_assoc (front_text f) (statements_text f.statements) _)
+pub text-thirds : (f : NinjaFile) → text_of f ≡ (front_text f ++ statements_text f.statements) ++ joined_text (default_lines f.defaults)
+text-thirds f = text-parts f ∙ sym (append_assoc (ended_line head_line) _ _) ∙ sym (append_assoc (front_text f) (statements_text f.statements) _)

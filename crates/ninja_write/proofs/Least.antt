@@ -9,11 +9,12 @@ use Rattle.ninja_file.specs.declared.escape.Escape.{Escape}
 use Rattle.ninja_file.specs.declared.escape.Escape.TheVariants.{Path, Value}
 use Rattle.ninja_file.specs.declared.file.NinjaFile.{NinjaFile}
 use Rattle.ninja_file.specs.declared.file.Statement.{Statement}
-use Rattle.ninja_file.specs.Escapes.{dollar, is_escaped}
-use Rattle.ninja_write.specs.Escaped.{escaped_byte, escaped, lead, value_text}
+use Rattle.ninja_file.specs.Escapes.{is_escaped}
+use Rattle.ninja_write.specs.Escaped.{escaped_byte, escaped_bytes, lead, value_text}
 use Rattle.ninja_write.specs.Inside.{statements_text}
-use Rattle.ninja_write.specs.Meaning.{spaced, spaced_path, marked, variable_line, ins_text, build_line, statement_lines, default_lines, head_line, ended, joined, text_of, rule_lines}
+use Rattle.ninja_write.specs.Meaning.{spaced_paths, spaced_path, paths_behind, variable_line, ins_text, build_line, statement_lines, default_lines, head_line, joined_text, text_of, rule_lines}
 use Rattle.ninja_write.proofs.Lines.{text-parts}
+use Rattle.bp_faults.specs.Characters.{ended_line, dollar}
 
 -- one text more
 pub one_more : {X : Type 0} (text : X → List ℕ) (xs : List X) (i : ℕ) (d : X) (bytes more new : ℕ) → i < length xs
@@ -36,10 +37,10 @@ byte_has escape b = by (is_escaped escape b)
     by false = omega arith
 
 -- no byte is left out
-pub escaped_has : (escape : Escape) (bytes : List ℕ) → length bytes ≤ length (escaped escape bytes)
+pub escaped_has : (escape : Escape) (bytes : List ℕ) → length bytes ≤ length (escaped_bytes escape bytes)
 escaped_has escape [] = omega arith
 escaped_has escape (b ∷ bytes) =
-    omega (arith, length-append (escaped_byte escape b) (escaped escape bytes), byte_has escape b, escaped_has escape bytes)
+    omega (arith, length-append (escaped_byte escape b) (escaped_bytes escape bytes), byte_has escape b, escaped_has escape bytes)
 
 pub path_has : (path : List ℕ) → length path ≤ length (spaced_path path)
 path_has path = omega (arith, escaped_has Path path)
@@ -49,37 +50,37 @@ pub path_read : (path text : List ℕ) → text ≡ path → length text ≤ len
 path_read path text is = subst (λ t. length t ≤ length (spaced_path path)) (sym is) (path_has path)
 
 value_has : (value : List ℕ) → length value ≤ length (value_text value)
-value_has value = omega (arith, length-append (lead value) (escaped Value value), escaped_has Value value)
+value_has value = omega (arith, length-append (lead value) (escaped_bytes Value value), escaped_has Value value)
 
 -- a variable has its name and its value
-pub variable_has : (name value : List ℕ) → length name + length value ≤ length (ended (variable_line (name, value)))
+pub variable_has : (name value : List ℕ) → length name + length value ≤ length (ended_line (variable_line (name, value)))
 variable_has name value =
     omega (arith, length-append name (32 ∷ 61 ∷ 32 ∷ value_text value), value_has value, length-append (variable_line (name, value)) (10 ∷ []))
 
 -- a statement has its outs, its ins and its variables
-pub statement_has : (s : Statement) (outs ins vars : ℕ) → outs ≤ length (spaced s.outs) → ins ≤ length (spaced s.ins)
-    → vars ≤ length (flat_map (λ v. ended (variable_line v)) s.vars)
-    → (outs + ins) + vars ≤ length (joined (statement_lines s))
+pub statement_has : (s : Statement) (outs ins vars : ℕ) → outs ≤ length (spaced_paths s.outs) → ins ≤ length (spaced_paths s.ins)
+    → vars ≤ length (flat_map (λ v. ended_line (variable_line v)) s.vars)
+    → (outs + ins) + vars ≤ length (joined_text (statement_lines s))
 statement_has s outs ins vars o i v =
-    let lines : length (joined (statement_lines s)) ≡ length (ended (build_line s)) + length (joined (map variable_line s.vars)) =
-    length-append (ended (build_line s)) (joined (map variable_line s.vars)) in
-    let line : length (ended (build_line s)) ≡ length (build_line s) + 1 = length-append (build_line s) (10 ∷ []) in
-    let first : length (spaced s.outs ++ (58 ∷ 32 ∷ (s.rule ++ ins_text s))) ≡ length (spaced s.outs) + length (58 ∷ 32 ∷ (s.rule ++ ins_text s)) =
-    length-append (spaced s.outs) (58 ∷ 32 ∷ (s.rule ++ ins_text s)) in
+    let lines : length (joined_text (statement_lines s)) ≡ length (ended_line (build_line s)) + length (joined_text (map variable_line s.vars)) =
+    length-append (ended_line (build_line s)) (joined_text (map variable_line s.vars)) in
+    let line : length (ended_line (build_line s)) ≡ length (build_line s) + 1 = length-append (build_line s) (10 ∷ []) in
+    let first : length (spaced_paths s.outs ++ (58 ∷ 32 ∷ (s.rule ++ ins_text s))) ≡ length (spaced_paths s.outs) + length (58 ∷ 32 ∷ (s.rule ++ ins_text s)) =
+    length-append (spaced_paths s.outs) (58 ∷ 32 ∷ (s.rule ++ ins_text s)) in
     let second = length-append s.rule (ins_text s) in
-    let third = length-append (spaced s.ins) (marked (codes " |") s.implicit ++ marked (codes " ||") s.order_only) in
-    let fourth : length (joined (map variable_line s.vars)) ≡ length (flat_map (λ v. ended (variable_line v)) s.vars) =
-    ap length (flat_map-map ended variable_line s.vars) in
+    let third = length-append (spaced_paths s.ins) (paths_behind (codes " |") s.implicit ++ paths_behind (codes " ||") s.order_only) in
+    let fourth : length (joined_text (map variable_line s.vars)) ≡ length (flat_map (λ v. ended_line (variable_line v)) s.vars) =
+    ap length (flat_map-map ended_line variable_line s.vars) in
     omega (arith, lines, line, first, second, third, fourth, o, i, v)
 
 -- a file has its statements
 pub file_has : (f : NinjaFile) → length (statements_text f.statements) ≤ length (text_of f)
 file_has f =
-    let rest = statements_text f.statements ++ joined (default_lines f.defaults) in
+    let rest = statements_text f.statements ++ joined_text (default_lines f.defaults) in
     omega (
       arith,
       ap length (text-parts f),
-      length-append (ended head_line) (flat_map (λ r. joined (rule_lines r)) f.rules ++ rest),
-      length-append (flat_map (λ r. joined (rule_lines r)) f.rules) rest,
-      length-append (statements_text f.statements) (joined (default_lines f.defaults)),
+      length-append (ended_line head_line) (flat_map (λ r. joined_text (rule_lines r)) f.rules ++ rest),
+      length-append (flat_map (λ r. joined_text (rule_lines r)) f.rules) rest,
+      length-append (statements_text f.statements) (joined_text (default_lines f.defaults)),
     )

@@ -15,12 +15,13 @@ use Rattle.ninja_file.specs.declared.file.NinjaRule.{NinjaRule}
 use Rattle.ninja_file.specs.declared.file.Piece.{Piece}
 use Rattle.ninja_file.specs.declared.file.Piece.TheVariants.{Lit, Var}
 use Rattle.ninja_file.specs.declared.file.Statement.{Statement}
-use Rattle.ninja_file.specs.Escapes.{space, dollar, is_escaped}
-use Rattle.ninja_write.specs.Escaped.{escaped_byte, escaped, path_text, lead, value_text}
+use Rattle.ninja_file.specs.Escapes.{is_escaped}
+use Rattle.ninja_write.specs.Escaped.{escaped_byte, escaped_bytes, path_text, lead, value_text}
 use Rattle.ninja_write.specs.Laws.{IsOneLine}
-use Rattle.ninja_write.specs.Meaning.{piece_text, lead_of, pieces_text, bound, binding_line, variable_line, spaced_path, spaced, marked, ins_text, build_line, rule_line, rule_lines, statement_lines, default_lines, head_line, lines_of, text_of}
+use Rattle.ninja_write.specs.Meaning.{piece_text, lead_of, pieces_text, line_of_binding, binding_line, variable_line, spaced_path, spaced_paths, paths_behind, ins_text, build_line, rule_line, rule_lines, statement_lines, default_lines, head_line, lines_of, text_of}
 use Rattle.ninja_file.specs.Names.{is_name_byte, is_name, is_shown, is_value, is_path, is_rule_key}
 use Rattle.ninja_file.specs.Meaning.{is_piece, are_apart, is_rule_value, IsRule, IsStatement, IsWellFormed, rule_names, outs_of}
+use Rattle.bp_faults.specs.Characters.{dollar, space}
 
 abbrev stays : ℕ → Bool
 stays b = not (eqb b 10)
@@ -49,7 +50,7 @@ byte : (escape : Escape) (b : ℕ) (e : Bool) → is_escaped escape b ≡ e → 
 byte escape b true e h = rw e (and_from (stays b) true h refl)
 byte escape b false e h = rw e (and_from (stays b) true h refl)
 
-escapes : (escape : Escape) (text : List ℕ) → IsOneLine text → IsOneLine (escaped escape text)
+escapes : (escape : Escape) (text : List ℕ) → IsOneLine text → IsOneLine (escaped_bytes escape text)
 escapes escape text h = joined_all (escaped_byte escape) stays (λ b k. byte escape b (is_escaped escape b) refl k) text h
 
 leads : (b : ℕ) (e : Bool) → eqb b space ≡ e → IsOneLine (cond (eqb b space) (dollar ∷ []) [])
@@ -73,19 +74,19 @@ rule_value_line : (pieces : List Piece) → is_rule_value pieces ≡ true → Is
 rule_value_line pieces h = beside (lead_of pieces) (flat_map piece_text pieces) (lead_of_line pieces) (joined_all piece_text is_piece piece_line pieces ((and_parts (list_all is_piece pieces) (are_apart pieces) ((and_parts (not (eqb (length pieces) 0)) (list_all is_piece pieces && are_apart pieces) h).1)).0))
 
 value_line : (value : List ℕ) → is_value value ≡ true → IsOneLine (value_text value)
-value_line value h = beside (lead value) (escaped Value value) (lead_line value) (escapes Value value (shown value h))
+value_line value h = beside (lead value) (escaped_bytes Value value) (lead_line value) (escapes Value value (shown value h))
 
 path_line : (path : List ℕ) → is_path path ≡ true → IsOneLine (spaced_path path)
 path_line path h = beside (space ∷ []) (path_text path) refl (escapes Path path (shown path ((and_parts (is_value path) (list_all (λ b. not (eqb b 124)) path) h).0)))
 
-spaced_line : (paths : List (List ℕ)) → list_all is_path paths ≡ true → IsOneLine (spaced paths)
+spaced_line : (paths : List (List ℕ)) → list_all is_path paths ≡ true → IsOneLine (spaced_paths paths)
 spaced_line paths h = joined_all spaced_path is_path path_line paths h
 
-marked_line : (mark : List ℕ) (paths : List (List ℕ)) → IsOneLine mark → list_all is_path paths ≡ true → IsOneLine (marked mark paths)
+marked_line : (mark : List ℕ) (paths : List (List ℕ)) → IsOneLine mark → list_all is_path paths ≡ true → IsOneLine (paths_behind mark paths)
 marked_line mark [] m h = refl
-marked_line mark (path ∷ paths) m h = beside mark (spaced (path ∷ paths)) m (spaced_line (path ∷ paths) h)
+marked_line mark (path ∷ paths) m h = beside mark (spaced_paths (path ∷ paths)) m (spaced_line (path ∷ paths) h)
 
-bound_line : (key value : List ℕ) → IsOneLine key → IsOneLine value → IsOneLine (bound key value)
+bound_line : (key value : List ℕ) → IsOneLine key → IsOneLine value → IsOneLine (line_of_binding key value)
 bound_line key value h k = beside (codes "  ") (key ++ (codes " = " ++ value)) refl (beside key (codes " = " ++ value) h (beside (codes " = ") value refl k))
 
 either : {P : Type 0} (a b : Bool) → (a ≡ true → P) → (b ≡ true → P) → (a || b) ≡ true → P
@@ -136,16 +137,16 @@ ins_line : (s : Statement) → list_all is_path (s.ins ++ (s.implicit ++ s.order
 ins_line s h =
     let parts : (list_all is_path s.ins && list_all is_path (s.implicit ++ s.order_only)) ≡ true = paths_of s.ins (s.implicit ++ s.order_only) h in
     let rest : (list_all is_path s.implicit && list_all is_path s.order_only) ≡ true = paths_of s.implicit s.order_only ((and_parts _ _ parts).1) in
-    beside (spaced s.ins) _ (spaced_line s.ins ((and_parts _ _ parts).0))
-    (beside (marked (codes " |") s.implicit) (marked (codes " ||") s.order_only) (marked_line (codes " |") s.implicit refl ((and_parts _ _ rest).0)) (marked_line (codes " ||") s.order_only refl ((and_parts _ _ rest).1)))
+    beside (spaced_paths s.ins) _ (spaced_line s.ins ((and_parts _ _ parts).0))
+    (beside (paths_behind (codes " |") s.implicit) (paths_behind (codes " ||") s.order_only) (marked_line (codes " |") s.implicit refl ((and_parts _ _ rest).0)) (marked_line (codes " ||") s.order_only refl ((and_parts _ _ rest).1)))
 
 lines_of_statement : (names : List (List ℕ)) → AreLines names → (s : Statement) → IsStatement names s → AreLines (statement_lines s)
 lines_of_statement names lines s good =
     let parts : (list_all is_path s.outs && list_all is_path (s.ins ++ (s.implicit ++ s.order_only))) ≡ true = paths_of s.outs (s.ins ++ (s.implicit ++ s.order_only)) good.paths in
     let rule : IsOneLine s.rule = contained_passes (λ line. list_all stays line) (codes "phony" ∷ names) s.rule (and_from true _ refl lines) good.rule in
     and_from (list_all stays (build_line s)) _
-    (beside (codes "build") (spaced s.outs ++ (codes ": " ++ (s.rule ++ ins_text s))) refl
-    (beside (spaced s.outs) (codes ": " ++ (s.rule ++ ins_text s)) (spaced_line s.outs ((and_parts _ _ parts).0))
+    (beside (codes "build") (spaced_paths s.outs ++ (codes ": " ++ (s.rule ++ ins_text s))) refl
+    (beside (spaced_paths s.outs) (codes ": " ++ (s.rule ++ ins_text s)) (spaced_line s.outs ((and_parts _ _ parts).0))
     (beside (codes ": ") (s.rule ++ ins_text s) refl (beside s.rule (ins_text s) rule (ins_line s ((and_parts _ _ parts).1))))))
     (variable_lines s.vars good.keys good.values)
 
@@ -156,7 +157,7 @@ outs_are_paths names (s ∷ statements) h =
 
 default_line : (paths : List (List ℕ)) → list_all is_path paths ≡ true → AreLines (default_lines paths)
 default_line [] h = refl
-default_line (path ∷ paths) h = and_from (list_all stays (codes "default" ++ spaced (path ∷ paths))) true (beside (codes "default") (spaced (path ∷ paths)) refl (spaced_line (path ∷ paths) h)) refl
+default_line (path ∷ paths) h = and_from (list_all stays (codes "default" ++ spaced_paths (path ∷ paths))) true (beside (codes "default") (spaced_paths (path ∷ paths)) refl (spaced_line (path ∷ paths) h)) refl
 
 head_is_line : IsOneLine head_line
 unfolding head_line

@@ -6,13 +6,13 @@ use Rattle.std.specs.List.{flat_map, list_all}
 use Rattle.ninja_file.specs.declared.escape.Escape.TheVariants.{Value}
 use Rattle.ninja_file.specs.declared.file.Piece.{Piece}
 use Rattle.ninja_file.specs.declared.file.Piece.TheVariants.{Lit, Var}
-use Rattle.ninja_file.specs.Escapes.{dollar, space}
-use Rattle.ninja_write.specs.Escaped.{escaped_byte, escaped}
+use Rattle.ninja_write.specs.Escaped.{escaped_byte, escaped_bytes}
 use Rattle.ninja_write.specs.Meaning.{piece_text, pieces_text}
 use Rattle.std.proofs.lemmas.Bool.{and_parts}
 use Rattle.ninja_write.proofs.Bytes.{apart_by}
 use Rattle.ninja_file.specs.Names.{is_name_byte, is_name, is_value}
 use Rattle.ninja_file.specs.Meaning.{is_piece, begins_literally, are_apart, is_rule_value}
+use Rattle.bp_faults.specs.Characters.{dollar, space}
 
 -- where a reader stands: in plain text, behind a dollar, or in a variable's name
 data Place : Type 0 where
@@ -42,9 +42,9 @@ read-byte b rest true e =
     rw (e, brace) refl
 read-byte b rest false e = rw e (rw e refl)
 
-read-escaped : (text rest : List ℕ) → read plain (escaped Value text ++ rest) ≡ map single text ++ read plain rest
+read-escaped : (text rest : List ℕ) → read plain (escaped_bytes Value text ++ rest) ≡ map single text ++ read plain rest
 read-escaped [] rest = refl
-read-escaped (b ∷ text) rest = ap (read plain) (append_assoc (escaped_byte Value b) (escaped Value text) rest) ∙ read-byte b (escaped Value text ++ rest) (eqb b dollar) refl ∙ ap (λ more. single b ∷ more) (read-escaped text rest)
+read-escaped (b ∷ text) rest = ap (read plain) (append_assoc (escaped_byte Value b) (escaped_bytes Value text) rest) ∙ read-byte b (escaped_bytes Value text ++ rest) (eqb b dollar) refl ∙ ap (λ more. single b ∷ more) (read-escaped text rest)
 
 read-name : (before name rest : List ℕ) → list_all is_name_byte name ≡ true → read (inside before) (name ++ (125 ∷ rest)) ≡ Var (before ++ name) ∷ read plain rest
 read-name before [] rest h = ap (λ name. Var name ∷ read plain rest) (sym (append-nil before))
@@ -71,8 +71,8 @@ read-lead_of [] = refl
 read-lead_of (Var name ∷ pieces) = refl
 read-lead_of (Lit [] ∷ pieces) = refl
 read-lead_of (Lit (b ∷ text) ∷ pieces) =
-    let joined : (escaped_byte Value b ++ escaped Value text) ++ flat_map piece_text pieces ≡ escaped_byte Value b ++ (escaped Value text ++ flat_map piece_text pieces) = append_assoc (escaped_byte Value b) (escaped Value text) (flat_map piece_text pieces) in
-    ap (λ more. read plain (cond (eqb b space) (dollar ∷ []) [] ++ more)) joined ∙ read-lead b (escaped Value text ++ flat_map piece_text pieces) (eqb b space) refl ∙ ap (read plain) (sym joined)
+    let joined : (escaped_byte Value b ++ escaped_bytes Value text) ++ flat_map piece_text pieces ≡ escaped_byte Value b ++ (escaped_bytes Value text ++ flat_map piece_text pieces) = append_assoc (escaped_byte Value b) (escaped_bytes Value text) (flat_map piece_text pieces) in
+    ap (λ more. read plain (cond (eqb b space) (dollar ∷ []) [] ++ more)) joined ∙ read-lead b (escaped_bytes Value text ++ flat_map piece_text pieces) (eqb b space) refl ∙ ap (read plain) (sym joined)
 
 -- literal text before pieces
 abbrev glue : List ℕ → List Piece → List Piece

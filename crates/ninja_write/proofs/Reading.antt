@@ -3,8 +3,9 @@ use Rattle.std.proofs.Common.{◌≡◌, ℕ, Bool, true, false, cond, List, [],
 use Rattle.std.proofs.lemmas.Bool.Decides.{nat_tests}
 use Rattle.ninja_file.specs.declared.escape.Escape.{Escape}
 use Rattle.ninja_file.specs.declared.escape.Escape.TheVariants.{Path, Value}
-use Rattle.ninja_file.specs.Escapes.{dollar, space, is_escaped}
-use Rattle.ninja_write.specs.Escaped.{escaped_byte, escaped, path_text, value_text}
+use Rattle.ninja_file.specs.Escapes.{is_escaped}
+use Rattle.ninja_write.specs.Escaped.{escaped_byte, escaped_bytes, path_text, value_text}
+use Rattle.bp_faults.specs.Characters.{dollar, space}
 
 -- The text without its escapes: a dollar goes, and the byte behind it stays whatever it is.
 abbrev pub unescaped : Bool → List ℕ → List ℕ
@@ -21,9 +22,9 @@ unescaped-byte : (escape : Escape) (b : ℕ) (rest : List ℕ) (e : Bool) → is
 unescaped-byte escape b rest true e = rw e refl
 unescaped-byte escape b rest false e = rw e (rw (no_dollar escape b e) refl)
 
-pub unescaped-escaped : (escape : Escape) (bytes : List ℕ) → unescaped false (escaped escape bytes) ≡ bytes
+pub unescaped-escaped : (escape : Escape) (bytes : List ℕ) → unescaped false (escaped_bytes escape bytes) ≡ bytes
 unescaped-escaped escape [] = refl
-unescaped-escaped escape (b ∷ bytes) = unescaped-byte escape b (escaped escape bytes) (is_escaped escape b) refl ∙ ap (λ more. b ∷ more) (unescaped-escaped escape bytes)
+unescaped-escaped escape (b ∷ bytes) = unescaped-byte escape b (escaped_bytes escape bytes) (is_escaped escape b) refl ∙ ap (λ more. b ∷ more) (unescaped-escaped escape bytes)
 
 unescaped-lead : (b : ℕ) (rest : List ℕ) (e : Bool) → eqb b space ≡ e → unescaped false (cond (eqb b space) (dollar ∷ []) [] ++ (escaped_byte Value b ++ rest)) ≡ b ∷ unescaped false rest
 unescaped-lead b rest true e =
@@ -33,7 +34,7 @@ unescaped-lead b rest false e = rw e (unescaped-byte Value b rest (is_escaped Va
 
 pub unescaped-value_text : (value : List ℕ) → unescaped false (value_text value) ≡ value
 unescaped-value_text [] = refl
-unescaped-value_text (b ∷ bytes) = unescaped-lead b (escaped Value bytes) (eqb b space) refl ∙ ap (λ more. b ∷ more) (unescaped-escaped Value bytes)
+unescaped-value_text (b ∷ bytes) = unescaped-lead b (escaped_bytes Value bytes) (eqb b space) refl ∙ ap (λ more. b ∷ more) (unescaped-escaped Value bytes)
 
 pub paths_apart : (a b : List ℕ) → path_text a ≡ path_text b → a ≡ b
 paths_apart a b e = sym (unescaped-escaped Path a) ∙ ap (unescaped false) e ∙ unescaped-escaped Path b

@@ -4,10 +4,11 @@ use Rattle.std.specs.List.{All, flat_map, list_all}
 use Rattle.ninja_file.specs.declared.escape.Escape.TheVariants.{Path}
 use Rattle.ninja_file.specs.declared.file.NinjaFile.{NinjaFile}
 use Rattle.ninja_file.specs.declared.file.Piece.{Piece}
-use Rattle.ninja_file.specs.Escapes.{dollar, is_escaped}
+use Rattle.ninja_file.specs.Escapes.{is_escaped}
 use Rattle.ninja_file.specs.Meaning.{is_rule_value, IsWellFormed}
 use Rattle.ninja_write.specs.Escaped.{path_text, value_text}
 use Rattle.ninja_write.specs.Meaning.{lines_of, pieces_text, text_of}
+use Rattle.bp_faults.specs.Characters.{dollar}
 
 -- No two paths have the same written form.
 abbrev pub PathsStayApart : Type 0

@@ -1,8 +1,9 @@
 ghost use Rattle.std.specs.Prelude.{◌≡◌, ◌∷◌, ◌++◌};
 ghost use Rattle.std.specs.List.{position};
 ghost use Rattle.ninja_write.specs.Inside.{Puts};
-ghost use Rattle.ninja_file.specs.Escapes.{dollar, is_escaped};
-ghost use Rattle.ninja_write.specs.Escaped.{escaped};
+ghost use Rattle.ninja_file.specs.Escapes.{is_escaped};
+ghost use Rattle.ninja_write.specs.Escaped.{escaped_bytes};
+ghost use Rattle.bp_faults.specs.Characters.{dollar};
 
 use crate::output::{Output, WriteError};
 use ninja_file::{Escape, is_escaped_byte};
@@ -24,7 +25,7 @@ fn put_run(output: &mut Output, run: &str, special: &str) -> Result<(), WriteErr
 
 /// Puts a text with its escapes, and each run that has none at once.
 pub fn put_escaped(output: &mut Output, escape: Escape, text: &str) -> Result<(), WriteError>
-    ensures { Puts (escaped escape text.now) output.old output.new result }
+    ensures { Puts (escaped_bytes escape text.now) output.old output.new result }
 {
     let mut rest = text;
     while let Some(at) = first_escaped(escape, rest.as_bytes()) {

@@ -3,9 +3,10 @@ ghost use Rattle.std.specs.Prelude.{length, codes};
 ghost use Rattle.ninja_write.specs.Inside.{Puts, front_text};
 ghost use Rattle.ninja_write.specs.Escaped.{lead, value_text};
 ghost use Rattle.ninja_write.specs.Meaning.{piece_text, lead_of, pieces_text, binding_line, variable_line};
-ghost use Rattle.ninja_write.specs.Meaning.{spaced_path, marked, ins_text, build_line, rule_line, rule_lines};
-ghost use Rattle.ninja_write.specs.Meaning.{statement_lines, default_lines, head_line, ended, joined};
+ghost use Rattle.ninja_write.specs.Meaning.{spaced_path, paths_behind, ins_text, build_line, rule_line, rule_lines};
+ghost use Rattle.ninja_write.specs.Meaning.{statement_lines, default_lines, head_line, joined_text};
 ghost use Rattle.ninja_write.specs.Meaning.{text_of};
+ghost use Rattle.bp_faults.specs.Characters.{ended_line};
 
 use crate::escaped::put_escaped;
 use crate::output::{LIMIT, Output, WriteError, Written, least_of_all, put_all};
@@ -85,7 +86,7 @@ fn put_pieces(output: &mut Output, pieces: &[Piece]) -> Result<(), WriteError>
 
 /// A binding of a rule, as a line.
 impl Written for (Text, Seq<Piece>) {
-    ghost text = { λ binding. ended (binding_line binding) };
+    ghost text = { λ binding. ended_line (binding_line binding) };
 
     fn put(&self, output: &mut Output) -> Result<(), WriteError> {
         output.put("  ")?;
@@ -102,7 +103,7 @@ impl Written for (Text, Seq<Piece>) {
 
 /// A variable of a statement, as a line.
 impl Written for (Text, Text) {
-    ghost text = { λ variable. ended (variable_line variable) };
+    ghost text = { λ variable. ended_line (variable_line variable) };
 
     fn put(&self, output: &mut Output) -> Result<(), WriteError> {
         output.put("  ")?;
@@ -119,13 +120,13 @@ impl Written for (Text, Text) {
 }
 
 fn put_bindings(output: &mut Output, bindings: &[(Text, Seq<Piece>)]) -> Result<(), WriteError>
-    ensures { Puts (joined (map binding_line bindings.now)) output.old output.new result }
+    ensures { Puts (joined_text (map binding_line bindings.now)) output.old output.new result }
 {
     put_all(output, bindings)
 }
 
 fn put_rule_line(output: &mut Output, rule: &NinjaRule) -> Result<(), WriteError>
-    ensures { Puts (ended (rule_line rule.now)) output.old output.new result }
+    ensures { Puts (ended_line (rule_line rule.now)) output.old output.new result }
 {
     output.put("rule ")?;
     output.put(rule.name.as_str())?;
@@ -133,7 +134,7 @@ fn put_rule_line(output: &mut Output, rule: &NinjaRule) -> Result<(), WriteError
 }
 
 impl Written for NinjaRule {
-    ghost text = { λ rule. joined (rule_lines rule) };
+    ghost text = { λ rule. joined_text (rule_lines rule) };
 
     fn put(&self, output: &mut Output) -> Result<(), WriteError> {
         put_rule_line(output, self)?;
@@ -147,7 +148,7 @@ impl Written for NinjaRule {
 
 // Paths behind a mark, where there are any.
 fn put_marked(output: &mut Output, mark: &str, paths: &[Text]) -> Result<(), WriteError>
-    ensures { Puts (marked mark.now paths.now) output.old output.new result }
+    ensures { Puts (paths_behind mark.now paths.now) output.old output.new result }
 {
     if paths.is_empty() {
         return Ok(());
@@ -165,13 +166,13 @@ fn put_ins(output: &mut Output, statement: &Statement) -> Result<(), WriteError>
 }
 
 fn put_variables(output: &mut Output, variables: &[(Text, Text)]) -> Result<(), WriteError>
-    ensures { Puts (joined (map variable_line variables.now)) output.old output.new result }
+    ensures { Puts (joined_text (map variable_line variables.now)) output.old output.new result }
 {
     put_all(output, variables)
 }
 
 fn put_build_line(output: &mut Output, statement: &Statement) -> Result<(), WriteError>
-    ensures { Puts (ended (build_line statement.now)) output.old output.new result }
+    ensures { Puts (ended_line (build_line statement.now)) output.old output.new result }
 {
     output.put("build")?;
     put_all(output, statement.outs.as_slice())?;
@@ -182,7 +183,7 @@ fn put_build_line(output: &mut Output, statement: &Statement) -> Result<(), Writ
 }
 
 impl Written for Statement {
-    ghost text = { λ statement. joined (statement_lines statement) };
+    ghost text = { λ statement. joined_text (statement_lines statement) };
 
     fn put(&self, output: &mut Output) -> Result<(), WriteError> {
         put_build_line(output, self)?;
@@ -199,13 +200,13 @@ impl Written for Statement {
 
 #[tactic(auto, unfolding(crate::specs::Meaning::head_line))]
 fn put_head(output: &mut Output) -> Result<(), WriteError>
-    ensures { Puts (ended head_line) output.old output.new result }
+    ensures { Puts (ended_line head_line) output.old output.new result }
 {
     output.put("# build.ninja written by bpgen\n")
 }
 
 fn put_defaults(output: &mut Output, paths: &[Text]) -> Result<(), WriteError>
-    ensures { Puts (joined (default_lines paths.now)) output.old output.new result }
+    ensures { Puts (joined_text (default_lines paths.now)) output.old output.new result }
 {
     if paths.is_empty() {
         return Ok(());

@@ -1,5 +1,5 @@
 -- The visit of which a line is the text, by the two sides of its first space.
-use Rattle.std.proofs.Common.{◌≡◌, ◌≢◌, ◌<◌, ℕ, suc, List, [], ◌∷◌, ◌++◌, length, get_or, arith, lit<, sym, ap, ◌∙◌, Some, None, length-append}
+use Rattle.std.proofs.Common.{◌≡◌, ◌≢◌, ◌<◌, ℕ, suc, List, [], ◌∷◌, ◌++◌, length, get_or, arith, lit<, sym, ap, ◌∙◌, None, length-append}
 use Rattle.std.specs.Fmt.{decimal}
 use Rattle.std.proofs.lemmas.Fmt.{decimal_injective}
 use Rattle.std.proofs.lemmas.List.{get_or_at}
@@ -54,6 +54,3 @@ module _ (line pass node : List ℕ) (whole : line ≡ pass ++ (32 ∷ node)) (f
 
   pub node_is_none : IsNumber node None → IsEntry line None
   node_is_none none v f e = none v.1.0 f.1 (sides v f e).1
-
-  pub visit_is : (p n : ℕ) → IsNumber pass (Some p) → IsNumber node (Some n) → IsEntry line (Some (p, record { 0 = n }))
-  visit_is p n h k = ((h.0, k.0), whole ∙ (λ i. h.1 i ++ (32 ∷ k.1 i)))

@@ -4,7 +4,7 @@ use Rattle.std.specs.List.{AllByRecursion, flat_map}
 use Rattle.std.proofs.lemmas.Bool.{eqb-true, eqb-false, ne_eqb, cond-false}
 use Rattle.std.proofs.lemmas.List.Elements.{All-nil, All-cons, All-head, All-tail, recursion_from_All}
 use Rattle.order_text.specs.Lines.{AreCut, HasNoLineEnd, LacksLastEnd}
-use Rattle.order_text.specs.Texts.{ended_line}
+use Rattle.bp_faults.specs.Characters.{ended_line}
 
 -- a byte before the first of some lines
 abbrev pub with_first : ℕ → List (List ℕ) → List (List ℕ)

@@ -1,20 +1,17 @@
 -- How an order file is read, line after line.
-use Rattle.std.proofs.Common.{◌≡◌, ◌<◌, ◌≤◌, ◌⊎◌, inl, inr, ℕ, List, [], ◌∷◌, ◌++◌, length, arith, sym, ap, ◌∙◌, subst, append_assoc, append-nil, length-append}
+use Rattle.std.proofs.Common.{◌≡◌, ◌<◌, ◌≤◌, ◌⊎◌, inl, inr, ℕ, List, [], ◌∷◌, ◌++◌, length, arith, sym, ap, ◌∙◌, subst, append_assoc, append-nil}
 use Rattle.std.specs.List.{AllZip}
 use Rattle.pass_ways.specs.declared.way.OrderLine.{OrderLine}
 use Rattle.order_text.specs.Inside.{IsFirstLine}
 use Rattle.order_text.specs.Lines.{AreLines, IsLine}
-use Rattle.order_text.specs.Texts.{ended_line}
 use Rattle.order_text.proofs.Pieces.{pieces, pieces_ended, pieces_open, pieces_are_cut, pieces_few, cut_is_pieces, plain}
+use Rattle.bp_faults.specs.Characters.{ended_line}
 
 -- the lines so far, and what is left of the bytes
 pub record IsRead (bytes : List ℕ) (lines : List OrderLine) (rest : List ℕ) : Type 0 where
   pub cut : List (List ℕ)
   pub cut_is : pieces bytes ≡ cut ++ pieces rest
   pub each : AllZip IsLine cut lines
-
-pub read_none : (bytes : List ℕ) → IsRead bytes [] bytes
-read_none bytes = record { cut = []; cut_is = λ i. pieces bytes; each = tt }
 
 pub zip_pushed : (cut : List (List ℕ)) (lines : List OrderLine) (line : List ℕ) (l : OrderLine)
     → AllZip IsLine cut lines → IsLine line l → AllZip IsLine (cut ++ line ∷ []) (lines ++ l ∷ [])
@@ -43,15 +40,6 @@ read_more bytes lines rest line behind l r some f is = record {
       ∙ sym (append_assoc r.cut (line ∷ []) (pieces behind));
   each = zip_pushed r.cut lines line l r.each is;
 }
-
--- what is behind a line is shorter
-pub behind_shorter : (rest line behind : List ℕ) → 0 < length rest → IsFirstLine rest line behind
-    → length behind < length rest
-behind_shorter rest line behind some f = by f.whole
-  where
-    by : (rest ≡ ended_line line ++ behind) ⊎ ((rest ≡ line) × (behind ≡ [])) → length behind < length rest
-    by (inl e) = omega (arith, ap length e, length-append (ended_line line) behind, length-append line (10 ∷ []))
-    by (inr e) = omega (arith, ap length e.1)
 
 pub read_all : (bytes : List ℕ) (lines : List OrderLine) (rest : List ℕ) → IsRead bytes lines rest → length rest ≡ 0
     → AreLines bytes lines

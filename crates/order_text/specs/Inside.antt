@@ -2,7 +2,7 @@
 use Rattle.std.specs.Prelude.{◌≡◌, ◌<◌, ◌^◌, ◌⊎◌, ℕ, List, [], ◌++◌, Option, Some, None}
 use Rattle.std.specs.Fmt.{decimal}
 use Rattle.order_text.specs.Lines.{HasNoLineEnd}
-use Rattle.order_text.specs.Texts.{ended_line}
+use Rattle.bp_faults.specs.Characters.{ended_line}
 
 -- The number below 2^32 of which a text is the decimal, or none.
 abbrev pub IsNumber : List ℕ → Option ℕ → Type 0

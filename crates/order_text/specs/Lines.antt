@@ -3,7 +3,8 @@ use Rattle.std.specs.Prelude.{◌≡◌, ◌≢◌, ◌<◌, ◌^◌, ◌⊎◌,
 use Rattle.std.specs.List.{AllZip, flat_map}
 use Rattle.bp_faults.specs.declared.ids.NodeId.{NodeId}
 use Rattle.pass_ways.specs.declared.way.OrderLine.{OrderLine}
-use Rattle.order_text.specs.Texts.{ended_line, visit_text}
+use Rattle.order_text.specs.Texts.{visit_text}
+use Rattle.bp_faults.specs.Characters.{ended_line}
 
 -- None of the bytes is LF.
 abbrev pub HasNoLineEnd : List ℕ → Type 0

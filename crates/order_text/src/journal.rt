@@ -1,5 +1,6 @@
 ghost use Rattle.std.specs.Prelude.{◌≡◌, ◌++◌, IfOk, OnOk, string_bytes};
-ghost use Rattle.order_text.specs.Texts.{ended_line, journal_text, visit_text};
+ghost use Rattle.order_text.specs.Texts.{journal_text, visit_text};
+ghost use Rattle.bp_faults.specs.Characters.{ended_line};
 
 use bp_faults::{NodeId, OutOfMemory};
 use std::alloc::Global;

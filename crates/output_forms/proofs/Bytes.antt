@@ -12,8 +12,8 @@ use Rattle.bp_load.specs.Directories.{directories, directory_of}
 use Rattle.build_actions.specs.Laws.{has_slash}
 use Rattle.ninja_file.specs.Names.{is_shown, is_value, is_path}
 use Rattle.property_tables.specs.Fits.{is_empty}
-use Rattle.property_tables.specs.Names.{is_name_byte, is_dots, is_module_name}
-use Rattle.property_tables.specs.Paths.{is_barred, parts, is_absolute, is_refused, components, placed}
+use Rattle.property_tables.specs.Names.{is_module_name_byte, is_dots, is_module_name}
+use Rattle.property_tables.specs.Paths.{is_barred, parts, is_absolute, is_refused, components, path_below}
 use Rattle.output_forms.specs.Texts.{IsShown}
 use Rattle.output_forms.proofs.Each.{all_append, all_filtered}
 
@@ -100,7 +100,7 @@ taken_clear (suc n) (c ∷ cs) h = (h.0, taken_clear n cs h.1)
 pub directory_clear : (path : List ℕ) → IsClear path → IsClear (directory_of path)
 directory_clear path h = joined_clear (directories path) (taken_clear _ (parts path) (parts_clear path h))
 
-pub placed_clear : (dir text : List ℕ) → IsClear dir → IsClear text → IsClear (placed dir text)
+pub placed_clear : (dir text : List ℕ) → IsClear dir → IsClear text → IsClear (path_below dir text)
 placed_clear dir text h k =
     joined_clear (components dir ++ components text)
     (all_append IsClear (components dir) (components text) (components_clear dir h) (components_clear text k))
@@ -127,7 +127,7 @@ joined_path ((b ∷ c) ∷ d ∷ cs) h k some =
     path_from b (c ++ (47 ∷ join_with_byte 47 (d ∷ cs))) (joined_clear ((b ∷ c) ∷ d ∷ cs) k)
 
 pub placed_path : (dir text : List ℕ) → IsClear dir → IsClear text → is_empty (components text) ≡ false
-    → IsTrue (is_path (placed dir text))
+    → IsTrue (is_path (path_below dir text))
 placed_path dir text h k some =
     joined_path (components dir ++ components text)
     (all_append (λ c. is_component c ≡ true) (components dir) (components text)
@@ -178,7 +178,7 @@ plain_letter b h =
     (λ lower. plain_in b 97 122 (omega arith) (omega arith) lower)
     (or_cases _ _ h)
 
-plain_byte : (b : ℕ) → is_name_byte b ≡ true → IsPlain b
+plain_byte : (b : ℕ) → is_module_name_byte b ≡ true → IsPlain b
 plain_byte b h =
     ⊎_elim
     (λ h. ⊎_elim
@@ -190,7 +190,7 @@ plain_byte b h =
     (λ e. plain_at b 45 e (refl, refl)) (or_cases _ _ h))
     (λ e. plain_at b 64 e (refl, refl)) (or_cases _ _ h)
 
-plain_bytes : (name : List ℕ) → AllByRecursion (λ b. is_name_byte b ≡ true) name → AllByRecursion IsPlain name
+plain_bytes : (name : List ℕ) → AllByRecursion (λ b. is_module_name_byte b ≡ true) name → AllByRecursion IsPlain name
 plain_bytes [] h = tt
 plain_bytes (b ∷ name) h = (plain_byte b h.0, plain_bytes name h.1)
 
@@ -206,9 +206,9 @@ plain_whole (b ∷ name) h = or_from (b == 47) (has_slash name) h.0.1 (plain_who
 pub name_fits : (name : List ℕ) → is_module_name name ≡ true → IsTrue (is_path name) × (has_slash name ≡ false)
 name_fits name h =
     let s = and_parts _ (not (is_dots name)) h in
-    let t = and_parts _ (list_all is_name_byte name) s.0 in
+    let t = and_parts _ (list_all is_module_name_byte name) s.0 in
     let u = and_parts (nat_le 1 (length name)) _ t.0 in
-    let plain = plain_bytes name (each_of is_name_byte name t.1) in
+    let plain = plain_bytes name (each_of is_module_name_byte name t.1) in
     (by name (leb-true 1 (length name) u.0) (plain_clear name plain), plain_whole name plain)
   where
     by : (name : List ℕ) → 1 ≤ length name → IsClear name → IsTrue (is_path name)

@@ -23,8 +23,8 @@ use Rattle.mutator_rules.specs.Outcomes.{Made}
 use Rattle.transition_rules.specs.Passes.{WantsMean, MutateMeans, wanted_variants}
 use Rattle.transition_rules.specs.Wants.{variations_meant}
 use Rattle.variant_graphs.specs.Splitting.{splitting}
-use Rattle.reverse_deps.specs.Applied.{IsApplied, IsCounted, IsAcyclic, found_for, edges_counted}
-use Rattle.reverse_deps.specs.Linked.{Link, links, linked, linked_from}
+use Rattle.reverse_deps.specs.Applied.{ApplyMeans, CountedMeans, AcyclicMeans, found_for, edges_counted}
+use Rattle.reverse_deps.specs.Linked.{Link, links, linked_nodes, linked_from}
 use Rattle.defaults_mutator.specs.Asked.{defaults_asked}
 use Rattle.defaults_mutator.specs.Merged.{defaults_merged}
 use Rattle.target_mutators.specs.Arch.{arch_variants}
@@ -44,7 +44,7 @@ use Rattle.bp_pipeline.specs.Course.{CourseMeans}
 use Rattle.bp_pipeline.specs.First.{first_from, first_nodes}
 use Rattle.bp_pipeline.specs.Limits.{ComesTo}
 use Rattle.bp_pipeline.specs.Passes.{Answer, AskMeans, MakeMeans, StepMeans, pass_at}
-use Rattle.output_forms.specs.Texts.{IsSound}
+use Rattle.output_forms.specs.Texts.{HasSoundTexts}
 use Rattle.output_forms.specs.Forms.{HaveForms, AreSound}
 use Rattle.output_forms.proofs.Fits.{Keeps, asks_keep, renews_keep, splits_keep}
 use Rattle.output_forms.proofs.Informed.{IsOnSanitize, variations_on, mutated_sound, level_sound, info_keeps}
@@ -61,18 +61,18 @@ linked_kept k (x ∷ xs) ls h =
 
 module _ (mods : List Module) where
   applied_kept : (nodes : List (Node Props)) (asked : List (NodeId × Request)) → HaveForms nodes
-      → (new : List (Node Props)) → IsApplied mods nodes asked (Ok new) → HaveForms new
+      → (new : List (Node Props)) → ApplyMeans mods nodes asked (Ok new) → HaveForms new
   applied_kept nodes asked forms new is =
-      went (found_for mods nodes asked) (λ found. IsCounted mods (linked nodes (links asked found))) HaveForms
-      (λ found g counted. went (edges_counted (linked nodes (links asked found)))
-      (IsAcyclic mods (linked nodes (links asked found))) HaveForms
+      went (found_for mods nodes asked) (λ found. CountedMeans mods (linked_nodes nodes (links asked found))) HaveForms
+      (λ found g counted. went (edges_counted (linked_nodes nodes (links asked found)))
+      (AcyclicMeans mods (linked_nodes nodes (links asked found))) HaveForms
       (λ done made made_is. subst HaveForms (sym made_is.0) (linked_kept 0 nodes (links asked found) forms)) g counted)
       new is
 
   asked_kept : (answer : Answer) → Keeps None answer → (nodes : List (Node Props)) → HaveForms nodes
       → (new : List (Node Props)) → AskMeans mods answer nodes (Ok new) → HaveForms new
   asked_kept answer keeps nodes forms new means =
-      then_came (ComesTo mods (BottomUpMeans answer nodes None)) (λ made. IsApplied mods made.0 made.1) HaveForms
+      then_came (ComesTo mods (BottomUpMeans answer nodes None)) (λ made. ApplyMeans mods made.0 made.1) HaveForms
       (λ made comes g applied. applied_kept made.0 made.1
       (came mods (BottomUpMeans answer nodes None) (λ g. HaveForms g.0)
       (λ g. upward_kept None answer keeps nodes forms g) made comes) g applied)
@@ -109,14 +109,14 @@ module _ (mods : List Module) where
   mutate_kept nodes forms new (outs, are, is) =
       subst HaveForms (sym is)
       (renewed nodes outs forms
-      (outs_have IsSound (sanitize_meant.mutate nodes) (mutated_sound nodes forms) (plan_of BottomUp nodes) outs are))
+      (outs_have HasSoundTexts (sanitize_meant.mutate nodes) (mutated_sound nodes forms) (plan_of BottomUp nodes) outs are))
 
   levels_kept : (nodes : List (Node Props)) → HaveForms nodes → (new : List (Node Props))
       → TopDownMeans level_meant nodes (Made new) → HaveForms new
   levels_kept nodes forms new (outs, are, is) =
       subst HaveForms (sym is)
       (renewed nodes outs forms
-      (outs_have IsSound (from_above level_meant nodes)
+      (outs_have HasSoundTexts (from_above level_meant nodes)
       (λ n ins h. level_sound nodes forms n (kinds_into nodes n) ins) (plan_of TopDown nodes) outs are))
 
   -- a pass

@@ -16,7 +16,7 @@ use Rattle.module_rules.specs.Rules.{asks, renews, splits}
 use Rattle.module_rules.specs.Seen.{at_node, at_module, empty_result}
 use Rattle.mutator_rules.specs.declared.request.Request.{Request}
 use Rattle.mutator_rules.specs.declared.split.Split.{Split}
-use Rattle.output_forms.specs.Texts.{IsSound}
+use Rattle.output_forms.specs.Texts.{HasSoundTexts}
 use Rattle.output_forms.specs.Forms.{HasForm, HaveForms}
 use Rattle.output_forms.proofs.Each.{IfThere, got}
 use Rattle.output_forms.proofs.Outs.{IfResult}
@@ -24,12 +24,12 @@ use Rattle.output_forms.proofs.Records.{empty_sound}
 
 -- A variant stands on an axis, and its record is sound.
 abbrev pub IsOn : Axis → Variation × Props → Type 0
-IsOn axis b = IsTrue (stands_on axis b.0) × IsSound b.1
+IsOn axis b = IsTrue (stands_on axis b.0) × HasSoundTexts b.1
 
 -- Without an axis the records of a result are sound. With one its variants stand on the axis besides, where there are
 -- no more than a graph may have.
 abbrev pub IsFit : Option Axis → Split Props → Type 0
-IsFit None made = AllByRecursion (λ (b : Variation × Props). IsSound b.1) made.variants
+IsFit None made = AllByRecursion (λ (b : Variation × Props). HasSoundTexts b.1) made.variants
 IsFit (Some axis) made = length made.variants ≤ MOST_NODES → AllByRecursion (IsOn axis) made.variants
 
 -- A rule makes such results of a graph with forms.
@@ -67,7 +67,7 @@ asks_keep asked mods =
 
 pub renews_keep : (record_of : Module → Node Props → List (Split Props) → Props)
     → ((m : Module) (x : Node Props) (ins : List (Split Props)) → HasForm x → AllByRecursion (IsFit None) ins
-    → IsSound (record_of m x ins))
+    → HasSoundTexts (record_of m x ins))
     → (mods : List Module) → Keeps None (renews record_of mods)
 renews_keep record_of each mods =
     at_nodes None (λ m x ins. Ok (one_variant (record_of m x ins) []))

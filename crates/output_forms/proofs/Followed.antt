@@ -40,7 +40,7 @@ use Rattle.variant_graphs.specs.Limits.{IsWithinLimits}
 use Rattle.variant_graphs.specs.Payloads.{with_payloads}
 use Rattle.variant_graphs.specs.Splits.{IsSplitting}
 use Rattle.variant_graphs.specs.Splitting.{Splitting, splitting, split_nodes}
-use Rattle.reverse_deps.specs.Applied.{IsApplied, AskInside}
+use Rattle.reverse_deps.specs.Applied.{ApplyMeans, AskInside}
 use Rattle.defaults_mutator.specs.Asked.{defaults_asked}
 use Rattle.defaults_mutator.specs.Merged.{defaults_merged}
 use Rattle.target_mutators.specs.Arch.{arch_variants}
@@ -231,7 +231,7 @@ module _ (laws : LowerLaws) (mods : List Module) where
   asked_good : (p : ℕ) (answer : Answer) (nodes : List (Node Props)) → IsGoodAt p nodes → (new : List (Node Props))
       → AskMeans mods answer nodes (Ok new) → IsGoodAt (suc p) new
   asked_good p answer nodes good new means =
-      then_came (ComesTo mods (BottomUpMeans answer nodes None)) (λ made. IsApplied mods made.0 made.1)
+      then_came (ComesTo mods (BottomUpMeans answer nodes None)) (λ made. ApplyMeans mods made.0 made.1)
       (IsGoodAt (suc p))
       (λ made comes g applied.
       let both = came mods (BottomUpMeans answer nodes None)

@@ -4,11 +4,11 @@ use Rattle.std.specs.Prelude.{IsUtf8, nat_le}
 use Rattle.bp_faults.specs.declared.fault.Fault.{Fault}
 use Rattle.bp_faults.specs.declared.limits.TheConstants.{LARGEST_OUTPUT}
 use Rattle.bp_pipeline.specs.Course.{GraphAfter}
-use Rattle.bp_pipeline.specs.Mutators.{built}
+use Rattle.bp_pipeline.specs.Mutators.{mutator_count}
 use Rattle.bp_props.specs.declared.props.Props.{Props}
 use Rattle.build_actions.specs.declared.actions.Actions.{Actions}
 use Rattle.build_actions.specs.Acts.{acts_at}
-use Rattle.build_actions.specs.File.{file_of}
+use Rattle.build_actions.specs.File.{file_of_actions}
 use Rattle.module_graph.specs.declared.direction.Direction.TheVariants.{BottomUp}
 use Rattle.module_graph.specs.declared.graph.Node.{Node}
 use Rattle.module_graph.specs.Planned.{plan_of}
@@ -17,20 +17,20 @@ use Rattle.ninja_read.specs.Meaning.{reading, Reads}
 use Rattle.ninja_text.specs.Meaning.{WrittenIsReadBack}
 use Rattle.ninja_write.specs.Meaning.{text_of}
 use Rattle.pass_core.specs.Outcomes.{PassMeans}
-use Rattle.bp_pipeline.specs.Generated.{written, ActionsMean, FileMeans}
+use Rattle.bp_pipeline.specs.Generated.{text_within_limit, ActionsMean, FileMeans}
 use Rattle.output_forms.specs.Laws.{FilesOfGraphsAreWellFormed, GeneratedFilesAreWellFormed, ReadsGenerated}
 use Rattle.output_forms.specs.Laws.{GeneratedTextsAreReadBack}
 use Rattle.output_forms.proofs.Ways.{then_came}
 
 pub files_formed : FilesOfGraphsAreWellFormed → GeneratedFilesAreWellFormed
 files_formed formed files mods c file listed loaded targets means =
-    then_came (ActionsMean mods c) (λ made outcome. Ok (file_of made) ≡ outcome) IsWellFormed
-    (λ made acts f is. let same : file_of made ≡ f = cc in
+    then_came (ActionsMean mods c) (λ made outcome. Ok (file_of_actions made) ≡ outcome) IsWellFormed
+    (λ made acts f is. let same : file_of_actions made ≡ f = cc in
     subst IsWellFormed same
-    (then_came (GraphAfter mods c built)
+    (then_came (GraphAfter mods c mutator_count)
     (λ (nodes : List (Node Props)). PassMeans (acts_at mods nodes) (plan_of BottomUp nodes))
-    (λ (made : List Actions). IsWellFormed (file_of made))
-    (λ nodes after made outs. formed files mods c built nodes made listed loaded targets after outs)
+    (λ (made : List Actions). IsWellFormed (file_of_actions made))
+    (λ nodes after made outs. formed files mods c mutator_count nodes made listed loaded targets after outs)
     made acts))
     file means
 
@@ -41,7 +41,7 @@ text_is false x y fault is = absurd (cc)
 
 pub texts_read : GeneratedFilesAreWellFormed → WrittenIsReadBack → GeneratedTextsAreReadBack
 texts_read formed back files mods c text answer listed loaded targets means =
-    then_came (FileMeans mods c) (λ file outcome. written file ≡ outcome)
+    then_came (FileMeans mods c) (λ file outcome. text_within_limit file ≡ outcome)
     (λ (text : List ℕ). IsUtf8 text → Reads answer (reading text) → ReadsGenerated mods c answer)
     (λ file made t is utf8 reads.
     let whole = formed files mods c file listed loaded targets made in

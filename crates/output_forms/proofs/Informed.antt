@@ -21,8 +21,8 @@ use Rattle.module_rules.specs.Results.{one_variant, record_in}
 use Rattle.module_rules.specs.Seen.{node_at}
 use Rattle.mutator_rules.specs.Arrivals.{arrivals}
 use Rattle.mutator_rules.specs.declared.split.Split.{Split}
-use Rattle.transition_rules.specs.Spelled.{inserted, is_spelled_before}
-use Rattle.transition_rules.specs.Wants.{added, others_of, handed, wanted, variations_meant}
+use Rattle.transition_rules.specs.Spelled.{list_with, is_spelled_before}
+use Rattle.transition_rules.specs.Wants.{wants_with, others_of, handed_variation, wanted_variations, variations_meant}
 use Rattle.info_mutators.specs.Dependencies.{Dependency, record_made, dependencies_of, is_archived, is_linked_against}
 use Rattle.info_mutators.specs.Info.{is_handed_on, export_part, own_includes, include_part, with_lists}
 use Rattle.info_mutators.specs.Info.{has_short_lists, too_long, info_over, info_meant}
@@ -32,7 +32,7 @@ use Rattle.info_mutators.specs.Sanitize.{with_flag_if, has_sanitized, with_sanit
 use Rattle.info_mutators.specs.Sanitize.{sanitize_meant}
 use Rattle.info_mutators.specs.SdkLevel.{level_meant}
 use Rattle.build_actions.specs.Variants.{stands_on}
-use Rattle.output_forms.specs.Texts.{IsShown, AreShown, IsSound}
+use Rattle.output_forms.specs.Texts.{IsShown, AreShown, HasSoundTexts}
 use Rattle.output_forms.specs.Forms.{HasForm, HaveForms}
 use Rattle.output_forms.proofs.Each.{all_append, all_image, all_flat, all_reversed, if_cond}
 use Rattle.output_forms.proofs.Fits.{IsFit, Keeps, at_nodes}
@@ -44,7 +44,7 @@ abbrev pub IsOnSanitize : Variation → Type 0
 IsOnSanitize v = IsTrue (stands_on Sanitize v)
 
 -- the record at a number is sound, also beyond the nodes
-pub sound_at : (nodes : List (Node Props)) → HaveForms nodes → (n : ℕ) → IsSound (node_at nodes n).payload
+pub sound_at : (nodes : List (Node Props)) → HaveForms nodes → (n : ℕ) → HasSoundTexts (node_at nodes n).payload
 sound_at [] h n = empty_sound
 sound_at (x ∷ xs) h zero = h.0.texts
 sound_at (x ∷ xs) h (suc n) = sound_at xs h.1 n
@@ -61,37 +61,37 @@ outgoing_on : (kind : EdgeKind) (v : Variation) → IsOnSanitize v → IsOnSanit
 outgoing_on kind v h = if_cond IsOnSanitize (is_archived kind) v Empty h refl
 
 inserted_on : (w : Variation) (others : List Variation) → IsOnSanitize w → AllByRecursion IsOnSanitize others
-    → AllByRecursion IsOnSanitize (inserted w others)
+    → AllByRecursion IsOnSanitize (list_with w others)
 inserted_on w [] h k = (h, tt)
 inserted_on w (v ∷ vs) h k =
-    if_cond (AllByRecursion IsOnSanitize) (is_spelled_before w v) (w ∷ v ∷ vs) (v ∷ inserted w vs) (h, k)
+    if_cond (AllByRecursion IsOnSanitize) (is_spelled_before w v) (w ∷ v ∷ vs) (v ∷ list_with w vs) (h, k)
     (k.0, inserted_on w vs h k.1)
 
 added_on : (own others : List Variation) (w : Variation) → AllByRecursion IsOnSanitize others → IsOnSanitize w
-    → AllByRecursion IsOnSanitize (added own others w)
+    → AllByRecursion IsOnSanitize (wants_with own others w)
 added_on own others w h k =
     if_cond (AllByRecursion IsOnSanitize) (list_any (same w) own || list_any (same w) others) others
-    (inserted w others) h (inserted_on w others k h)
+    (list_with w others) h (inserted_on w others k h)
 
 others_on : (own others ws : List Variation) → AllByRecursion IsOnSanitize others
-    → AllByRecursion IsOnSanitize ws → AllByRecursion IsOnSanitize (fold (added own) others ws)
+    → AllByRecursion IsOnSanitize ws → AllByRecursion IsOnSanitize (fold (wants_with own) others ws)
 others_on own others [] h k = h
-others_on own others (w ∷ ws) h k = others_on own (added own others w) ws (added_on own others w h k.0) k.1
+others_on own others (w ∷ ws) h k = others_on own (wants_with own others w) ws (added_on own others w h k.0) k.1
 
 module _ (nodes : List (Node Props)) where
   all_handed : (n : ℕ) (a : NodeId × EdgeKind) (vs : List Variation) → AllByRecursion IsOnSanitize vs
-      → AllByRecursion IsOnSanitize (map (handed sanitize_meant nodes n a) vs)
+      → AllByRecursion IsOnSanitize (map (handed_variation sanitize_meant nodes n a) vs)
   all_handed n a vs h =
-      all_image IsOnSanitize IsOnSanitize (handed sanitize_meant nodes n a)
+      all_image IsOnSanitize IsOnSanitize (handed_variation sanitize_meant nodes n a)
       (λ v on. incoming_on (node_at nodes n).payload (outgoing_of a.1 v) (outgoing_on a.1 v on)) vs h
 
   wanted_on : (n : ℕ) (leading : List (NodeId × EdgeKind)) (lists : List (List Variation))
       → AllByRecursion (AllByRecursion IsOnSanitize) lists
-      → AllByRecursion IsOnSanitize (wanted sanitize_meant nodes n leading lists)
+      → AllByRecursion IsOnSanitize (wanted_variations sanitize_meant nodes n leading lists)
   wanted_on n [] lists h = tt
   wanted_on n (a ∷ rest) [] h = tt
   wanted_on n (a ∷ rest) (vs ∷ lists) h =
-      all_append IsOnSanitize (map (handed sanitize_meant nodes n a) vs) (wanted sanitize_meant nodes n rest lists)
+      all_append IsOnSanitize (map (handed_variation sanitize_meant nodes n a) vs) (wanted_variations sanitize_meant nodes n rest lists)
       (all_handed n a vs h.0) (wanted_on n rest lists h.1)
 
   -- the variations of a node, given those of the nodes that lead to it
@@ -99,7 +99,7 @@ module _ (nodes : List (Node Props)) where
       → IfResult (AllByRecursion IsOnSanitize) (variations_meant sanitize_meant nodes n lists)
   variations_on n lists h =
       let own = asan_or Empty (node_at nodes n).payload ∷ [] in
-      let ws = wanted sanitize_meant nodes n (arrivals nodes n) lists in
+      let ws = wanted_variations sanitize_meant nodes n (arrivals nodes n) lists in
       all_append IsOnSanitize own (others_of own ws)
       (asan_on Empty (node_at nodes n).payload refl, tt)
       (others_on own [] ws tt (wanted_on n (arrivals nodes n) lists h))
@@ -111,7 +111,7 @@ flag_shown needed list h =
     all_append IsShown list.items (if needed then sanitizer_flag ∷ [] else []) h
     (if_cond AreShown needed (sanitizer_flag ∷ []) [] (refl, tt) tt)
 
-sanitizer_sound : (compiles has : Bool) (p : Props) → IsSound p → IsSound (with_sanitizer compiles has p)
+sanitizer_sound : (compiles has : Bool) (p : Props) → HasSoundTexts p → HasSoundTexts (with_sanitizer compiles has p)
 sanitizer_sound compiles has p h = record {
   base = record {
     srcs = h.base.srcs;
@@ -129,20 +129,20 @@ sanitizer_sound compiles has p h = record {
   includes = h.includes;
 }
 
-sanitized_sound : (x : Node Props) (ins : List Props) → IsSound x.payload → IsSound (sanitized_record x ins)
+sanitized_sound : (x : Node Props) (ins : List Props) → HasSoundTexts x.payload → HasSoundTexts (sanitized_record x ins)
 sanitized_sound x ins h =
     let compiles = is_asan (variation_on Sanitize x.vars) in
     sanitizer_sound compiles (x.payload.asan || (compiles || has_sanitized x.edges ins)) x.payload h
 
 -- the record that the rule gives a node
 pub mutated_sound : (nodes : List (Node Props)) → HaveForms nodes → (n : ℕ) (ins : List Props)
-    → AllByRecursion IsSound ins → IfResult IsSound (sanitize_meant.mutate nodes n ins)
+    → AllByRecursion HasSoundTexts ins → IfResult HasSoundTexts (sanitize_meant.mutate nodes n ins)
 mutated_sound nodes forms n ins h = sanitized_sound (node_at nodes n) ins (sound_at nodes forms n)
 
 -- `sdk`
 
 pub level_sound : (nodes : List (Node Props)) → HaveForms nodes → (n : ℕ) (kinds : List EdgeKind) (ins : List Props)
-    → IfResult IsSound (level_meant nodes n kinds ins)
+    → IfResult HasSoundTexts (level_meant nodes n kinds ins)
 level_sound nodes forms n kinds ins =
     let h = sound_at nodes forms n in
     record { base = h.base; groups = h.groups; exports = h.exports; includes = h.includes }
@@ -162,13 +162,13 @@ first_shown texts h =
 
 -- The record of a dependency is sound.
 abbrev HasSound : Dependency → Type 0
-HasSound d = IsSound d.props
+HasSound d = HasSoundTexts d.props
 
-made_sound : (made : Split Props) → IsFit None made → IsSound (record_made made)
+made_sound : (made : Split Props) → IsFit None made → HasSoundTexts (record_made made)
 made_sound made h = by made.variants h
   where
-    by : (variants : List (Variation × Props)) → AllByRecursion (λ (b : Variation × Props). IsSound b.1) variants
-        → IsSound (unwrap_or (record_in variants) props_empty)
+    by : (variants : List (Variation × Props)) → AllByRecursion (λ (b : Variation × Props). HasSoundTexts b.1) variants
+        → HasSoundTexts (unwrap_or (record_in variants) props_empty)
     by [] k = empty_sound
     by (b ∷ bs) k = k.0
 
@@ -179,8 +179,8 @@ dependencies_sound mods nodes (e ∷ es) [] h = tt
 dependencies_sound mods nodes (e ∷ es) (made ∷ ins) h =
     (made_sound made h.0, dependencies_sound mods nodes es ins h.1)
 
-lists_sound : (own : Props) (ds : List Dependency) → IsSound own → AllByRecursion HasSound ds
-    → IsSound (with_lists own ds)
+lists_sound : (own : Props) (ds : List Dependency) → HasSoundTexts own → AllByRecursion HasSound ds
+    → HasSoundTexts (with_lists own ds)
 lists_sound own ds h k = record {
   base = h.base;
   groups = h.groups;

@@ -15,14 +15,14 @@ use Rattle.bp_props.specs.declared.props.Props.{Props}
 use Rattle.module_graph.specs.declared.graph.Edge.{Edge}
 use Rattle.module_graph.specs.declared.graph.Node.{Node}
 use Rattle.module_graph.specs.declared.variations.Axis.{Axis}
-use Rattle.module_graph.specs.Graphs.{outward, edges_of, NameNodes, IsNumbered, IsValid}
+use Rattle.module_graph.specs.Graphs.{outward, edges_of, NameNodes, IsNumbered, IsValid, all_edges}
 use Rattle.module_graph.specs.Numbered.{by_number}
 use Rattle.module_graph.specs.Walks.{NoneReturns}
 use Rattle.mutator_rules.specs.declared.request.Request.{Request}
-use Rattle.reverse_deps.specs.Applied.{all_edges, edges_counted, too_many, IsAcyclic, IsCounted, found_for, IsApplied}
+use Rattle.reverse_deps.specs.Applied.{edges_counted, too_many, AcyclicMeans, CountedMeans, found_for, ApplyMeans}
 use Rattle.reverse_deps.specs.Applied.{AskInside}
-use Rattle.reverse_deps.specs.Linked.{Link, edge_for, link_of, links_in, links, same_way, gained, linked_from, linked}
-use Rattle.reverse_deps.specs.Resolved.{module_for, missing_variant, is_for, node_for, resolved}
+use Rattle.reverse_deps.specs.Linked.{Link, edge_for, link_of, links_in, links, same_way, gained_edges, linked_from, linked_nodes}
+use Rattle.reverse_deps.specs.Resolved.{module_for, missing_variant, is_for, node_for, resolved_node}
 use Rattle.variant_graphs.specs.Splitting.{HasFreeAxis}
 use Rattle.output_forms.proofs.Each.{all_append}
 use Rattle.output_forms.proofs.Outs.{IfResult}
@@ -57,7 +57,7 @@ found_below count None fault below = tt
 found_below count (Some k) fault below = below k refl
 
 resolved_below : (mods : List Module) (nodes : List (Node Props)) (r : Request)
-    → IfResult (λ (n : NodeId). n.0 < length nodes) (resolved mods nodes r)
+    → IfResult (λ (n : NodeId). n.0 < length nodes) (resolved_node mods nodes r)
 resolved_below mods nodes r = by (module_for mods r)
   where
     by : (o : Result ℕ Fault)
@@ -72,7 +72,7 @@ all_below : (mods : List Module) (nodes : List (Node Props)) (asked : List (Node
     → IfResult (AllByRecursion (λ (n : NodeId). n.0 < length nodes)) (found_for mods nodes asked)
 all_below mods nodes [] = tt
 all_below mods nodes (a ∷ asked) =
-    by (resolved mods nodes a.1) (resolved_below mods nodes a.1) (found_for mods nodes asked)
+    by (resolved_node mods nodes a.1) (resolved_below mods nodes a.1) (found_for mods nodes asked)
     (all_below mods nodes asked)
   where
     by : (r : Result NodeId Fault) → IfResult (λ (n : NodeId). n.0 < length nodes) r
@@ -114,12 +114,12 @@ links_below count asked found asking within =
     (way_below count false asked found asking within) (way_below count true asked found asking within)
 
 gained_below : (count n : ℕ) (ls : List Link) → AllByRecursion (LinksBelow count) ls
-    → AllByRecursion (LeadsBelow count) (gained n ls)
+    → AllByRecursion (LeadsBelow count) (gained_edges n ls)
 gained_below count n [] all = tt
 gained_below count n (l ∷ ls) all = by (nat_eq l.0.0 n) (gained_below count n ls all.1)
   where
-    by : (b : Bool) → AllByRecursion (LeadsBelow count) (gained n ls)
-        → AllByRecursion (LeadsBelow count) (cons_option (cond b (Some l.1) None) (gained n ls))
+    by : (b : Bool) → AllByRecursion (LeadsBelow count) (gained_edges n ls)
+        → AllByRecursion (LeadsBelow count) (cons_option (cond b (Some l.1) None) (gained_edges n ls))
     by true rest = (all.0.1, rest)
     by false rest = rest
 
@@ -129,7 +129,7 @@ ends_from : (count k : ℕ) (xs : List (Node Props)) (ls : List Link) → AllByR
     → AllByRecursion (NodeLeadsBelow count) xs → AllByRecursion (NodeLeadsBelow count) (linked_from k xs ls)
 ends_from count k [] ls below ends = tt
 ends_from count k (x ∷ xs) ls below ends = (
-  all_append (LeadsBelow count) x.edges (gained k ls) ends.0 (gained_below count k ls below),
+  all_append (LeadsBelow count) x.edges (gained_edges k ls) ends.0 (gained_below count k ls below),
   ends_from count (k + 1) xs ls below ends.1,
 )
 
@@ -181,15 +181,15 @@ pub record Follows (old new : List (Node Props)) : Type 0 where
   pub free : (axis : Axis) → HasFreeAxis axis old → HasFreeAxis axis new
 
 linked_follows : (nodes : List (Node Props)) (ls : List Link) → IsValid nodes → IsNumbered nodes
-    → AllByRecursion (LinksBelow (length nodes)) ls → (done : Unit {0}) → edges_counted (linked nodes ls) ≡ Ok done
-    → NoneReturns (edges_of (linked nodes ls)) → Follows nodes (linked nodes ls)
+    → AllByRecursion (LinksBelow (length nodes)) ls → (done : Unit {0}) → edges_counted (linked_nodes nodes ls) ≡ Ok done
+    → NoneReturns (edges_of (linked_nodes nodes ls)) → Follows nodes (linked_nodes nodes ls)
 linked_follows nodes ls valid numbered below done counted acyclic =
     let many = many_from 0 nodes ls in
-    let as_many = many_edges 0 (linked nodes ls) in
-    let few = few_edges (linked nodes ls) done counted in
+    let as_many = many_edges 0 (linked_nodes nodes ls) in
+    let few = few_edges (linked_nodes nodes ls) done counted in
     let few_nodes = numbered.few_nodes in
-    let ends : NameNodes (linked nodes ls) =
-    subst (λ count. AllByRecursion (NodeLeadsBelow count) (linked nodes ls)) (sym many)
+    let ends : NameNodes (linked_nodes nodes ls) =
+    subst (λ count. AllByRecursion (NodeLeadsBelow count) (linked_nodes nodes ls)) (sym many)
     (ends_from (length nodes) 0 nodes ls below valid.ends) in
     record {
       valid = record {
@@ -212,20 +212,20 @@ linked_follows nodes ls valid numbered below done counted acyclic =
 -- what requests make of a graph
 pub applied_follows : (mods : List Module) (nodes : List (Node Props)) (asked : List (NodeId × Request))
     → IsValid nodes → IsNumbered nodes → AskInside (length nodes) asked → (new : List (Node Props))
-    → IsApplied mods nodes asked (Ok new) → Follows nodes new
+    → ApplyMeans mods nodes asked (Ok new) → Follows nodes new
 applied_follows mods nodes asked valid numbered asking new is =
     by (found_for mods nodes asked) (all_below mods nodes asked) is
   where
     counted : (ls : List Link) → AllByRecursion (LinksBelow (length nodes)) ls → (r : Result (Unit {0}) Fault)
-        → edges_counted (linked nodes ls) ≡ r → (GoesOn r (IsAcyclic mods (linked nodes ls)) (Ok new))
+        → edges_counted (linked_nodes nodes ls) ≡ r → (GoesOn r (AcyclicMeans mods (linked_nodes nodes ls)) (Ok new))
         → Follows nodes new
     counted ls below (Ok done) fine h =
         subst (Follows nodes) (sym h.0) (linked_follows nodes ls valid numbered below done fine h.1)
     counted ls below (Err fault) fine h = absurd (cc)
 
     by : (r : Result (List NodeId) Fault) → IfResult (AllByRecursion (λ (n : NodeId). n.0 < length nodes)) r
-        → GoesOn r (λ found. IsCounted mods (linked nodes (links asked found))) (Ok new) → Follows nodes new
+        → GoesOn r (λ found. CountedMeans mods (linked_nodes nodes (links asked found))) (Ok new) → Follows nodes new
     by (Ok found) below h =
         counted (links asked found) (links_below (length nodes) asked found asking below)
-        (edges_counted (linked nodes (links asked found))) refl h
+        (edges_counted (linked_nodes nodes (links asked found))) refl h
     by (Err fault) below h = absurd (cc)

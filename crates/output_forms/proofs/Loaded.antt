@@ -14,17 +14,17 @@ use Rattle.bp_faults.specs.Answers.{then_do}
 use Rattle.bp_faults.specs.Characters.{is_barred_in_paths}
 use Rattle.bp_faults.specs.Paths.{is_normal}
 use Rattle.bp_faults.specs.Phases.{Each}
-use Rattle.bp_load.specs.Inherited.{Finished, inherited, in_directory, all_evaluated, RawMean}
+use Rattle.bp_load.specs.Inherited.{Finished, inherited_scope, in_directory, all_evaluated, RawMean}
 use Rattle.bp_load.specs.ListFile.{file_name, is_listed}
-use Rattle.bp_load.specs.Loaded.{all_typed, is_named, name_tested, names_tested, all_named, LoadMeans}
+use Rattle.bp_load.specs.Loaded.{all_typed, has_module_named, name_tested, names_tested, all_named, LoadMeans}
 use Rattle.bp_load.specs.Texts.{AsText}
-use Rattle.bp_load.specs.Trees.{Source, Placed, placed, TextMeans, FileMeans, TreesMean}
+use Rattle.bp_load.specs.Trees.{Source, Placed, placed_file, SourceTextMeans, SourceFileMeans, TreesMean}
 use Rattle.bp_props.specs.declared.module.Module.{Module}
-use Rattle.bp_values.specs.Meaning.{Raw, evaluated}
+use Rattle.bp_values.specs.Meaning.{Raw, file_evaluation}
 use Rattle.build_actions.specs.Laws.{has_slash}
 use Rattle.ninja_file.specs.Names.{is_path}
-use Rattle.property_tables.specs.Meaning.{typed}
-use Rattle.output_forms.specs.Texts.{IsSound}
+use Rattle.property_tables.specs.Meaning.{typed_module}
+use Rattle.output_forms.specs.Texts.{HasSoundTexts}
 use Rattle.output_forms.specs.Modules.{MayBeListed, AreFormed}
 use Rattle.output_forms.proofs.Bytes.{IsClear, none_of, directory_clear, name_fits}
 use Rattle.output_forms.proofs.Each.{IfThere, all_append, all_made}
@@ -48,14 +48,14 @@ InClear p = IsClear p.dir
 abbrev FromClear : List ℕ × Raw → Type 0
 FromClear r = IsClear r.0
 
-file_clear : (n : ℕ) (file : Source) (p : Placed) → IsTrue (is_listed file.0) → FileMeans n file (Ok p) → InClear p
+file_clear : (n : ℕ) (file : Source) (p : Placed) → IsTrue (is_listed file.0) → SourceFileMeans n file (Ok p) → InClear p
 file_clear n file p h means =
-    then_came (AsText n file.1 (TextMeans n file.1)) (λ tree o. Ok (placed file.0 tree) ≡ o) InClear
-    (λ tree text q is. let same : placed file.0 tree ≡ q = cc in
+    then_came (AsText n file.1 (SourceTextMeans n file.1)) (λ tree o. Ok (placed_file file.0 tree) ≡ o) InClear
+    (λ tree text q is. let same : placed_file file.0 tree ≡ q = cc in
     subst InClear same (directory_clear file.0 (listed_clear file.0 h)))
     p means
 
-trees_clear : (n : ℕ) (files : List Source) (ps : List Placed) → MayBeListed files → Each FileMeans n files ps
+trees_clear : (n : ℕ) (files : List Source) (ps : List Placed) → MayBeListed files → Each SourceFileMeans n files ps
     → AllByRecursion InClear ps
 trees_clear n [] [] h each = tt
 trees_clear n [] (p ∷ ps) h each = absurd each
@@ -67,7 +67,7 @@ raw_clear : (finished : List Finished) (files : List Placed) → AllByRecursion 
     → IfResult (AllByRecursion FromClear) (all_evaluated finished files)
 raw_clear finished [] h = tt
 raw_clear finished (file ∷ files) h =
-    then_any (AllByRecursion FromClear) (evaluated (inherited file.directory finished) file.defs) _
+    then_any (AllByRecursion FromClear) (file_evaluation (inherited_scope file.directory finished) file.defs) _
     (λ values. then_if (AllByRecursion FromClear) (AllByRecursion FromClear)
     (all_evaluated (finished ++ (file.directory, values.1) ∷ []) files)
     (λ modules. Ok (in_directory file.dir values.0 ++ modules))
@@ -86,7 +86,7 @@ all_kept : (raws : List (List ℕ × Raw)) → AllByRecursion FromClear raws
     → IfResult (AllByRecursion IsTyped) (all_typed raws)
 all_kept [] h = tt
 all_kept (m ∷ ms) h =
-    then_if (IfThere IsTyped) (AllByRecursion IsTyped) (typed m.1 m.0)
+    then_if (IfThere IsTyped) (AllByRecursion IsTyped) (typed_module m.1 m.0)
     (λ made. then_do (all_typed ms) (λ more. Ok (option_to_list made ++ more))) (typed_kept m.1 m.0 h.0)
     (λ made one. then_if (AllByRecursion IsTyped) (AllByRecursion IsTyped) (all_typed ms)
     (λ more. Ok (option_to_list made ++ more)) (all_kept ms h.1)
@@ -114,17 +114,17 @@ abbrev Apart : List Module → Type 0
 Apart [] = ⊤
 Apart (m ∷ ms) = AllByRecursion (Differs m) ms × Apart ms
 
-split_name : (name : List ℕ) (before : List Module) (m : Module) → is_named name (before ++ m ∷ []) ≡ false
-    → (is_named name before ≡ false) × (bytes_eq name m.name ≡ false)
+split_name : (name : List ℕ) (before : List Module) (m : Module) → has_module_named name (before ++ m ∷ []) ≡ false
+    → (has_module_named name before ≡ false) × (bytes_eq name m.name ≡ false)
 split_name name [] m h = (refl, (or_parts (bytes_eq name m.name) false h).0)
 split_name name (b ∷ before) m h =
-    let s = or_parts (bytes_eq name b.name) (is_named name (before ++ m ∷ [])) h in
+    let s = or_parts (bytes_eq name b.name) (has_module_named name (before ++ m ∷ [])) h in
     let t = split_name name before m s.1 in
-    (ap (λ c. c || is_named name before) s.0 ∙ t.0, t.1)
+    (ap (λ c. c || has_module_named name before) s.0 ∙ t.0, t.1)
 
 named_less : (before : List Module) (m : Module) (ms : List Module)
-    → AllByRecursion (λ (x : Module). is_named x.name (before ++ m ∷ []) ≡ false) ms
-    → AllByRecursion (λ (x : Module). is_named x.name before ≡ false) ms × AllByRecursion (Differs m) ms
+    → AllByRecursion (λ (x : Module). has_module_named x.name (before ++ m ∷ []) ≡ false) ms
+    → AllByRecursion (λ (x : Module). has_module_named x.name before ≡ false) ms × AllByRecursion (Differs m) ms
 named_less before m [] h = (tt, tt)
 named_less before m (x ∷ xs) h =
     let s = split_name x.name before m h.0 in
@@ -136,7 +136,7 @@ named_less before m (x ∷ xs) h =
 -- What the phase of names says of modules behind some others.
 pub record AreTold (before ms : List Module) : Type 0 where
   pub few : length before + length ms ≤ MOST_MODULES
-  pub new : AllByRecursion (λ (x : Module). is_named x.name before ≡ false) ms
+  pub new : AllByRecursion (λ (x : Module). has_module_named x.name before ≡ false) ms
   pub apart : Apart ms
 
 told : (before ms : List Module) (done : Unit {0}) → names_tested before ms ≡ Ok done → length before ≤ MOST_MODULES
@@ -144,7 +144,7 @@ told : (before ms : List Module) (done : Unit {0}) → names_tested before ms �
 told before [] done h few = record { few = omega (arith, few); new = tt; apart = tt }
 told before (m ∷ ms) done h few =
     let s = then_done (name_tested before m) (λ fine. names_tested (before ++ m ∷ []) ms) done h in
-    let t = both_tests (nat_le MOST_MODULES (length before)) (is_named m.name before) _ _ _ _ s.1 in
+    let t = both_tests (nat_le MOST_MODULES (length before)) (has_module_named m.name before) _ _ _ _ s.1 in
     let below = leb-false MOST_MODULES (length before) t.0 in
     let longer = length-append before (m ∷ []) in
     let rest = told (before ++ m ∷ []) ms done s.2 (omega (arith, below, longer)) in
@@ -168,7 +168,7 @@ pairs (m ∷ ms) h (suc i) (suc j) d ij jl = pairs ms h.1 i j d (omega (arith, i
 
 -- All phases
 
-typed_sound : (ms : List Module) → AllByRecursion IsTyped ms → AllByRecursion (λ (m : Module). IsSound m.props) ms
+typed_sound : (ms : List Module) → AllByRecursion IsTyped ms → AllByRecursion (λ (m : Module). HasSoundTexts m.props) ms
 typed_sound [] h = tt
 typed_sound (m ∷ ms) h = (h.0.0, typed_sound ms h.1)
 
@@ -186,18 +186,18 @@ named_formed : (raws : List (List ℕ × Raw)) → AllByRecursion FromClear raws
 named_formed raws clear =
     then_if (AllByRecursion IsTyped) AreFormed (all_typed raws)
     (λ modules. then_do (names_tested [] modules) (λ fine. Ok modules)) (all_kept raws clear)
-    (λ modules typed. by modules typed (names_tested [] modules) refl)
+    (λ modules typed_module. by modules typed_module (names_tested [] modules) refl)
   where
     by : (modules : List Module) → AllByRecursion IsTyped modules → (r : Result (Unit {0}) Fault)
         → names_tested [] modules ≡ r → IfResult AreFormed (then_do r (λ fine. Ok modules))
-    by modules typed (Err fault) is = tt
-    by modules typed (Ok done) is =
+    by modules typed_module (Err fault) is = tt
+    by modules typed_module (Ok done) is =
         let known = told [] modules done is (omega arith) in
         let few = known.few in
         record {
-          sound = typed_sound modules typed;
-          paths = typed_paths modules typed;
-          plain = typed_plain modules typed;
+          sound = typed_sound modules typed_module;
+          paths = typed_paths modules typed_module;
+          plain = typed_plain modules typed_module;
           differ = pairs modules known.apart;
           few = omega (arith, few);
         }

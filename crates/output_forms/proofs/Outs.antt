@@ -5,9 +5,9 @@ use Rattle.std.specs.List.{AllByRecursion, range_with_len}
 use Rattle.bp_faults.specs.declared.fault.Fault.{Fault}
 use Rattle.pass_core.specs.declared.plan.Plan.{Plan}
 use Rattle.pass_core.specs.Heights.{unroll}
-use Rattle.pass_core.specs.Outcomes.{IsOutcome}
+use Rattle.pass_core.specs.Outcomes.{PassOutcomeMeans}
 use Rattle.pass_core.specs.Plans.{predecessors}
-use Rattle.pass_core.specs.Results.{NodeResult, Done, Bad, Poisoned, visited, cons_if, outs_of, judged, node_result}
+use Rattle.pass_core.specs.Results.{NodeResult, Done, Bad, Poisoned, result_of_visit, cons_if, all_outs, judged_result, node_result}
 use Rattle.output_forms.proofs.Each.{IfThere, all_made, all_behind}
 
 -- An answer has a property, if it is a result.
@@ -26,36 +26,36 @@ module _ {O : Type 0} (P : O → Type 0) where
   one_more out None p h = tt
   one_more out (Some outs) p h = (p, h)
 
-  gathered : (rs : List (NodeResult O)) → AllByRecursion IfDone rs → IfThere (AllByRecursion P) (outs_of rs)
+  gathered : (rs : List (NodeResult O)) → AllByRecursion IfDone rs → IfThere (AllByRecursion P) (all_outs rs)
   gathered [] h = tt
-  gathered (Done out ∷ rs) h = one_more out (outs_of rs) h.0 (gathered rs h.1)
+  gathered (Done out ∷ rs) h = one_more out (all_outs rs) h.0 (gathered rs h.1)
   gathered (Bad fault ∷ rs) h = tt
   gathered (Poisoned ∷ rs) h = tt
 
-  visit_done : (r : Result O Fault) → IfResult P r → IfDone (visited r)
+  visit_done : (r : Result O Fault) → IfResult P r → IfDone (result_of_visit r)
   visit_done (Ok out) h = h
   visit_done (Err fault) h = tt
 
   module _ (mean : ℕ → List O → Result O Fault)
       (keeps : (n : ℕ) (ins : List O) → AllByRecursion P ins → IfResult P (mean n ins)) where
-    judged_done : (n : ℕ) (o : Option (List O)) → IfThere (AllByRecursion P) o → IfDone (judged (mean n) o)
+    judged_done : (n : ℕ) (o : Option (List O)) → IfThere (AllByRecursion P) o → IfDone (judged_result (mean n) o)
     judged_done n None h = tt
     judged_done n (Some ins) h = visit_done (mean n ins) (keeps n ins h)
 
     unrolled : (before : ℕ → List ℕ) (depth n : ℕ)
-        → IfDone (unroll before (λ n rs. judged (mean n) (outs_of rs)) Poisoned depth n)
+        → IfDone (unroll before (λ n rs. judged_result (mean n) (all_outs rs)) Poisoned depth n)
     unrolled before zero n = tt
     unrolled before (suc depth) n =
-        let rs = map (unroll before (λ n rs. judged (mean n) (outs_of rs)) Poisoned depth) (before n) in
-        judged_done n (outs_of rs)
-        (gathered rs (all_made IfDone (unroll before (λ n rs. judged (mean n) (outs_of rs)) Poisoned depth)
+        let rs = map (unroll before (λ n rs. judged_result (mean n) (all_outs rs)) Poisoned depth) (before n) in
+        judged_done n (all_outs rs)
+        (gathered rs (all_made IfDone (unroll before (λ n rs. judged_result (mean n) (all_outs rs)) Poisoned depth)
         (unrolled before depth) (before n)))
 
     results_done : (plan : Plan) (n : ℕ) → IfDone (node_result mean plan n)
     unfolding node_result
     results_done plan n = unrolled (predecessors plan.edges) plan.count n
 
-    pub outs_have : (plan : Plan) (outs : List O) → IsOutcome mean plan (Ok outs) → AllByRecursion P outs
+    pub outs_have : (plan : Plan) (outs : List O) → PassOutcomeMeans mean plan (Ok outs) → AllByRecursion P outs
     outs_have plan outs is =
         all_behind IfDone Done outs
         (subst (AllByRecursion IfDone) (sym is)

@@ -13,7 +13,7 @@ use Rattle.module_graph.specs.declared.graph.Node.{Node}
 use Rattle.module_graph.specs.declared.variation.Variation.{Variation}
 use Rattle.module_graph.specs.declared.variations.Axis.{Axis}
 use Rattle.module_graph.specs.declared.variations.Axis.TheVariants.{Target, Image, Link, PerSource, Sanitize}
-use Rattle.module_graph.specs.Axes.{place_of}
+use Rattle.module_graph.specs.Axes.{axis_index}
 use Rattle.module_graph.specs.Planned.{plan_of}
 use Rattle.mutator_kinds.specs.BottomUp.{BottomUpMeans, rule_along, variants_of, first_payload, first_payloads}
 use Rattle.mutator_kinds.specs.BottomUp.{new_nodes}
@@ -23,26 +23,26 @@ use Rattle.mutator_rules.specs.Outcomes.{Made}
 use Rattle.variant_graphs.specs.Limits.{IsWithinLimits}
 use Rattle.variant_graphs.specs.Payloads.{with_payloads}
 use Rattle.variant_graphs.specs.Splitting.{Splitting, splitting, split_nodes, variants_at, variant_node}
-use Rattle.output_forms.specs.Texts.{IsSound}
+use Rattle.output_forms.specs.Texts.{HasSoundTexts}
 use Rattle.output_forms.specs.Forms.{HasForm, HaveForms}
 use Rattle.output_forms.proofs.Each.{all_image, all_numbered, got_or}
 use Rattle.output_forms.proofs.Fits.{IsOn, IsFit, Keeps}
 use Rattle.output_forms.proofs.Outs.{outs_have}
 
 -- nodes with other records that are sound
-pub renewed : (nodes : List (Node Props)) (ps : List Props) → HaveForms nodes → AllByRecursion IsSound ps
+pub renewed : (nodes : List (Node Props)) (ps : List Props) → HaveForms nodes → AllByRecursion HasSoundTexts ps
     → HaveForms (with_payloads nodes ps)
 renewed [] ps h k = tt
 renewed (x ∷ xs) [] h k = h
 renewed (x ∷ xs) (p ∷ ps) h k = (record { axes = h.0.axes; texts = k.0 }, renewed xs ps h.1 k.1)
 
-first_sound : (old : Props) (variants : List (Variation × Props)) → IsSound old
-    → AllByRecursion (λ (b : Variation × Props). IsSound b.1) variants → IsSound (first_payload old variants)
+first_sound : (old : Props) (variants : List (Variation × Props)) → HasSoundTexts old
+    → AllByRecursion (λ (b : Variation × Props). HasSoundTexts b.1) variants → HasSoundTexts (first_payload old variants)
 first_sound old [] h k = h
 first_sound old (b ∷ bs) h k = k.0
 
 firsts_sound : (nodes : List (Node Props)) (outs : List (Split Props)) → HaveForms nodes
-    → AllByRecursion (IsFit None) outs → AllByRecursion IsSound (first_payloads nodes outs)
+    → AllByRecursion (IsFit None) outs → AllByRecursion HasSoundTexts (first_payloads nodes outs)
 firsts_sound [] outs h k = tt
 firsts_sound (x ∷ xs) [] h k = tt
 firsts_sound (x ∷ xs) (made ∷ outs) h k =
@@ -50,7 +50,7 @@ firsts_sound (x ∷ xs) (made ∷ outs) h k =
 
 -- a variation is put on its axis
 set_on : (axis : Axis) (vars : List Variation) (v : Variation) → AreOnAxes vars → IsTrue (stands_on axis v)
-    → AreOnAxes (slice_set vars (place_of axis) v)
+    → AreOnAxes (slice_set vars (axis_index axis) v)
 set_on Target vars v h on = record {
   target = v;
   image = h.image;
@@ -120,7 +120,7 @@ set_on Sanitize vars v h on = record {
 -- The variants of a splitting stand on its axis, and have sound records at a node with a form.
 pub record IsFitSplit {B : Type 0} (s : Splitting Props B) (Good : B → Type 0) : Type 0 where
   pub stands : (b : B) → Good b → IsTrue (stands_on s.axis (s.variation b))
-  pub sound : (x : Node Props) (b : B) → HasForm x → Good b → IsSound (s.payload x b)
+  pub sound : (x : Node Props) (b : B) → HasForm x → Good b → HasSoundTexts (s.payload x b)
   pub lists : AllByRecursion (λ bs. length bs ≤ MOST_NODES → AllByRecursion Good bs) s.variants
 
 -- the graph of the variants keeps the forms

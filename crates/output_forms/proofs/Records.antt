@@ -19,7 +19,7 @@ use Rattle.bp_props.specs.declared.group_id.GroupId.{GroupId}
 use Rattle.bp_props.specs.declared.kind.ModuleKind.{ModuleKind}
 use Rattle.bp_props.specs.declared.listed.Listed.{Listed}
 use Rattle.bp_props.specs.declared.props.Props.{Props}
-use Rattle.output_forms.specs.Texts.{IsShown, IsWritable, HasTexts, HaveTexts, IsSound}
+use Rattle.output_forms.specs.Texts.{IsShown, IsWritable, HasTexts, HaveTexts, HasSoundTexts}
 use Rattle.output_forms.proofs.Each.{IfThere, all_append, all_filtered}
 
 pub empty_texts : HasTexts group_empty
@@ -35,7 +35,7 @@ empty_texts = record {
   export_include_dirs = tt;
 }
 
-pub empty_sound : IsSound props_empty
+pub empty_sound : HasSoundTexts props_empty
 empty_sound = record { base = empty_texts; groups = tt; exports = tt; includes = tt }
 
 merged_group : (w : _) (a b : GroupProps) → HasTexts a → HasTexts b → HasTexts (group_merged w a b)
@@ -112,7 +112,7 @@ merged_groups w groups (e ∷ others) h k =
     (behind_texts w (group_of groups e.0) e.1 (group_texts groups e.0 h) k.0))
     k.1
 
-merged : (w : _) (p q : Props) → IsSound p → IsSound q → IsSound (props_merged w p q)
+merged : (w : _) (p q : Props) → HasSoundTexts p → HasSoundTexts q → HasSoundTexts (props_merged w p q)
 merged w p q h k = record {
   base = merged_group w p.base q.base h.base k.base;
   groups = merged_groups w p.groups q.groups h.groups k.groups;
@@ -120,7 +120,7 @@ merged w p q h k = record {
   includes = h.includes;
 }
 
-pub appended : (p : Props) (g : GroupProps) → IsSound p → HasTexts g → IsSound (props_appended p g)
+pub appended : (p : Props) (g : GroupProps) → HasSoundTexts p → HasTexts g → HasSoundTexts (props_appended p g)
 appended p g h k = record {
   base = search (merged_group, h.base, k);
   groups = h.groups;
@@ -128,10 +128,10 @@ appended p g h k = record {
   includes = h.includes;
 }
 
-pub followed : (p q : Props) → IsSound p → IsSound q → IsSound (props_followed p q)
+pub followed : (p q : Props) → HasSoundTexts p → HasSoundTexts q → HasSoundTexts (props_followed p q)
 followed p q h k = search (merged, h, k)
 
-pub over : (p q : Props) → IsSound p → IsSound q → IsSound (props_over p q)
+pub over : (p q : Props) → HasSoundTexts p → HasSoundTexts q → HasSoundTexts (props_over p q)
 over p q h k = record {
   base = search (merged_group, h.base, k.base);
   groups = search (merged_groups, h.groups, k.groups);
@@ -139,7 +139,7 @@ over p q h k = record {
   includes = h.includes;
 }
 
-pub restricted : (kind : ModuleKind) (p : Props) → IsSound p → IsSound (props_restricted kind p)
+pub restricted : (kind : ModuleKind) (p : Props) → HasSoundTexts p → HasSoundTexts (props_restricted kind p)
 restricted kind p h = record {
   base = restricted_group kind p.base h.base;
   groups =

@@ -12,7 +12,7 @@ use Rattle.bp_props.specs.declared.props.Props.{Props}
 use Rattle.bp_props.specs.declared.source.Source.{Source}
 use Rattle.property_tables.specs.Records.{group_truth, group_flags, group_names, group_sources, group_dirs}
 use Rattle.property_tables.specs.Records.{props_truth, props_names, props_word, props_multi, props_level}
-use Rattle.output_forms.specs.Texts.{IsShown, AreShown, IsWritable, HasTexts, HaveTexts, IsSound}
+use Rattle.output_forms.specs.Texts.{IsShown, AreShown, IsWritable, HasTexts, HaveTexts, HasSoundTexts}
 
 -- a group whose texts can be written, part by part
 with_texts : {g : GroupProps} → AllByRecursion IsWritable g.srcs.items → AreShown g.cflags.items
@@ -32,7 +32,7 @@ with_texts srcs cflags conlyflags cppflags asflags ldflags local include export 
 }
 
 -- so a record
-with_parts : {p : Props} → HasTexts p.base → HaveTexts p.groups → AreShown p.exports → AreShown p.includes → IsSound p
+with_parts : {p : Props} → HasTexts p.base → HaveTexts p.groups → AreShown p.exports → AreShown p.includes → HasSoundTexts p
 with_parts base groups exports includes = record {
   base = base;
   groups = groups;
@@ -111,11 +111,11 @@ truth_set F.Enabled truth g h =
     h.local_include_dirs h.include_dirs h.export_include_dirs
 truth_set field truth g h = h
 
-pub with_base : (p : Props) (g : GroupProps) → IsSound p → HasTexts g → IsSound (record p { base = g })
+pub with_base : (p : Props) (g : GroupProps) → HasSoundTexts p → HasTexts g → HasSoundTexts (record p { base = g })
 with_base p g h k = with_parts k h.groups h.exports h.includes
 
-pub truth_given : (field : Field) (truth : Option (Given Bool)) (p : Props) → IsSound p
-    → IsSound (props_truth field truth p)
+pub truth_given : (field : Field) (truth : Option (Given Bool)) (p : Props) → HasSoundTexts p
+    → HasSoundTexts (props_truth field truth p)
 truth_given F.HostSupported truth p h = with_parts h.base h.groups h.exports h.includes
 truth_given F.DeviceSupported truth p h = with_parts h.base h.groups h.exports h.includes
 truth_given F.Vendor truth p h = with_parts h.base h.groups h.exports h.includes
@@ -128,25 +128,25 @@ truth_given F.TestPerSrc truth p h = with_parts h.base h.groups h.exports h.incl
 truth_given field truth p h =
     with_base p (group_truth field truth p.base) h (truth_set field truth p.base h.base)
 
-pub names_given : (field : Field) (names : Listed Item) (p : Props) → IsSound p
-    → IsSound (props_names field names p)
+pub names_given : (field : Field) (names : Listed Item) (p : Props) → HasSoundTexts p
+    → HasSoundTexts (props_names field names p)
 names_given F.Defaults names p h = with_parts h.base h.groups h.exports h.includes
 names_given F.PluginOf names p h = with_parts h.base h.groups h.exports h.includes
 names_given F.DataBins names p h = with_parts h.base h.groups h.exports h.includes
 names_given field names p h =
     with_base p (group_names field names p.base) h (names_set field names p.base h.base)
 
-pub word_given : (field : Field) (word : Option (Given (List ℕ))) (p : Props) → IsSound p
-    → IsSound (props_word field word p)
+pub word_given : (field : Field) (word : Option (Given (List ℕ))) (p : Props) → HasSoundTexts p
+    → HasSoundTexts (props_word field word p)
 word_given F.Name word p h = with_parts h.base h.groups h.exports h.includes
 word_given field word p h = h
 
-pub multi_given : (field : Field) (multi : Option (Given Multi)) (p : Props) → IsSound p
-    → IsSound (props_multi field multi p)
+pub multi_given : (field : Field) (multi : Option (Given Multi)) (p : Props) → HasSoundTexts p
+    → HasSoundTexts (props_multi field multi p)
 multi_given F.CompileMultilib multi p h = with_parts h.base h.groups h.exports h.includes
 multi_given field multi p h = h
 
-pub level_given : (field : Field) (level : Option (Given ℕ)) (p : Props) → IsSound p
-    → IsSound (props_level field level p)
+pub level_given : (field : Field) (level : Option (Given ℕ)) (p : Props) → HasSoundTexts p
+    → HasSoundTexts (props_level field level p)
 level_given F.MinSdkVersion level p h = with_parts h.base h.groups h.exports h.includes
 level_given field level p h = h

@@ -12,7 +12,7 @@ use Rattle.module_graph.specs.declared.graph.Node.{Node}
 use Rattle.module_graph.specs.declared.variation.Variation.TheVariants.{Empty}
 use Rattle.module_graph.specs.declared.variations.Axis.{Axis}
 use Rattle.module_graph.specs.declared.variations.Axis.TheVariants.{Target, Image, Link, PerSource, Sanitize}
-use Rattle.module_graph.specs.Axes.{place_of}
+use Rattle.module_graph.specs.Axes.{axis_index}
 use Rattle.module_graph.specs.Graphs.{edges_of, outward, IsNumbered, IsValid, NameNodes}
 use Rattle.module_graph.specs.Numbered.{by_number}
 use Rattle.module_graph.specs.Walks.{NoneReturns}
@@ -51,7 +51,7 @@ module_at k (m ∷ ms) zero d within = sym (add-zero k)
 module_at k (m ∷ ms) (suc i) d within =
     let next : (k + 1) + i ≡ k + suc i = omega arith in module_at (k + 1) ms i d (omega (arith, within)) ∙ next
 
-free_here : (axis : Axis) → slice_get (replicate 5 Empty) (place_of axis) ≡ Some Empty
+free_here : (axis : Axis) → slice_get (replicate 5 Empty) (axis_index axis) ≡ Some Empty
 free_here Target = refl
 free_here Image = refl
 free_here Link = refl

@@ -7,10 +7,10 @@ use Rattle.bp_props.specs.declared.props.Props.{Props}
 use Rattle.bp_props.specs.declared.source.Source.{Source}
 use Rattle.build_actions.specs.Laws.{AreDistinct, AreTold}
 use Rattle.build_actions.specs.Variants.{AreOnAxes}
-use Rattle.build_actions.specs.Writable.{AreWritable, has_shown_bytes, words_of}
+use Rattle.build_actions.specs.Writable.{AreWritable, has_shown_bytes, flag_words}
 use Rattle.module_graph.specs.declared.graph.Node.{Node}
 use Rattle.ninja_file.specs.Names.{is_path}
-use Rattle.output_forms.specs.Texts.{IsShown, IsSound}
+use Rattle.output_forms.specs.Texts.{IsShown, HasSoundTexts}
 use Rattle.output_forms.specs.Forms.{HaveForms}
 use Rattle.output_forms.specs.Modules.{AreFormed}
 use Rattle.output_forms.proofs.Each.{all_append}
@@ -27,7 +27,7 @@ sources : (nodes : List (Node Props)) → HaveForms nodes
 sources [] h = tt
 sources (x ∷ xs) h = (h.0.texts.base.srcs, sources xs h.1)
 
-words_shown : (p : Props) → IsSound p → AllByRecursion IsShown (words_of p)
+words_shown : (p : Props) → HasSoundTexts p → AllByRecursion IsShown (flag_words p)
 words_shown p h =
     let b = h.base in
     all_append IsShown p.base.cflags.items
@@ -42,7 +42,7 @@ words_shown p h =
 
 words : (nodes : List (Node Props)) → HaveForms nodes
     → AllByRecursion
-    (λ (x : Node Props). AllByRecursion (λ w. IsTrue (has_shown_bytes w)) (words_of x.payload)) nodes
+    (λ (x : Node Props). AllByRecursion (λ w. IsTrue (has_shown_bytes w)) (flag_words x.payload)) nodes
 words [] h = tt
 words (x ∷ xs) h = (words_shown x.payload h.0.texts, words xs h.1)
 

@@ -5,12 +5,12 @@ use Rattle.bp_props.specs.declared.module.Module.{Module}
 use Rattle.bp_props.specs.declared.props.Props.{Props}
 use Rattle.build_actions.specs.Variants.{AreOnAxes}
 use Rattle.module_graph.specs.declared.graph.Node.{Node}
-use Rattle.output_forms.specs.Texts.{IsSound}
+use Rattle.output_forms.specs.Texts.{HasSoundTexts}
 
 -- The variations of a node stand on their axes, and the texts of its record can be written.
 pub record HasForm (x : Node Props) : Type 0 where
   pub axes : AreOnAxes x.vars
-  pub texts : IsSound x.payload
+  pub texts : HasSoundTexts x.payload
 
 -- So it is of each node of a graph.
 abbrev pub HaveForms : List (Node Props) → Type 0
@@ -18,4 +18,4 @@ HaveForms nodes = AllByRecursion HasForm nodes
 
 -- The texts of the record of each module can be written.
 abbrev pub AreSound : List Module → Type 0
-AreSound mods = AllByRecursion (λ (m : Module). IsSound m.props) mods
+AreSound mods = AllByRecursion (λ (m : Module). HasSoundTexts m.props) mods

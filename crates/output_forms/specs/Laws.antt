@@ -14,7 +14,7 @@ use Rattle.bp_pipeline.specs.Generated.{FileMeans, TextMeans}
 use Rattle.bp_pipeline.specs.Passes.{StepMeans, pass_at}
 use Rattle.build_actions.specs.declared.actions.Actions.{Actions}
 use Rattle.build_actions.specs.Acts.{acts_at}
-use Rattle.build_actions.specs.File.{file_of}
+use Rattle.build_actions.specs.File.{file_of_actions}
 use Rattle.module_graph.specs.declared.direction.Direction.TheVariants.{BottomUp}
 use Rattle.module_graph.specs.declared.graph.Node.{Node}
 use Rattle.module_graph.specs.Graphs.{IsNumbered, IsValid}
@@ -25,18 +25,18 @@ use Rattle.ninja_file.specs.declared.file.NinjaFile.{NinjaFile}
 use Rattle.ninja_file.specs.Meaning.{IsWellFormed}
 use Rattle.ninja_read.specs.declared.reader.NinjaError.{NinjaError}
 use Rattle.ninja_read.specs.Meaning.{reading, Reads}
-use Rattle.ninja_text.specs.Meaning.{IsReadBack}
-use Rattle.pass_core.specs.Outcomes.{IsOutcome}
+use Rattle.ninja_text.specs.Meaning.{ReadBackMeans}
+use Rattle.pass_core.specs.Outcomes.{PassOutcomeMeans}
 use Rattle.output_forms.specs.Forms.{HaveForms, AreSound}
 use Rattle.output_forms.specs.Modules.{MayBeListed, AreFormed}
-use Rattle.output_forms.specs.Texts.{HasTexts, IsSound}
+use Rattle.output_forms.specs.Texts.{HasTexts, HasSoundTexts}
 
 -- What merging makes of sound records is sound, and so is what restriction leaves.
 pub record MergesKeepTexts : Type 0 where
-  pub appended : (p : Props) (g : GroupProps) → IsSound p → HasTexts g → IsSound (props_appended p g)
-  pub followed : (p q : Props) → IsSound p → IsSound q → IsSound (props_followed p q)
-  pub over : (p q : Props) → IsSound p → IsSound q → IsSound (props_over p q)
-  pub restricted : (kind : ModuleKind) (p : Props) → IsSound p → IsSound (props_restricted kind p)
+  pub appended : (p : Props) (g : GroupProps) → HasSoundTexts p → HasTexts g → HasSoundTexts (props_appended p g)
+  pub followed : (p q : Props) → HasSoundTexts p → HasSoundTexts q → HasSoundTexts (props_followed p q)
+  pub over : (p q : Props) → HasSoundTexts p → HasSoundTexts q → HasSoundTexts (props_over p q)
+  pub restricted : (kind : ModuleKind) (p : Props) → HasSoundTexts p → HasSoundTexts (props_restricted kind p)
 
 -- Each pass keeps the forms of a graph.
 abbrev pub PassesKeepForms : Type 0
@@ -73,7 +73,7 @@ abbrev pub FilesOfGraphsAreWellFormed : Type 0
 FilesOfGraphsAreWellFormed =
     (files : List Source) (mods : List Module) (c : Config) (k : ℕ) (nodes : List (Node Props)) (made : List Actions)
     → MayBeListed files → LoadMeans files (Ok mods) → TargetsDiffer c → GraphAfter mods c k (Ok nodes)
-    → IsOutcome (acts_at mods nodes) (plan_of BottomUp nodes) (Ok made) → IsWellFormed (file_of made)
+    → PassOutcomeMeans (acts_at mods nodes) (plan_of BottomUp nodes) (Ok made) → IsWellFormed (file_of_actions made)
 
 -- The file that is generated of modules is well formed, whichever files that may be listed gave the modules.
 abbrev pub GeneratedFilesAreWellFormed : Type 0
@@ -84,7 +84,7 @@ GeneratedFilesAreWellFormed =
 -- A reader's answer is the file that is generated, which is well formed, or that memory ran out.
 abbrev pub ReadsGenerated : List Module → Config → Result NinjaFile NinjaError → Type 0
 ReadsGenerated mods c answer =
-    (file : NinjaFile) × FileMeans mods c (Ok file) × IsWellFormed file × IsReadBack file answer
+    (file : NinjaFile) × FileMeans mods c (Ok file) × IsWellFormed file × ReadBackMeans file answer
 
 -- Whatever `read` answers of the text that is generated is that file, but for memory.
 abbrev pub GeneratedTextsAreReadBack : Type 0

@@ -37,7 +37,7 @@ abbrev pub HaveTexts : List (GroupId × GroupProps) → Type 0
 HaveTexts groups = AllByRecursion (λ (e : GroupId × GroupProps). HasTexts e.1) groups
 
 -- So can those of a record: its own, those of its groups, and the directories that the mutators compute.
-pub record IsSound (p : Props) : Type 0 where
+pub record HasSoundTexts (p : Props) : Type 0 where
   pub base : HasTexts p.base
   pub groups : HaveTexts p.groups
   pub exports : AreShown p.exports

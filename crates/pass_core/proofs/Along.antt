@@ -6,7 +6,7 @@ use Rattle.std.specs.List.{AllByRecursion, Contains, range_with_len}
 use Rattle.std.specs.declared.sync.Arc.{Arc}
 use Rattle.std.specs.Arc.{arc_value}
 use Rattle.std.proofs.lemmas.Option.{slice_get-get_or}
-use Rattle.std.proofs.lemmas.List.{take_more, length-map, length-replicate}
+use Rattle.std.proofs.lemmas.List.{take_more, length-map}
 use Rattle.std.proofs.Math.Seq.{take-length}
 use Rattle.std.proofs.Math.ListN.{get_or-map}
 use mathlib.Core.Logic.{dite}
@@ -20,7 +20,7 @@ use Rattle.pass_core.specs.Plans.{predecessors, HasNoCycle, IsPlan}
 use Rattle.pass_core.specs.Heights.{IsBefore}
 use Rattle.pass_core.specs.Orders.{IsSerial, numbers}
 use Rattle.pass_core.specs.Results.{NodeResult, Done, Bad, IsDone, node_result}
-use Rattle.pass_core.specs.Outcomes.{IsOutcome, AnswersPass}
+use Rattle.pass_core.specs.Outcomes.{PassOutcomeMeans, AnswersPass}
 use Rattle.pass_core.specs.Made.{made_at, value_of, AnswersVisit, IsMade}
 use Rattle.pass_core.proofs.Legal.{node_at, stands_before, predecessors_before}
 use Rattle.bp_faults.proofs.Lists.{all_contained, all_map, all_pushed, get_else, get_here}
@@ -68,9 +68,6 @@ module _ {O A : Type 0} (results : ℕ → NodeResult O) (count : ℕ) where
         right = still_right;
       }
 
-  pub made_none : (n : ℕ) → n ≡ count → IsMade {A = A} results count [] (replicate n None)
-  made_none n same = record { many = omega (arith, length-replicate {A = Option (Arc O A)}); filled = tt; right = λ m o e. let none = none_made O A n m in cc }
-
   filled_there : (x : Option (Arc O A)) → IsSome (value_of (Some x)) → IsSome x
   filled_there None h = cc
   filled_there (Some x) h = refl
@@ -114,7 +111,7 @@ module _ (plan : Plan) (nodes : List NodeId) (serial : IsSerial plan (numbers no
         (predecessors plan.edges (get_or (numbers nodes) i d.0)) (predecessors_before plan (numbers nodes) serial is_plan.ends free i d.0 lt_numbers))
 
     -- a fault at the node whose turn it is is the pass's
-    fault_at : (fault : Fault) → node_result mean plan (get_or nodes i d).0 ≡ Bad fault → IsOutcome mean plan (Err ((get_or nodes i d).0, fault))
+    fault_at : (fault : Fault) → node_result mean plan (get_or nodes i d).0 ≡ Bad fault → PassOutcomeMeans mean plan (Err ((get_or nodes i d).0, fault))
     fault_at fault is = (
       record {
         inside = inside_at;
@@ -127,7 +124,7 @@ module _ (plan : Plan) (nodes : List NodeId) (serial : IsSerial plan (numbers no
 
     -- what the visit refuses is what the pass refuses
     pub refused_at : (e : PassError) → AnswersVisit {O = O} {A = A} (get_or nodes i d).0 (node_result mean plan (get_or nodes i d).0) (Err e) → AnswersPass mean plan (Err e)
-    refused_at (At n fault) h = subst (λ m. IsOutcome mean plan (Err (m, fault))) (sym h.0) (fault_at fault h.1)
+    refused_at (At n fault) h = subst (λ m. PassOutcomeMeans mean plan (Err (m, fault))) (sym h.0) (fault_at fault h.1)
     refused_at OutOfMemory h = tt
 
     pub made_next : (shared : Arc O A) → node_result mean plan (get_or nodes i d).0 ≡ Done (arc_value shared)

@@ -11,7 +11,7 @@ use Rattle.pass_core.specs.declared.plan.Plan.{Plan}
 use Rattle.pass_core.specs.declared.plan.PlanEdge.{PlanEdge}
 use Rattle.pass_core.specs.Plans.{sources, in_edges, predecessors, HasNoCycle, IsPlan}
 use Rattle.pass_core.specs.Heights.{above_all, height}
-use Rattle.pass_core.specs.Settling.{settled_at, joined, AreSettled}
+use Rattle.pass_core.specs.Settling.{settled_at, inner_option, AreSettled}
 use Rattle.pass_core.proofs.Unrolled.{height_rises, height_equation}
 use Rattle.pass_core.proofs.Induction.{height_below}
 use Rattle.bp_faults.proofs.Lists.{all_map}
@@ -41,7 +41,7 @@ module _ (plan : Plan) (is_plan : IsPlan plan) (free : HasNoCycle plan.edges) (n
       let small = height_below plan is_plan.ends free n lt in omega arith
 
   in_settled : (settled : List (Option ℕ)) → AreSettled plan settled → (x : Option ℕ) → get_or settled (get_or es i d).from.0 None ≡ x → settled_at settled (get_or es i d).from.0 ≡ x
-  in_settled settled are x is = ap joined (slice_get-get_or settled (get_or es i d).from.0 None (subst (λ k. (get_or es i d).from.0 < k) (sym are.many) source_below)) ∙ is
+  in_settled settled are x is = ap inner_option (slice_get-get_or settled (get_or es i d).from.0 None (subst (λ k. (get_or es i d).from.0 < k) (sym are.many) source_below)) ∙ is
 
   -- the height that was read is the source's
   pub read_is : (settled : List (Option ℕ)) → AreSettled plan settled → (h : ℕ) → get_or settled (get_or es i d).from.0 None ≡ Some h → h ≡ height plan (get_or es i d).from.0

@@ -8,7 +8,7 @@ use Rattle.pass_core.specs.declared.plan.Plan.{Plan}
 use Rattle.pass_core.specs.declared.plan.PlanEdge.{PlanEdge}
 use Rattle.pass_core.specs.declared.published.Published.{Published}
 use Rattle.pass_core.specs.Results.{NodeResult}
-use Rattle.pass_core.specs.Shown.{shown}
+use Rattle.pass_core.specs.Shown.{published_result}
 use Rattle.pass_core.specs.CoreStates.{CoreState, from_of, to_of}
 use Rattle.pass_core.specs.CoreViews.{CoreView}
 use Rattle.pass_core.specs.CoreKept.{shown_in, PublishesLast}
@@ -24,7 +24,7 @@ module _ {O : Type 0} (filled : List (Option (Published O))) (e : ℕ) (x : Opti
 
   some_shown : (y : Option (Published O)) → is_some y ≡ true → (r : NodeResult O) × (shown_in y ≡ Some r)
   some_shown None h = cc
-  some_shown (Some p) h = (shown p, refl)
+  some_shown (Some p) h = (published_result p, refl)
 
   pub filled_shows : is_some x ≡ true → (r : NodeResult O) × (slice_get (map shown_in filled) e ≡ Some (Some r))
   filled_shows h = let t = some_shown x h in (t.0, shows ∙ ap Some t.1)

@@ -9,7 +9,7 @@ use Rattle.pass_core.specs.declared.plan.Plan.{Plan}
 use Rattle.pass_core.specs.Plans.{IsPlan, HasNoCycle, predecessors}
 use Rattle.pass_core.specs.Heights.{height}
 use Rattle.pass_core.specs.Outcomes.{PassMeans}
-use Rattle.pass_core.specs.Results.{NodeResult, Done, Bad, Poisoned, IsDone, cons_if, outs_of, visited, judged, node_result}
+use Rattle.pass_core.specs.Results.{NodeResult, Done, Bad, Poisoned, IsDone, cons_if, all_outs, result_of_visit, judged_result, node_result}
 use Rattle.pass_core.proofs.Unrolled.{result_equation}
 use Rattle.pass_core.proofs.Induction.{plan_induction}
 
@@ -24,7 +24,7 @@ module _ {O : Type 0} where
   Settled (Bad fault) made = made ≡ Err fault
   Settled Poisoned made = ⊤
 
-  settled_visit : (r made : Result O Fault) → r ≡ made → Settled (visited r) made
+  settled_visit : (r made : Result O Fault) → r ≡ made → Settled (result_of_visit r) made
   settled_visit (Ok out) made same = sym same
   settled_visit (Err fault) made same = sym same
 
@@ -34,8 +34,8 @@ module _ {O : Type 0} where
   settled_ok Poisoned made done same = absurd done
 
   module _ (step : ℕ → Result O Fault) (f : ℕ → NodeResult O) where
-    one_out : (m : ℕ) (ms : List ℕ) (r : NodeResult O) (rest : Option (List O)) → f m ≡ r → outs_of (map f ms) ≡ rest → Settled r (step m) → ((outs : List O) → rest ≡ Some outs → map Ok outs ≡ map step ms)
-        → (outs : List O) → outs_of (r ∷ map f ms) ≡ Some outs → map Ok outs ≡ map step (m ∷ ms)
+    one_out : (m : ℕ) (ms : List ℕ) (r : NodeResult O) (rest : Option (List O)) → f m ≡ r → all_outs (map f ms) ≡ rest → Settled r (step m) → ((outs : List O) → rest ≡ Some outs → map Ok outs ≡ map step ms)
+        → (outs : List O) → all_outs (r ∷ map f ms) ≡ Some outs → map Ok outs ≡ map step (m ∷ ms)
     one_out m ms (Done out) None is rest_is here behind outs h = let e : cons_if out None ≡ Some outs = ap (cons_if out) (sym rest_is) ∙ h in cc
     one_out m ms (Done out) (Some more) is rest_is here behind outs h =
         let e : cons_if out (Some more) ≡ Some outs = ap (cons_if out) (sym rest_is) ∙ h in
@@ -45,10 +45,10 @@ module _ {O : Type 0} where
     one_out m ms Poisoned rest is rest_is here behind outs h = cc
 
     -- where all are done, their outs are what the step makes
-    outs_settled : (ms : List ℕ) → AllByRecursion (λ m. Settled (f m) (step m)) ms → (outs : List O) → outs_of (map f ms) ≡ Some outs → map Ok outs ≡ map step ms
+    outs_settled : (ms : List ℕ) → AllByRecursion (λ m. Settled (f m) (step m)) ms → (outs : List O) → all_outs (map f ms) ≡ Some outs → map Ok outs ≡ map step ms
     outs_settled [] h [] e = refl
     outs_settled [] h (x ∷ xs) e = cc
-    outs_settled (m ∷ ms) h outs e = one_out m ms (f m) (outs_of (map f ms)) refl refl h.0 (outs_settled ms h.1) outs e
+    outs_settled (m ∷ ms) h outs e = one_out m ms (f m) (all_outs (map f ms)) refl refl h.0 (outs_settled ms h.1) outs e
 
     done_settled : (ms : List ℕ) → AllByRecursion (λ m. Settled (f m) (step m)) ms → (outs : List O) → map Done outs ≡ map f ms → map Ok outs ≡ map step ms
     done_settled [] h [] e = refl
@@ -62,14 +62,14 @@ module _ {O : Type 0} where
 
   module _ (mean : ℕ → List O → Result O Fault) (step : ℕ → Result O Fault) (plan : Plan) (is_plan : IsPlan plan) (free : HasNoCycle plan.edges)
       (right : (n : ℕ) (outs : List O) → n < plan.count → map Ok outs ≡ map step (predecessors plan.edges n) → mean n outs ≡ step n) where
-    judged_settled : (n : ℕ) → n < plan.count → (outs : Option (List O)) → outs_of (map (node_result mean plan) (predecessors plan.edges n)) ≡ outs
-        → AllByRecursion (λ m. Settled (node_result mean plan m) (step m)) (predecessors plan.edges n) → Settled (judged (mean n) outs) (step n)
+    judged_settled : (n : ℕ) → n < plan.count → (outs : Option (List O)) → all_outs (map (node_result mean plan) (predecessors plan.edges n)) ≡ outs
+        → AllByRecursion (λ m. Settled (node_result mean plan m) (step m)) (predecessors plan.edges n) → Settled (judged_result (mean n) outs) (step n)
     judged_settled n lt None e h = tt
     judged_settled n lt (Some outs) e h = settled_visit (mean n outs) (step n) (right n outs lt (outs_settled step (node_result mean plan) (predecessors plan.edges n) h outs e))
 
     node_settled : (n : ℕ) → n < plan.count → Settled (node_result mean plan n) (step n)
     node_settled = plan_induction plan is_plan.ends free (λ n. Settled (node_result mean plan n) (step n))
-        (λ n lt h. subst (λ r. Settled r (step n)) (sym (result_equation plan is_plan.ends free mean n lt)) (judged_settled n lt (outs_of (map (node_result mean plan) (predecessors plan.edges n))) refl h))
+        (λ n lt h. subst (λ r. Settled r (step n)) (sym (result_equation plan is_plan.ends free mean n lt)) (judged_settled n lt (all_outs (map (node_result mean plan) (predecessors plan.edges n))) refl h))
 
     pub pass_gathers : (outcome : Result (List O) Fault) → PassMeans mean plan outcome → Gathers (height plan) plan.count step outcome
     pass_gathers (Ok outs) h =

@@ -7,7 +7,7 @@ use Rattle.pass_core.specs.declared.plan.Plan.{Plan}
 use Rattle.pass_core.specs.declared.published.Published.{Published}
 use Rattle.pass_core.specs.Plans.{predecessors, IsPlan}
 use Rattle.pass_core.specs.InEdges.{AreStarts}
-use Rattle.pass_core.specs.Results.{NodeResult, judged, outs_of}
+use Rattle.pass_core.specs.Results.{NodeResult, judged_result, all_outs}
 use Rattle.pass_core.specs.CoreStates.{from_of, numbers_into, result_in}
 use Rattle.pass_core.specs.CoreKept.{shown_in}
 use Rattle.pass_core.proofs.InEdgesPlaced.{below_rises, below_le_length}
@@ -33,8 +33,8 @@ module _ (plan : Plan) (starts : List ℕ) (is_plan : IsPlan plan) (are : AreSta
     module _ (slice : List (Option (Published O))) (is : slice ≡ take (slice_index starts (n + 1) - slice_index starts n) (drop (slice_index starts n) filled)) where
       -- what the meaning gives for the slice is what it gives for what the in-edges hold
       pub slice_judged : (mean : List O → Result O Fault)
-          → judged mean (outs_of (map (λ (h : Option (Published O)). result_in (Some (shown_in h))) slice)) ≡ judged mean (outs_of (map (λ e. result_in (slice_get (map shown_in filled) e)) (numbers_into 0 plan.edges n)))
-      slice_judged mean = ap (λ (rs : List (NodeResult O)). judged mean (outs_of rs)) (ap (map (λ (h : Option (Published O)). result_in (Some (shown_in h)))) is ∙ sym held_values)
+          → judged_result mean (all_outs (map (λ (h : Option (Published O)). result_in (Some (shown_in h))) slice)) ≡ judged_result mean (all_outs (map (λ e. result_in (slice_get (map shown_in filled) e)) (numbers_into 0 plan.edges n)))
+      slice_judged mean = ap (λ (rs : List (NodeResult O)). judged_result mean (all_outs rs)) (ap (map (λ (h : Option (Published O)). result_in (Some (shown_in h)))) is ∙ sym held_values)
 
       pub slice_many : length (predecessors plan.edges n) ≡ length slice
       slice_many =

@@ -6,7 +6,7 @@ use Rattle.pass_core.specs.declared.plan.PlanEdge.{PlanEdge}
 use Rattle.bp_faults.specs.declared.fault.Fault.{Fault}
 use Rattle.pass_core.specs.declared.plan.Plan.{Plan}
 use Rattle.pass_core.specs.Plans.{predecessors, HaveEndsBelow, HasNoCycle}
-use Rattle.pass_core.specs.Results.{NodeResult, judged, outs_of, node_result}
+use Rattle.pass_core.specs.Results.{NodeResult, judged_result, all_outs, node_result}
 use Rattle.pass_core.specs.Heights.{above_all, height}
 use Rattle.pass_core.proofs.Unrolled.{result_equation, height_equation, tight, tight_below, tight_rises}
 use Rattle.bp_faults.proofs.Lists.{all_map, both, map-same}
@@ -32,9 +32,9 @@ module _ (plan : Plan) (below : HaveEndsBelow plan.count plan.edges) (free : Has
     plan_induction n lt = go (suc (free.rank n)) n lt (omega arith)
 
   -- whatever meets the equation is the results
-  pub result_unique : {O : Type 0} (mean : ℕ → List O → Result O Fault) (f : ℕ → NodeResult O) → ((n : ℕ) → n < plan.count → f n ≡ judged (mean n) (outs_of (map f (predecessors plan.edges n)))) → (n : ℕ) → n < plan.count → f n ≡ node_result mean plan n
+  pub result_unique : {O : Type 0} (mean : ℕ → List O → Result O Fault) (f : ℕ → NodeResult O) → ((n : ℕ) → n < plan.count → f n ≡ judged_result (mean n) (all_outs (map f (predecessors plan.edges n)))) → (n : ℕ) → n < plan.count → f n ≡ node_result mean plan n
   result_unique mean f meets = plan_induction (λ n. f n ≡ node_result mean plan n)
-      (λ n lt same. meets n lt ∙ ap (λ rs. judged (mean n) (outs_of rs)) (map-same f (node_result mean plan) (predecessors plan.edges n) same) ∙ sym (result_equation plan below free mean n lt))
+      (λ n lt same. meets n lt ∙ ap (λ rs. judged_result (mean n) (all_outs rs)) (map-same f (node_result mean plan) (predecessors plan.edges n) same) ∙ sym (result_equation plan below free mean n lt))
 
   -- a height is below the count
   pub height_below : (n : ℕ) → n < plan.count → height plan n < plan.count

@@ -11,7 +11,7 @@ use Rattle.pass_core.specs.declared.plan.Plan.{Plan}
 use Rattle.pass_core.specs.Plans.{predecessors}
 use Rattle.pass_core.specs.Orders.{IsLegal}
 use Rattle.pass_core.specs.CoreStates.{IsMarked, IsUnmarked, marks}
-use Rattle.pass_core.specs.OrderOutcomes.{IsReady, IsReadyAt, IsFirstRefused, IsShort, OrderOutcome, Ran, Refused, Short, IsOrderOutcome}
+use Rattle.pass_core.specs.OrderOutcomes.{IsReadyAfter, IsReadyAt, IsFirstRefused, IsShort, OrderOutcome, Ran, Refused, Short, IsOrderOutcome}
 use Rattle.bp_faults.proofs.Lists.{all_map, all_pushed, all_contained, same_at}
 use Rattle.pass_core.proofs.Marks.{marks_more, marks_most, marks_full, marks_none, marked_or, marked_before, still_marked, now_marked, not_both, get_blank}
 use Rattle.pass_core.proofs.Unique.{outcome_unique}
@@ -56,7 +56,7 @@ module _ (plan : Plan) (order : List ℕ) where
       contained k h = let t = checked.seen k h in contains_taken order k place t.0 t.1 (omega arith) t.2
 
       ready_here : n < plan.count → IsUnmarked visited n → AllByRecursion (IsMarked visited) (predecessors plan.edges n) → IsReadyAt plan order place
-      ready_here inside free after = subst (IsReady plan (take place order)) (sym here) (record {
+      ready_here inside free after = subst (IsReadyAfter plan (take place order)) (sym here) (record {
         inside = inside;
         unvisited = λ c. not_both visited n (all_contained (IsMarked visited) (take place order) n checked.marked c) free;
         after = all_map (IsMarked visited) (Contains (take place order)) contained (predecessors plan.edges n) after;
@@ -65,7 +65,7 @@ module _ (plan : Plan) (order : List ℕ) where
       -- what makes the next node ready shows in the marks
       pub ready_shows : IsReadyAt plan order place → (n < plan.count) × IsUnmarked visited n × AllByRecursion (IsMarked visited) (predecessors plan.edges n)
       ready_shows at =
-          let is : IsReady plan (take place order) n = subst (IsReady plan (take place order)) here at in (
+          let is : IsReadyAfter plan (take place order) n = subst (IsReadyAfter plan (take place order)) here at in (
             is.inside,
             ⊎_elim (λ h. absurd (is.unvisited (contained n h))) (λ free. free) (marked_or visited n (subst (λ x. n < x) (sym checked.many) is.inside)),
             all_map (Contains (take place order)) (IsMarked visited) (λ m c. all_contained (IsMarked visited) (take place order) m checked.marked c) (predecessors plan.edges n) is.after,

@@ -5,7 +5,7 @@ use mathlib.Core.Logic.{dite}
 use native.Mathlib.Decide.{ℕ_discrete}
 use Rattle.std.proofs.lemmas.List.{length-map}
 use Rattle.std.proofs.lemmas.Option.{slice_get_within}
-use Rattle.pass_core.specs.CoreStates.{IsMarked, IsUnmarked, marks, fills}
+use Rattle.pass_core.specs.CoreStates.{IsMarked, IsUnmarked, marks, filled_count}
 use Rattle.bp_faults.proofs.Lists.{get_here, get_else}
 
 pub marks_more : (bs : List Bool) (k : ℕ) → IsUnmarked bs k → marks (slice_set bs k true) ≡ suc (marks bs)
@@ -72,7 +72,7 @@ get_mapped f [] k x h = cc
 get_mapped f (y ∷ ys) zero x h = let e : y ≡ x = cc in ap (λ z. Some (f z)) e
 get_mapped f (y ∷ ys) (suc k) x h = get_mapped f ys k x h
 
-pub fills_none : (X : Type 0) (n : ℕ) → fills {X = X} (replicate n None) ≡ 0
+pub fills_none : (X : Type 0) (n : ℕ) → filled_count {X = X} (replicate n None) ≡ 0
 fills_none X zero = refl
 fills_none X (suc n) = fills_none X n
 
@@ -83,20 +83,20 @@ module _ {X : Type 0} where
   filled_or (None ∷ xs) zero lt = inr refl
   filled_or (x ∷ xs) (suc k) lt = filled_or xs k (omega arith)
 
-  pub fills_more : (xs : List (Option X)) (k : ℕ) (x : X) → slice_get xs k ≡ Some None → fills (slice_set xs k (Some x)) ≡ suc (fills xs)
+  pub fills_more : (xs : List (Option X)) (k : ℕ) (x : X) → slice_get xs k ≡ Some None → filled_count (slice_set xs k (Some x)) ≡ suc (filled_count xs)
   fills_more xs k x h = ap marks (map_set is_some xs k (Some x)) ∙ marks_more (map is_some xs) k (get_mapped is_some xs k None h)
 
-  pub fills_most : (xs : List (Option X)) → fills xs ≤ length xs
+  pub fills_most : (xs : List (Option X)) → filled_count xs ≤ length xs
   fills_most xs = let most = marks_most (map is_some xs) in omega (arith, length-map xs is_some)
 
   filled_there : (xs : List (Option X)) (k : ℕ) → IsMarked (map is_some xs) k → ((x : X) × (slice_get xs k ≡ Some (Some x))) ⊎ (slice_get xs k ≡ Some None) → (x : X) × (slice_get xs k ≡ Some (Some x))
   filled_there xs k h (inl there) = there
   filled_there xs k h (inr none) = let e : Some false ≡ Some true = sym (get_mapped is_some xs k None none) ∙ h in cc
 
-  pub fills_full : (xs : List (Option X)) → length xs ≤ fills xs → (k : ℕ) → k < length xs → (x : X) × (slice_get xs k ≡ Some (Some x))
+  pub fills_full : (xs : List (Option X)) → length xs ≤ filled_count xs → (k : ℕ) → k < length xs → (x : X) × (slice_get xs k ≡ Some (Some x))
   fills_full xs h k lt = filled_there xs k (marks_full (map is_some xs) (omega (arith, length-map xs is_some)) k (omega (arith, length-map xs is_some))) (filled_or xs k lt)
 
-  pub full_fills : (xs : List (Option X)) → ((k : ℕ) → k < length xs → (x : X) × (slice_get xs k ≡ Some (Some x))) → fills xs ≡ length xs
+  pub full_fills : (xs : List (Option X)) → ((k : ℕ) → k < length xs → (x : X) × (slice_get xs k ≡ Some (Some x))) → filled_count xs ≡ length xs
   full_fills xs h = full_marks (map is_some xs) (λ k lt. let t = h k (omega (arith, length-map xs is_some)) in get_mapped is_some xs k (Some t.0) t.1) ∙ length-map xs is_some
 
   -- what is filled stays filled

@@ -6,7 +6,7 @@ use Rattle.std.proofs.lemmas.Bool.Decides.{nat_tests}
 use Rattle.pass_core.specs.declared.plan.PlanEdge.{PlanEdge}
 use Rattle.pass_core.specs.Plans.{sources, predecessors}
 use Rattle.pass_core.specs.CoreStates.{numbers_into, IsMarked, IsUnmarked}
-use Rattle.pass_core.specs.CoreKept.{one_if, left}
+use Rattle.pass_core.specs.CoreKept.{one_if, unmarked_count}
 
 abbrev pub targets : List PlanEdge → List ℕ
 targets edges = map (λ (d : PlanEdge). d.to.0) edges
@@ -62,11 +62,11 @@ many_if : (d : PlanEdge) (ds : List PlanEdge) (n : ℕ) (b : Bool) → (d.to.0 =
 many_if d ds n true is = rw is (omega arith)
 many_if d ds n false is = rw is (omega arith)
 
-pub left_begins : (ds : List PlanEdge) (n : ℕ) → left ds (replicate (length ds) false) n ≡ length (predecessors ds n)
+pub left_begins : (ds : List PlanEdge) (n : ℕ) → unmarked_count ds (replicate (length ds) false) n ≡ length (predecessors ds n)
 left_begins [] n = refl
 left_begins (d ∷ ds) n = let rest = left_begins ds n in let first = many_if d ds n (d.to.0 == n) refl in omega arith
 
-pub left_lower : (ds : List PlanEdge) (bs : List Bool) (e n : ℕ) → e < length ds → IsUnmarked bs e → slice_index (targets ds) e ≡ n → left ds bs n ≡ suc (left ds (slice_set bs e true) n)
+pub left_lower : (ds : List PlanEdge) (bs : List Bool) (e n : ℕ) → e < length ds → IsUnmarked bs e → slice_index (targets ds) e ≡ n → unmarked_count ds bs n ≡ suc (unmarked_count ds (slice_set bs e true) n)
 left_lower [] bs e n lt h same = absurd (omega arith)
 left_lower (d ∷ ds) [] e n lt h same = cc
 left_lower (d ∷ ds) (true ∷ bs) zero n lt h same = cc
@@ -74,7 +74,7 @@ left_lower (d ∷ ds) (false ∷ bs) zero n lt h same = let one = one_here d.to.
 left_lower (d ∷ ds) (true ∷ bs) (suc e) n lt h same = left_lower ds bs e n (omega arith) h same
 left_lower (d ∷ ds) (false ∷ bs) (suc e) n lt h same = let rest = left_lower ds bs e n (omega arith) h same in omega arith
 
-pub left_same : (ds : List PlanEdge) (bs : List Bool) (e n : ℕ) → slice_index (targets ds) e ≢ n → left ds (slice_set bs e true) n ≡ left ds bs n
+pub left_same : (ds : List PlanEdge) (bs : List Bool) (e n : ℕ) → slice_index (targets ds) e ≢ n → unmarked_count ds (slice_set bs e true) n ≡ unmarked_count ds bs n
 left_same [] bs e n other = refl
 left_same (d ∷ ds) [] e n other = refl
 left_same (d ∷ ds) (true ∷ bs) zero n other = refl
@@ -82,7 +82,7 @@ left_same (d ∷ ds) (false ∷ bs) zero n other = let none = none_here d.to.0 n
 left_same (d ∷ ds) (true ∷ bs) (suc e) n other = left_same ds bs e n other
 left_same (d ∷ ds) (false ∷ bs) (suc e) n other = let rest = left_same ds bs e n other in omega arith
 
-pub left_none : (ds : List PlanEdge) (bs : List Bool) (n : ℕ) → length bs ≡ length ds → left ds bs n ≡ 0 → (e : ℕ) → e < length ds → slice_index (targets ds) e ≡ n → IsMarked bs e
+pub left_none : (ds : List PlanEdge) (bs : List Bool) (n : ℕ) → length bs ≡ length ds → unmarked_count ds bs n ≡ 0 → (e : ℕ) → e < length ds → slice_index (targets ds) e ≡ n → IsMarked bs e
 left_none [] bs n many h e lt same = absurd (omega arith)
 left_none (d ∷ ds) [] n many h e lt same = absurd (omega arith)
 left_none (d ∷ ds) (true ∷ bs) n many h zero lt same = refl
@@ -90,7 +90,7 @@ left_none (d ∷ ds) (false ∷ bs) n many h zero lt same = let one = one_here d
 left_none (d ∷ ds) (true ∷ bs) n many h (suc e) lt same = left_none ds bs n (omega arith) h e (omega arith) same
 left_none (d ∷ ds) (false ∷ bs) n many h (suc e) lt same = left_none ds bs n (omega arith) (omega arith) e (omega arith) same
 
-pub none_left : (ds : List PlanEdge) (bs : List Bool) (n : ℕ) → ((e : ℕ) → e < length ds → slice_index (targets ds) e ≡ n → IsMarked bs e) → left ds bs n ≡ 0
+pub none_left : (ds : List PlanEdge) (bs : List Bool) (n : ℕ) → ((e : ℕ) → e < length ds → slice_index (targets ds) e ≡ n → IsMarked bs e) → unmarked_count ds bs n ≡ 0
 none_left [] bs n h = refl
 none_left (d ∷ ds) [] n h = refl
 none_left (d ∷ ds) (true ∷ bs) n h = none_left ds bs n (λ e lt same. h (suc e) (omega arith) same)

@@ -7,18 +7,18 @@ use Rattle.bp_faults.specs.declared.fault.Fault.{Fault}
 use Rattle.pass_core.specs.declared.plan.Plan.{Plan}
 use Rattle.pass_core.specs.declared.plan.PlanEdge.{PlanEdge}
 use Rattle.pass_core.specs.Plans.{IsPlan, HasNoCycle, predecessors}
-use Rattle.pass_core.specs.Results.{Done, visited, outs_of, judged, node_result, cons_if}
-use Rattle.pass_core.specs.Outcomes.{IsOutcome}
+use Rattle.pass_core.specs.Results.{Done, result_of_visit, all_outs, judged_result, node_result, cons_if}
+use Rattle.pass_core.specs.Outcomes.{PassOutcomeMeans}
 use Rattle.pass_core.proofs.Unrolled.{result_equation}
 use Rattle.pass_core.proofs.Predecessors.{all_predecessors}
 use Rattle.bp_faults.proofs.Lists.{map-same, all_map}
 
 module _ {O : Type 0} where
-  visited_done : (r : Result O Fault) (out : O) → visited r ≡ Done out → r ≡ Ok out
+  visited_done : (r : Result O Fault) (out : O) → result_of_visit r ≡ Done out → r ≡ Ok out
   visited_done (Ok o) out h = let e : o ≡ out = cc in ap Ok e
   visited_done (Err f) out h = cc
 
-  outs_of_done : (outs : List O) → outs_of (map Done outs) ≡ Some outs
+  outs_of_done : (outs : List O) → all_outs (map Done outs) ≡ Some outs
   outs_of_done [] = refl
   outs_of_done (o ∷ outs) = ap (cons_if o) (outs_of_done outs)
 
@@ -26,7 +26,7 @@ module _ {O : Type 0} where
   map_done f [] = refl
   map_done f (n ∷ ns) = ap (λ l. Done (f n) ∷ l) (map_done f ns)
 
-  module _ (mean : ℕ → List O → Result O Fault) (plan : Plan) (outs : List O) (outcome : IsOutcome mean plan (Ok outs)) where
+  module _ (mean : ℕ → List O → Result O Fault) (plan : Plan) (outs : List O) (outcome : PassOutcomeMeans mean plan (Ok outs)) where
     pub many_outs : length outs ≡ plan.count
     many_outs = sym (length-map outs Done) ∙ ap length outcome ∙ length-map-range_with_len (node_result mean plan) 0 plan.count
 
@@ -50,4 +50,4 @@ module _ {O : Type 0} where
           let befores : map (node_result mean plan) (predecessors plan.edges n) ≡ map Done (map (λ m. get_or outs m d) (predecessors plan.edges n)) =
           map-same (node_result mean plan) (λ m. Done (get_or outs m d)) ins (all_map (λ m. m < plan.count) (λ m. node_result mean plan m ≡ Done (get_or outs m d)) (λ m h. result_at m d h) ins (predecessors_inside n)) ∙ map_done (λ m. get_or outs m d) ins in
           visited_done (mean n (map (λ m. get_or outs m d) ins)) (get_or outs n d)
-          (ap (judged (mean n)) (sym (ap outs_of befores ∙ outs_of_done (map (λ m. get_or outs m d) ins))) ∙ sym (result_equation plan is_plan.ends free mean n lt) ∙ result_at n d lt)
+          (ap (judged_result (mean n)) (sym (ap all_outs befores ∙ outs_of_done (map (λ m. get_or outs m d) ins))) ∙ sym (result_equation plan is_plan.ends free mean n lt) ∙ result_at n d lt)

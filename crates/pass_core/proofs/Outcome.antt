@@ -10,7 +10,7 @@ use Rattle.pass_core.specs.declared.plan.Plan.{Plan}
 use Rattle.pass_core.specs.Plans.{IsPlan, HasNoCycle}
 use Rattle.pass_core.specs.Orders.{IsSerial}
 use Rattle.pass_core.specs.Results.{NodeResult, Done, Bad, Poisoned, IsDone, node_result}
-use Rattle.pass_core.specs.Outcomes.{IsFirstUndone, IsOutcome}
+use Rattle.pass_core.specs.Outcomes.{IsFirstUndone, PassOutcomeMeans}
 use Rattle.pass_core.proofs.Legal.{node_at, stands_before}
 use Rattle.pass_core.proofs.Sorted.{the_order, the_order_is_serial}
 use Rattle.pass_core.proofs.Unique.{bad_at_first}
@@ -29,7 +29,7 @@ module _ {O : Type 0} where
   module _ (mean : ℕ → List O → Result O Fault) (plan : Plan) (is_plan : IsPlan plan) (free : HasNoCycle plan.edges) (order : List ℕ) (serial : IsSerial plan order) where
     -- at the first node of the order that isn't done the pass has its fault
     undone_at : (i : ℕ) → i < length order → AllByRecursion (λ n. IsDone (node_result mean plan n)) (take i order) → (IsDone (node_result mean plan (get_or order i 0)) → ⊥)
-        → (outcome : Result (List O) (ℕ × Fault)) × IsOutcome mean plan outcome
+        → (outcome : Result (List O) (ℕ × Fault)) × PassOutcomeMeans mean plan outcome
     undone_at i lt done undone =
         let first : IsFirstUndone (node_result mean plan) plan (get_or order i 0) = record {
           inside = node_at plan order serial i 0 lt;
@@ -39,7 +39,7 @@ module _ {O : Type 0} where
         let bad = bad_at_first mean plan is_plan.ends free (get_or order i 0) first in
         (Err (get_or order i 0, bad.0), (first, bad.1))
 
-    all_are_done : AllByRecursion (λ n. IsDone (node_result mean plan n)) order → (outcome : Result (List O) (ℕ × Fault)) × IsOutcome mean plan outcome
+    all_are_done : AllByRecursion (λ n. IsDone (node_result mean plan n)) order → (outcome : Result (List O) (ℕ × Fault)) × PassOutcomeMeans mean plan outcome
     all_are_done done =
         let each = recursion_from_All (λ n. IsDone (node_result mean plan n)) (range_with_len 0 plan.count)
         (λ k d lt. all_contained (λ n. IsDone (node_result mean plan n)) order (get_or (range_with_len 0 plan.count) k d) done
@@ -48,18 +48,18 @@ module _ {O : Type 0} where
         (Ok outs.0, outs.1)
 
     by_result : (k i : ℕ) → i + suc k ≡ length order → AllByRecursion (λ n. IsDone (node_result mean plan n)) (take i order) → (r : NodeResult O) → node_result mean plan (get_or order i 0) ≡ r
-        → (AllByRecursion (λ n. IsDone (node_result mean plan n)) (take (i + 1) order) → (outcome : Result (List O) (ℕ × Fault)) × IsOutcome mean plan outcome) → (outcome : Result (List O) (ℕ × Fault)) × IsOutcome mean plan outcome
+        → (AllByRecursion (λ n. IsDone (node_result mean plan n)) (take (i + 1) order) → (outcome : Result (List O) (ℕ × Fault)) × PassOutcomeMeans mean plan outcome) → (outcome : Result (List O) (ℕ × Fault)) × PassOutcomeMeans mean plan outcome
     by_result k i many done (Done out) is next =
         next (subst (λ (l : List ℕ). AllByRecursion (λ n. IsDone (node_result mean plan n)) l) (sym (take_more order i 0 (omega arith)))
         (all_pushed (λ n. IsDone (node_result mean plan n)) (take i order) (get_or order i 0) done (subst (λ (r : NodeResult O). IsDone r) (sym is) tt)))
     by_result k i many done (Bad fault) is next = undone_at i (omega arith) done (λ d. subst (λ (r : NodeResult O). IsDone r) is d)
     by_result k i many done Poisoned is next = undone_at i (omega arith) done (λ d. subst (λ (r : NodeResult O). IsDone r) is d)
 
-    search_from : (k i : ℕ) → i + k ≡ length order → AllByRecursion (λ n. IsDone (node_result mean plan n)) (take i order) → (outcome : Result (List O) (ℕ × Fault)) × IsOutcome mean plan outcome
+    search_from : (k i : ℕ) → i + k ≡ length order → AllByRecursion (λ n. IsDone (node_result mean plan n)) (take i order) → (outcome : Result (List O) (ℕ × Fault)) × PassOutcomeMeans mean plan outcome
     search_from zero i many done =
         let whole : i ≡ length order = omega arith in
         all_are_done (subst (λ (l : List ℕ). AllByRecursion (λ n. IsDone (node_result mean plan n)) l) (ap (λ j. take j order) whole ∙ take-length order) done)
     search_from (suc k) i many done = by_result k i many done (node_result mean plan (get_or order i 0)) refl (search_from k (i + 1) (omega arith))
 
-  pub outcome_exists : (mean : ℕ → List O → Result O Fault) (plan : Plan) → IsPlan plan → HasNoCycle plan.edges → (outcome : Result (List O) (ℕ × Fault)) × IsOutcome mean plan outcome
+  pub outcome_exists : (mean : ℕ → List O → Result O Fault) (plan : Plan) → IsPlan plan → HasNoCycle plan.edges → (outcome : Result (List O) (ℕ × Fault)) × PassOutcomeMeans mean plan outcome
   outcome_exists mean plan is_plan free = search_from mean plan is_plan free (the_order plan) (the_order_is_serial plan) (length (the_order plan)) 0 (omega arith) tt

@@ -15,7 +15,7 @@ use Rattle.pass_core.specs.declared.plan.PlanEdge.{PlanEdge}
 use Rattle.pass_core.specs.declared.height.Climb.{Climb}
 use Rattle.pass_core.specs.Plans.{in_edges, sources, predecessors, HasNoCycle, IsPlan}
 use Rattle.pass_core.specs.Heights.{height}
-use Rattle.pass_core.specs.Settling.{settled_at, joined, AreSettled, IsOn, IsDue, IsPath, total, cost, path_cost, IsAdvanced, sought, gone_up, start_at, IsOnWay}
+use Rattle.pass_core.specs.Settling.{settled_at, inner_option, AreSettled, IsOn, IsDue, IsPath, total, cost, path_cost, IsAdvanced, sought_climbs, gone_up, start_at, IsOnWay}
 use Rattle.pass_core.proofs.Climbing.{source_below}
 use Rattle.pass_core.proofs.Unrolled.{unroll_equation, tight, tight_below, tight_rises}
 use Rattle.bp_faults.proofs.Lists.{all_map, all_pushed, get_else, get_here, same_at, take-past}
@@ -71,24 +71,24 @@ module _ (plan : Plan) (settled : List (Option ℕ)) where
       less = omega (arith, cost_joined plan cs ds, cost_joined plan cs (c ∷ []));
     }
 
-unsettled_is : (source : NodeId) (r : Option ℕ) → is_some r ≡ false → sought source r ≡ (record { node = source; next = 0 }) ∷ []
+unsettled_is : (source : NodeId) (r : Option ℕ) → is_some r ≡ false → sought_climbs source r ≡ (record { node = source; next = 0 }) ∷ []
 unsettled_is source None h = refl
 unsettled_is source (Some x) h = cc
 
-settled_is : (source : NodeId) (r : Option ℕ) → is_some r ≡ true → sought source r ≡ []
+settled_is : (source : NodeId) (r : Option ℕ) → is_some r ≡ true → sought_climbs source r ≡ []
 settled_is source None h = cc
 settled_is source (Some x) h = refl
 
 pub read_settled : (settled : List (Option ℕ)) (k : ℕ) → k < length settled → settled_at settled k ≡ get_or settled k None
-read_settled settled k lt = ap joined (slice_get-get_or settled k None lt)
+read_settled settled k lt = ap inner_option (slice_get-get_or settled k None lt)
 
 module _ (settled : List (Option ℕ)) (c : Climb) (source : NodeId) (lt : source.0 < length settled) (path : List Climb) where
   pub up_sought : is_some (get_or settled source.0 None) ≡ false → (path ++ (record { node = c.node; next = c.next + 1 }) ∷ []) ++ (record { node = source; next = 0 }) ∷ [] ≡ path ++ gone_up settled c source
   up_sought h = append_assoc path ((record { node = c.node; next = c.next + 1 }) ∷ []) ((record { node = source; next = 0 }) ∷ [])
-      ∙ ap (λ (l : List Climb). path ++ (record { node = c.node; next = c.next + 1 }) ∷ l) (sym (ap (sought source) (read_settled settled source.0 lt) ∙ unsettled_is source (get_or settled source.0 None) h))
+      ∙ ap (λ (l : List Climb). path ++ (record { node = c.node; next = c.next + 1 }) ∷ l) (sym (ap (sought_climbs source) (read_settled settled source.0 lt) ∙ unsettled_is source (get_or settled source.0 None) h))
 
   pub up_settled : is_some (get_or settled source.0 None) ≡ true → path ++ (record { node = c.node; next = c.next + 1 }) ∷ [] ≡ path ++ gone_up settled c source
-  up_settled h = ap (λ (l : List Climb). path ++ (record { node = c.node; next = c.next + 1 }) ∷ l) (sym (ap (sought source) (read_settled settled source.0 lt) ∙ settled_is source (get_or settled source.0 None) h))
+  up_settled h = ap (λ (l : List Climb). path ++ (record { node = c.node; next = c.next + 1 }) ∷ l) (sym (ap (sought_climbs source) (read_settled settled source.0 lt) ∙ settled_is source (get_or settled source.0 None) h))
 
 module _ (plan : Plan) (is_plan : IsPlan plan) (free : HasNoCycle plan.edges) where
   cost_equation : (n : ℕ) → n < plan.count → cost plan n ≡ suc (total (map (cost plan) (predecessors plan.edges n)))
@@ -121,10 +121,10 @@ module _ (plan : Plan) (is_plan : IsPlan plan) (free : HasNoCycle plan.edges) wh
     -- a node is settled
     module _ (h : ℕ) (is : h ≡ height plan c.node.0) where
       here : settled_at (set settled c.node.0 (Some h)) c.node.0 ≡ Some h
-      here = ap joined (get_here settled c.node.0 (Some h) node_bound)
+      here = ap inner_option (get_here settled c.node.0 (Some h) node_bound)
 
       elsewhere : (m : ℕ) → m ≢ c.node.0 → settled_at (set settled c.node.0 (Some h)) m ≡ settled_at settled m
-      elsewhere m ne = ap joined (get_else settled c.node.0 m (Some h) ne)
+      elsewhere m ne = ap inner_option (get_else settled c.node.0 m (Some h) ne)
 
       set_some : (m : ℕ) → (m ≡ c.node.0) ⊎ IsSome (settled_at settled m) → IsSome (settled_at (set settled c.node.0 (Some h)) m)
       set_some m either = dite (ℕ_discrete m c.node.0)
@@ -160,11 +160,11 @@ module _ (plan : Plan) (is_plan : IsPlan plan) (free : HasNoCycle plan.edges) wh
           (all_pushed (IsDue settled above) (take c.next (predecessors plan.edges c.node.0)) source.0
           (all_map (λ m. IsSome (settled_at settled m)) (IsDue settled above) (λ m some. inl some) (take c.next (predecessors plan.edges c.node.0)) (looked_at plan settled c end)) due)
 
-      up_path : (r : Option ℕ) → settled_at settled source.0 ≡ r → IsPath plan settled (up ∷ sought source r)
+      up_path : (r : Option ℕ) → settled_at settled source.0 ≡ r → IsPath plan settled (up ∷ sought_climbs source r)
       up_path None is = (node_inside, up_due ((record { node = source; next = 0 }) ∷ []) (inr (inl refl)), (inside, tt, tt))
       up_path (Some h) is = (node_inside, up_due [] (inl (subst (λ (r : Option ℕ). IsSome r) (sym is) refl)), tt)
 
-      up_less : (r : Option ℕ) → path_cost plan (up ∷ sought source r) < path_cost plan (c ∷ [])
+      up_less : (r : Option ℕ) → path_cost plan (up ∷ sought_climbs source r) < path_cost plan (c ∷ [])
       up_less None =
           let left = ap (λ (l : List ℕ). total (map (cost plan) l)) left_more in let whole : cost plan source.0 ≡ suc (total (map (cost plan) (drop 0 (predecessors plan.edges source.0)))) = cost_equation source.0 inside in omega arith
       up_less (Some h) = let left = ap (λ (l : List ℕ). total (map (cost plan) l)) left_more in omega arith

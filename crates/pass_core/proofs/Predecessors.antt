@@ -38,9 +38,6 @@ pub in_edges_few : (es : List PlanEdge) (n : ℕ) → length (in_edges es n) ≤
 in_edges_few [] n = omega arith
 in_edges_few (e ∷ es) n = let rest = in_edges_few es n in grind (arith, nat_tests)
 
-pub few_predecessors : (es : List PlanEdge) (n : ℕ) → length (predecessors es n) ≤ length es
-few_predecessors es n = let few = in_edges_few es n in omega (arith, length-map (in_edges es n) (λ (e : PlanEdge). e.from.0))
-
 -- what holds of each source holds of the source of the edge at a place
 pub source_at : (P : ℕ → Type 0) (es : List PlanEdge) (i : ℕ) (d : PlanEdge) → AllByRecursion P (sources es) → i < length es → P (get_or es i d).from.0
 source_at P es i d h lt =

@@ -13,7 +13,7 @@ use Rattle.pass_core.specs.declared.step.Step.{Step}
 use Rattle.pass_core.specs.declared.step.Step.TheVariants.{Claim, Fetch, Fill, Subtract}
 use Rattle.pass_core.specs.Plans.{predecessors, HasNoCycle, IsPlan}
 use Rattle.pass_core.specs.Results.{node_result}
-use Rattle.pass_core.specs.CoreStates.{CoreState, from_of, to_of, numbers_into, IsMarked, IsFilled, VisitWasMade, made, Allows, IsFinished, entries}
+use Rattle.pass_core.specs.CoreStates.{CoreState, from_of, to_of, numbers_into, IsMarked, IsFilled, VisitWasMade, visit_result, Allows, IsFinished, entries}
 use Rattle.pass_core.proofs.Induction.{plan_induction}
 use Rattle.bp_faults.proofs.Lists.{map-same}
 use Rattle.pass_core.proofs.Marks.{marked_or, filled_or, marks_most, marks_full, full_marks, fills_most, fills_full, full_fills}
@@ -127,11 +127,11 @@ module _ {O : Type 0} (mean : ℕ → List O → Result O Fault) (plan : Plan) (
   pub claimed_late : (e : ℕ) → e < length plan.edges → IsMarked s.claimed (to_of plan e) → IsMarked s.subtracted e
   claimed_late e lt claimed = left_none plan.edges s.subtracted (to_of plan e) sound.subtracted_many (sound.awaited (to_of plan e) claimed) e lt refl
 
-  pub results_when_finished : IsFinished plan s → map (made mean plan s) (range_with_len 0 plan.count) ≡ map (node_result mean plan) (range_with_len 0 plan.count)
+  pub results_when_finished : IsFinished plan s → map (visit_result mean plan s) (range_with_len 0 plan.count) ≡ map (node_result mean plan) (range_with_len 0 plan.count)
   results_when_finished done =
-      map-same (made mean plan s) (node_result mean plan) (range_with_len 0 plan.count)
-      (recursion_from_All (λ n. made mean plan s n ≡ node_result mean plan n) (range_with_len 0 plan.count)
+      map-same (visit_result mean plan s) (node_result mean plan) (range_with_len 0 plan.count)
+      (recursion_from_All (λ n. visit_result mean plan s n ≡ node_result mean plan n) (range_with_len 0 plan.count)
       (λ k d lt.
       let inside : k < plan.count = omega (arith, length-range_with_len 0 plan.count) in
       let same = get_or-range_with_len 0 plan.count k d inside ∙ zero-add k in
-      subst (λ n. made mean plan s n ≡ node_result mean plan n) (sym same) (made_right mean plan is_plan free s sound k inside (done.visited k inside))))
+      subst (λ n. visit_result mean plan s n ≡ node_result mean plan n) (sym same) (made_right mean plan is_plan free s sound k inside (done.visited k inside))))

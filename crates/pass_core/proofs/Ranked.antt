@@ -16,7 +16,7 @@ use Rattle.std.proofs.lemmas.Map.Keys.{IsDistinct-IsPermutation, apart_from_dist
 use Rattle.bp_faults.specs.declared.ids.NodeId.{NodeId}
 use Rattle.pass_core.specs.declared.plan.Plan.{Plan}
 use Rattle.pass_core.specs.Heights.{height, IsBefore}
-use Rattle.pass_core.specs.Inside.{ranked}
+use Rattle.pass_core.specs.Inside.{ranked_node}
 use Rattle.pass_core.specs.Orders.{numbers, HasEachOnce, IsSerial}
 
 -- what holds of neighbours and goes on holds of each pair
@@ -53,7 +53,7 @@ by_parts a b c d h = dite (dec_lt b a) (λ more. inl more)
 before_from_test : (x y : ℕ × NodeId) → is_lt (ordering_then (nat_cmp y.0 x.0) (nat_cmp y.1.0 x.1.0)) ≡ false → Before x y
 before_from_test x y h = by_parts y.0 x.0 y.1.0 x.1.0 h
 
-numbers_back : (plan : Plan) (ns : List ℕ) → map (λ (r : ℕ × NodeId). r.1.0) (map (ranked plan) ns) ≡ ns
+numbers_back : (plan : Plan) (ns : List ℕ) → map (λ (r : ℕ × NodeId). r.1.0) (map (ranked_node plan) ns) ≡ ns
 numbers_back plan [] = refl
 numbers_back plan (n ∷ ns) = ap (λ (l : List ℕ). n ∷ l) (numbers_back plan ns)
 
@@ -73,11 +73,11 @@ range_distinct a (suc n) = (none_equal a (a + 1) n (omega arith), range_distinct
 eqb_flips : (x y : ℕ) → eqb x y ≡ eqb y x
 eqb_flips x y = grind (arith, nat_tests)
 
-module _ (plan : Plan) (rs : List (ℕ × NodeId)) (perm : IsPermutation (map (ranked plan) (range_with_len 0 plan.count)) rs) where
+module _ (plan : Plan) (rs : List (ℕ × NodeId)) (perm : IsPermutation (map (ranked_node plan) (range_with_len 0 plan.count)) rs) where
   perm_numbers : IsPermutation (range_with_len 0 plan.count) (numbers (map (λ (r : ℕ × NodeId). r.1) rs))
   perm_numbers = subst (λ (l : List ℕ). IsPermutation (range_with_len 0 plan.count) l) (numbers_on rs)
       (subst (λ (l : List ℕ). IsPermutation l (map (λ (r : ℕ × NodeId). r.1.0) rs)) (numbers_back plan (range_with_len 0 plan.count))
-      (IsPermutation-map (λ (r : ℕ × NodeId). r.1.0) (map (ranked plan) (range_with_len 0 plan.count)) rs perm))
+      (IsPermutation-map (λ (r : ℕ × NodeId). r.1.0) (map (ranked_node plan) (range_with_len 0 plan.count)) rs perm))
 
   range_below : All (λ n. n < plan.count) (range_with_len 0 plan.count)
   range_below k d lt = let e = get_or-range_with_len 0 plan.count k d (omega (arith, length-range_with_len)) in let many = length-range_with_len 0 plan.count in omega arith
@@ -98,13 +98,13 @@ module _ (plan : Plan) (rs : List (ℕ × NodeId)) (perm : IsPermutation (map (r
     once = apart;
   }
 
-  with_heights : (ns : List ℕ) → AllByRecursion (λ (r : ℕ × NodeId). r.0 ≡ height plan r.1.0) (map (ranked plan) ns)
+  with_heights : (ns : List ℕ) → AllByRecursion (λ (r : ℕ × NodeId). r.0 ≡ height plan r.1.0) (map (ranked_node plan) ns)
   with_heights [] = tt
   with_heights (n ∷ ns) = (refl, with_heights ns)
 
   height_at : (k : ℕ) (r : ℕ × NodeId) → k < length rs → (get_or rs k r).0 ≡ height plan (get_or rs k r).1.0
-  height_at k r lt = All-permutation (λ (r : ℕ × NodeId). r.0 ≡ height plan r.1.0) (map (ranked plan) (range_with_len 0 plan.count)) rs perm
-      (All-from_recursion (λ (r : ℕ × NodeId). r.0 ≡ height plan r.1.0) (map (ranked plan) (range_with_len 0 plan.count)) (with_heights (range_with_len 0 plan.count))) k r lt
+  height_at k r lt = All-permutation (λ (r : ℕ × NodeId). r.0 ≡ height plan r.1.0) (map (ranked_node plan) (range_with_len 0 plan.count)) rs perm
+      (All-from_recursion (λ (r : ℕ × NodeId). r.0 ≡ height plan r.1.0) (map (ranked_node plan) (range_with_len 0 plan.count)) (with_heights (range_with_len 0 plan.count))) k r lt
 
   number_at : (k : ℕ) (r : ℕ × NodeId) → get_or (numbers (map (λ (r : ℕ × NodeId). r.1) rs)) k r.1.0 ≡ (get_or rs k r).1.0
   number_at k r = ap (λ (l : List ℕ). get_or l k r.1.0) (sym (numbers_on rs)) ∙ get_or-map (λ (r : ℕ × NodeId). r.1.0) rs k r

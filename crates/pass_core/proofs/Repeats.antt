@@ -7,7 +7,7 @@ use Rattle.bp_faults.specs.declared.fault.Fault.{Fault}
 use Rattle.pass_core.specs.declared.plan.Plan.{Plan}
 use Rattle.pass_core.specs.declared.step.Step.{Step}
 use Rattle.pass_core.specs.declared.step.Step.TheVariants.{Claim, Fetch, Fill, Subtract}
-use Rattle.pass_core.specs.CoreStates.{CoreState, from_of, IsMarked, IsFilled, made, Allows, after, AreAllowed}
+use Rattle.pass_core.specs.CoreStates.{CoreState, from_of, IsMarked, IsFilled, visit_result, Allows, after, AreAllowed}
 use Rattle.bp_faults.proofs.Lists.{get_here}
 use Rattle.pass_core.proofs.Marks.{now_marked, still_marked, still_filled, not_both}
 
@@ -34,7 +34,7 @@ module _ {O : Type 0} (mean : ℕ → List O → Result O Fault) (plan : Plan) w
   records : (s : CoreState O) (t : Step) → Allows plan s t → IsRecorded (after mean plan s t) t
   records s (Claim n) may = now_marked s.claimed n.0 may.0
   records s (Fetch e) may = now_marked s.fetched e may.2
-  records s (Fill e) may = (made mean plan s (from_of plan e), get_here s.filled e (Some (made mean plan s (from_of plan e))) (slice_get_within s.filled e None may.1))
+  records s (Fill e) may = (visit_result mean plan s (from_of plan e), get_here s.filled e (Some (visit_result mean plan s (from_of plan e))) (slice_get_within s.filled e None may.1))
   records s (Subtract e) may = now_marked s.subtracted e may.1
 
   claimed_stays : (s : CoreState O) (t : Step) (k : ℕ) → IsMarked s.claimed k → IsMarked (after mean plan s t).claimed k
@@ -58,7 +58,7 @@ module _ {O : Type 0} (mean : ℕ → List O → Result O Fault) (plan : Plan) w
   filled_stays : (s : CoreState O) (t : Step) (k : ℕ) → Allows plan s t → IsFilled s k → IsFilled (after mean plan s t) k
   filled_stays s (Claim n) k may h = h
   filled_stays s (Fetch e) k may h = h
-  filled_stays s (Fill e) k may h = (h.0, still_filled s.filled e k (made mean plan s (from_of plan e)) h.0 may.1 h.1)
+  filled_stays s (Fill e) k may h = (h.0, still_filled s.filled e k (visit_result mean plan s (from_of plan e)) h.0 may.1 h.1)
   filled_stays s (Subtract e) k may h = h
 
   stays : (s : CoreState O) (t u : Step) → Allows plan s t → IsRecorded s u → IsRecorded (after mean plan s t) u

@@ -14,11 +14,11 @@ use Rattle.pass_core.specs.declared.plan.PlanEdge.{PlanEdge}
 use Rattle.pass_core.specs.declared.step.Step.{Step}
 use Rattle.pass_core.specs.declared.step.Step.TheVariants.{Claim, Fetch, Fill, Subtract}
 use Rattle.pass_core.specs.Plans.{predecessors, HasNoCycle, IsPlan}
-use Rattle.pass_core.specs.Results.{NodeResult, outs_of, judged, node_result}
-use Rattle.pass_core.specs.CoreStates.{CoreState, from_of, to_of, numbers_into, IsMarked, IsUnmarked, result_in, IsFilled, held, VisitWasMade, made, Allows, after, beginning, after_all, AreAllowed, IsReached, entries}
+use Rattle.pass_core.specs.Results.{NodeResult, all_outs, judged_result, node_result}
+use Rattle.pass_core.specs.CoreStates.{CoreState, from_of, to_of, numbers_into, IsMarked, IsUnmarked, result_in, IsFilled, edge_result, VisitWasMade, visit_result, Allows, after, beginning, after_all, AreAllowed, IsReached, entries}
 use Rattle.bp_faults.proofs.Lists.{all_map, map-same, get_here, get_else}
 use Rattle.pass_core.proofs.Marks.{marked_before, still_filled, get_blank, marks_more, fills_more, marks_none, fills_none}
-use Rattle.pass_core.specs.CoreKept.{IsSound, left}
+use Rattle.pass_core.specs.CoreKept.{IsSound, unmarked_count}
 use Rattle.pass_core.proofs.Numbered.{into_sources, left_begins, left_lower, left_same}
 use Rattle.pass_core.proofs.Unrolled.{result_equation}
 
@@ -40,22 +40,22 @@ module _ {O : Type 0} (mean : ℕ → List O → Result O Fault) (plan : Plan) (
       (All-from_recursion (λ (e : PlanEdge). (e.from.0 < plan.count) × (e.to.0 < plan.count)) plan.edges is_plan.ends e d lt).1
 
   module _ (s : CoreState O) (sound : IsSound mean plan s) where
-    held_right : (e : ℕ) → IsMarked s.fetched e → held s e ≡ node_result mean plan (from_of plan e)
+    held_right : (e : ℕ) → IsMarked s.fetched e → edge_result s e ≡ node_result mean plan (from_of plan e)
     held_right e h = let t = sound.taken e h in ap result_in t.1 ∙ sound.right e t.0 t.1
 
     pub filled_inside : (e : ℕ) (r : Option (NodeResult O)) → slice_get s.filled e ≡ Some r → e < length plan.edges
     filled_inside e r h = subst (λ x. e < x) sound.filled_many (slice_get_within s.filled e r h)
 
     -- what a visit makes of what its in-edges hold is the node's result
-    pub made_right : (n : ℕ) → n < plan.count → VisitWasMade plan s n → made mean plan s n ≡ node_result mean plan n
+    pub made_right : (n : ℕ) → n < plan.count → VisitWasMade plan s n → visit_result mean plan s n ≡ node_result mean plan n
     made_right n lt was =
-        let each : AllByRecursion (λ e. held s e ≡ node_result mean plan (from_of plan e)) (numbers_into 0 plan.edges n) =
-        all_map (IsMarked s.fetched) (λ e. held s e ≡ node_result mean plan (from_of plan e)) held_right (numbers_into 0 plan.edges n) was.1 in
-        let all : map (held s) (numbers_into 0 plan.edges n) ≡ map (node_result mean plan) (predecessors plan.edges n) =
-        map-same (held s) (λ e. node_result mean plan (from_of plan e)) (numbers_into 0 plan.edges n) each
+        let each : AllByRecursion (λ e. edge_result s e ≡ node_result mean plan (from_of plan e)) (numbers_into 0 plan.edges n) =
+        all_map (IsMarked s.fetched) (λ e. edge_result s e ≡ node_result mean plan (from_of plan e)) held_right (numbers_into 0 plan.edges n) was.1 in
+        let all : map (edge_result s) (numbers_into 0 plan.edges n) ≡ map (node_result mean plan) (predecessors plan.edges n) =
+        map-same (edge_result s) (λ e. node_result mean plan (from_of plan e)) (numbers_into 0 plan.edges n) each
         ∙ map_map (node_result mean plan) (from_of plan) (numbers_into 0 plan.edges n)
         ∙ ap (map (node_result mean plan)) (into_sources (from_of plan) 0 plan.edges n (λ i. ap (from_of plan) (zero-add i))) in
-        ap (λ (rs : List (NodeResult O)). judged (mean n) (outs_of rs)) all ∙ sym (result_equation plan is_plan.ends free mean n lt)
+        ap (λ (rs : List (NodeResult O)). judged_result (mean n) (all_outs rs)) all ∙ sym (result_equation plan is_plan.ends free mean n lt)
 
     claim_keeps : (n : ℕ) → IsUnmarked s.claimed n → slice_get s.counters n ≡ Some 0 → IsSound mean plan (record { counters = s.counters; claimed = slice_set s.claimed n true; filled = s.filled; subtracted = s.subtracted; fetched = s.fetched })
     claim_keeps n free_yet zero_left = record {
@@ -68,7 +68,7 @@ module _ {O : Type 0} (mean : ℕ → List O → Result O Fault) (plan : Plan) (
       taken = sound.taken;
       counted = sound.counted;
       awaited = λ m h. ⊎_elim
-          (λ same. ap (left plan.edges s.subtracted) same
+          (λ same. ap (unmarked_count plan.edges s.subtracted) same
           ∙ sym (sound.counted n (subst (λ x. n < x) sound.counters_many (slice_get_within s.counters n 0 zero_left)))
           ∙ get_or_from_slice_get s.counters n 0 0 zero_left)
           (λ before. sound.awaited m before) (marked_before s.claimed n m h);
@@ -94,29 +94,29 @@ module _ {O : Type 0} (mean : ℕ → List O → Result O Fault) (plan : Plan) (
         (λ other. sound.right k r (sym (get_else s.filled e k (Some x) other) ∙ h))
 
     fill_keeps : (e : ℕ) → VisitWasMade plan s (from_of plan e) → slice_get s.filled e ≡ Some None
-        → IsSound mean plan (record { counters = s.counters; claimed = s.claimed; filled = slice_set s.filled e (Some (made mean plan s (from_of plan e))); subtracted = s.subtracted; fetched = s.fetched })
+        → IsSound mean plan (record { counters = s.counters; claimed = s.claimed; filled = slice_set s.filled e (Some (visit_result mean plan s (from_of plan e))); subtracted = s.subtracted; fetched = s.fetched })
     fill_keeps e was none = record {
       counters_many = sound.counters_many;
       claimed_many = sound.claimed_many;
-      filled_many = length-set s.filled e (Some (made mean plan s (from_of plan e))) ∙ sound.filled_many;
+      filled_many = length-set s.filled e (Some (visit_result mean plan s (from_of plan e))) ∙ sound.filled_many;
       subtracted_many = sound.subtracted_many;
       fetched_many = sound.fetched_many;
-      right = right_at e (made mean plan s (from_of plan e)) none (made_right (from_of plan e) (source_inside e (filled_inside e None none)) was);
-      taken = λ k h. let t = sound.taken k h in (t.0, still_filled s.filled e k (made mean plan s (from_of plan e)) t.0 none t.1);
+      right = right_at e (visit_result mean plan s (from_of plan e)) none (made_right (from_of plan e) (source_inside e (filled_inside e None none)) was);
+      taken = λ k h. let t = sound.taken k h in (t.0, still_filled s.filled e k (visit_result mean plan s (from_of plan e)) t.0 none t.1);
       counted = sound.counted;
       awaited = sound.awaited;
     }
 
     lower : (e : ℕ) → e < length plan.edges → IsUnmarked s.subtracted e → (n : ℕ) → n < plan.count
-        → slice_index (slice_set s.counters (to_of plan e) (slice_index s.counters (to_of plan e) - 1)) n ≡ left plan.edges (slice_set s.subtracted e true) n
+        → slice_index (slice_set s.counters (to_of plan e) (slice_index s.counters (to_of plan e) - 1)) n ≡ unmarked_count plan.edges (slice_set s.subtracted e true) n
     lower e lt u n inside = dite (ℕ_discrete n (to_of plan e))
         (λ same. let here = get_or-set_same s.counters (to_of plan e) (slice_index s.counters (to_of plan e) - 1) 0 (subst (λ x. to_of plan e < x) (sym sound.counters_many) (target_inside e lt)) in
         let before = sound.counted (to_of plan e) (target_inside e lt) in
         let less = left_lower plan.edges s.subtracted e (to_of plan e) lt u refl in
-        subst (λ x. slice_index (slice_set s.counters (to_of plan e) (slice_index s.counters (to_of plan e) - 1)) x ≡ left plan.edges (slice_set s.subtracted e true) x) (sym same) (omega arith))
+        subst (λ x. slice_index (slice_set s.counters (to_of plan e) (slice_index s.counters (to_of plan e) - 1)) x ≡ unmarked_count plan.edges (slice_set s.subtracted e true) x) (sym same) (omega arith))
         (λ other. get_or-set_other s.counters (to_of plan e) n (slice_index s.counters (to_of plan e) - 1) 0 other ∙ sound.counted n inside ∙ sym (left_same plan.edges s.subtracted e n (λ same. other (sym same))))
 
-    still_none : (e : ℕ) → e < length plan.edges → IsUnmarked s.subtracted e → (n : ℕ) → left plan.edges s.subtracted n ≡ 0 → left plan.edges (slice_set s.subtracted e true) n ≡ 0
+    still_none : (e : ℕ) → e < length plan.edges → IsUnmarked s.subtracted e → (n : ℕ) → unmarked_count plan.edges s.subtracted n ≡ 0 → unmarked_count plan.edges (slice_set s.subtracted e true) n ≡ 0
     still_none e lt u n none = dite (ℕ_discrete (to_of plan e) n)
         (λ same. let less = left_lower plan.edges s.subtracted e n lt u same in absurd (omega arith))
         (λ other. left_same plan.edges s.subtracted e n other ∙ none)
@@ -150,10 +150,10 @@ module _ {O : Type 0} (mean : ℕ → List O → Result O Fault) (plan : Plan) (
     pub step_adds : (t : Step) → Allows plan s t → entries (after mean plan s t) ≡ suc (entries s)
     step_adds (Claim n) h = let one = marks_more s.claimed n.0 h.0 in omega arith
     step_adds (Fetch e) h = let one = marks_more s.fetched e h.2 in omega arith
-    step_adds (Fill e) h = let one = fills_more s.filled e (made mean plan s (from_of plan e)) h.1 in omega arith
+    step_adds (Fill e) h = let one = fills_more s.filled e (visit_result mean plan s (from_of plan e)) h.1 in omega arith
     step_adds (Subtract e) h = let one = marks_more s.subtracted e h.1 in omega arith
 
-  pub begins_counted : (n : ℕ) → n < plan.count → slice_index (map (λ n. length (predecessors plan.edges n)) (range_with_len 0 plan.count)) n ≡ left plan.edges (replicate (length plan.edges) false) n
+  pub begins_counted : (n : ℕ) → n < plan.count → slice_index (map (λ n. length (predecessors plan.edges n)) (range_with_len 0 plan.count)) n ≡ unmarked_count plan.edges (replicate (length plan.edges) false) n
   begins_counted n lt =
       get_or-map (λ n. length (predecessors plan.edges n)) (range_with_len 0 plan.count) n 0 0 (omega (arith, length-range_with_len 0 plan.count))
       ∙ ap (λ m. length (predecessors plan.edges m)) (get_or-range_with_len 0 plan.count n 0 lt ∙ zero-add n) ∙ sym (left_begins plan.edges n)

@@ -7,8 +7,8 @@ use Rattle.pass_core.specs.declared.plan.Plan.{Plan}
 use Rattle.pass_core.specs.declared.plan.PlanEdge.{PlanEdge}
 use Rattle.pass_core.specs.Plans.{predecessors, HaveEndsBelow, HasNoCycle}
 use Rattle.pass_core.specs.Heights.{height, IsBefore}
-use Rattle.pass_core.specs.Results.{NodeResult, Done, Bad, Poisoned, IsDone, cons_if, outs_of, visited, judged, node_result}
-use Rattle.pass_core.specs.Outcomes.{IsFirstUndone, IsOutcome}
+use Rattle.pass_core.specs.Results.{NodeResult, Done, Bad, Poisoned, IsDone, cons_if, all_outs, result_of_visit, judged_result, node_result}
+use Rattle.pass_core.specs.Outcomes.{IsFirstUndone, PassOutcomeMeans}
 use Rattle.pass_core.proofs.Unrolled.{height_rises, result_equation}
 use Rattle.bp_faults.proofs.Lists.{all_map, both}
 use Rattle.pass_core.proofs.Predecessors.{all_predecessors}
@@ -57,17 +57,17 @@ module _ {O : Type 0} where
       let t : map Done xs ≡ map f (range_with_len (a + 1) n) = cc in let s : (a + 1) + k ≡ a + suc k = omega arith in
       subst (λ y. IsDone (f y)) s (each_done f (a + 1) n xs t k (omega arith))
 
-  one_more : (f : ℕ → NodeResult O) (m : ℕ) (ms : List ℕ) (r : NodeResult O) → f m ≡ r → IsDone r → (outs : List O) → outs_of (map f ms) ≡ Some outs → (all : List O) × (outs_of (f m ∷ map f ms) ≡ Some all)
-  one_more f m ms (Done out) is done outs h = (out ∷ outs, ap (λ (r : NodeResult O). outs_of (r ∷ map f ms)) is ∙ ap (cons_if out) h)
+  one_more : (f : ℕ → NodeResult O) (m : ℕ) (ms : List ℕ) (r : NodeResult O) → f m ≡ r → IsDone r → (outs : List O) → all_outs (map f ms) ≡ Some outs → (all : List O) × (all_outs (f m ∷ map f ms) ≡ Some all)
+  one_more f m ms (Done out) is done outs h = (out ∷ outs, ap (λ (r : NodeResult O). all_outs (r ∷ map f ms)) is ∙ ap (cons_if out) h)
   one_more f m ms (Bad fault) is done outs h = absurd done
   one_more f m ms Poisoned is done outs h = absurd done
 
   -- where all predecessors are done, so are their results
-  all_done : (f : ℕ → NodeResult O) (ms : List ℕ) → AllByRecursion (λ m. IsDone (f m)) ms → (outs : List O) × (outs_of (map f ms) ≡ Some outs)
+  all_done : (f : ℕ → NodeResult O) (ms : List ℕ) → AllByRecursion (λ m. IsDone (f m)) ms → (outs : List O) × (all_outs (map f ms) ≡ Some outs)
   all_done f [] h = ([], refl)
   all_done f (m ∷ ms) h = let t = all_done f ms h.1 in one_more f m ms (f m) refl h.0 t.0 t.1
 
-  bad_if_undone : (r : NodeResult O) (m : Result O Fault) → r ≡ visited m → (IsDone r → ⊥) → (fault : Fault) × (r ≡ Bad fault)
+  bad_if_undone : (r : NodeResult O) (m : Result O Fault) → r ≡ result_of_visit m → (IsDone r → ⊥) → (fault : Fault) × (r ≡ Bad fault)
   bad_if_undone r (Ok out) is undone = absurd (undone (subst (λ (x : NodeResult O). IsDone x) (sym is) tt))
   bad_if_undone r (Err fault) is undone = (fault, is)
 
@@ -77,7 +77,7 @@ module _ {O : Type 0} where
     bad_at_first below free n first =
         let t = all_done (node_result mean plan) (predecessors plan.edges n)
         (all_map (λ m. (m < plan.count) × IsBefore plan m n) (λ m. IsDone (node_result mean plan m)) (λ m h. first.first m h.0 h.1) (predecessors plan.edges n) (before_node plan below free n first.inside)) in
-        bad_if_undone (node_result mean plan n) (mean n t.0) (result_equation plan below free mean n first.inside ∙ ap (judged (mean n)) t.1) first.undone
+        bad_if_undone (node_result mean plan n) (mean n t.0) (result_equation plan below free mean n first.inside ∙ ap (judged_result (mean n)) t.1) first.undone
 
     first_same : (m n : ℕ) → IsFirstUndone (node_result mean plan) plan m → IsFirstUndone (node_result mean plan) plan n → m ≡ n
     first_same m n a b =
@@ -87,11 +87,11 @@ module _ {O : Type 0} where
     bad_same : (r : NodeResult O) (f g : Fault) → r ≡ Bad f → r ≡ Bad g → f ≡ g
     bad_same r f g a b = let e : Bad f ≡ Bad g = sym a ∙ b in cc
 
-    none_undone : (outs : List O) → IsOutcome mean plan (Ok outs) → (n : ℕ) → IsFirstUndone (node_result mean plan) plan n → ⊥
+    none_undone : (outs : List O) → PassOutcomeMeans mean plan (Ok outs) → (n : ℕ) → IsFirstUndone (node_result mean plan) plan n → ⊥
     none_undone outs all n first = first.undone (subst (λ y. IsDone (node_result mean plan y)) (zero-add n) (each_done (node_result mean plan) 0 plan.count outs all n first.inside))
 
     -- a pass has at most one outcome
-    pub outcome_unique : (r s : Result (List O) (ℕ × Fault)) → IsOutcome mean plan r → IsOutcome mean plan s → r ≡ s
+    pub outcome_unique : (r s : Result (List O) (ℕ × Fault)) → PassOutcomeMeans mean plan r → PassOutcomeMeans mean plan s → r ≡ s
     outcome_unique (Ok xs) (Ok ys) a b = ap Ok (done_same xs ys (a ∙ sym b))
     outcome_unique (Ok xs) (Err y) a b = absurd (none_undone xs a y.0 b.0)
     outcome_unique (Err x) (Ok ys) a b = absurd (none_undone ys b x.0 a.0)

@@ -11,7 +11,7 @@ use Rattle.std.specs.Prelude.{Result}
 use Rattle.pass_core.specs.declared.plan.Plan.{Plan}
 use Rattle.pass_core.specs.Plans.{predecessors, HaveEndsBelow, HasNoCycle}
 use Rattle.pass_core.specs.Heights.{unroll, above_all, height}
-use Rattle.pass_core.specs.Results.{Poisoned, judged, outs_of, node_result}
+use Rattle.pass_core.specs.Results.{Poisoned, judged_result, all_outs, node_result}
 use Rattle.bp_faults.proofs.Lists.{all_map, all_with, below_top, map-same}
 use Rattle.pass_core.proofs.Predecessors.{all_predecessors}
 
@@ -74,9 +74,9 @@ module _ (plan : Plan) (below : HaveEndsBelow plan.count plan.edges) (free : Has
       (λ e a b. lower_less free.rank (free.rank e.from.0) (free.rank e.to.0) e.from.0 plan.count a.0 b (omega arith)) plan.edges below free.rises)
 
   pub result_equation : {O : Type 0} (mean : ℕ → List O → Result O Fault) (n : ℕ) → n < plan.count
-      → node_result mean plan n ≡ judged (mean n) (outs_of (map (node_result mean plan) (predecessors plan.edges n)))
+      → node_result mean plan n ≡ judged_result (mean n) (all_outs (map (node_result mean plan) (predecessors plan.edges n)))
   unfolding node_result
-  result_equation mean n lt = unroll_equation (predecessors plan.edges) tight tight_rises (λ n rs. judged (mean n) (outs_of rs)) Poisoned plan.count n (tight_below n lt)
+  result_equation mean n lt = unroll_equation (predecessors plan.edges) tight tight_rises (λ n rs. judged_result (mean n) (all_outs rs)) Poisoned plan.count n (tight_below n lt)
 
   pub height_equation : (n : ℕ) → n < plan.count → height plan n ≡ above_all (map (height plan) (predecessors plan.edges n))
   unfolding height

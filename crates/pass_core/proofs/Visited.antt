@@ -9,7 +9,7 @@ use Rattle.bp_faults.specs.declared.fault.Fault.{Fault}
 use Rattle.pass_core.specs.declared.plan.Plan.{Plan}
 use Rattle.pass_core.specs.declared.plan.PlanEdge.{PlanEdge}
 use Rattle.pass_core.specs.Plans.{in_edges, sources, predecessors, HasNoCycle, IsPlan}
-use Rattle.pass_core.specs.Results.{NodeResult, cons_if, outs_of, judged, visited, node_result}
+use Rattle.pass_core.specs.Results.{NodeResult, cons_if, all_outs, judged_result, result_of_visit, node_result}
 use Rattle.pass_core.specs.Made.{made_at, all_of, AreRight}
 use Rattle.pass_core.proofs.Unrolled.{result_equation}
 
@@ -20,13 +20,13 @@ some_of (Some x) h = (x, refl)
 module _ {O A : Type 0} (results : ℕ → NodeResult O) (made : List (Option (Arc O A))) (right : AreRight results made) where
   -- where all of them are made, what was made is what the results say
   ready_outs : (ms : List ℕ) → AllByRecursion (λ m. IsSome (made_at made m)) ms
-      → (outs : List O) × (all_of (map (made_at made) ms) ≡ Some outs) × (outs_of (map results ms) ≡ Some outs) × (length outs ≡ length ms)
+      → (outs : List O) × (all_of (map (made_at made) ms) ≡ Some outs) × (all_outs (map results ms) ≡ Some outs) × (length outs ≡ length ms)
   ready_outs [] h = ([], refl, refl, refl)
   ready_outs (m ∷ ms) h =
       let o = some_of (made_at made m) h.0 in let t = ready_outs ms h.1 in (
         o.0 ∷ t.0,
         ap (λ (r : Option O). all_of (r ∷ map (made_at made) ms)) o.1 ∙ ap (cons_if o.0) t.1,
-        ap (λ (r : NodeResult O). outs_of (r ∷ map results ms)) (right m o.0 o.1) ∙ ap (cons_if o.0) t.2,
+        ap (λ (r : NodeResult O). all_outs (r ∷ map results ms)) (right m o.0 o.1) ∙ ap (cons_if o.0) t.2,
         ap suc t.3,
       )
 
@@ -47,14 +47,14 @@ module _ {O A : Type 0} (mean : ℕ → List O → Result O Fault) (plan : Plan)
     all_passed = sym gathered ∙ ap (λ (s : Option (Vec (Arc O A) Z)). option_map (λ (v : Vec (Arc O A) Z). map arc_value v.items) s) found ∙ ap (λ (l : List (Arc O A)). Some (map arc_value l)) (sym slice)
 
     -- what was passed is what the meaning takes
-    pub result_gathered : (node_result mean plan n ≡ visited (mean n (map arc_value passed))) × (length (map arc_value passed) ≡ length (predecessors plan.edges n))
+    pub result_gathered : (node_result mean plan n ≡ result_of_visit (mean n (map arc_value passed))) × (length (map arc_value passed) ≡ length (predecessors plan.edges n))
     result_gathered =
         let t = ready_outs (node_result mean plan) made right (predecessors plan.edges n) ready in
         let e : Some t.0 ≡ Some (map arc_value passed) = sym t.1 ∙ all_passed in let same : t.0 ≡ map arc_value passed = cc in
-        (result_equation plan is_plan.ends free mean n lt ∙ ap (judged (mean n)) t.2 ∙ ap (λ (l : List O). visited (mean n l)) same, ap length (sym same) ∙ t.3)
+        (result_equation plan is_plan.ends free mean n lt ∙ ap (judged_result (mean n)) t.2 ∙ ap (λ (l : List O). result_of_visit (mean n l)) same, ap length (sym same) ∙ t.3)
 
     pub taken_many : (P : ℕ → Type 0) → P (length (predecessors plan.edges n)) → P (length passed)
     taken_many P h = subst P (sym result_gathered.1 ∙ length-map passed arc_value) h
 
-    pub result_is : (m : Result O Fault) → mean n (map arc_value passed) ≡ m → node_result mean plan n ≡ visited m
-    result_is m is = result_gathered.0 ∙ ap visited is
+    pub result_is : (m : Result O Fault) → mean n (map arc_value passed) ≡ m → node_result mean plan n ≡ result_of_visit m
+    result_is m is = result_gathered.0 ∙ ap result_of_visit is

@@ -9,8 +9,8 @@ use Rattle.pass_core.specs.declared.published.Published.{Published}
 use Rattle.pass_core.specs.Plans.{IsPlan, HasNoCycle}
 use Rattle.pass_core.specs.InEdges.{AreStarts}
 use Rattle.pass_core.specs.Outcomes.{TakesPlan}
-use Rattle.pass_core.specs.Results.{NodeResult, outs_of, node_result}
-use Rattle.pass_core.specs.Shown.{shown}
+use Rattle.pass_core.specs.Results.{NodeResult, all_outs, node_result}
+use Rattle.pass_core.specs.Shown.{published_result}
 use Rattle.pass_core.specs.CoreStates.{CoreState, from_of, result_in, IsMarked, IsFilled, VisitWasMade}
 use Rattle.pass_core.specs.CoreStates.{IsReachedIn, entries}
 
@@ -20,11 +20,11 @@ one_if true = 1
 one_if false = 0
 
 -- How many of the edges into a node aren't marked.
-abbrev pub left : List PlanEdge → List Bool → ℕ → ℕ
-left [] marks n = 0
-left (d ∷ ds) [] n = 0
-left (d ∷ ds) (true ∷ bs) n = left ds bs n
-left (d ∷ ds) (false ∷ bs) n = one_if (d.to.0 == n) + left ds bs n
+abbrev pub unmarked_count : List PlanEdge → List Bool → ℕ → ℕ
+unmarked_count [] marks n = 0
+unmarked_count (d ∷ ds) [] n = 0
+unmarked_count (d ∷ ds) (true ∷ bs) n = unmarked_count ds bs n
+unmarked_count (d ∷ ds) (false ∷ bs) n = one_if (d.to.0 == n) + unmarked_count ds bs n
 
 -- What holds of every state that is reached.
 pub record IsSound {O : Type 0} (mean : ℕ → List O → Result O Fault) (plan : Plan) (s : CoreState O) : Type 0 where
@@ -36,16 +36,16 @@ pub record IsSound {O : Type 0} (mean : ℕ → List O → Result O Fault) (plan
   pub right : (e : ℕ) (r : NodeResult O) → slice_get s.filled e ≡ Some (Some r)
       → r ≡ node_result mean plan (from_of plan e)
   pub taken : (e : ℕ) → IsMarked s.fetched e → IsFilled s e
-  pub counted : (n : ℕ) → n < plan.count → slice_index s.counters n ≡ left plan.edges s.subtracted n
-  pub awaited : (n : ℕ) → IsMarked s.claimed n → left plan.edges s.subtracted n ≡ 0
+  pub counted : (n : ℕ) → n < plan.count → slice_index s.counters n ≡ unmarked_count plan.edges s.subtracted n
+  pub awaited : (n : ℕ) → IsMarked s.claimed n → unmarked_count plan.edges s.subtracted n ≡ 0
 
 -- What stands at each place, as a result where it is published.
 abbrev pub shown_in : {O : Type 0} → Option (Published O) → Option (NodeResult O)
-shown_in x = option_map shown x
+shown_in x = option_map published_result x
 
 -- What some edges hold, if each holds a result that is done.
 abbrev pub held_outs : {O : Type 0} → List (Option (Published O)) → Option (List O)
-held_outs held = outs_of (map (λ h. result_in (Some (shown_in h))) held)
+held_outs held = all_outs (map (λ h. result_in (Some (shown_in h))) held)
 
 -- The state that the tables of a core show.
 abbrev pub state_of : {O : Type 0} → List ℕ → List Bool → List (Option (Published O)) → List Bool → List Bool
@@ -70,10 +70,10 @@ pub record IsCore {O : Type 0} (mean : ℕ → List O → Result O Fault) (takes
   pub reached : IsReachedIn mean plan steps s
   pub sound : IsSound mean plan s
   pub unfetched_many : length unfetched ≡ plan.count
-  pub unfetched_are : (n : ℕ) → n < plan.count → slice_index unfetched n ≡ left plan.edges s.fetched n
+  pub unfetched_are : (n : ℕ) → n < plan.count → slice_index unfetched n ≡ unmarked_count plan.edges s.fetched n
   pub published_many : length published ≡ plan.count
   pub right : (n : ℕ) (p : Published O) → slice_get published n ≡ Some (Some p)
-      → (shown p ≡ node_result mean plan n) × VisitWasMade plan s n
+      → (published_result p ≡ node_result mean plan n) × VisitWasMade plan s n
   pub visited : (n : ℕ) → VisitWasMade plan s n → (p : Published O) × (slice_get published n ≡ Some (Some p))
   pub counted : steps ≡ entries s
 
@@ -81,4 +81,4 @@ pub record IsCore {O : Type 0} (mean : ℕ → List O → Result O Fault) (takes
 abbrev pub PublishesLast : {O : Type 0} → Type 0 → ℕ → NodeResult O → List (Option (Published O))
     → List (Option (Published O)) → Type 0
 PublishesLast {O} Last n r old new =
-    (Last → (p : Published O) × (shown p ≡ r) × (new ≡ slice_set old n (Some p))) × ((Last → ⊥) → new ≡ old)
+    (Last → (p : Published O) × (published_result p ≡ r) × (new ≡ slice_set old n (Some p))) × ((Last → ⊥) → new ≡ old)

@@ -6,7 +6,7 @@ use Rattle.pass_core.specs.declared.plan.Plan.{Plan}
 use Rattle.pass_core.specs.declared.step.Step.{Step}
 use Rattle.pass_core.specs.Plans.{IsPlan, HasNoCycle}
 use Rattle.pass_core.specs.Results.{NodeResult, node_result}
-use Rattle.pass_core.specs.CoreStates.{CoreState, from_of, to_of, IsMarked, made, Allows, IsReached, IsFinished}
+use Rattle.pass_core.specs.CoreStates.{CoreState, from_of, to_of, IsMarked, visit_result, Allows, IsReached, IsFinished}
 use Rattle.pass_core.specs.CoreStates.{entries}
 
 module _ (O : Type 0) where
@@ -48,5 +48,5 @@ module _ (O : Type 0) where
   abbrev pub FinishedHasResults : Type 0
   FinishedHasResults = AfterAnySteps (λ mean plan steps s.
       IsFinished plan s
-      → map (made mean plan s) (range_with_len 0 plan.count)
+      → map (visit_result mean plan s) (range_with_len 0 plan.count)
       ≡ map (node_result mean plan) (range_with_len 0 plan.count))

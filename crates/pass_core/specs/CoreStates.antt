@@ -10,7 +10,7 @@ use Rattle.pass_core.specs.declared.plan.PlanEdge.{PlanEdge}
 use Rattle.pass_core.specs.declared.step.Step.{Step}
 use Rattle.pass_core.specs.declared.step.Step.TheVariants.{Claim, Fetch, Fill, Subtract}
 use Rattle.pass_core.specs.Plans.{sources, predecessors}
-use Rattle.pass_core.specs.Results.{NodeResult, Poisoned, outs_of, judged}
+use Rattle.pass_core.specs.Results.{NodeResult, Poisoned, all_outs, judged_result}
 
 -- A state of a pass: by node number its counter and whether it is claimed, and by edge number what the edge holds
 -- where it is filled, and whether it is subtracted and fetched.
@@ -49,8 +49,8 @@ marks (true ∷ bs) = suc (marks bs)
 marks (false ∷ bs) = marks bs
 
 -- How many places are filled.
-abbrev pub fills : {X : Type 0} → List (Option X) → ℕ
-fills xs = marks (map is_some xs)
+abbrev pub filled_count : {X : Type 0} → List (Option X) → ℕ
+filled_count xs = marks (map is_some xs)
 
 module _ {O : Type 0} where
   -- The edge is filled.
@@ -68,16 +68,16 @@ module _ {O : Type 0} where
   result_in None = Poisoned
 
   -- What an edge holds.
-  abbrev pub held : CoreState O → ℕ → NodeResult O
-  held s e = result_in (slice_get s.filled e)
+  abbrev pub edge_result : CoreState O → ℕ → NodeResult O
+  edge_result s e = result_in (slice_get s.filled e)
 
   -- The visit of a node was made where the node is claimed and all its in-edges are fetched.
   abbrev pub VisitWasMade : Plan → CoreState O → ℕ → Type 0
   VisitWasMade plan s n = IsMarked s.claimed n × AllByRecursion (IsMarked s.fetched) (numbers_into 0 plan.edges n)
 
   -- What the visit of a node makes of what its in-edges hold.
-  abbrev pub made : (ℕ → List O → Result O Fault) → Plan → CoreState O → ℕ → NodeResult O
-  made mean plan s n = judged (mean n) (outs_of (map (held s) (numbers_into 0 plan.edges n)))
+  abbrev pub visit_result : (ℕ → List O → Result O Fault) → Plan → CoreState O → ℕ → NodeResult O
+  visit_result mean plan s n = judged_result (mean n) (all_outs (map (edge_result s) (numbers_into 0 plan.edges n)))
 
   -- Where a step is allowed.
   abbrev pub Allows : Plan → CoreState O → Step → Type 0
@@ -105,7 +105,7 @@ module _ {O : Type 0} where
   after mean plan s (Fill e) = record {
     counters = s.counters;
     claimed = s.claimed;
-    filled = slice_set s.filled e (Some (made mean plan s (from_of plan e)));
+    filled = slice_set s.filled e (Some (visit_result mean plan s (from_of plan e)));
     subtracted = s.subtracted;
     fetched = s.fetched;
   }
@@ -156,4 +156,4 @@ module _ {O : Type 0} where
 
   -- How many entries a state has: claimed nodes, and filled, subtracted and fetched edges.
   abbrev pub entries : CoreState O → ℕ
-  entries s = marks s.claimed + fills s.filled + marks s.subtracted + marks s.fetched
+  entries s = marks s.claimed + filled_count s.filled + marks s.subtracted + marks s.fetched

@@ -8,8 +8,8 @@ use Rattle.pass_core.specs.Heights.{height}
 use Rattle.pass_core.specs.CoreStates.{IsMarked, IsUnmarked}
 
 -- A node with its height.
-abbrev pub ranked : Plan → ℕ → ℕ × NodeId
-ranked plan n = (height plan n, record { 0 = n })
+abbrev pub ranked_node : Plan → ℕ → ℕ × NodeId
+ranked_node plan n = (height plan n, record { 0 = n })
 
 -- By the marks of the visited nodes a node is ready: it is a node, isn't marked, and its predecessors are.
 abbrev pub IsReadyByMarks : Plan → List Bool → ℕ → Type 0

@@ -9,9 +9,9 @@ use Rattle.pass_core.specs.declared.plan.PlanEdge.{PlanEdge}
 use Rattle.pass_core.specs.Plans.{in_edges, predecessors, StandByTarget, HaveEndsBelow, IsPlan, HasNoCycle}
 use Rattle.pass_core.specs.InEdges.{edges_below}
 use Rattle.pass_core.specs.Heights.{height, above_all, unroll, IsBefore}
-use Rattle.pass_core.specs.Results.{NodeResult, Bad, outs_of, judged, node_result}
+use Rattle.pass_core.specs.Results.{NodeResult, Bad, all_outs, judged_result, node_result}
 use Rattle.pass_core.specs.Orders.{IsSerial, IsLegal}
-use Rattle.pass_core.specs.Outcomes.{IsFirstUndone, IsOutcome, PassMeans}
+use Rattle.pass_core.specs.Outcomes.{IsFirstUndone, PassOutcomeMeans, PassMeans}
 
 -- Where edges stand by target, the edges into a node are those between two places.
 abbrev pub InEdgesAreTogether : Type 0
@@ -92,13 +92,13 @@ module _ (O : Type 0) where
   ResultsMeetTheirEquation =
       (mean : ℕ → List O → Result O Fault) (plan : Plan) (n : ℕ) → IsPlan plan → HasNoCycle plan.edges → n < plan.count
       → node_result mean plan n
-      ≡ judged (mean n) (outs_of (map (node_result mean plan) (predecessors plan.edges n)))
+      ≡ judged_result (mean n) (all_outs (map (node_result mean plan) (predecessors plan.edges n)))
 
   -- Whatever meets that equation is the results.
   abbrev pub OneSolution : Type 0
   OneSolution =
       (mean : ℕ → List O → Result O Fault) (plan : Plan) (f : ℕ → NodeResult O) → IsPlan plan → HasNoCycle plan.edges
-      → ((n : ℕ) → n < plan.count → f n ≡ judged (mean n) (outs_of (map f (predecessors plan.edges n))))
+      → ((n : ℕ) → n < plan.count → f n ≡ judged_result (mean n) (all_outs (map f (predecessors plan.edges n))))
       → (n : ℕ) → n < plan.count → f n ≡ node_result mean plan n
 
   -- The first node in serial order whose result isn't done has a fault of its own: it is never poisoned.
@@ -111,26 +111,26 @@ module _ (O : Type 0) where
   abbrev pub OneOutcome : Type 0
   OneOutcome =
       (mean : ℕ → List O → Result O Fault) (plan : Plan) → IsPlan plan → HasNoCycle plan.edges
-      → (outcome : Result (List O) (ℕ × Fault)) × IsOutcome mean plan outcome
-      × ((other : Result (List O) (ℕ × Fault)) → IsOutcome mean plan other → other ≡ outcome)
+      → (outcome : Result (List O) (ℕ × Fault)) × PassOutcomeMeans mean plan outcome
+      × ((other : Result (List O) (ℕ × Fault)) → PassOutcomeMeans mean plan other → other ≡ outcome)
 
   -- A pass has at most one outcome, whatever its plan is.
   abbrev pub AtMostOneOutcome : Type 0
   AtMostOneOutcome =
       (mean : ℕ → List O → Result O Fault) (plan : Plan) (outcome other : Result (List O) (ℕ × Fault))
-      → IsOutcome mean plan outcome → IsOutcome mean plan other → outcome ≡ other
+      → PassOutcomeMeans mean plan outcome → PassOutcomeMeans mean plan other → outcome ≡ other
 
   -- A pass that makes all results makes as many as there are nodes.
   abbrev pub OutsAreMany : Type 0
   OutsAreMany =
       (mean : ℕ → List O → Result O Fault) (plan : Plan) (outs : List O)
-      → IsOutcome mean plan (Ok outs) → length outs ≡ plan.count
+      → PassOutcomeMeans mean plan (Ok outs) → length outs ≡ plan.count
 
   -- Each of these is what the meaning gives for the results of the node's predecessors.
   abbrev pub OutsMeetTheirEquation : Type 0
   OutsMeetTheirEquation =
       (mean : ℕ → List O → Result O Fault) (plan : Plan) (outs : List O) (n : ℕ) (d : O)
-      → IsPlan plan → HasNoCycle plan.edges → IsOutcome mean plan (Ok outs) → n < plan.count
+      → IsPlan plan → HasNoCycle plan.edges → PassOutcomeMeans mean plan (Ok outs) → n < plan.count
       → mean n (map (λ m. slice_index_or outs m d) (predecessors plan.edges n)) ≡ Ok (slice_index_or outs n d)
 
   -- Where each node's meaning, over what a step makes of its predecessors, is what the step makes of the node, a pass

@@ -10,18 +10,18 @@ use Rattle.pass_core.specs.declared.order_error.OrderError.{OrderError}
 use Rattle.pass_core.specs.declared.order_error.OrderError.TheVariants.{NotReady, Ends, At, OutOfMemory}
 use Rattle.pass_core.specs.Plans.{predecessors}
 use Rattle.pass_core.specs.Orders.{IsLegal}
-use Rattle.pass_core.specs.Outcomes.{IsOutcome}
+use Rattle.pass_core.specs.Outcomes.{PassOutcomeMeans}
 
 -- After the nodes before it a node is ready: it is a node of the plan, it isn't among them, and all its predecessors
 -- are.
-pub record IsReady (plan : Plan) (before : List ℕ) (n : ℕ) : Type 0 where
+pub record IsReadyAfter (plan : Plan) (before : List ℕ) (n : ℕ) : Type 0 where
   pub inside : n < plan.count
   pub unvisited : Contains before n → ⊥
   pub after : AllByRecursion (Contains before) (predecessors plan.edges n)
 
 -- The entry at a place of a list is ready after the entries before it.
 abbrev pub IsReadyAt : Plan → List ℕ → ℕ → Type 0
-IsReadyAt plan order place = IsReady plan (take place order) (slice_index order place)
+IsReadyAt plan order place = IsReadyAfter plan (take place order) (slice_index order place)
 
 -- The entry at a place is the first that isn't ready.
 pub record IsFirstRefused (plan : Plan) (order : List ℕ) (place : ℕ) : Type 0 where
@@ -45,7 +45,7 @@ module _ {O : Type 0} where
   -- Along a legal order a run comes to the outcome of the pass, else it is refused at the first entry that isn't
   -- ready, or the list is short.
   abbrev pub IsOrderOutcome : (ℕ → List O → Result O Fault) → Plan → List ℕ → OrderOutcome O → Type 0
-  IsOrderOutcome mean plan order (Ran outcome) = IsLegal plan order × IsOutcome mean plan outcome
+  IsOrderOutcome mean plan order (Ran outcome) = IsLegal plan order × PassOutcomeMeans mean plan outcome
   IsOrderOutcome mean plan order (Refused place) = IsFirstRefused plan order place
   IsOrderOutcome mean plan order (Short many) = IsShort plan order many
 

@@ -25,18 +25,18 @@ pub record IsFirstUndone {O : Type 0} (results : ℕ → NodeResult O) (plan : P
 module _ {O : Type 0} where
   -- The outcome of a pass: all results by node number where all are done, else the first node in serial order
   -- whose result isn't done, with its fault.
-  abbrev pub IsOutcome : (ℕ → List O → Result O Fault) → Plan → Result (List O) (ℕ × Fault) → Type 0
-  IsOutcome mean plan (Ok outs) = map Done outs ≡ map (node_result mean plan) (range_with_len 0 plan.count)
-  IsOutcome mean plan (Err at) =
+  abbrev pub PassOutcomeMeans : (ℕ → List O → Result O Fault) → Plan → Result (List O) (ℕ × Fault) → Type 0
+  PassOutcomeMeans mean plan (Ok outs) = map Done outs ≡ map (node_result mean plan) (range_with_len 0 plan.count)
+  PassOutcomeMeans mean plan (Err at) =
       IsFirstUndone (node_result mean plan) plan at.0 × (node_result mean plan at.0 ≡ Bad at.1)
 
   -- What a pass means, whichever node its fault is of.
   abbrev pub PassMeans : (ℕ → List O → Result O Fault) → Plan → Result (List O) Fault → Type 0
-  PassMeans mean plan (Ok outs) = IsOutcome mean plan (Ok outs)
-  PassMeans mean plan (Err fault) = (n : ℕ) × IsOutcome mean plan (Err (n, fault))
+  PassMeans mean plan (Ok outs) = PassOutcomeMeans mean plan (Ok outs)
+  PassMeans mean plan (Err fault) = (n : ℕ) × PassOutcomeMeans mean plan (Err (n, fault))
 
   -- A pass answers its outcome, where an `Arc` counts as what it holds, or want of memory.
   abbrev pub AnswersPass : (ℕ → List O → Result O Fault) → Plan → Result (Vec (Arc O Global) Global) PassError → Type 0
-  AnswersPass mean plan (Ok outs) = IsOutcome mean plan (Ok (map arc_value outs.items))
-  AnswersPass mean plan (Err (At n fault)) = IsOutcome mean plan (Err (n.0, fault))
+  AnswersPass mean plan (Ok outs) = PassOutcomeMeans mean plan (Ok (map arc_value outs.items))
+  AnswersPass mean plan (Err (At n fault)) = PassOutcomeMeans mean plan (Err (n.0, fault))
   AnswersPass mean plan (Err OutOfMemory) = ⊤

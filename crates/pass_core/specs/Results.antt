@@ -13,9 +13,9 @@ pub data NodeResult (O : Type 0) : Type 0 where
 
 module _ {O : Type 0} where
   -- What a visit makes of its node.
-  abbrev pub visited : Result O Fault → NodeResult O
-  visited (Ok out) = Done out
-  visited (Err fault) = Bad fault
+  abbrev pub result_of_visit : Result O Fault → NodeResult O
+  result_of_visit (Ok out) = Done out
+  result_of_visit (Err fault) = Bad fault
 
   -- One more result before the others, where they are all there.
   abbrev pub cons_if : O → Option (List O) → Option (List O)
@@ -23,21 +23,23 @@ module _ {O : Type 0} where
   cons_if out (Some outs) = Some (out ∷ outs)
 
   -- What all of them made, where all are done.
-  abbrev pub outs_of : List (NodeResult O) → Option (List O)
-  outs_of [] = Some []
-  outs_of (Done out ∷ rs) = cons_if out (outs_of rs)
-  outs_of (Bad fault ∷ rs) = None
-  outs_of (Poisoned ∷ rs) = None
+  abbrev pub all_outs : List (NodeResult O) → Option (List O)
+  all_outs [] = Some []
+  all_outs (Done out ∷ rs) = cons_if out (all_outs rs)
+  all_outs (Bad fault ∷ rs) = None
+  all_outs (Poisoned ∷ rs) = None
 
   -- Poisoned where some predecessor isn't done, else what the meaning gives for the predecessors' results.
-  abbrev pub judged : (List O → Result O Fault) → Option (List O) → NodeResult O
-  judged mean None = Poisoned
-  judged mean (Some outs) = visited (mean outs)
+  abbrev pub judged_result : (List O → Result O Fault) → Option (List O) → NodeResult O
+  judged_result mean None = Poisoned
+  judged_result mean (Some outs) = result_of_visit (mean outs)
 
   -- The result of a node, by recursion over its predecessors. The layers above use its equation alone:
-  -- `node_result mean plan n ≡ judged (mean n) (outs_of (map (node_result mean plan) (predecessors plan.edges n)))`.
+  -- `node_result mean plan n` is `judged_result (mean n) (all_outs (map (node_result mean plan) ns))`, where `ns` are
+  -- `predecessors plan.edges n`.
   unfoldable pub node_result : (ℕ → List O → Result O Fault) → Plan → ℕ → NodeResult O
-  node_result mean plan = unroll (predecessors plan.edges) (λ n rs. judged (mean n) (outs_of rs)) Poisoned plan.count
+  node_result mean plan =
+      unroll (predecessors plan.edges) (λ n rs. judged_result (mean n) (all_outs rs)) Poisoned plan.count
 
   -- The node's visit made a result.
   abbrev pub IsDone : NodeResult O → Type 0

@@ -9,13 +9,13 @@ use Rattle.pass_core.specs.Plans.{predecessors}
 use Rattle.pass_core.specs.Heights.{unroll, height}
 
 -- What stands at a place, where there is one and something stands there.
-abbrev pub joined : Option (Option ℕ) → Option ℕ
-joined None = None
-joined (Some x) = x
+abbrev pub inner_option : Option (Option ℕ) → Option ℕ
+inner_option None = None
+inner_option (Some x) = x
 
 -- The height that stands for a node so far.
 abbrev pub settled_at : List (Option ℕ) → ℕ → Option ℕ
-settled_at settled n = joined (slice_get settled n)
+settled_at settled n = inner_option (slice_get settled n)
 
 -- There is a place for each node, and what stands there is the node's height.
 pub record AreSettled (plan : Plan) (settled : List (Option ℕ)) : Type 0 where
@@ -48,13 +48,14 @@ IsPath plan settled (c ∷ cs) =
     × IsPath plan settled cs
 
 -- A node is sought above a climb unless its height is there.
-abbrev pub sought : NodeId → Option ℕ → List Climb
-sought source None = (record { node = source; next = 0 }) ∷ []
-sought source (Some h) = []
+abbrev pub sought_climbs : NodeId → Option ℕ → List Climb
+sought_climbs source None = (record { node = source; next = 0 }) ∷ []
+sought_climbs source (Some h) = []
 
 -- Where a climb goes along an edge: it has looked at one edge more, and the source is sought above it.
 abbrev pub gone_up : List (Option ℕ) → Climb → NodeId → List Climb
-gone_up settled c source = (record { node = c.node; next = c.next + 1 }) ∷ (sought source (settled_at settled source.0))
+gone_up settled c source =
+    (record { node = c.node; next = c.next + 1 }) ∷ (sought_climbs source (settled_at settled source.0))
 
 -- The sum of some numbers, each counted with one more.
 abbrev pub total : List ℕ → ℕ

@@ -6,7 +6,7 @@ use Rattle.pass_core.specs.declared.published.Published.TheVariants.{Poisoned as
 use Rattle.pass_core.specs.Results.{NodeResult, Done, Bad, Poisoned}
 
 -- The result that is published, where an `Arc` counts as what it holds.
-abbrev pub shown : {O : Type 0} → Published O → NodeResult O
-shown (PublishedDone shared) = Done (arc_value shared)
-shown (PublishedBad fault) = Bad fault
-shown PublishedPoisoned = Poisoned
+abbrev pub published_result : {O : Type 0} → Published O → NodeResult O
+published_result (PublishedDone shared) = Done (arc_value shared)
+published_result (PublishedBad fault) = Bad fault
+published_result PublishedPoisoned = Poisoned

@@ -3,8 +3,8 @@ ghost use Rattle.std.specs.Prelude.{IfOk, OnOk, OnErr, IsTrue};
 ghost use Rattle.std.specs.Option.{option_map};
 ghost use Rattle.std.specs.Arc.{arc_value};
 ghost use Rattle.pass_core.specs.CoreKept.{held_outs, PublishesLast};
-ghost use Rattle.pass_core.specs.Results.{judged};
-ghost use Rattle.pass_core.specs.Shown.{shown};
+ghost use Rattle.pass_core.specs.Results.{judged_result};
+ghost use Rattle.pass_core.specs.Shown.{published_result};
 
 use crate::published::Published;
 use crate::visit::{Visit, VisitError};
@@ -54,7 +54,7 @@ pub fn visit_held<V: Visit>(
     held: &[Option<Published<V::Out>>],
 ) -> Result<Published<V::Out>, OutOfMemory>
     requires { V.takes v.now n.0 (length held.now) }
-    ensures { IfOk result (λ p. shown p ≡ judged (V.meaning v.now n.0) (held_outs held.now)) }
+    ensures { IfOk result (λ p. published_result p ≡ judged_result (V.meaning v.now n.0) (held_outs held.now)) }
 {
     let Some(ins) = gather_held(alloc, held)? else {
         return Ok(Published::Poisoned);
@@ -78,7 +78,7 @@ pub fn publish_last<V: Visit>(
     requires takes { V.takes v.now n.0 (length held.now) }
     requires inside { n.0 < length published.old.items }
     ensures done { OnOk result (PublishesLast (IsTrue last) n.0
-        (judged (V.meaning v.now n.0) (held_outs held.now)) published.old.items published.new.items) }
+        (judged_result (V.meaning v.now n.0) (held_outs held.now)) published.old.items published.new.items) }
     ensures unchanged { OnErr result (published.new.items ≡ published.old.items) }
 {
     if last {

@@ -3,7 +3,7 @@
 //!
 //! A plan and a visitor flow in; the visitor's results by node number flow out, or the fault of the
 //! first node in serial order that has none. It is measured by `node_result` in `specs/Results.antt`
-//! and by `IsOutcome` in `specs/Outcomes.antt`. `laws` says what holds of these for every plan.
+//! and by `PassOutcomeMeans` in `specs/Outcomes.antt`. `laws` says what holds of these for every plan.
 #![tactic(auto)]
 
 mod error;

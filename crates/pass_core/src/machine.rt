@@ -48,7 +48,7 @@ impl<V: Visit> Model for Core<V> {
 impl<V: Visit> Core<V> {
     ghost use Rattle.std.specs.Prelude.{◌≡◌, ◌↔◌, IsTrue};
     ghost use Rattle.pass_core.specs.declared.step.Step.TheVariants.{Claim, Fetch, Fill, Subtract};
-    ghost use Rattle.pass_core.specs.CoreAnswers.{AnswersStep};
+    ghost use Rattle.pass_core.specs.CoreAnswers.{AnswersCoreStep};
     ghost use Rattle.pass_core.specs.CoreStates.{IsFinished, IsReachedIn};
     ghost use Rattle.pass_core.specs.Plans.{IsPlan, HasNoCycle};
 
@@ -70,7 +70,7 @@ impl<V: Visit> Core<V> {
 
     /// Takes a step, where it is allowed.
     pub fn step(&mut self, alloc: Global, s: Step) -> Result<(), StepError>
-        ensures { AnswersStep (V.meaning self.old.visitor) self.old s result self.new }
+        ensures { AnswersCoreStep (V.meaning self.old.visitor) self.old s result self.new }
     {
         match s {
             Step::Claim(n) => self.claim(alloc, n),
@@ -81,7 +81,7 @@ impl<V: Visit> Core<V> {
     }
 
     fn claim(&mut self, alloc: Global, n: NodeId) -> Result<(), StepError>
-        ensures { AnswersStep (V.meaning self.old.visitor) self.old (Claim n) result self.new }
+        ensures { AnswersCoreStep (V.meaning self.old.visitor) self.old (Claim n) result self.new }
     {
         let node = n.0 as usize;
         if n.0 >= self.plan.count || self.claimed[node] || self.counters[node] != 0 {
@@ -96,7 +96,7 @@ impl<V: Visit> Core<V> {
     }
 
     fn fetch(&mut self, alloc: Global, e: u32) -> Result<(), StepError>
-        ensures { AnswersStep (V.meaning self.old.visitor) self.old (Fetch e) result self.new }
+        ensures { AnswersCoreStep (V.meaning self.old.visitor) self.old (Fetch e) result self.new }
     {
         let edge = e as usize;
         if edge >= self.fetched.len() || self.filled[edge].is_none() || self.fetched[edge] {
@@ -117,7 +117,7 @@ impl<V: Visit> Core<V> {
     }
 
     fn fill(&mut self, alloc: Global, e: u32) -> Result<(), StepError>
-        ensures { AnswersStep (V.meaning self.old.visitor) self.old (Fill e) result self.new }
+        ensures { AnswersCoreStep (V.meaning self.old.visitor) self.old (Fill e) result self.new }
     {
         let edge = e as usize;
         if edge >= self.filled.len() || self.filled[edge].is_some() {
@@ -135,7 +135,7 @@ impl<V: Visit> Core<V> {
     }
 
     fn subtract(&mut self, e: u32) -> Result<(), StepError>
-        ensures { AnswersStep (V.meaning self.old.visitor) self.old (Subtract e) result self.new }
+        ensures { AnswersCoreStep (V.meaning self.old.visitor) self.old (Subtract e) result self.new }
     {
         let edge = e as usize;
         if edge >= self.filled.len() || self.filled[edge].is_none() || self.subtracted[edge] {
@@ -156,7 +156,7 @@ impl<V: Visit + Drop> Core<V> {
     ghost use Rattle.pass_core.specs.Outcomes.{TakesPlan};
     ghost use Rattle.pass_core.specs.Plans.{IsPlan, HasNoCycle};
     ghost use Rattle.pass_core.specs.Results.{node_result};
-    ghost use Rattle.pass_core.specs.Shown.{shown};
+    ghost use Rattle.pass_core.specs.Shown.{published_result};
 
     /// A pass that hasn't begun.
     pub fn new(alloc: Global, plan: Plan, v: V) -> Result<Core<V>, OutOfMemory>
@@ -193,7 +193,7 @@ impl<V: Visit + Drop> Core<V> {
     /// The results by node number.
     pub fn into_outs(self, alloc: Global) -> Result<Vec<Published<V::Out>>, OutOfMemory>
         requires { IsFinished self.plan self.state }
-        ensures { IfOk result (λ outs. map shown outs.items
+        ensures { IfOk result (λ outs. map published_result outs.items
             ≡ map (node_result (V.meaning self.visitor) self.plan) (range_with_len 0 self.plan.count)) }
     {
         Ok(unwrapped(alloc, self.published)?)

@@ -1,6 +1,6 @@
 ghost use Rattle.std.specs.Prelude.{◌≡◌, map, IfOk};
 ghost use Rattle.std.specs.List.{range_with_len};
-ghost use Rattle.pass_core.specs.Inside.{ranked};
+ghost use Rattle.pass_core.specs.Inside.{ranked_node};
 ghost use Rattle.pass_core.specs.Orders.{IsSerial, numbers};
 ghost use Rattle.pass_core.specs.Plans.{IsPlan, HasNoCycle};
 
@@ -13,7 +13,7 @@ use std::alloc::Global;
 fn ranked_nodes(alloc: Global, plan: &Plan) -> Result<Vec<(u32, NodeId)>, OutOfMemory>
     requires plan { IsPlan plan.now }
     requires free { HasNoCycle plan.now.edges }
-    ensures { IfOk result (λ nodes. nodes.items ≡ map (ranked plan.now) (range_with_len 0 plan.now.count)) }
+    ensures { IfOk result (λ nodes. nodes.items ≡ map (ranked_node plan.now) (range_with_len 0 plan.now.count)) }
 {
     let heights = heights(alloc, plan)?;
     let mut nodes = Vec::with_capacity(alloc, heights.len())?;

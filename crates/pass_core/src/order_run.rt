@@ -4,7 +4,7 @@ ghost use Rattle.pass_core.specs.InEdges.{AreStarts};
 ghost use Rattle.pass_core.specs.Inside.{IsReadyByMarks};
 ghost use Rattle.pass_core.specs.OrderOutcomes.{AnswersLegality, AnswersOrder};
 ghost use Rattle.pass_core.specs.Orders.{IsLegal, numbers};
-ghost use Rattle.pass_core.specs.Outcomes.{IsOutcome, TakesPlan};
+ghost use Rattle.pass_core.specs.Outcomes.{PassOutcomeMeans, TakesPlan};
 ghost use Rattle.pass_core.specs.Plans.{IsPlan, HasNoCycle};
 
 use crate::error::PassError;
@@ -74,7 +74,7 @@ fn visit_along<V: Visit>(
     requires starts { AreStarts plan.now starts.now }
     requires legal { IsLegal plan.now (numbers order.now) }
     ensures { IfOk result
-        (λ r. IfSome r (λ outs. IsOutcome (V.meaning v.now) plan.now (Ok (map arc_value outs.items)))) }
+        (λ r. IfSome r (λ outs. PassOutcomeMeans (V.meaning v.now) plan.now (Ok (map arc_value outs.items)))) }
 {
     let mut made = empty_places(alloc, plan.count)?;
     for n in order {

@@ -1,5 +1,5 @@
 ghost use Rattle.std.specs.Prelude.{◌≡◌, IfOk};
-ghost use Rattle.pass_core.specs.Shown.{shown};
+ghost use Rattle.pass_core.specs.Shown.{published_result};
 
 use bp_faults::{Fault, OutOfMemory, Payload};
 use std::alloc::Global;
@@ -16,7 +16,7 @@ pub enum Published<O> {
 impl<O: Drop> Published<O> {
     /// The same result, of which an `Arc` is shared.
     pub fn copy(&self, alloc: Global) -> Result<Published<O>, OutOfMemory>
-        ensures { IfOk result (λ copy. shown copy ≡ shown self.now) }
+        ensures { IfOk result (λ copy. published_result copy ≡ published_result self.now) }
     {
         match self {
             Published::Done(out) => Ok(Published::Done(Arc::try_clone(out)?)),

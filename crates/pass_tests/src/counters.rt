@@ -2,9 +2,9 @@ ghost use Rattle.std.specs.Prelude.{◌≡◌, ◌<◌, IfOk, Ok, ⊤};
 ghost use Rattle.std.specs.Arc.{arc_value};
 ghost use Rattle.pass_core.specs.Plans.{IsPlan};
 ghost use Rattle.pass_core.specs.Results.{Done};
-ghost use Rattle.pass_core.specs.Shown.{shown};
+ghost use Rattle.pass_core.specs.Shown.{published_result};
 ghost use Rattle.ready_counters.specs.Answers.{AnswersSubtract};
-ghost use Rattle.ready_counters.specs.Seen.{plan_of, view_of, IsSeatOf};
+ghost use Rattle.ready_counters.specs.Seen.{plan_on_board, view_of, IsSeatOf};
 ghost use Rattle.ready_counters.specs.Views.{all_of_it, lighter, one, with_claim};
 ghost use Rattle.pass_tests.specs.Counters.{pair, chain, no_nodes};
 ghost use Rattle.pass_tests.specs.Counters.{first_done, second_done, third_done};
@@ -35,7 +35,7 @@ impl Visit for Number {
 
 /// What is published of a node.
 fn published(alloc: Global, n: u32) -> Result<Arc<Published<u32>>, OutOfMemory>
-    ensures { IfOk result (λ value. shown (arc_value value) ≡ Done n) }
+    ensures { IfOk result (λ value. published_result (arc_value value) ≡ Done n) }
 {
     Ok(Arc::new(alloc, Published::Done(Arc::new(alloc, n)?))?)
 }
@@ -81,7 +81,7 @@ fn nothing_to_do(alloc: Global) -> Plan
 /// Claims a node that is ready.
 fn take<V: Visit>(rt: &impl Abort, board: &Board<V>, seat: &mut Seat<V>, n: u32)
     requires seat { IsSeatOf board.now seat.old }
-    requires node { n < (plan_of board.now).count }
+    requires node { n < (plan_on_board board.now).count }
     ensures seat { IsSeatOf board.now seat.new }
     ensures claimed { view_of seat.new ≡ with_claim (view_of seat.old) n }
 {
@@ -94,7 +94,7 @@ fn take<V: Visit>(rt: &impl Abort, board: &Board<V>, seat: &mut Seat<V>, n: u32)
 /// Claims a node that isn't free and ready.
 fn miss<V: Visit>(rt: &impl Abort, board: &Board<V>, seat: &mut Seat<V>, n: u32, answer: Claim)
     requires seat { IsSeatOf board.now seat.old }
-    requires node { n < (plan_of board.now).count }
+    requires node { n < (plan_on_board board.now).count }
     ensures seat { IsSeatOf board.now seat.new }
     ensures same { view_of seat.new ≡ view_of seat.old }
 {
@@ -130,7 +130,7 @@ fn end_first(
     board: &Board<Number>,
     seat: &mut Seat<Number>,
 ) -> Result<(u64, bool), OutOfMemory>
-    requires plan { plan_of board.now ≡ chain }
+    requires plan { plan_on_board board.now ≡ chain }
     requires seat { IsSeatOf board.now seat.old }
     requires claimed { view_of seat.old ≡ with_claim (lighter all_of_it) 0 }
     ensures seat { IfOk result (λ told. IsSeatOf board.now seat.new) }
@@ -148,7 +148,7 @@ fn visit_second(
     board: &Board<Number>,
     seat: &mut Seat<Number>,
 ) -> Result<(u64, bool), OutOfMemory>
-    requires plan { plan_of board.now ≡ chain }
+    requires plan { plan_on_board board.now ≡ chain }
     requires seat { IsSeatOf board.now seat.old }
     requires idle { view_of seat.old ≡ one }
     ensures seat { IfOk result (λ told. IsSeatOf board.now seat.new) }
@@ -163,7 +163,7 @@ fn visit_second(
 
 /// Visits the chain's third node, by the seat that visited the first: its ticket.
 fn visit_third(rt: &impl Abort, board: &Board<Number>, seat: &mut Seat<Number>, first: u64) -> u64
-    requires plan { plan_of board.now ≡ chain }
+    requires plan { plan_on_board board.now ≡ chain }
     requires seat { IsSeatOf board.now seat.old }
     requires done { view_of seat.old ≡ first_done first }
     ensures seat { IsSeatOf board.now seat.new }

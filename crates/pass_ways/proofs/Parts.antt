@@ -7,7 +7,7 @@ use Rattle.bp_faults.specs.declared.ids.NodeId.{NodeId}
 use Rattle.bp_faults.proofs.Lists.{contains_earlier, same_at}
 use Rattle.pass_core.specs.declared.plan.Plan.{Plan}
 use Rattle.pass_core.specs.Orders.{numbers}
-use Rattle.pass_core.specs.OrderOutcomes.{IsReady, IsReadyAt, IsFirstRefused, IsShort}
+use Rattle.pass_core.specs.OrderOutcomes.{IsReadyAfter, IsReadyAt, IsFirstRefused, IsShort}
 use Rattle.pass_ways.specs.OrderFiles.{IsPart}
 use Rattle.pass_ways.proofs.Lacking.{one_lacks, fewer_where_one_lacks}
 
@@ -40,8 +40,8 @@ module _ (plan : Plan) (order : List ℕ) where
       let many : length (take k order) ≡ k = length-take-le k order (let e = first.inside in omega arith) in
       let ready : (place : ℕ) → place < length (take k order) → IsReadyAt plan (take k order) place = λ place lt.
       let less : place < k = omega arith in
-      subst (λ (l : List ℕ). IsReady plan l (slice_index (take k order) place)) (sym (take_take order k place (omega arith)))
-      (subst (IsReady plan (take place order)) (sym (get_or-take k order place 0 less)) (first.ready place less)) in
+      subst (λ (l : List ℕ). IsReadyAfter plan l (slice_index (take k order) place)) (sym (take_take order k place (omega arith)))
+      (subst (IsReadyAfter plan (take place order)) (sym (get_or-take k order place 0 less)) (first.ready place less)) in
       let e = first.inside in
       record { ready = ready; missing = one_lacks (take k order) plan.count (omega arith) }
 

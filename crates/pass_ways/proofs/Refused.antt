@@ -6,7 +6,7 @@ use Rattle.bp_faults.specs.declared.fault.Fault.{Fault}
 use Rattle.bp_faults.specs.declared.ids.NodeId.{NodeId}
 use Rattle.pass_core.specs.declared.plan.Plan.{Plan}
 use Rattle.pass_core.specs.Orders.{IsLegal, numbers}
-use Rattle.pass_core.specs.OrderOutcomes.{IsReady, IsFirstRefused, IsShort}
+use Rattle.pass_core.specs.OrderOutcomes.{IsReadyAfter, IsFirstRefused, IsShort}
 use Rattle.pass_ways.specs.declared.way.OrderLine.{OrderLine}
 use Rattle.pass_ways.specs.Visits.{visits}
 use Rattle.pass_ways.specs.OrderFiles.{Say, lines_behind, IsPart, IsLegalLine, IsIllegal, IsRefused, stopped_at}
@@ -41,9 +41,6 @@ module _ (lines : List OrderLine) (journal : List (ℕ × NodeId)) (read : Say l
   behind_part k le = ap (λ i. drop i lines)
       (length-append journal (visits pass (take k order)) ∙ ap (λ i. length journal + i) (length-map (take k order) (λ (n : NodeId). (pass, n)) ∙ length-take-le k order le))
 
-  pub inside_journal : length journal ≤ length lines
-  inside_journal = say_few lines journal read
-
   pub inside_at : (k : ℕ) → k ≤ length order → length journal + k ≤ length lines
   inside_at k le =
       let e = say_few lines (journal ++ visits pass order) say_all in
@@ -67,8 +64,8 @@ module _ (lines : List OrderLine) (journal : List (ℕ × NodeId)) (read : Say l
         let illegal : IsLegalLine plan pass (take k order) next.0 → ⊥ = λ legal.
         let same : entry pass legal.0 ≡ entry pass (get_or order k d) = sym legal.1 ∙ next.3 in
         let node : legal.0 ≡ get_or order k d = entry_node pass legal.0 (get_or order k d) same in
-        first.refused (subst (λ (l : List ℕ). IsReady plan l (slice_index (numbers order) k)) (sym (numbers_taken k order))
-        (subst (IsReady plan (numbers (take k order))) (ap (λ (n : NodeId). n.0) node ∙ sym here)
+        first.refused (subst (λ (l : List ℕ). IsReadyAfter plan l (slice_index (numbers order) k)) (sym (numbers_taken k order))
+        (subst (IsReadyAfter plan (numbers (take k order))) (ap (λ (n : NodeId). n.0) node ∙ sym here)
         legal.2)) in
         record {
           order = take k order;

@@ -10,7 +10,7 @@ use Rattle.bp_faults.specs.declared.ids.NodeId.{NodeId}
 use Rattle.bp_faults.proofs.Lists.{all_contained, same_at}
 use Rattle.pass_core.specs.declared.plan.Plan.{Plan}
 use Rattle.pass_core.specs.Orders.{IsLegal, numbers}
-use Rattle.pass_core.specs.OrderOutcomes.{IsReady, IsReadyAt}
+use Rattle.pass_core.specs.OrderOutcomes.{IsReadyAfter, IsReadyAt}
 use Rattle.pass_ways.specs.declared.way.OrderLine.{OrderLine}
 use Rattle.pass_ways.specs.Visits.{visits}
 use Rattle.pass_ways.specs.OrderFiles.{Say, lines_behind, IsLegalLine, IsIllegal, IsRefused, stopped_at}
@@ -68,9 +68,9 @@ module _ (lines : List OrderLine) (before : List (ℕ × NodeId)) (pass : ℕ) w
       let first : order ≡ take (length order) other = say_beginning (lines_behind lines before) pass order other (say_behind lines before (visits pass order) h) said (omega (arith, less)) in
       let many = length-map other (λ (n : NodeId). n.0) in
       let here : slice_index (numbers other) (length order) ≡ (get_or other (length order) d).0 = get_or-map (λ (n : NodeId). n.0) other (length order) d 0 less in
-      let at : IsReady plan (take (length order) (numbers other)) (slice_index (numbers other) (length order)) = ready (length order) (omega (arith, many, less)) in
+      let at : IsReadyAfter plan (take (length order) (numbers other)) (slice_index (numbers other) (length order)) = ready (length order) (omega (arith, many, less)) in
       let taken : take (length order) (numbers other) ≡ numbers order = numbers_taken (length order) other ∙ ap numbers (sym first) in
-      let legal : IsLegalLine plan pass order next.0 = (get_or other (length order) d, next.3, subst (IsReady plan (numbers order)) here (subst (λ l. IsReady plan l (slice_index (numbers other) (length order))) taken at)) in
+      let legal : IsLegalLine plan pass order next.0 = (get_or other (length order) d, next.3, subst (IsReadyAfter plan (numbers order)) here (subst (λ l. IsReadyAfter plan l (slice_index (numbers other) (length order))) taken at)) in
       subst (IsIllegal (IsLegalLine plan pass order)) there illegal legal
 
   pub one_order : (plan : Plan) (order other : List NodeId) → Say lines (before ++ visits pass order) → IsLegal plan (numbers order) → Say lines (before ++ visits pass other) → IsLegal plan (numbers other) → order ≡ other

@@ -8,7 +8,7 @@ use Rattle.bp_faults.specs.declared.place.Place.{Place}
 use Rattle.bp_faults.specs.Faults.{fault_at, fault_on}
 use Rattle.pass_core.specs.declared.plan.Plan.{Plan}
 use Rattle.pass_core.specs.Orders.{numbers}
-use Rattle.pass_core.specs.OrderOutcomes.{IsReady, IsReadyAt}
+use Rattle.pass_core.specs.OrderOutcomes.{IsReadyAfter, IsReadyAt}
 use Rattle.pass_ways.specs.declared.way.OrderLine.{OrderLine}
 use Rattle.pass_ways.specs.Visits.{visits}
 
@@ -33,7 +33,7 @@ line_start file number = record { file = file; line = number; col = 1 }
 
 -- After some nodes of a pass a line names this pass and a node that is ready.
 abbrev pub IsLegalLine : Plan → ℕ → List NodeId → OrderLine → Type 0
-IsLegalLine plan pass order l = (n : NodeId) × (l.entry ≡ Some (pass, n)) × IsReady plan (numbers order) n.0
+IsLegalLine plan pass order l = (n : NodeId) × (l.entry ≡ Some (pass, n)) × IsReadyAfter plan (numbers order) n.0
 
 -- The fault at the first of some lines, with its text, or that there is none. The lines are counted from a number on.
 abbrev pub stopped_at : ℕ → ℕ → List OrderLine → Fault

@@ -5,7 +5,7 @@ use Rattle.bp_faults.specs.declared.fault.Fault.{Fault}
 use Rattle.bp_faults.specs.declared.ids.NodeId.{NodeId}
 use Rattle.pass_core.specs.declared.plan.Plan.{Plan}
 use Rattle.pass_core.specs.Orders.{IsLegal, numbers}
-use Rattle.pass_core.specs.Outcomes.{IsOutcome}
+use Rattle.pass_core.specs.Outcomes.{PassOutcomeMeans}
 use Rattle.pass_ways.specs.declared.error.WayError.{WayError}
 use Rattle.pass_ways.specs.declared.error.WayError.TheVariants.{At, Refused, OutOfMemory}
 use Rattle.pass_ways.specs.declared.way.Way.{Way}
@@ -41,9 +41,9 @@ module _ (Follows : List (ℕ × NodeId) → Type 0) (Refuses : List (ℕ × Nod
   abbrev pub AnswersBy : {O : Type 0} → (ℕ → List O → Result O Fault) → Plan → ℕ → List (ℕ × NodeId)
       → Result (WayRun O) WayError → Type 0
   AnswersBy mean plan pass before (Ok run) =
-      IsOutcome mean plan (Ok (map arc_value run.outs.items)) × Runs Follows plan pass before run.order
+      PassOutcomeMeans mean plan (Ok (map arc_value run.outs.items)) × Runs Follows plan pass before run.order
   AnswersBy mean plan pass before (Err (At n fault)) =
-      IsOutcome mean plan (Err (n.0, fault)) × ((order : List NodeId) × Runs Follows plan pass before order)
+      PassOutcomeMeans mean plan (Err (n.0, fault)) × ((order : List NodeId) × Runs Follows plan pass before order)
   AnswersBy mean plan pass before (Err (Refused fault)) = Refuses before pass plan fault
   AnswersBy mean plan pass before (Err OutOfMemory) = ⊤
 

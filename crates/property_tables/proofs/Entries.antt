@@ -5,7 +5,7 @@ use Rattle.bp_faults.specs.Answers.{Answers, Refuses, then_do}
 use Rattle.bp_faults.specs.declared.refusal.Refusal.{Refusal}
 use Rattle.bp_faults.specs.declared.refusal.Refusal.TheVariants.{Bad, OutOfMemory}
 use Rattle.bp_values.specs.declared.value.Entry.{Entry}
-use Rattle.bp_values.specs.Values.{Field, Meaning, field_of, fields_then, no_field, value_step, entry_step}
+use Rattle.bp_values.specs.Values.{Field, Meaning, field_of, fields_then, no_field, value_step, field_step}
 use Rattle.bp_values.specs.declared.value.Entry.{out-Entry}
 use Rattle.bp_values.specs.declared.value.Value.TheFolds.{fold_out-Entry}
 use Rattle.bp_faults.proofs.Lists.{drop-here}
@@ -13,7 +13,7 @@ use Rattle.property_tables.specs.Entries.{each_entry}
 
 -- an entry has the name of its view
 pub name_of : (e : Entry) → (field_of e).name ≡ (out-Entry e).name
-name_of e = ap (λ f. f.name) (fold_out-Entry Meaning Field value_step entry_step e)
+name_of e = ap (λ f. f.name) (fold_out-Entry Meaning Field value_step field_step e)
 
 module _ {A : Type 0} (step : A → Field → Result A Fault) (es : List Entry) (i : ℕ) (e : Entry) (made : A)
     (within : i < length es) (item : e ≡ get_or es i e) where

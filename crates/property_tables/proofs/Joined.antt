@@ -7,7 +7,7 @@ use Rattle.std.proofs.lemmas.Bool.{and_parts, and_from}
 use Rattle.std.proofs.lemmas.List.{append-nil}
 use Rattle.std.proofs.lemmas.List.Splits.{join_with_byte-slice_split, slice_split-cons_no}
 use Rattle.bp_faults.specs.Paths.{is_component, is_normal}
-use Rattle.property_tables.specs.Paths.{parts, components, placed}
+use Rattle.property_tables.specs.Paths.{parts, components, path_below}
 use Rattle.property_tables.specs.Inside.{behind, path_and}
 use Rattle.property_tables.specs.Fits.{is_empty}
 
@@ -87,7 +87,7 @@ normal_join (c ∷ cs) all = normal_of_parts (join (c ∷ cs))
     (ap (list_all is_component) (split_join c cs all) ∙ all_components (c ∷ cs) all)
 
 -- the path of an item is in normal form
-pub normal_placed : (dir item : List ℕ) → is_normal (placed dir item) ≡ true
+pub normal_placed : (dir item : List ℕ) → is_normal (path_below dir item) ≡ true
 normal_placed dir item = normal_join (components dir ++ components item)
     (solid_append (components dir) (components item) (solid_components dir) (solid_components item))
 
@@ -140,7 +140,7 @@ dir_joined [] normal = refl
 dir_joined (b ∷ bs) normal =
     sym (ap join (filter_whole (parts (b ∷ bs)) normal) ∙ join_with_byte-slice_split 47 (b ∷ bs))
 
-pub grown_placed : (dir item : List ℕ) → is_normal dir ≡ true → fold path_and dir (parts item) ≡ placed dir item
+pub grown_placed : (dir item : List ℕ) → is_normal dir ≡ true → fold path_and dir (parts item) ≡ path_below dir item
 grown_placed dir item normal =
     ap (λ path. fold path_and path (parts item)) (dir_joined dir normal)
     ∙ grown (parts item) (components dir) (no_slashes item) (solid_components dir)
@@ -162,6 +162,6 @@ components_join (c ∷ cs) all = ap (filter is_component) (split_join c cs all)
     ∙ filter_whole (c ∷ cs) (all_components (c ∷ cs) all)
 
 -- the path of an item has the components of its directory and its own
-pub components_placed : (dir item : List ℕ) → components (placed dir item) ≡ components dir ++ components item
+pub components_placed : (dir item : List ℕ) → components (path_below dir item) ≡ components dir ++ components item
 components_placed dir item = components_join (components dir ++ components item)
     (solid_append (components dir) (components item) (solid_components dir) (solid_components item))

@@ -20,7 +20,7 @@ use Rattle.std.proofs.lemmas.List.{get_or-map, length-map}
 use Rattle.std.proofs.lemmas.List.Sorted.{searchable_from_sorted}
 use Rattle.std.proofs.lemmas.Map.Keys.{Less-from_sorted}
 use Rattle.property_tables.specs.declared.row.Row.{Row}
-use Rattle.property_tables.specs.Tables.{Property, property_of, names_ascend, named}
+use Rattle.property_tables.specs.Tables.{Property, property_of, names_ascend, property_named}
 
 abbrev cmp : List ℕ → List ℕ → Ordering
 cmp = slice_cmp nat_cmp
@@ -108,7 +108,7 @@ module _ (rows : List Row) (ascends : IsTrue (names_ascend (map property_of rows
 
   -- the row at which a search ends is the row of the name
   pub searched : (i : ℕ) (d : Row) → i < length rows → against (get_or rows i d) ≡ Equal
-      → named (map property_of rows) name ≡ Some (property_of (get_or rows i d))
+      → property_named (map property_of rows) name ≡ Some (property_of (get_or rows i d))
   searched i d within equal =
       find-map (λ p. bytes_eq p.name name) property_of rows
       ∙ ap (option_map property_of)
@@ -125,7 +125,7 @@ module _ (rows : List Row) (ascends : IsTrue (names_ascend (map property_of rows
   pub missed : (i : ℕ)
       → (IsNonDecreasingBy (λ row. ordering_index (against row)) rows
       → AllWithin (λ row. against row ≡ Less) rows 0 i × AllWithin (λ row. against row ≡ Greater) rows i
-      (length rows)) → named (map property_of rows) name ≡ None
+      (length rows)) → property_named (map property_of rows) name ≡ None
   missed i parted =
       let parts = parted (searchable_from_sorted nat_list_cmp_total (λ row. row.name.now) rows name rows_ascend) in
       find-map (λ p. bytes_eq p.name name) property_of rows

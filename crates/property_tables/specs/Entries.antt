@@ -17,9 +17,9 @@ use Rattle.bp_values.specs.Values.{Fields, no_field, field_and, Field as Entry}
 use Rattle.property_tables.specs.declared.row.PropKind.{PropKind}
 use Rattle.property_tables.specs.declared.row.PropKind.TheVariants as K
 use Rattle.property_tables.specs.declared.fit.Fit.{Fit}
-use Rattle.property_tables.specs.Tables.{Property, named, table_of, group_table, sanitize_table, arch_table}
+use Rattle.property_tables.specs.Tables.{Property, property_named, table_of, group_table, sanitize_table, arch_table}
 use Rattle.property_tables.specs.Tables.{multilib_table, target_table}
-use Rattle.property_tables.specs.Fits.{fits, map_in}
+use Rattle.property_tables.specs.Fits.{fit_of, map_in}
 use Rattle.property_tables.specs.Records.{group_set, props_set}
 
 -- The entries of a map are taken in turn, each put into what the ones before it made.
@@ -35,11 +35,11 @@ property_or_unknown at path None = Err (fault_on UnknownProperty at path)
 
 -- An entry is the property of its name, where the table has one.
 abbrev pub property_in : List Property → List ℕ → Entry → Result Property Fault
-property_in table prefix entry = property_or_unknown entry.at (prefix ++ entry.name) (named table entry.name)
+property_in table prefix entry = property_or_unknown entry.at (prefix ++ entry.name) (property_named table entry.name)
 
 -- Before the names in a group are the names of the groups, each with a dot.
-abbrev pub within : List ℕ → List ℕ → List ℕ
-within prefix name = prefix ++ (name ++ codes ".")
+abbrev pub inner_prefix : List ℕ → List ℕ → List ℕ
+inner_prefix prefix name = prefix ++ (name ++ codes ".")
 
 -- An entry of a group sets the field that its property names, if any.
 abbrev pub group_with_fit : Option Field → Place → Fit → GroupProps → GroupProps
@@ -59,7 +59,7 @@ groups_with_group effect g groups = groups
 -- An entry of a group has a property of the groups' table, and a value that fits it.
 abbrev pub group_entry : List ℕ → List ℕ → GroupProps → Entry → Result GroupProps Fault
 group_entry dir prefix g entry = then_do (property_in group_table prefix entry)
-    (λ p. then_do (fits dir p.effect (prefix ++ entry.name) entry p.kind)
+    (λ p. then_do (fit_of dir p.effect (prefix ++ entry.name) entry p.kind)
     (λ fit. Ok (group_with_fit p.effect entry.at fit g)))
 
 -- A group is made of its entries, one after the other.
@@ -71,13 +71,13 @@ abbrev pub groups_entry : List ℕ → List ℕ → List Property → List (Grou
     → Result (List (GroupId × GroupProps)) Fault
 groups_entry dir prefix table groups entry = then_do (property_in table prefix entry)
     (λ p. then_do (map_in entry.at (prefix ++ entry.name) entry.value)
-    (λ fields. then_do (group_typed dir (within prefix entry.name) fields)
+    (λ fields. then_do (group_typed dir (inner_prefix prefix entry.name) fields)
     (λ g. Ok (groups_with_group p.effect g groups))))
 
 -- An entry of `sanitize` has a property of its table, and a value that fits it.
 abbrev pub sanitize_entry : List ℕ → List ℕ → Props → Entry → Result Props Fault
 sanitize_entry dir prefix props entry = then_do (property_in sanitize_table prefix entry)
-    (λ p. then_do (fits dir p.effect (prefix ++ entry.name) entry p.kind)
+    (λ p. then_do (fit_of dir p.effect (prefix ++ entry.name) entry p.kind)
     (λ fit. Ok (props_with_fit p.effect entry.at fit props)))
 
 -- The groups of a table are put into those of a record.
@@ -99,8 +99,8 @@ inner_typed dir prefix effect props fields = Ok props
 -- An entry whose property is known is entered where it is a group, and else its value has to fit.
 abbrev pub entry_typed : List ℕ → Option Field → Props → Entry → PropKind → Result Props Fault
 entry_typed dir effect props entry K.Group = then_do (map_in entry.at entry.name entry.value)
-    (λ fields. inner_typed dir (within [] entry.name) effect props fields)
-entry_typed dir effect props entry kind = then_do (fits dir effect entry.name entry kind)
+    (λ fields. inner_typed dir (inner_prefix [] entry.name) effect props fields)
+entry_typed dir effect props entry kind = then_do (fit_of dir effect entry.name entry kind)
     (λ fit. Ok (props_with_fit effect entry.at fit props))
 
 -- An entry of a module has a property of its kind's table.

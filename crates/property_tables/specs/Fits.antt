@@ -24,7 +24,7 @@ use Rattle.property_tables.specs.declared.row.PropKind.TheVariants as K
 use Rattle.property_tables.specs.declared.fit.Fit.{Fit}
 use Rattle.property_tables.specs.declared.fit.Fit.TheVariants.{Truth, Word, Flags, Names, Sources, Dirs, Multi, Level}
 use Rattle.property_tables.specs.declared.fit.Fit.TheVariants.{Unset}
-use Rattle.property_tables.specs.Paths.{is_refused, components, placed}
+use Rattle.property_tables.specs.Paths.{is_refused, components, path_below}
 
 -- The value of an entry may be of another type than its property's.
 abbrev pub wrong_type : {A : Type 0} → Place → List ℕ → Result A Fault
@@ -56,7 +56,8 @@ flag_in path item = if list_any is_control item.text then Err (fault_on BadValue
 
 -- A directory is below its base directory; what has no component is the base directory itself.
 abbrev pub dir_in : List ℕ → Item → Result (List ℕ) Fault
-dir_in base item = if is_refused item.text then Err (fault_on BadPath item.at item.text) else Ok (placed base item.text)
+dir_in base item =
+    if is_refused item.text then Err (fault_on BadPath item.at item.text) else Ok (path_below base item.text)
 
 -- A list of components may be empty.
 abbrev pub is_empty : List (List ℕ) → Bool
@@ -67,7 +68,7 @@ is_empty (c ∷ components) = false
 abbrev pub path_in : List ℕ → Item → Result Source Fault
 path_in dir item =
     if is_refused item.text || is_empty (components item.text) then Err (fault_on BadPath item.at item.text)
-    else Ok (record { named = false; item = record { text = placed dir item.text; at = item.at } })
+    else Ok (record { named = false; item = record { text = path_below dir item.text; at = item.at } })
 
 -- A source is a path, or the name of a module behind a colon, which is no path.
 abbrev pub source_by : List ℕ → Item → List ℕ → Result Source Fault
@@ -112,17 +113,17 @@ base_of dir (Some IncludeDirs) = []
 base_of dir effect = dir
 
 -- An entry's value stands for something under a kind of property, in a module of this directory, or is refused.
-abbrev pub fits : List ℕ → Option Field → List ℕ → Entry → PropKind → Result Fit Fault
-fits dir effect path entry K.Bool = then_do (truth_in entry.at path entry.value) (λ b. Ok (Truth b))
-fits dir effect path entry K.Word = then_do (word_in entry.at path entry.value) (λ word. Ok (Word word))
-fits dir effect path entry K.Words = then_do (list_in entry.at path entry.value) (λ items. Ok Unset)
-fits dir effect path entry K.Flags = then_do (list_in entry.at path entry.value)
+abbrev pub fit_of : List ℕ → Option Field → List ℕ → Entry → PropKind → Result Fit Fault
+fit_of dir effect path entry K.Bool = then_do (truth_in entry.at path entry.value) (λ b. Ok (Truth b))
+fit_of dir effect path entry K.Word = then_do (word_in entry.at path entry.value) (λ word. Ok (Word word))
+fit_of dir effect path entry K.Words = then_do (list_in entry.at path entry.value) (λ items. Ok Unset)
+fit_of dir effect path entry K.Flags = then_do (list_in entry.at path entry.value)
     (λ items. then_do (each_in_turn (flag_in path) items) (λ flags. Ok (Flags flags)))
-fits dir effect path entry K.Names = then_do (list_in entry.at path entry.value) (λ items. Ok (Names items))
-fits dir effect path entry K.Paths = then_do (list_in entry.at path entry.value)
+fit_of dir effect path entry K.Names = then_do (list_in entry.at path entry.value) (λ items. Ok (Names items))
+fit_of dir effect path entry K.Paths = then_do (list_in entry.at path entry.value)
     (λ items. then_do (each_in_turn (source_in dir) items) (λ sources. Ok (Sources sources)))
-fits dir effect path entry K.Dirs = then_do (list_in entry.at path entry.value)
+fit_of dir effect path entry K.Dirs = then_do (list_in entry.at path entry.value)
     (λ items. then_do (each_in_turn (dir_in (base_of dir effect)) items) (λ dirs. Ok (Dirs dirs)))
-fits dir effect path entry K.Multi = then_do (word_in entry.at path entry.value) (λ word. multi_in entry.at path word)
-fits dir effect path entry K.Level = then_do (word_in entry.at path entry.value) (λ word. level_in entry.at path word)
-fits dir effect path entry K.Group = then_do (map_in entry.at path entry.value) (λ fields. Ok Unset)
+fit_of dir effect path entry K.Multi = then_do (word_in entry.at path entry.value) (λ word. multi_in entry.at path word)
+fit_of dir effect path entry K.Level = then_do (word_in entry.at path entry.value) (λ word. level_in entry.at path word)
+fit_of dir effect path entry K.Group = then_do (map_in entry.at path entry.value) (λ fields. Ok Unset)

@@ -12,10 +12,10 @@ use Rattle.bp_props.specs.Records.{props_empty}
 use Rattle.bp_values.specs.Values.{fields_then, no_field}
 use Rattle.bp_values.specs.Meaning.{Raw}
 use Rattle.property_tables.specs.Tables.{properties}
-use Rattle.property_tables.specs.Paths.{components, placed}
+use Rattle.property_tables.specs.Paths.{components, path_below}
 use Rattle.property_tables.specs.Entries.{each_entry, module_entry}
 use Rattle.property_tables.specs.Types.{is_dropped, types}
-use Rattle.property_tables.specs.Meaning.{typed}
+use Rattle.property_tables.specs.Meaning.{typed_module}
 
 -- A property stands in the table of a kind exactly where the kind has the field that it sets.
 abbrev pub TablesHaveFields : Type 0
@@ -24,16 +24,16 @@ TablesHaveFields = (kind : ModuleKind)
 
 -- Exactly the modules of the types `package` and `license` are dropped.
 abbrev pub DropsExactly : Type 0
-DropsExactly = (raw : Raw) (dir : List ℕ) → (typed raw dir ≡ Ok None) ↔ IsTrue (is_dropped raw.kind)
+DropsExactly = (raw : Raw) (dir : List ℕ) → (typed_module raw dir ≡ Ok None) ↔ IsTrue (is_dropped raw.kind)
 
 -- The first fault of a module's entries is the module's, whatever its name.
 abbrev pub EntriesComeFirst : Type 0
 EntriesComeFirst = (raw : Raw) (dir : List ℕ) (kind : ModuleKind) (fault : Fault)
     → lookup (bytes_eq raw.kind) types ≡ Some kind
     → each_entry (module_entry dir kind) props_empty (fields_then raw.entries no_field) ≡ Err fault
-    → typed raw dir ≡ Err fault
+    → typed_module raw dir ≡ Err fault
 
 -- The path of an item is in normal form, and its components are those of the directory and then those of the item.
 pub record StaysBelow (dir item : List ℕ) : Type 0 where
-  pub normal : IsTrue (is_normal (placed dir item))
-  pub parts : components (placed dir item) ≡ components dir ++ components item
+  pub normal : IsTrue (is_normal (path_below dir item))
+  pub parts : components (path_below dir item) ≡ components dir ++ components item

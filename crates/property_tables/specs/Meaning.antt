@@ -1,4 +1,4 @@
--- What typing makes of a module: its record, nothing, or its first fault. The crate is measured by `typed`.
+-- What typing makes of a module: its record, nothing, or its first fault. The crate is measured by `typed_module`.
 -- Source: Soong reference, module types and their properties; this project's profile has a part of them.
 use Rattle.std.specs.Prelude.{ℕ, List, if◌then◌else◌, Option, Some, None, Result, Ok, Err}
 use Rattle.std.specs.Str.{bytes_eq}
@@ -28,5 +28,5 @@ typed_by raw dir (Some kind) = module_typed raw dir kind
 typed_by raw dir None = Err (fault_on UnknownType raw.at raw.kind)
 
 -- A module of a file in this directory is dropped, or typed by its type.
-abbrev pub typed : Raw → List ℕ → Result (Option Module) Fault
-typed raw dir = if is_dropped raw.kind then Ok None else typed_by raw dir (lookup (bytes_eq raw.kind) types)
+abbrev pub typed_module : Raw → List ℕ → Result (Option Module) Fault
+typed_module raw dir = if is_dropped raw.kind then Ok None else typed_by raw dir (lookup (bytes_eq raw.kind) types)

@@ -11,8 +11,8 @@ use Rattle.bp_props.specs.declared.given.Given.{Given}
 use Rattle.bp_values.specs.Meaning.{Raw}
 
 -- A name is made of letters, digits and `_ . + - @` of ASCII.
-abbrev pub is_name_byte : ℕ → Bool
-is_name_byte b = is_ascii_alphanumeric b || (b == 95) || (b == 46) || (b == 43) || (b == 45) || (b == 64)
+abbrev pub is_module_name_byte : ℕ → Bool
+is_module_name_byte b = is_ascii_alphanumeric b || (b == 95) || (b == 46) || (b == 43) || (b == 45) || (b == 64)
 
 -- A directory and the one above it are named by dots.
 abbrev pub is_dots : List ℕ → Bool
@@ -20,7 +20,7 @@ is_dots name = bytes_eq name (codes ".") || bytes_eq name (codes "..")
 
 -- The name of a module has 1 to 255 such bytes, and isn't `.` or `..`.
 abbrev pub is_module_name : List ℕ → Bool
-is_module_name name = nat_le 1 (length name) && nat_le (length name) 255 && list_all is_name_byte name && not
+is_module_name name = nat_le 1 (length name) && nat_le (length name) 255 && list_all is_module_name_byte name && not
     (is_dots name)
 
 -- A module is named by its property `name`, or refused.

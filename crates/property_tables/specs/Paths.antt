@@ -29,5 +29,5 @@ abbrev pub components : List ℕ → List (List ℕ)
 components text = filter is_component (parts text)
 
 -- The path of an item below a directory has the components of both.
-abbrev pub placed : List ℕ → List ℕ → List ℕ
-placed dir text = join_with_byte 47 (components dir ++ components text)
+abbrev pub path_below : List ℕ → List ℕ → List ℕ
+path_below dir text = join_with_byte 47 (components dir ++ components text)

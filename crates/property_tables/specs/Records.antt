@@ -14,12 +14,12 @@ use Rattle.property_tables.specs.declared.fit.Fit.{Fit}
 use Rattle.property_tables.specs.declared.fit.Fit.TheVariants as fit
 
 -- A scalar is set at an entry.
-abbrev pub given : {A : Type 0} → Place → A → Option (Given A)
-given at value = Some (record { value = value; at = at })
+abbrev pub given_scalar : {A : Type 0} → Place → A → Option (Given A)
+given_scalar at value = Some (record { value = value; at = at })
 
 -- A list is set at an entry.
-abbrev pub listed : {A : Type 0} → Place → List A → Listed A
-listed at items = record { items = items; at = Some at }
+abbrev pub listed_items : {A : Type 0} → Place → List A → Listed A
+listed_items at items = record { items = items; at = Some at }
 
 -- A truth of a group is set.
 abbrev pub group_truth : Field → Option (Given Bool) → GroupProps → GroupProps
@@ -60,11 +60,11 @@ group_dirs field dirs g = g
 
 -- A field of a group is set, by what it holds.
 abbrev pub group_set : Field → Place → Fit → GroupProps → GroupProps
-group_set field at (fit.Truth truth) g = group_truth field (given at truth) g
-group_set field at (fit.Flags flags) g = group_flags field (listed at flags) g
-group_set field at (fit.Names names) g = group_names field (listed at names) g
-group_set field at (fit.Sources sources) g = group_sources field (listed at sources) g
-group_set field at (fit.Dirs dirs) g = group_dirs field (listed at dirs) g
+group_set field at (fit.Truth truth) g = group_truth field (given_scalar at truth) g
+group_set field at (fit.Flags flags) g = group_flags field (listed_items at flags) g
+group_set field at (fit.Names names) g = group_names field (listed_items at names) g
+group_set field at (fit.Sources sources) g = group_sources field (listed_items at sources) g
+group_set field at (fit.Dirs dirs) g = group_dirs field (listed_items at dirs) g
 group_set field at other g = g
 
 -- A truth of a record is set: its own, or that of its own group.
@@ -104,9 +104,9 @@ props_level field level p = p
 
 -- A field of a record is set, by what it holds.
 abbrev pub props_set : Field → Place → Fit → Props → Props
-props_set field at (fit.Truth truth) p = props_truth field (given at truth) p
-props_set field at (fit.Word word) p = props_word field (given at word) p
-props_set field at (fit.Names names) p = props_names field (listed at names) p
-props_set field at (fit.Multi multi) p = props_multi field (given at multi) p
-props_set field at (fit.Level level) p = props_level field (given at level) p
+props_set field at (fit.Truth truth) p = props_truth field (given_scalar at truth) p
+props_set field at (fit.Word word) p = props_word field (given_scalar at word) p
+props_set field at (fit.Names names) p = props_names field (listed_items at names) p
+props_set field at (fit.Multi multi) p = props_multi field (given_scalar at multi) p
+props_set field at (fit.Level level) p = props_level field (given_scalar at level) p
 props_set field at other p = record p { base = group_set field at other p.base }

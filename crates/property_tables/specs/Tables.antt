@@ -188,8 +188,8 @@ abbrev pub property_of : Row → Property
 property_of row = record { name = row.name.now; kind = row.kind; effect = row.effect }
 
 -- A name has its property, where the table has one.
-abbrev pub named : List Property → List ℕ → Option Property
-named table name = find (λ p. bytes_eq p.name name) table
+abbrev pub property_named : List Property → List ℕ → Option Property
+property_named table name = find (λ p. bytes_eq p.name name) table
 
 -- Each name is below the next.
 abbrev pub names_ascend : List Property → Bool

@@ -1,7 +1,7 @@
 //! The fields of a group and of a record are set here, each under its own name.
 ghost use Rattle.std.specs.Prelude.{◌≡◌};
 ghost use Rattle.property_tables.specs.Records.{group_truth, group_flags, group_names, group_sources, group_dirs};
-ghost use Rattle.property_tables.specs.Records.{group_set, given as given_at, listed as listed_at};
+ghost use Rattle.property_tables.specs.Records.{group_set, given_scalar as given_at, listed_items as listed_at};
 ghost use Rattle.property_tables.specs.Records.{props_truth, props_names, props_word, props_multi, props_level};
 ghost use Rattle.property_tables.specs.Records.{props_set};
 

@@ -5,7 +5,7 @@ ghost use Rattle.std.specs.Str.Parse.{digits_value};
 ghost use Rattle.bp_faults.specs.Answers.{Answers};
 ghost use Rattle.bp_values.specs.Values.{field_of};
 ghost use Rattle.property_tables.specs.Fits.{multi_in, level_in, is_number as number, in_levels as levels, dir_in};
-ghost use Rattle.property_tables.specs.Fits.{base_of, fits};
+ghost use Rattle.property_tables.specs.Fits.{base_of, fit_of};
 ghost use Rattle.bp_faults.specs.Phases.{each_in_turn};
 
 use crate::entry_values::{entries, entry_fault, list, truth, word};
@@ -118,7 +118,7 @@ pub(crate) fn fitted(
     entry: &Entry,
 ) -> Result<Fit, LoadError>
     ensures { Answers (λ fit. fit) result
-        (fits dir.now row.effect (prefix.now ++ (field_of entry.now).name) (field_of entry.now) row.kind) }
+        (fit_of dir.now row.effect (prefix.now ++ (field_of entry.now).name) (field_of entry.now) row.kind) }
 {
     match row.kind {
         PropKind::Bool => Ok(Fit::Truth(truth(alloc, prefix, entry)?)),

@@ -1,8 +1,8 @@
 ghost use Rattle.std.specs.Prelude.{◌≡◌, ◌++◌, [], IfOk, option_map};
 ghost use Rattle.bp_faults.specs.Answers.{Answers};
 ghost use Rattle.bp_values.specs.Values.{field_of};
-ghost use Rattle.property_tables.specs.Tables.{property_of, named, table_of};
-ghost use Rattle.property_tables.specs.Entries.{property_or_unknown, property_in, within as within_group};
+ghost use Rattle.property_tables.specs.Tables.{property_of, property_named, table_of};
+ghost use Rattle.property_tables.specs.Entries.{property_or_unknown, property_in, inner_prefix as within_group};
 
 use crate::entry_values::entry_fault;
 use crate::tables::{cc, defaults, filegroup, library, shared_library, test};
@@ -15,14 +15,14 @@ use std::alloc::Global;
 /// The row of a name in a table. It takes no memory.
 #[tactic(auto, using(crate::proofs::Rows::copied_row))]
 fn row_in<const N: usize>(table: &PropTable<N>, name: &Text) -> Option<Row>
-    ensures { option_map property_of result ≡ named table.now name.now }
+    ensures { option_map property_of result ≡ property_named table.now name.now }
 {
     table.row(name).copied()
 }
 
 /// The row of a name in the table of a kind. It takes no memory.
 fn module_row(kind: ModuleKind, name: &Text) -> Option<Row>
-    ensures { option_map property_of result ≡ named (table_of kind) name.now }
+    ensures { option_map property_of result ≡ property_named (table_of kind) name.now }
 {
     match kind {
         ModuleKind::Binary | ModuleKind::LibraryStatic | ModuleKind::LibraryHeaders => {

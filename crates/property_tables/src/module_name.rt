@@ -1,6 +1,6 @@
 ghost use Rattle.std.specs.Prelude.{◌≡◌};
 ghost use Rattle.std.specs.List.{list_all};
-ghost use Rattle.property_tables.specs.Names.{is_name_byte as name_byte, is_module_name as module_name};
+ghost use Rattle.property_tables.specs.Names.{is_module_name_byte as name_byte, is_module_name as module_name};
 
 fn is_name_byte(byte: u8) -> bool
     ensures { result ≡ name_byte byte }

@@ -2,7 +2,8 @@ ghost use Rattle.std.specs.Prelude.{◌≡◌, ◌==◌, IfOk, OnOk, codes, not}
 ghost use Rattle.std.specs.Str.{bytes_eq};
 ghost use Rattle.std.specs.List.{list_any};
 ghost use Rattle.bp_faults.specs.Characters.{is_control};
-ghost use Rattle.property_tables.specs.Paths.{is_barred, is_absolute, is_refused as refused, parts, components, placed};
+ghost use Rattle.property_tables.specs.Paths.{is_barred, is_absolute, is_refused as refused, parts, components};
+ghost use Rattle.property_tables.specs.Paths.{path_below};
 ghost use Rattle.property_tables.specs.Inside.{path_and, behind};
 ghost use Rattle.bp_faults.specs.Paths.{is_component as component};
 ghost use Rattle.property_tables.specs.Fits.{is_empty};
@@ -87,7 +88,7 @@ fn with_room(alloc: Global, dir: &Text, item: &str) -> Result<Text, OutOfMemory>
 
 /// The path of an item below a directory.
 pub(crate) fn path_below(alloc: Global, dir: &Path, item: &str) -> Result<Text, OutOfMemory>
-    ensures { IfOk result (λ path. path ≡ placed dir.now item.now) }
+    ensures { IfOk result (λ path. path ≡ path_below dir.now item.now) }
 {
     let mut path = with_room(alloc, dir.as_text(), item)?;
     for part in item.split('/') {
@@ -99,7 +100,7 @@ pub(crate) fn path_below(alloc: Global, dir: &Path, item: &str) -> Result<Text, 
 /// The directory of an item below another. The path of an item is in normal form.
 #[tactic(auto, using(crate::proofs::Joined::normal_placed))]
 pub(crate) fn dir_below(alloc: Global, dir: &Path, item: &str) -> Result<Path, OutOfMemory>
-    ensures { IfOk result (λ path. path ≡ placed dir.now item.now) }
+    ensures { IfOk result (λ path. path ≡ path_below dir.now item.now) }
 {
     let path = path_below(alloc, dir, item)?;
     Ok(Path::new(path).unwrap_or(Path::root(alloc)))

@@ -21,7 +21,7 @@ impl<const N: usize> Model for PropTable<N> {
 
 impl<const N: usize> PropTable<N> {
     ghost use Rattle.std.specs.Prelude.{◌≡◌, map, IsTrue, option_map, length};
-    ghost use Rattle.property_tables.specs.Tables.{property_of, names_ascend, named};
+    ghost use Rattle.property_tables.specs.Tables.{property_of, names_ascend, property_named};
 
     /// The table of these rows.
     pub(crate) fn of(rows: &'static [Row]) -> PropTable<N>
@@ -34,7 +34,7 @@ impl<const N: usize> PropTable<N> {
 
     /// The row of a name, where the table has one. It takes no memory.
     pub fn row(&self, name: &Text) -> Option<&Row>
-        ensures { option_map (λ row. property_of row.now) result ≡ named self.now name.now }
+        ensures { option_map (λ row. property_of row.now) result ≡ property_named self.now name.now }
     {
         let name = name.as_str();
         match self.rows.binary_search_by(|row| row.name.cmp(name)) {

@@ -3,7 +3,7 @@ ghost use Rattle.bp_faults.specs.Faults.{fault_on as fault_on_as};
 ghost use Rattle.bp_faults.specs.Answers.{Answers};
 ghost use Rattle.bp_values.specs.Meaning.{raw_of};
 ghost use Rattle.property_tables.specs.Names.{name_in};
-ghost use Rattle.property_tables.specs.Meaning.{module_typed, typed as typed_as};
+ghost use Rattle.property_tables.specs.Meaning.{module_typed, typed_module as typed_as};
 
 use crate::LoadError;
 use crate::module_entries::props_of;

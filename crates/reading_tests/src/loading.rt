@@ -1,7 +1,7 @@
 ghost use Rattle.std.specs.Prelude.{◌≡◌, ◌≤◌, ◌^◌, length, map, IfOk};
 ghost use Rattle.std.specs.List.{All};
 ghost use Rattle.bp_load.specs.Directories.{AreInFileOrder};
-ghost use Rattle.bp_load.specs.Trees.{sources};
+ghost use Rattle.bp_load.specs.Trees.{sources_given};
 
 use bp_faults::{Fault, OutOfMemory, Path, fault_line};
 use bp_load::{LoadError, file_list, load, raw_modules};
@@ -26,8 +26,8 @@ fn bytes_of(alloc: Global, text: &str) -> Result<Vec<u8>, OutOfMemory>
 fn files_of(alloc: Global, list: &str, contents: &[&str]) -> Result<Vec<(Path, Vec<u8>)>, LoadError>
     requires { length list.now ≤ 2 ^ 22 }
     ensures few { IfOk result (λ files. length files.items ≤ 2 ^ 14) }
-    ensures order { IfOk result (λ files. AreInFileOrder (map (λ f. f.0) (sources files.items))) }
-    ensures short { IfOk result (λ files. All (λ f. length f.1 ≤ 2 ^ 20) (sources files.items)) }
+    ensures order { IfOk result (λ files. AreInFileOrder (map (λ f. f.0) (sources_given files.items))) }
+    ensures short { IfOk result (λ files. All (λ f. length f.1 ≤ 2 ^ 20) (sources_given files.items)) }
 {
     let paths = file_list(alloc, list.as_bytes())?;
     let mut files = Vec::new(alloc);

@@ -15,8 +15,8 @@ use Rattle.pass_core.specs.declared.plan.PlanEdge.{PlanEdge}
 use Rattle.pass_core.specs.declared.published.Published.{Published}
 use Rattle.pass_core.specs.Results.{NodeResult}
 use Rattle.ready_counters.specs.declared.view.View.{View}
-use Rattle.ready_counters.specs.Edges.{left_from, to_of, from_of}
-use Rattle.ready_counters.specs.Meaning.{taken, HasWord, IsView, IsBoard}
+use Rattle.ready_counters.specs.Edges.{left_from, edge_target, edge_source}
+use Rattle.ready_counters.specs.Meaning.{claimed_word, HasWord, IsView, IsBoard}
 use Rattle.ready_counters.specs.Sums.{claims, subtractions}
 use Rattle.ready_counters.specs.Views.{times}
 use Rattle.ready_counters.specs.Inside.{Found, Claims}
@@ -52,9 +52,9 @@ module _ {O A : Type 0} (count : ℕ) (edges : List PlanEdge) (few : length edge
         ((is_taken _ _ _ has_word few_left (is ∙ t)).0) e inside to in
         dite (ℕ_discrete (times e me.0.subtracted) 0)
         (λ z. let l = total_less (λ (v : View). times e v.subtracted)
-        (λ (v : View). times (from_of edges e) v.claimed) s.views id me.0
+        (λ (v : View). times (edge_source edges e) v.claimed) s.views id me.0
         (subtracted_claimed count edges result s holds e inside) here (omega arith) in
-        let o = holds.counters.once (from_of edges e) in absurd (omega arith))
+        let o = holds.counters.once (edge_source edges e) in absurd (omega arith))
         (λ ne. omega arith);
     exact = λ heavy. word_same _ _ _ _ _ _
         (sym (sole count edges result s holds id me.0 here (λ (v : View). times n v.claimed) refl heavy)) (sym is)
@@ -73,7 +73,7 @@ module _ {O A : Type 0} (count : ℕ) (edges : List PlanEdge) (few : length edge
     sourced = before.sourced;
     drawn = λ m. let h = before.drawn m in let t = times_grow m n me.0.claimed in omega arith;
     gathered = before.gathered;
-    targeted = λ e l. let h = before.targeted e l in let t = times_grow (to_of edges e) n me.0.claimed in omega arith;
+    targeted = λ e l. let h = before.targeted e l in let t = times_grow (edge_target edges e) n me.0.claimed in omega arith;
   }
 
   claims_after : (m : ℕ)
@@ -93,11 +93,11 @@ module _ {O A : Type 0} (count : ℕ) (edges : List PlanEdge) (few : length edge
       (λ e. sum_same (λ (v : View). times e v.subtracted) s.views id me.0 (with_claim me.0 n) here refl)
 
   claimed_state : slice_index s.words n ≡ 0
-      → IsBoard count edges result (stepped s n taken id me.1 (with_claim me.0 n) keeps)
+      → IsBoard count edges result (stepped s n claimed_word id me.1 (with_claim me.0 n) keeps)
   claimed_state free =
-      let none = not_taken _ _ _ has_word (λ t. let e : 0 ≡ taken = sym free ∙ t in absurd (omega arith)) in
+      let none = not_taken _ _ _ has_word (λ t. let e : 0 ≡ claimed_word = sym free ∙ t in absurd (omega arith)) in
       at_node count edges result s holds id me.0
-      (with_claim me.0 n) here view_after refl refl refl refl refl n taken node
+      (with_claim me.0 n) here view_after refl refl refl refl refl n claimed_word node
       (record {
         once = λ m. dite (ℕ_discrete m n)
             (λ same. subst (λ x. claims (set s.views id (with_claim me.0 n)) x ≤ 1) (sym same)
@@ -105,11 +105,11 @@ module _ {O A : Type 0} (count : ℕ) (edges : List PlanEdge) (few : length edge
             (λ ne. let h = claims_else m ne in let o = holds.counters.once m in omega arith);
         words = λ m lm. dite (ℕ_discrete m n)
             (λ same. subst (λ x. HasWord (claims (set s.views id (with_claim me.0 n)) x)
-            (slice_index (set s.words n taken) x)
+            (slice_index (set s.words n claimed_word) x)
             (left_from (subtractions (set s.views id (with_claim me.0 n))) 0 edges x)) (sym same)
-            (word_taken _ _ _ (let h = claims_here in omega arith) (get_or-set_same s.words n taken 0 many)
+            (word_taken _ _ _ (let h = claims_here in omega arith) (get_or-set_same s.words n claimed_word 0 many)
             (left_after n ∙ sym none.1 ∙ free)))
-            (λ ne. word_same _ _ _ _ _ _ (claims_else m ne) (get_or-set_other s.words n m taken 0 ne) (left_after m)
+            (λ ne. word_same _ _ _ _ _ _ (claims_else m ne) (get_or-set_other s.words n m claimed_word 0 ne) (left_after m)
             (holds.counters.words m lm));
       })
 
@@ -122,7 +122,7 @@ module _ {O A : Type 0} (count : ℕ) (edges : List PlanEdge) (few : length edge
 
   claim_goes : (found : ℕ) → slice_index s.words n ≡ found → (b : Bool) → (found == 0) ≡ b
       → (w : View) × (a : Act (Option (Arc (Published O) A))) × Valid s.homes me.1 a
-      × IsBoard count edges result (stepped s n (either b taken found) id me.1 w a)
+      × IsBoard count edges result (stepped s n (either b claimed_word found) id me.1 w a)
       × Claims edges n me found (w, carried_after me.1 a)
   claim_goes zero is true zero_is = (with_claim me.0 n, keeps, tt, claimed_state is, (refl, refl, learnt zero is))
   claim_goes (suc k) is true zero_is = absurd (grind (arith, nat_tests))
@@ -131,7 +131,7 @@ module _ {O A : Type 0} (count : ℕ) (edges : List PlanEdge) (few : length edge
 
 pub claim_allows : {O A : Type 0} (count : ℕ) (edges : List PlanEdge) (result : ℕ → NodeResult O) (slots id n : ℕ)
     (me : Me (Option (Arc (Published O) A)) View) → length edges < 4294967296 → n < count → 1 ≤ me.0.weight
-    → Allows (IsBoard count edges result) slots id me n (λ x. either (x == 0) taken x) (Claims edges n me)
+    → Allows (IsBoard count edges result) slots id me n (λ x. either (x == 0) claimed_word x) (Claims edges n me)
 claim_allows count edges result slots id n me few node live s holds _ here small =
     claim_goes count edges few result id n me node live s holds here (slice_index s.words n) refl
     (slice_index s.words n == 0) refl

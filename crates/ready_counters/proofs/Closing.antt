@@ -13,10 +13,10 @@ use Rattle.pass_core.specs.declared.published.Published.{Published}
 use Rattle.pass_core.specs.Results.{NodeResult}
 use Rattle.pass_core.specs.declared.plan.Plan.{Plan}
 use Rattle.ready_counters.specs.declared.view.View.{View}
-use Rattle.ready_counters.specs.Edges.{to_of, from_of}
+use Rattle.ready_counters.specs.Edges.{edge_target, edge_source}
 use Rattle.ready_counters.specs.Meaning.{IsView, IsBoard}
 use Rattle.ready_counters.specs.Sums.{claims, draws, drawn_numbers, uses}
-use Rattle.ready_counters.specs.Views.{whole, times, tickets_for, number_for, tickets_with}
+use Rattle.ready_counters.specs.Views.{whole, times, tickets_for, ticket_number, tickets_with}
 use Rattle.ready_counters.specs.Ends.{IsByTicket, IsDoneBy}
 use Rattle.ready_counters.specs.Inside.{IsInOrder}
 use Rattle.ready_counters.proofs.Sums.{ticket_here, ticket_else, number_here, number_else, no_number, below_all, times_here, times_else}
@@ -24,7 +24,7 @@ use Rattle.ready_counters.proofs.Knowing.{claimed_subtracted, sole}
 
 -- a number that is on a ticket is some node's
 pub user : (k : ℕ) (ts : List (ℕ × ℕ)) → ((n : ℕ) → tickets_for n ts ≤ 1) → 1 ≤ tickets_with k ts
-    → (n : ℕ) × (1 ≤ tickets_for n ts) × (number_for n ts ≡ k)
+    → (n : ℕ) × (1 ≤ tickets_for n ts) × (ticket_number n ts ≡ k)
 user k [] once le = absurd (omega arith)
 user k (t ∷ ts) once le = dite (ℕ_discrete t.1 k)
     (λ is. let a = ticket_here t.1 ts t.0 in let b = once t.0 in let c = number_here t.1 ts t.0 in
@@ -66,7 +66,7 @@ times_one (x ∷ xs) (suc i) n e h =
 module _ {O A : Type 0} (count : ℕ) (edges : List PlanEdge) (result : ℕ → NodeResult O)
     (s : State (Option (Arc (Published O) A)) View) (holds : IsBoard count edges result s) (id : ℕ) (v : View)
     (here : get_elem? s.views id ≡ some v) where
-  module _ (heavy : v.weight ≡ whole) (ends : (e : ℕ) → e < length edges → to_of edges e < count)
+  module _ (heavy : v.weight ≡ whole) (ends : (e : ℕ) → e < length edges → edge_target edges e < count)
       (ticketed : (n : ℕ) → n < count → 1 ≤ tickets_for n v.tickets) where
     mine : IsView count edges v
     mine = holds.seats id v here
@@ -77,8 +77,8 @@ module _ {O A : Type 0} (count : ℕ) (edges : List PlanEdge) (result : ℕ → 
     draws_are : (n : ℕ) → draws s.views n ≡ tickets_for n v.tickets
     draws_are n = sole count edges result s holds id v here (λ (u : View). tickets_for n u.tickets) refl heavy
 
-    numbers_are : (n : ℕ) → drawn_numbers s.views n ≡ number_for n v.tickets
-    numbers_are n = sole count edges result s holds id v here (λ (u : View). number_for n u.tickets) refl heavy
+    numbers_are : (n : ℕ) → drawn_numbers s.views n ≡ ticket_number n v.tickets
+    numbers_are n = sole count edges result s holds id v here (λ (u : View). ticket_number n u.tickets) refl heavy
 
     uses_are : (k : ℕ) → uses s.views k ≡ tickets_with k v.tickets
     uses_are k = sole count edges result s holds id v here (λ (u : View). tickets_with k u.tickets) refl heavy
@@ -100,16 +100,16 @@ module _ {O A : Type 0} (count : ℕ) (edges : List PlanEdge) (result : ℕ → 
         omega arith
 
     module _ (order : List ℕ) (long : length order ≡ count)
-        (listed : (n : ℕ) → n < count → slice_get order (number_for n v.tickets) ≡ Some n) where
+        (listed : (n : ℕ) → n < count → slice_get order (ticket_number n v.tickets) ≡ Some n) where
       -- the entry at a place is the node whose ticket has that number
-      at_place : (i n : ℕ) → slice_get order i ≡ Some n → (n < count) × (number_for n v.tickets ≡ i)
+      at_place : (i n : ℕ) → slice_get order i ≡ Some n → (n < count) × (ticket_number n v.tickets ≡ i)
       at_place i n e =
           let l = get_within order i n e in let w = word_is in
           let used = holds.tickets.below i (omega arith) in let same = uses_are i in
           let u = user i v.tickets one_ticket (omega arith) in
           let un = u.1 in let node : u.0 < count = inside u.0 un in
           let is : u.0 ≡ n = Some_is (sym (listed u.0 node) ∙ ap (slice_get order) u.2 ∙ e) in
-          (subst (λ x. x < count) is node, ap (λ x. number_for x v.tickets) (sym is) ∙ u.2) where
+          (subst (λ x. x < count) is node, ap (λ x. ticket_number x v.tickets) (sym is) ∙ u.2) where
             inside : (m : ℕ) → 1 ≤ tickets_for m v.tickets → m < count
             inside m le = dite (native.Mathlib.Decide.dec_le count m)
                 (λ out. let a = (mine).nodes m out in let b = (mine).drawn m in absurd (omega arith))
@@ -118,33 +118,33 @@ module _ {O A : Type 0} (count : ℕ) (edges : List PlanEdge) (result : ℕ → 
       pub legal : IsInOrder count edges order
       legal = (
         (λ i n e. (at_place i n e).0),
-        (λ n l. times_one order (number_for n v.tickets) n (listed n l) (λ j e. sym ((at_place j n e).1))),
+        (λ n l. times_one order (ticket_number n v.tickets) n (listed n l) (λ j e. sym ((at_place j n e).1))),
         (λ e i j l a b.
-            let f = (at_place i (from_of edges e) a).1 in let t = (at_place j (to_of edges e) b).1 in
-            let d = draws_are (to_of edges e) in let tk = ticketed (to_of edges e) (ends e l) in
-            let r = holds.tickets.rises e l (omega arith) in let x = numbers_are (from_of edges e) in
-            let y = numbers_are (to_of edges e) in omega arith),
+            let f = (at_place i (edge_source edges e) a).1 in let t = (at_place j (edge_target edges e) b).1 in
+            let d = draws_are (edge_target edges e) in let tk = ticketed (edge_target edges e) (ends e l) in
+            let r = holds.tickets.rises e l (omega arith) in let x = numbers_are (edge_source edges e) in
+            let y = numbers_are (edge_target edges e) in omega arith),
       )
 
     pub finished : (e : ℕ) → e < length edges
         → (times e v.filled ≡ 1) × (times e v.subtracted ≡ 1) × (times e v.fetched ≡ 1)
     finished e l =
-        let t = ticketed (to_of edges e) (ends e l) in let g = mine.gathered e l in let k = mine.targeted e l in
-        let one = claimed_once (to_of edges e) (ends e l) in
+        let t = ticketed (edge_target edges e) (ends e l) in let g = mine.gathered e l in let k = mine.targeted e l in
+        let one = claimed_once (edge_target edges e) (ends e l) in
         let f = sole count edges result s holds id v here (λ (u : View). times e u.filled) refl heavy in
         let r = sole count edges result s holds id v here (λ (u : View). times e u.fetched) refl heavy in
         let b = sole count edges result s holds id v here (λ (u : View). times e u.subtracted) refl heavy in
         let o = holds.states.order e in
-        let so = mine.sourced e l in let ot = one_ticket (from_of edges e) in
-        let cs = claimed_subtracted count edges result s holds (to_of edges e) (ends e l)
-        (let c = claims_are (to_of edges e) in omega arith) e l refl in
+        let so = mine.sourced e l in let ot = one_ticket (edge_source edges e) in
+        let cs = claimed_subtracted count edges result s holds (edge_target edges e) (ends e l)
+        (let c = claims_are (edge_target edges e) in omega arith) e l refl in
         let sf = mine.subtracted e in
         (omega arith, omega arith, omega arith)
 
 module _ {O A : Type 0} (plan planned : Plan) (same : planned ≡ plan) (result : Plan → ℕ → NodeResult O)
     (s : State (Option (Arc (Published O) A)) View) (holds : IsBoard planned.count planned.edges (result planned) s)
     (id : ℕ) (v w : View) (here : get_elem? s.views id ≡ some w) (is : w ≡ v)
-    (heavy : v.weight ≡ whole) (ends : (e : ℕ) → e < length plan.edges → to_of plan.edges e < plan.count)
+    (heavy : v.weight ≡ whole) (ends : (e : ℕ) → e < length plan.edges → edge_target plan.edges e < plan.count)
     (ticketed : (n : ℕ) → n < plan.count → 1 ≤ tickets_for n v.tickets) where
   the_rule : IsBoard plan.count plan.edges (result plan) s
   the_rule = subst (λ (p : Plan). IsBoard p.count p.edges (result p) s) same holds

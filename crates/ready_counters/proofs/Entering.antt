@@ -6,7 +6,7 @@ use Rattle.std.proofs.lemmas.Bool.Decides.{nat_tests}
 use Rattle.pass_core.specs.declared.plan.PlanEdge.{PlanEdge}
 use Rattle.pass_core.specs.Plans.{predecessors}
 use Rattle.pass_core.specs.CoreStates.{numbers_into}
-use Rattle.ready_counters.specs.Edges.{from_of, to_of}
+use Rattle.ready_counters.specs.Edges.{edge_source, edge_target}
 
 module _ {X : Type 0} (f g : ℕ → X) where
   head_into : (d : PlanEdge) (k n : ℕ) (rest : List ℕ) (ds : List PlanEdge) → (d.to.0 ≡ n → f k ≡ g d.from.0)
@@ -17,7 +17,7 @@ module _ {X : Type 0} (f g : ℕ → X) where
   head_into d k n rest ds here there false is = rw is there
 
   map_from : (k : ℕ) (ds : List PlanEdge) (n : ℕ)
-      → ((e : ℕ) → e < length ds → to_of ds e ≡ n → f (k + e) ≡ g (from_of ds e))
+      → ((e : ℕ) → e < length ds → edge_target ds e ≡ n → f (k + e) ≡ g (edge_source ds e))
       → map f (numbers_into k ds n) ≡ map g (predecessors ds n)
   map_from k [] n h = refl
   map_from k (d ∷ ds) n h =
@@ -27,7 +27,7 @@ module _ {X : Type 0} (f g : ℕ → X) where
       (d.to.0 == n) refl
 
   -- a function of each edge into a node that is another of the edge's source
-  pub into_map : (ds : List PlanEdge) (n : ℕ) → ((e : ℕ) → e < length ds → to_of ds e ≡ n → f e ≡ g (from_of ds e))
+  pub into_map : (ds : List PlanEdge) (n : ℕ) → ((e : ℕ) → e < length ds → edge_target ds e ≡ n → f e ≡ g (edge_source ds e))
       → map f (numbers_into 0 ds n) ≡ map g (predecessors ds n)
   into_map ds n h = map_from 0 ds n (λ e l to. ap f (zero-add e) ∙ h e l to)
 
@@ -37,7 +37,7 @@ module _ (P : ℕ → Type 0) where
   all_if d k n rest here there true is = let same : d.to.0 ≡ n = grind (arith, nat_tests) in rw is (here same, there)
   all_if d k n rest here there false is = rw is there
 
-  all_from : (k : ℕ) (ds : List PlanEdge) (n : ℕ) → ((e : ℕ) → e < length ds → to_of ds e ≡ n → P (k + e))
+  all_from : (k : ℕ) (ds : List PlanEdge) (n : ℕ) → ((e : ℕ) → e < length ds → edge_target ds e ≡ n → P (k + e))
       → AllByRecursion P (numbers_into k ds n)
   all_from k [] n h = tt
   all_from k (d ∷ ds) n h =
@@ -47,7 +47,7 @@ module _ (P : ℕ → Type 0) where
       (d.to.0 == n) refl
 
   -- what holds of each edge that leads to a node holds of all of them
-  pub all_into : (ds : List PlanEdge) (n : ℕ) → ((e : ℕ) → e < length ds → to_of ds e ≡ n → P e)
+  pub all_into : (ds : List PlanEdge) (n : ℕ) → ((e : ℕ) → e < length ds → edge_target ds e ≡ n → P e)
       → AllByRecursion P (numbers_into 0 ds n)
   all_into ds n h = all_from 0 ds n (λ e l to. subst P (sym (zero-add e)) (h e l to))
 
@@ -57,7 +57,7 @@ module _ (P : ℕ → Type 0) where
   source_if d n ds here there false is = rw is there
 
   -- what holds of the source of each edge that leads to a node holds of all its predecessors
-  pub all_sources : (ds : List PlanEdge) (n : ℕ) → ((e : ℕ) → e < length ds → to_of ds e ≡ n → P (from_of ds e))
+  pub all_sources : (ds : List PlanEdge) (n : ℕ) → ((e : ℕ) → e < length ds → edge_target ds e ≡ n → P (edge_source ds e))
       → AllByRecursion P (predecessors ds n)
   all_sources [] n h = tt
   all_sources (d ∷ ds) n h =

@@ -13,14 +13,14 @@ use Rattle.atomic_table.proofs.Lists.{set_here, set_else, set_again}
 use Rattle.pass_core.specs.declared.plan.PlanEdge.{PlanEdge}
 use Rattle.pass_core.specs.declared.published.Published.{Published}
 use Rattle.pass_core.specs.Results.{NodeResult}
-use Rattle.pass_core.specs.Shown.{shown}
+use Rattle.pass_core.specs.Shown.{published_result}
 use Rattle.ready_counters.specs.declared.view.View.{View}
-use Rattle.ready_counters.specs.Edges.{to_of, from_of}
+use Rattle.ready_counters.specs.Edges.{edge_target, edge_source}
 use Rattle.ready_counters.specs.Meaning.{IsFull, HasEdge, IsView, IsBoard}
 use Rattle.ready_counters.specs.Sums.{opens, fills, fetches}
 use Rattle.ready_counters.specs.Views.{times, tickets_for}
 use Rattle.ready_counters.specs.Inside.{Opens, Fills, Fetches, Returns}
-use Rattle.ready_counters.specs.Views.{with_open, with_fill, with_fetch, tail_of}
+use Rattle.ready_counters.specs.Views.{with_open, with_fill, with_fetch, without_first}
 use Rattle.ready_counters.proofs.Sums.{sum_set, sum_same, sum_at, total_add, total_less, times_here, times_else}
 use Rattle.ready_counters.proofs.Frames.{at_edge}
 use Rattle.ready_counters.proofs.Knowing.{times_grow, filled_drawn, drawn_claimed, subtracted_filled, claimed_subtracted, claim_mine}
@@ -76,8 +76,8 @@ module _ {O A : Type 0} where
     -- an edge is opened or filled at most once
     pub both_once : opens s.views e + fills s.views e ≤ 1
     both_once = let a = filled_drawn count edges result s holds e inside in
-        let b = drawn_claimed count edges result s holds (from_of edges e) in
-        let c = holds.counters.once (from_of edges e) in omega arith
+        let b = drawn_claimed count edges result s holds (edge_source edges e) in
+        let c = holds.counters.once (edge_source edges e) in omega arith
 
     pub has_edge : HasEdge (opens s.views e) (fills s.views e) (fetches s.views e) (slice_index s.words (count + e))
         (get_elem? s.homes e) (result e)
@@ -86,16 +86,16 @@ module _ {O A : Type 0} where
     slot : e < length s.homes
     slot = subst (λ k. e < k) (sym holds.many_slots) inside
 
-    module _ (ticket : 1 ≤ tickets_for (from_of edges e) me.0.tickets) (closed : times e me.0.opened ≡ 0)
+    module _ (ticket : 1 ≤ tickets_for (edge_source edges e) me.0.tickets) (closed : times e me.0.opened ≡ 0)
         (fresh : times e me.0.filled ≡ 0) where
       pub none_yet : opens s.views e + fills s.views e ≡ 0
       none_yet =
           let t = total_less (λ (v : View). times e v.opened + times e v.filled)
-          (λ (v : View). tickets_for (from_of edges e) v.tickets) s.views id me.0
+          (λ (v : View). tickets_for (edge_source edges e) v.tickets) s.views id me.0
           (λ j v at. (holds.seats j v at).sourced e inside) here (omega arith) in
           let a = total_add (λ (v : View). times e v.opened) (λ (v : View). times e v.filled) s.views in
-          let b = drawn_claimed count edges result s holds (from_of edges e) in
-          let c = holds.counters.once (from_of edges e) in omega arith
+          let b = drawn_claimed count edges result s holds (edge_source edges e) in
+          let c = holds.counters.once (edge_source edges e) in omega arith
 
       pub empty_here : (slice_index s.words (count + e) ≡ 0) × (get_elem? s.homes e ≡ some (some None))
       empty_here = let n = none_yet in at_empty _ _ _ _ _ _ has_edge (omega arith) (omega arith)
@@ -109,7 +109,7 @@ module _ {O A : Type 0} where
         subtracted = before.subtracted;
         sourced = λ x l. dite (ℕ_discrete x e)
             (λ same. subst (λ y. times y (e ∷ me.0.opened) + times y me.0.filled ≤ tickets_for
-            (from_of edges y) me.0.tickets) (sym same) (let t = times_here e me.0.opened in omega arith))
+            (edge_source edges y) me.0.tickets) (sym same) (let t = times_here e me.0.opened in omega arith))
             (λ ne. let t = times_else x e me.0.opened ne in let h = before.sourced x l in omega arith);
         drawn = before.drawn;
         gathered = before.gathered;
@@ -129,12 +129,12 @@ module _ {O A : Type 0} where
           (is_writing _ _ _ _ _ _ (omega arith) refl)
 
     module _ (opened : me.0.opened ≡ e ∷ []) (shared : Arc (Published O) A) (out : me.1 ≡ (e, Some shared) ∷ [])
-        (right : shown (arc_value shared) ≡ result e) where
+        (right : published_result (arc_value shared) ≡ result e) where
       once_open : times e me.0.opened ≡ 1
       once_open = ap (times e) opened ∙ times_here e []
 
-      now_closed : (x : ℕ) → times x (tail_of me.0.opened) ≡ 0
-      now_closed x = ap (λ l. times x (tail_of l)) opened
+      now_closed : (x : ℕ) → times x (without_first me.0.opened) ≡ 0
+      now_closed x = ap (λ l. times x (without_first l)) opened
 
       else_closed : (x : ℕ) → (x ≡ e → ⊥) → times x me.0.opened ≡ 0
       else_closed x ne = ap (times x) opened ∙ times_else x e [] ne
@@ -147,8 +147,8 @@ module _ {O A : Type 0} where
             let h = before.ends x le in omega arith;
         subtracted = λ x. let t = times_grow x e me.0.filled in let h = before.subtracted x in omega arith;
         sourced = λ x l. dite (ℕ_discrete x e)
-            (λ same. subst (λ y. times y (tail_of me.0.opened) + times y (e ∷ me.0.filled) ≤ tickets_for
-            (from_of edges y) me.0.tickets) (sym same)
+            (λ same. subst (λ y. times y (without_first me.0.opened) + times y (e ∷ me.0.filled) ≤ tickets_for
+            (edge_source edges y) me.0.tickets) (sym same)
             (let c = now_closed e in let o = once_open in let t = times_here e me.0.filled in
             let h = before.sourced e inside in omega arith))
             (λ ne. let c = now_closed x in let t = times_else x e me.0.filled ne in let h = before.sourced x l in
@@ -181,19 +181,19 @@ module _ {O A : Type 0} where
           (is_full _ _ _ _ _ _ (omega arith) (omega arith) (omega arith) refl
           (shared, set_here s.homes e (some (Some shared)) slot, right)))
 
-    module _ (node : to_of edges e < count) (claimed : 1 ≤ times (to_of edges e) me.0.claimed)
+    module _ (node : edge_target edges e < count) (claimed : 1 ≤ times (edge_target edges e) me.0.claimed)
         (fresh : times e me.0.fetched ≡ 0) where
       pub none_fetched : fetches s.views e ≡ 0
       none_fetched =
           let t = total_less (λ (v : View). times e v.fetched)
-          (λ (v : View). times (to_of edges e) v.claimed) s.views id me.0
+          (λ (v : View). times (edge_target edges e) v.claimed) s.views id me.0
           (λ j v at. (holds.seats j v at).targeted e inside) here (omega arith) in
-          let c = holds.counters.once (to_of edges e) in omega arith
+          let c = holds.counters.once (edge_target edges e) in omega arith
 
       pub some_filled : 1 ≤ fills s.views e
       some_filled =
-          let a = claimed_subtracted count edges result s holds (to_of edges e) node
-          (let o = claim_mine count edges result s holds id me.0 here (to_of edges e) claimed in
+          let a = claimed_subtracted count edges result s holds (edge_target edges e) node
+          (let o = claim_mine count edges result s holds id me.0 here (edge_target edges e) claimed in
           omega arith) e inside refl in
           let b = subtracted_filled count edges result s holds e in omega arith
 
@@ -214,7 +214,7 @@ module _ {O A : Type 0} where
         drawn = before.drawn;
         gathered = λ x l. let t = times_grow x e me.0.fetched in let h = before.gathered x l in omega arith;
         targeted = λ x l. dite (ℕ_discrete x e)
-            (λ same. subst (λ y. times y (e ∷ me.0.fetched) ≤ times (to_of edges y) me.0.claimed) (sym same)
+            (λ same. subst (λ y. times y (e ∷ me.0.fetched) ≤ times (edge_target edges y) me.0.claimed) (sym same)
             (let t = times_here e me.0.fetched in omega arith))
             (λ ne. let t = times_else x e me.0.fetched ne in let h = before.targeted x l in omega arith);
       }
@@ -256,7 +256,7 @@ module _ {O A : Type 0} where
 
   module _ (count : ℕ) (edges : List PlanEdge) (result : ℕ → NodeResult O) (slots id e : ℕ)
       (me : Me (Option (Arc (Published O) A)) View) (inside : e < length edges) (live : 1 ≤ me.0.weight) where
-    pub open_allows : 1 ≤ tickets_for (from_of edges e) me.0.tickets → me.0.opened ≡ [] → times e me.0.filled ≡ 0
+    pub open_allows : 1 ≤ tickets_for (edge_source edges e) me.0.tickets → me.0.opened ≡ [] → times e me.0.filled ≡ 0
         → Allows (IsBoard count edges result) slots id me (count + e) (λ n. either (n == 0) 1 n)
         (λ n after. Opens e me after)
     open_allows ticket closed fresh s holds many here small =
@@ -274,7 +274,7 @@ module _ {O A : Type 0} where
         )
 
     pub fill_allows : me.0.opened ≡ e ∷ [] → (shared : Arc (Published O) A) → me.1 ≡ (e, Some shared) ∷ []
-        → shown (arc_value shared) ≡ result e
+        → published_result (arc_value shared) ≡ result e
         → Allows (IsBoard count edges result) slots id me (count + e) (λ _. 2) (λ _ after. Fills e me after)
     fill_allows opened shared out right s holds many here small = (
       with_fill me.0 e,
@@ -284,7 +284,7 @@ module _ {O A : Type 0} where
       (refl, refl),
     )
 
-    pub fetch_allows : (value : NodeResult O) → to_of edges e < count → 1 ≤ times (to_of edges e) me.0.claimed
+    pub fetch_allows : (value : NodeResult O) → edge_target edges e < count → 1 ≤ times (edge_target edges e) me.0.claimed
         → times e me.0.fetched ≡ 0 → result e ≡ value
         → Allows (IsBoard count edges result) slots id me (count + e) (λ n. either (n == 2) 3 n)
         (λ n after. Fetches e value me after)

@@ -14,7 +14,7 @@ use Rattle.pass_core.specs.Results.{NodeResult}
 use Rattle.ready_counters.specs.declared.view.View.{View}
 use Rattle.ready_counters.specs.Meaning.{HasWord, IsView, HasCounters, HasTickets, HasEdge, HasEdges, IsBoard}
 use Rattle.ready_counters.specs.Sums.{claims, opens, fills, subtractions, fetches, draws, drawn_numbers, uses}
-use Rattle.ready_counters.specs.Views.{times, tickets_for, number_for, tickets_with}
+use Rattle.ready_counters.specs.Views.{times, tickets_for, ticket_number, tickets_with}
 use Rattle.ready_counters.proofs.Sums.{sum_same}
 use Rattle.ready_counters.proofs.Left.{left_same}
 
@@ -105,7 +105,7 @@ module _ {O A : Type 0} where
         (drawn_numbers (set s.views id w)) (uses (set s.views id w))
     tickets_kept words same t = tickets_same count edges _ _ _ _ _ _ _ _ same
         (λ n. sum_same (λ (u : View). tickets_for n u.tickets) s.views id v w here (ap (tickets_for n) t))
-        (λ n. sum_same (λ (u : View). number_for n u.tickets) s.views id v w here (ap (number_for n) t))
+        (λ n. sum_same (λ (u : View). ticket_number n u.tickets) s.views id v w here (ap (ticket_number n) t))
         (λ n. sum_same (λ (u : View). tickets_with n u.tickets) s.views id v w here
         (ap (tickets_with n) t)) holds.tickets
 

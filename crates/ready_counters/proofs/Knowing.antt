@@ -9,8 +9,8 @@ use Rattle.pass_core.specs.declared.plan.PlanEdge.{PlanEdge}
 use Rattle.pass_core.specs.declared.published.Published.{Published}
 use Rattle.pass_core.specs.Results.{NodeResult}
 use Rattle.ready_counters.specs.declared.view.View.{View}
-use Rattle.ready_counters.specs.Edges.{left_from, left_of, to_of, from_of}
-use Rattle.ready_counters.specs.Meaning.{taken, HasWord, IsBoard}
+use Rattle.ready_counters.specs.Edges.{left_from, left_of, edge_target, edge_source}
+use Rattle.ready_counters.specs.Meaning.{claimed_word, HasWord, IsBoard}
 use Rattle.ready_counters.specs.Sums.{total_of, claims, opens, fills, subtractions, fetches, draws}
 use Rattle.ready_counters.specs.Views.{whole, nothing, times, tickets_for}
 use Rattle.ready_counters.proofs.Sums.{sum_at, total_sole, total_at_most, total_add}
@@ -20,11 +20,11 @@ pub times_grow : (x y : ℕ) (xs : List ℕ) → times x xs ≤ times x (y ∷ x
 times_grow x y xs = omega arith
 
 -- a word that isn't taken is what is left, and a taken one stands for a claimed node
-pub not_taken : (c w l : ℕ) → HasWord c w l → (w ≡ taken → ⊥) → (c ≡ 0) × (w ≡ l)
+pub not_taken : (c w l : ℕ) → HasWord c w l → (w ≡ claimed_word → ⊥) → (c ≡ 0) × (w ≡ l)
 not_taken zero w l h ne = (refl, h)
 not_taken (suc c) w l h ne = absurd (ne h.0)
 
-pub is_taken : (c w l : ℕ) → HasWord c w l → l < 4294967296 → w ≡ taken → (1 ≤ c) × (l ≡ 0)
+pub is_taken : (c w l : ℕ) → HasWord c w l → l < 4294967296 → w ≡ claimed_word → (1 ≤ c) × (l ≡ 0)
 is_taken zero w l h few is = absurd (omega arith)
 is_taken (suc c) w l h few is = (omega arith, h.1)
 
@@ -38,7 +38,7 @@ pub still_free : (c w l : ℕ) → HasWord c w l → 1 ≤ l → (c ≡ 0) × (w
 still_free zero w l h le = (refl, h)
 still_free (suc k) w l h le = absurd (omega arith)
 
-pub word_taken : (c w l : ℕ) → 1 ≤ c → w ≡ taken → l ≡ 0 → HasWord c w l
+pub word_taken : (c w l : ℕ) → 1 ≤ c → w ≡ claimed_word → l ≡ 0 → HasWord c w l
 word_taken zero w l c w_is l_is = absurd (omega arith)
 word_taken (suc k) w l c w_is l_is = (w_is, l_is)
 
@@ -51,20 +51,20 @@ module _ {O A : Type 0} (count : ℕ) (edges : List PlanEdge) (result : ℕ → 
   -- within each view, and so in all of them together
   module _ (e : ℕ) (inside : e < length edges) where
     pub subtracted_claimed : (id : ℕ) (v : View) → get_elem? s.views id ≡ some v
-        → times e v.subtracted ≤ times (from_of edges e) v.claimed
+        → times e v.subtracted ≤ times (edge_source edges e) v.claimed
     subtracted_claimed id v at =
         let h = holds.seats id v at in let a = h.subtracted e in let b = h.sourced e inside in
-        let c = h.drawn (from_of edges e) in omega arith
+        let c = h.drawn (edge_source edges e) in omega arith
 
-    pub filled_drawn : opens s.views e + fills s.views e ≤ draws s.views (from_of edges e)
+    pub filled_drawn : opens s.views e + fills s.views e ≤ draws s.views (edge_source edges e)
     filled_drawn =
         let t = total_at_most (λ (v : View). times e v.opened + times e v.filled)
-        (λ (v : View). tickets_for (from_of edges e) v.tickets) s.views
+        (λ (v : View). tickets_for (edge_source edges e) v.tickets) s.views
         (λ j v at. (holds.seats j v at).sourced e inside) in
         let a = total_add (λ (v : View). times e v.opened) (λ (v : View). times e v.filled) s.views in omega arith
 
-    pub drawn_fetched : draws s.views (to_of edges e) ≤ fetches s.views e
-    drawn_fetched = total_at_most (λ (v : View). tickets_for (to_of edges e) v.tickets)
+    pub drawn_fetched : draws s.views (edge_target edges e) ≤ fetches s.views e
+    drawn_fetched = total_at_most (λ (v : View). tickets_for (edge_target edges e) v.tickets)
         (λ (v : View). times e v.fetched) s.views (λ j v at. (holds.seats j v at).gathered e inside)
 
   pub drawn_claimed : (n : ℕ) → draws s.views n ≤ claims s.views n
@@ -76,7 +76,7 @@ module _ {O A : Type 0} (count : ℕ) (edges : List PlanEdge) (result : ℕ → 
       (λ j v at. (holds.seats j v at).subtracted e)
 
   -- all in-edges of a claimed node are subtracted
-  pub claimed_subtracted : (n : ℕ) → n < count → 1 ≤ claims s.views n → (e : ℕ) → e < length edges → to_of edges e ≡ n
+  pub claimed_subtracted : (n : ℕ) → n < count → 1 ≤ claims s.views n → (e : ℕ) → e < length edges → edge_target edges e ≡ n
       → 1 ≤ subtractions s.views e
   claimed_subtracted n node le e inside to =
       subst (λ k. 1 ≤ subtractions s.views k) (zero-add e)

@@ -2,7 +2,7 @@
 use Rattle.std.proofs.Common.{◌≡◌, ◌+◌, ◌<◌, ◌≤◌, ◌==◌, ℕ, zero, suc, List, [], ◌∷◌, length, refl, ap, arith, ◌∙◌, sym, true, false, add-zero, eq-eqb, ne_eqb, Bool}
 use Rattle.std.specs.Prelude.{if◌then◌else◌}
 use Rattle.pass_core.specs.declared.plan.PlanEdge.{PlanEdge}
-use Rattle.ready_counters.specs.Edges.{left_from, lacks, to_of}
+use Rattle.ready_counters.specs.Edges.{left_from, lacks, edge_target}
 
 lacks_less : (a b : ℕ) → a ≤ b → lacks b ≤ lacks a
 lacks_less zero zero l = omega arith
@@ -36,7 +36,7 @@ left_at_most done now k (e ∷ es) n h =
     let b = left_at_most done now (suc k) es n h in omega arith
 
 -- where nothing is left each edge is done
-pub left_none : (done : ℕ → ℕ) (k i : ℕ) (es : List PlanEdge) (n : ℕ) → i < length es → to_of es i ≡ n
+pub left_none : (done : ℕ → ℕ) (k i : ℕ) (es : List PlanEdge) (n : ℕ) → i < length es → edge_target es i ≡ n
     → left_from done k es n ≡ 0 → 1 ≤ done (k + i)
 left_none done k i [] n l to z = absurd (omega arith)
 left_none done k zero (e ∷ es) n l to z =
@@ -50,7 +50,7 @@ left_none done k (suc i) (e ∷ es) n l to z =
     let s : done (suc k + i) ≡ done (k + suc i) = ap done (omega arith) in omega arith
 
 -- an edge that isn't done is left
-pub left_some : (done : ℕ → ℕ) (k i : ℕ) (es : List PlanEdge) (n : ℕ) → i < length es → to_of es i ≡ n
+pub left_some : (done : ℕ → ℕ) (k i : ℕ) (es : List PlanEdge) (n : ℕ) → i < length es → edge_target es i ≡ n
     → done (k + i) ≡ 0 → 1 ≤ left_from done k es n
 left_some done k i [] n l to z = absurd (omega arith)
 left_some done k zero (e ∷ es) n l to z =
@@ -68,7 +68,7 @@ left_above done now k (e ∷ es) n h =
     (λ e l. h e (omega arith)) i
 
 -- one more edge is done: at its target one less is left, and elsewhere as many
-pub left_less : (done now : ℕ → ℕ) (k i : ℕ) (es : List PlanEdge) (n : ℕ) → i < length es → to_of es i ≡ n
+pub left_less : (done now : ℕ → ℕ) (k i : ℕ) (es : List PlanEdge) (n : ℕ) → i < length es → edge_target es i ≡ n
     → done (k + i) ≡ 0 → 1 ≤ now (k + i) → ((e : ℕ) → (e ≡ k + i → ⊥) → now e ≡ done e)
     → left_from now k es n + 1 ≡ left_from done k es n
 left_less done now k i [] n l to d w h = absurd (omega arith)
@@ -89,7 +89,7 @@ left_less done now k (suc i) (e ∷ es) n l to d w h =
     ap (λ (x : ℕ). if e.to.0 == n then lacks x else 0) head in
     omega arith
 
-pub left_else : (done now : ℕ → ℕ) (k i : ℕ) (es : List PlanEdge) (n : ℕ) → i < length es → (to_of es i ≡ n → ⊥)
+pub left_else : (done now : ℕ → ℕ) (k i : ℕ) (es : List PlanEdge) (n : ℕ) → i < length es → (edge_target es i ≡ n → ⊥)
     → ((e : ℕ) → (e ≡ k + i → ⊥) → now e ≡ done e)
     → left_from now k es n ≡ left_from done k es n
 left_else done now k i [] n l ne h = refl

@@ -10,7 +10,7 @@ use Rattle.pass_core.specs.Plans.{predecessors, HaveEndsBelow}
 use Rattle.pass_core.specs.Orders.{IsLegal}
 use Rattle.bp_faults.proofs.Lists.{contains_earlier}
 use Rattle.ready_counters.proofs.Entering.{all_sources}
-use Rattle.ready_counters.specs.Edges.{from_of, to_of}
+use Rattle.ready_counters.specs.Edges.{edge_source, edge_target}
 use Rattle.ready_counters.specs.Views.{times}
 use Rattle.ready_counters.specs.Inside.{IsInOrder}
 use Rattle.ready_counters.proofs.Sums.{times_here, times_else}
@@ -18,12 +18,12 @@ use Rattle.ready_counters.proofs.Knowing.{times_grow}
 
 -- both ends of an edge are nodes
 pub ends_from : (count : ℕ) (es : List PlanEdge) → HaveEndsBelow count es → (e : ℕ) → e < length es
-    → from_of es e < count
+    → edge_source es e < count
 ends_from count [] h e l = absurd (omega arith)
 ends_from count (d ∷ ds) h zero l = h.0.0
 ends_from count (d ∷ ds) h (suc e) l = ends_from count ds h.1 e (omega arith)
 
-pub ends_to : (count : ℕ) (es : List PlanEdge) → HaveEndsBelow count es → (e : ℕ) → e < length es → to_of es e < count
+pub ends_to : (count : ℕ) (es : List PlanEdge) → HaveEndsBelow count es → (e : ℕ) → e < length es → edge_target es e < count
 ends_to count [] h e l = absurd (omega arith)
 ends_to count (d ∷ ds) h zero l = h.0.1
 ends_to count (d ∷ ds) h (suc e) l = ends_to count ds h.1 e (omega arith)
@@ -64,7 +64,7 @@ got_or [] i d l = absurd (omega arith)
 got_or (x ∷ xs) zero d l = refl
 got_or (x ∷ xs) (suc i) d l = got_or xs i d (omega arith)
 
-module _ (plan : Plan) (begins : (e : ℕ) → e < length plan.edges → from_of plan.edges e < plan.count) (order : List ℕ)
+module _ (plan : Plan) (begins : (e : ℕ) → e < length plan.edges → edge_source plan.edges e < plan.count) (order : List ℕ)
     (in_order : IsInOrder plan.count plan.edges order) where
   node_at : (i d : ℕ) → i < length order → get_or order i d < plan.count
   node_at i d l = in_order.0 i (get_or order i d) (got_or order i d l)
@@ -77,12 +77,12 @@ module _ (plan : Plan) (begins : (e : ℕ) → e < length plan.edges → from_of
   stands n l = contains_times order n (let o = in_order.1 n l in omega arith)
 
   source_earlier : (place : ℕ) → place < length order → (e : ℕ) → e < length plan.edges
-      → to_of plan.edges e ≡ slice_index order place → Contains (take place order) (from_of plan.edges e)
+      → edge_target plan.edges e ≡ slice_index order place → Contains (take place order) (edge_source plan.edges e)
   source_earlier place l e inside to =
-      let c = stands (from_of plan.edges e) (begins e inside) in
-      let before = in_order.2 e c.0 place inside (got_or order c.0 (from_of plan.edges e) c.1 ∙ ap Some c.2)
+      let c = stands (edge_source plan.edges e) (begins e inside) in
+      let before = in_order.2 e c.0 place inside (got_or order c.0 (edge_source plan.edges e) c.1 ∙ ap Some c.2)
       (get_at order place l ∙ ap Some (sym to)) in
-      contains_earlier order (from_of plan.edges e) place c.0 before l c.2
+      contains_earlier order (edge_source plan.edges e) place c.0 before l c.2
 
   pub is_legal_order : IsLegal plan order
   is_legal_order = record {

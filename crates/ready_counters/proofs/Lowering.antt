@@ -11,7 +11,7 @@ use Rattle.pass_core.specs.declared.plan.PlanEdge.{PlanEdge}
 use Rattle.pass_core.specs.declared.published.Published.{Published}
 use Rattle.pass_core.specs.Results.{NodeResult}
 use Rattle.ready_counters.specs.declared.view.View.{View}
-use Rattle.ready_counters.specs.Edges.{left_from, to_of, from_of}
+use Rattle.ready_counters.specs.Edges.{left_from, edge_target, edge_source}
 use Rattle.ready_counters.specs.Meaning.{HasWord, IsView, IsBoard}
 use Rattle.ready_counters.specs.Sums.{claims, subtractions}
 use Rattle.ready_counters.specs.Views.{times}
@@ -30,24 +30,24 @@ lowered_is : (x : ℕ) → 1 ≤ x → x < 2 ^ 64 → lowered x + 1 ≡ x
 lowered_is x l u = omega arith
 
 module _ {O A : Type 0} (count : ℕ) (edges : List PlanEdge) (result : ℕ → NodeResult O) (id e : ℕ)
-    (me : Me (Option (Arc (Published O) A)) View) (inside : e < length edges) (node : to_of edges e < count)
+    (me : Me (Option (Arc (Published O) A)) View) (inside : e < length edges) (node : edge_target edges e < count)
     (live : 1 ≤ me.0.weight)
     (filled : 1 ≤ times e me.0.filled) (fresh : times e me.0.subtracted ≡ 0)
     (s : State (Option (Arc (Published O) A)) View) (holds : IsBoard count edges result s)
     (here : get_elem? s.views id ≡ some me.0) where
-  many : to_of edges e < length s.words
-  many = subst (λ k. to_of edges e < k) (sym holds.many_words) (omega arith)
+  many : edge_target edges e < length s.words
+  many = subst (λ k. edge_target edges e < k) (sym holds.many_words) (omega arith)
 
   before : IsView count edges me.0
   before = holds.seats id me.0 here
 
   pub none_yet : subtractions s.views e ≡ 0
   none_yet =
-      let a = before.sourced e inside in let b = before.drawn (from_of edges e) in
+      let a = before.sourced e inside in let b = before.drawn (edge_source edges e) in
       let less = total_less (λ (v : View). times e v.subtracted)
-      (λ (v : View). times (from_of edges e) v.claimed) s.views id me.0
+      (λ (v : View). times (edge_source edges e) v.claimed) s.views id me.0
       (subtracted_claimed count edges result s holds e inside) here (omega arith) in
-      let once = holds.counters.once (from_of edges e) in omega arith
+      let once = holds.counters.once (edge_source edges e) in omega arith
 
   view_after : IsView count edges (with_subtract me.0 e)
   view_after = record {
@@ -79,46 +79,46 @@ module _ {O A : Type 0} (count : ℕ) (edges : List PlanEdge) (result : ℕ → 
       let t = times_else x e me.0.subtracted ne in omega arith
 
   pub one_less : left_from (subtractions (set s.views id (with_subtract me.0 e))) 0 edges
-      (to_of edges e) + 1 ≡ left_from (subtractions s.views) 0 edges (to_of edges e)
+      (edge_target edges e) + 1 ≡ left_from (subtractions s.views) 0 edges (edge_target edges e)
   one_less = left_less (subtractions s.views) (subtractions (set s.views id (with_subtract me.0 e))) 0 e edges
-      (to_of edges e) inside refl
+      (edge_target edges e) inside refl
       (ap (subtractions s.views) (zero-add e) ∙ none_yet)
       (let a = ap (subtractions (set s.views id (with_subtract me.0 e))) (zero-add e) in let b = one_now in
       omega arith) (λ x ne. others_now x (λ is. ne (is ∙ sym (zero-add e))))
 
-  as_many : (m : ℕ) → (m ≡ to_of edges e → ⊥)
+  as_many : (m : ℕ) → (m ≡ edge_target edges e → ⊥)
       → left_from (subtractions (set s.views id (with_subtract me.0 e))) 0 edges m ≡ left_from
       (subtractions s.views) 0 edges m
   as_many m ne = left_else (subtractions s.views)
       (subtractions (set s.views id (with_subtract me.0 e))) 0 e edges m inside (λ is. ne (sym is))
       (λ x ne. others_now x (λ is. ne (is ∙ sym (zero-add e))))
 
-  pub the_word : (claims s.views (to_of edges e) ≡ 0)
-      × (slice_index s.words (to_of edges e) ≡ left_from (subtractions s.views) 0 edges (to_of edges e))
-  the_word = let o = one_less in still_free _ _ _ (holds.counters.words (to_of edges e) node) (omega arith)
+  pub the_word : (claims s.views (edge_target edges e) ≡ 0)
+      × (slice_index s.words (edge_target edges e) ≡ left_from (subtractions s.views) 0 edges (edge_target edges e))
+  the_word = let o = one_less in still_free _ _ _ (holds.counters.words (edge_target edges e) node) (omega arith)
 
-  module _ (small : slice_index s.words (to_of edges e) < 18446744073709551616) where
-    new_word : lowered (slice_index s.words (to_of edges e)) ≡ left_from
-        (subtractions (set s.views id (with_subtract me.0 e))) 0 edges (to_of edges e)
+  module _ (small : slice_index s.words (edge_target edges e) < 18446744073709551616) where
+    new_word : lowered (slice_index s.words (edge_target edges e)) ≡ left_from
+        (subtractions (set s.views id (with_subtract me.0 e))) 0 edges (edge_target edges e)
     new_word = let w = the_word.1 in let o = one_less in
-        let l = lowered_is (slice_index s.words (to_of edges e)) (omega arith) small in omega arith
+        let l = lowered_is (slice_index s.words (edge_target edges e)) (omega arith) small in omega arith
 
     pub lowered_state : IsBoard count edges result
-        (stepped s (to_of edges e) (lowered (slice_index s.words (to_of edges e))) id me.1 (with_subtract me.0 e) keeps)
+        (stepped s (edge_target edges e) (lowered (slice_index s.words (edge_target edges e))) id me.1 (with_subtract me.0 e) keeps)
     lowered_state =
         at_node count edges result s holds id me.0 (with_subtract me.0 e) here view_after refl refl refl refl refl
-        (to_of edges e) (lowered (slice_index s.words (to_of edges e))) node
+        (edge_target edges e) (lowered (slice_index s.words (edge_target edges e))) node
         (record {
           once = λ m. subst (λ x. x ≤ 1) (sym (claims_after m)) (holds.counters.once m);
-          words = λ m lm. dite (ℕ_discrete m (to_of edges e))
+          words = λ m lm. dite (ℕ_discrete m (edge_target edges e))
               (λ same. subst (λ x. HasWord (claims (set s.views id (with_subtract me.0 e)) x)
-              (slice_index (set s.words (to_of edges e) (lowered (slice_index s.words (to_of edges e)))) x)
+              (slice_index (set s.words (edge_target edges e) (lowered (slice_index s.words (edge_target edges e)))) x)
               (left_from (subtractions (set s.views id (with_subtract me.0 e))) 0 edges x)) (sym same)
-              (word_free _ _ _ (claims_after (to_of edges e) ∙ the_word.0)
-              (get_or-set_same s.words (to_of edges e) (lowered (slice_index s.words (to_of edges e))) 0 many
+              (word_free _ _ _ (claims_after (edge_target edges e) ∙ the_word.0)
+              (get_or-set_same s.words (edge_target edges e) (lowered (slice_index s.words (edge_target edges e))) 0 many
               ∙ new_word)))
               (λ ne. word_same _ _ _ _ _ _ (claims_after m)
-              (get_or-set_other s.words (to_of edges e) m (lowered (slice_index s.words (to_of edges e))) 0 ne)
+              (get_or-set_other s.words (edge_target edges e) m (lowered (slice_index s.words (edge_target edges e))) 0 ne)
               (as_many m ne) (holds.counters.words m lm));
         })
 
@@ -129,25 +129,25 @@ module _ {O A : Type 0} (count : ℕ) (edges : List PlanEdge) (result : ℕ → 
       set_there (x ∷ xs) zero v w at = refl
       set_there (x ∷ xs) (suc i) v w at = set_there xs i v w at
 
-    pub learnt : Lowered edges e (with_subtract me.0 e) (slice_index s.words (to_of edges e))
+    pub learnt : Lowered edges e (with_subtract me.0 e) (slice_index s.words (edge_target edges e))
     learnt =
         let w = the_word.1 in let o = one_less in record {
           some_left = omega arith;
           left = let a = left_within count edges result
-              (stepped s (to_of edges e) (lowered (slice_index s.words (to_of edges e))) id me.1
-              (with_subtract me.0 e) keeps) lowered_state id (with_subtract me.0 e) after_at (to_of edges e) in
+              (stepped s (edge_target edges e) (lowered (slice_index s.words (edge_target edges e))) id me.1
+              (with_subtract me.0 e) keeps) lowered_state id (with_subtract me.0 e) after_at (edge_target edges e) in
               omega arith;
           exact = λ heavy. let a =
               left_sole count edges result
-              (stepped s (to_of edges e) (lowered (slice_index s.words (to_of edges e))) id me.1
-              (with_subtract me.0 e) keeps) lowered_state id (with_subtract me.0 e) after_at heavy (to_of edges e) in
+              (stepped s (edge_target edges e) (lowered (slice_index s.words (edge_target edges e))) id me.1
+              (with_subtract me.0 e) keeps) lowered_state id (with_subtract me.0 e) after_at heavy (edge_target edges e) in
               omega arith;
         }
 
 pub subtract_allows : {O A : Type 0} (count : ℕ) (edges : List PlanEdge) (result : ℕ → NodeResult O) (slots id e : ℕ)
-    (me : Me (Option (Arc (Published O) A)) View) → e < length edges → to_of edges e < count → 1 ≤ me.0.weight
+    (me : Me (Option (Arc (Published O) A)) View) → e < length edges → edge_target edges e < count → 1 ≤ me.0.weight
     → 1 ≤ times e me.0.filled → times e me.0.subtracted ≡ 0
-    → Allows (IsBoard count edges result) slots id me (to_of edges e) lowered (Subtracts edges e me)
+    → Allows (IsBoard count edges result) slots id me (edge_target edges e) lowered (Subtracts edges e me)
 subtract_allows count edges result slots id e me inside node live filled fresh s holds _ here small = (
   with_subtract me.0 e,
   keeps,

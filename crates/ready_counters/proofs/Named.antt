@@ -1,5 +1,5 @@
 -- The steps, under the names that a call picks.
-use Rattle.std.proofs.Common.{◌≡◌, ◌+◌, ◌<◌, ◌≤◌, ◌==◌, ℕ, zero, suc, List, [], ◌∷◌, length, refl, ap, arith, ◌∙◌, sym, subst, Bool, true, false, Option, Some, get_or}
+use Rattle.std.proofs.Common.{◌≡◌, ◌+◌, ◌<◌, ◌≤◌, ◌==◌, ℕ, zero, suc, List, [], ◌∷◌, length, refl, ap, arith, ◌∙◌, sym, subst, Option, Some, get_or}
 use Rattle.std.specs.declared.sync.Arc.{Arc}
 use Rattle.std.specs.Arc.{arc_value}
 use prog.Atomic.{either}
@@ -7,15 +7,15 @@ use Rattle.atomic_table.specs.Table.{Me, Allows}
 use Rattle.pass_core.specs.declared.plan.PlanEdge.{PlanEdge}
 use Rattle.pass_core.specs.declared.published.Published.{Published}
 use Rattle.pass_core.specs.Results.{NodeResult}
-use Rattle.pass_core.specs.Shown.{shown}
+use Rattle.pass_core.specs.Shown.{published_result}
 use Rattle.ready_counters.specs.declared.view.View.{View}
 use Rattle.ready_counters.specs.declared.claim.Claim.TheVariants.{Gone}
-use Rattle.ready_counters.specs.Edges.{left_of, to_of, from_of}
-use Rattle.ready_counters.specs.Meaning.{taken, HasWord, IsBoard}
+use Rattle.ready_counters.specs.Edges.{left_of, edge_target, edge_source}
+use Rattle.ready_counters.specs.Meaning.{claimed_word, HasWord, IsBoard}
 use Rattle.ready_counters.specs.Views.{times, tickets_for}
-use Rattle.ready_counters.specs.Inside.{Lowered, Claims, Draws, Subtracts, Opens, Fills, Fetches, Returns}
-use Rattle.ready_counters.specs.Answers.{AnswersClaim, AnswersSubtract}
-use Rattle.ready_counters.specs.Edges.{targets_of}
+use Rattle.ready_counters.specs.Inside.{Claims, Draws, Subtracts, Opens, Fills, Fetches, Returns}
+use Rattle.ready_counters.specs.Answers.{AnswersClaim}
+use Rattle.ready_counters.specs.Edges.{edge_targets}
 use Rattle.ready_counters.proofs.Left.{left_bound}
 use Rattle.ready_counters.proofs.Claiming.{claim_allows}
 use Rattle.ready_counters.proofs.Lowering.{lowered, subtract_allows}
@@ -25,14 +25,14 @@ use Rattle.ready_counters.proofs.Filling.{open_allows, fill_allows, fetch_allows
 module _ {O A : Type 0} (count : ℕ) (edges : List PlanEdge) (result : ℕ → NodeResult O) (slots id : ℕ)
     (me : Me (Option (Arc (Published O) A)) View) (live : 1 ≤ me.0.weight) where
   pub claim_as : (es : List PlanEdge) (n m : ℕ) → edges ≡ es → n ≡ m → length edges < 4294967296 → n < count
-      → Allows (IsBoard count edges result) slots id me n (λ x. either (x == 0) taken x) (Claims es m me)
+      → Allows (IsBoard count edges result) slots id me n (λ x. either (x == 0) claimed_word x) (Claims es m me)
   claim_as es n m a b few node =
-      subst (λ k. Allows (IsBoard count edges result) slots id me n (λ x. either (x == 0) taken x) (Claims es k me)) b
-      (subst (λ k. Allows (IsBoard count edges result) slots id me n (λ x. either (x == 0) taken x) (Claims k n me)) a
+      subst (λ k. Allows (IsBoard count edges result) slots id me n (λ x. either (x == 0) claimed_word x) (Claims es k me)) b
+      (subst (λ k. Allows (IsBoard count edges result) slots id me n (λ x. either (x == 0) claimed_word x) (Claims k n me)) a
       (claim_allows count edges result slots id n me few node live))
 
   pub ticket_as : (c n m w : ℕ) → count ≡ c → n ≡ m → w ≡ count + length edges → count < 4294967296 → n < count
-      → 1 ≤ times n me.0.claimed → ((e : ℕ) → e < length edges → to_of edges e ≡ n → 1 ≤ times e me.0.fetched)
+      → 1 ≤ times n me.0.claimed → ((e : ℕ) → e < length edges → edge_target edges e ≡ n → 1 ≤ times e me.0.fetched)
       → tickets_for n me.0.tickets ≡ 0
       → Allows (IsBoard count edges result) slots id me w raised (Draws c m me)
   ticket_as c n m w a b word small node claimed ready fresh =
@@ -41,16 +41,16 @@ module _ {O A : Type 0} (count : ℕ) (edges : List PlanEdge) (result : ℕ → 
       (subst (λ k. Allows (IsBoard count edges result) slots id me (count + length edges) raised (Draws k n me)) a
       (ticket_allows count edges result slots id n me small node live claimed ready fresh)))
 
-  pub subtract_as : (es : List PlanEdge) (e d t : ℕ) → edges ≡ es → e ≡ d → t ≡ to_of edges e → e < length edges
-      → to_of edges e < count → 1 ≤ times e me.0.filled → times e me.0.subtracted ≡ 0
+  pub subtract_as : (es : List PlanEdge) (e d t : ℕ) → edges ≡ es → e ≡ d → t ≡ edge_target edges e → e < length edges
+      → edge_target edges e < count → 1 ≤ times e me.0.filled → times e me.0.subtracted ≡ 0
       → Allows (IsBoard count edges result) slots id me t lowered (Subtracts es d me)
   subtract_as es e d t a b word inside node filled fresh =
       subst (λ k. Allows (IsBoard count edges result) slots id me k lowered (Subtracts es d me)) (sym word)
-      (subst (λ k. Allows (IsBoard count edges result) slots id me (to_of edges e) lowered (Subtracts es k me)) b
-      (subst (λ k. Allows (IsBoard count edges result) slots id me (to_of edges e) lowered (Subtracts k e me)) a
+      (subst (λ k. Allows (IsBoard count edges result) slots id me (edge_target edges e) lowered (Subtracts es k me)) b
+      (subst (λ k. Allows (IsBoard count edges result) slots id me (edge_target edges e) lowered (Subtracts k e me)) a
       (subtract_allows count edges result slots id e me inside node live filled fresh)))
 
-  pub open_as : (e d c : ℕ) → e ≡ d → c ≡ count → e < length edges → 1 ≤ tickets_for (from_of edges e) me.0.tickets
+  pub open_as : (e d c : ℕ) → e ≡ d → c ≡ count → e < length edges → 1 ≤ tickets_for (edge_source edges e) me.0.tickets
       → me.0.opened ≡ [] → times e me.0.filled ≡ 0
       → Allows (IsBoard count edges result) slots id me (c + e) (λ n. either (n == 0) 1 n) (λ n after. Opens d me after)
   open_as e d c b counted inside ticket closed fresh =
@@ -61,7 +61,7 @@ module _ {O A : Type 0} (count : ℕ) (edges : List PlanEdge) (result : ℕ → 
       (open_allows count edges result slots id e me inside live ticket closed fresh))
 
   pub fill_as : (e d c : ℕ) → e ≡ d → c ≡ count → e < length edges → me.0.opened ≡ d ∷ []
-      → (shared : Arc (Published O) A) → me.1 ≡ (e, Some shared) ∷ [] → shown (arc_value shared) ≡ result e
+      → (shared : Arc (Published O) A) → me.1 ≡ (e, Some shared) ∷ [] → published_result (arc_value shared) ≡ result e
       → Allows (IsBoard count edges result) slots id me (c + e) (λ _. 2) (λ _ after. Fills d me after)
   fill_as e d c b counted inside opened shared out right =
       subst (λ k. Allows (IsBoard count edges result) slots id me (k + e) (λ _. 2) (λ _ after. Fills d me after))
@@ -72,7 +72,7 @@ module _ {O A : Type 0} (count : ℕ) (edges : List PlanEdge) (result : ℕ → 
       (opened ∙ ap (λ k. k ∷ []) (sym b)) shared out right))
 
   pub fetch_as : (e d c : ℕ) (value : NodeResult O) → e ≡ d → c ≡ count → result e ≡ value → e < length edges
-      → to_of edges e < count → 1 ≤ times (to_of edges e) me.0.claimed → times e me.0.fetched ≡ 0
+      → edge_target edges e < count → 1 ≤ times (edge_target edges e) me.0.claimed → times e me.0.fetched ≡ 0
       → Allows (IsBoard count edges result) slots id me (c + e) (λ n. either (n == 2) 3 n)
       (λ n after. Fetches d value me after)
   fetch_as e d c value b counted named inside node claimed fresh =
@@ -90,41 +90,26 @@ module _ {O A : Type 0} (count : ℕ) (edges : List PlanEdge) (result : ℕ → 
       (sym counted) (return_allows count edges result slots id e me inside live mine x out)
 
 -- the target that stands in the board's own list
-pub target_is : (edges : List PlanEdge) (ts : List ℕ) (e d : ℕ) → ts ≡ targets_of edges → e < length edges
-    → get_or ts e d ≡ to_of edges e
+pub target_is : (edges : List PlanEdge) (ts : List ℕ) (e d : ℕ) → ts ≡ edge_targets edges → e < length edges
+    → get_or ts e d ≡ edge_target edges e
 target_is edges ts e d is inside = ap (λ l. get_or l e d) is ∙ at edges e d inside where
-  at : (edges : List PlanEdge) (e d : ℕ) → e < length edges → get_or (targets_of edges) e d ≡ to_of edges e
+  at : (edges : List PlanEdge) (e d : ℕ) → e < length edges → get_or (edge_targets edges) e d ≡ edge_target edges e
   at [] e d l = absurd (omega arith)
   at (x ∷ xs) zero d l = refl
   at (x ∷ xs) (suc e) d l = at xs e d (omega arith)
 
-pub many_targets : (edges : List PlanEdge) (ts : List ℕ) → ts ≡ targets_of edges → length ts ≡ length edges
+pub many_targets : (edges : List PlanEdge) (ts : List ℕ) → ts ≡ edge_targets edges → length ts ≡ length edges
 many_targets edges ts is = ap length is ∙ same edges where
-  same : (edges : List PlanEdge) → length (targets_of edges) ≡ length edges
+  same : (edges : List PlanEdge) → length (edge_targets edges) ≡ length edges
   same [] = refl
   same (x ∷ xs) = ap suc (same xs)
 
-pub exact_free : (c l : ℕ) → HasWord c 0 l → l ≡ 0
-exact_free zero l h = sym h
-exact_free (suc c) l h = h.1
-
-pub exact_taken : (c w l : ℕ) → HasWord c w l → l < 4294967296 → w ≡ taken → 1 ≤ c
+pub exact_taken : (c w l : ℕ) → HasWord c w l → l < 4294967296 → w ≡ claimed_word → 1 ≤ c
 exact_taken zero w l h few is = absurd (omega arith)
 exact_taken (suc c) w l h few is = omega arith
 
-pub exact_left : (c w l : ℕ) → HasWord c w l → (w ≡ taken → ⊥) → l ≡ w
-exact_left zero w l h ne = sym h
-exact_left (suc c) w l h ne = absurd (ne h.0)
-
-pub ready_is : (edges : List PlanEdge) (e found : ℕ) (w : View) (b : Bool) → (found == 1) ≡ b
-    → Lowered edges e w found → AnswersSubtract edges e w b
-ready_is edges e found w true is l = λ heavy. let a = l.exact heavy in
-    let f : found ≡ 1 = grind (arith, Rattle.std.proofs.lemmas.Bool.Decides.nat_tests) in omega arith
-ready_is edges e found w false is l = let a = l.left in let b = l.some_left in
-    let f : ¬ (found ≡ 1) = λ q. grind (arith, Rattle.std.proofs.lemmas.Bool.Decides.nat_tests) in omega arith
-
 pub gone_told : {S : Type 0} (edges : List PlanEdge) (n : ℕ) (me : Me S View) (found : ℕ) (after : Me S View)
-    → found ≡ taken → length edges < 4294967296 → Claims edges n me found after → AnswersClaim edges n me.0 Gone after.0
+    → found ≡ claimed_word → length edges < 4294967296 → Claims edges n me found after → AnswersClaim edges n me.0 Gone after.0
 gone_told edges n me zero after is few t = absurd (omega arith)
 gone_told edges n me (suc k) after is few t = (
   t.0,

@@ -11,7 +11,7 @@ use Rattle.pass_core.specs.declared.plan.PlanEdge.{PlanEdge}
 use Rattle.pass_core.specs.declared.published.Published.{Published}
 use Rattle.pass_core.specs.Results.{NodeResult}
 use Rattle.ready_counters.specs.declared.view.View.{View}
-use Rattle.ready_counters.specs.Edges.{left_from, to_of}
+use Rattle.ready_counters.specs.Edges.{left_from, edge_target}
 use Rattle.ready_counters.specs.Meaning.{IsView, IsBoard}
 use Rattle.ready_counters.specs.Sums.{sum_below}
 use Rattle.ready_counters.specs.Views.{all_of_it}
@@ -111,9 +111,9 @@ opening_as {O} {A} plan planned result words found many p w m first =
     (opening_board plan.count plan.edges (result plan) words first)))
 
 pub edge_to : (edges xs : List PlanEdge) (i : ℕ) (d : PlanEdge) → xs ≡ edges → i < length edges
-    → (get_or xs i d).to.0 ≡ to_of edges i
+    → (get_or xs i d).to.0 ≡ edge_target edges i
 edge_to edges xs i d is l = ap (λ ys. (get_or ys i d).to.0) is ∙ at edges i l where
-  at : (ys : List PlanEdge) (i : ℕ) → i < length ys → (get_or ys i d).to.0 ≡ to_of ys i
+  at : (ys : List PlanEdge) (i : ℕ) → i < length ys → (get_or ys i d).to.0 ≡ edge_target ys i
   at [] i l = absurd (omega arith)
   at (y ∷ ys) zero l = refl
   at (y ∷ ys) (suc i) l = at ys i (omega arith)
@@ -139,7 +139,7 @@ get_any (x ∷ xs) zero d e lt = refl
 get_any (x ∷ xs) (suc i) d e lt = get_any xs i d e (omega arith)
 
 pub found_small : (count many : ℕ) (edges xs : List PlanEdge) (words : List ℕ) (i found : ℕ) (d : PlanEdge)
-    → xs ≡ edges → i < length xs → ((e : ℕ) → e < length edges → to_of edges e < count)
+    → xs ≡ edges → i < length xs → ((e : ℕ) → e < length edges → edge_target edges e < count)
     → AreFirst count many (take i edges) words
     → found ≡ get_or words (get_or xs i d).to.0 found → found ≤ length edges
 found_small count many edges xs words i found d is l ends first at =
@@ -150,7 +150,7 @@ found_small count many edges xs words i found d is l ends first at =
     let c : found ≡ slice_index words (get_or xs i d).to.0 = at ∙ b in omega arith
 
 pub first_more_as : (count many : ℕ) (edges xs : List PlanEdge) (words : List ℕ) (i found : ℕ) (d : PlanEdge)
-    → xs ≡ edges → i < length xs → ((e : ℕ) → e < length edges → to_of edges e < count)
+    → xs ≡ edges → i < length xs → ((e : ℕ) → e < length edges → edge_target edges e < count)
     → AreFirst count many (take i edges) words
     → found ≡ get_or words (get_or xs i d).to.0 found
     → AreFirst count many (take (i + 1) edges) (set words (get_or xs i d).to.0 (found + 1))

@@ -14,15 +14,15 @@ use Rattle.pass_core.specs.declared.plan.Plan.{Plan}
 use Rattle.pass_core.specs.declared.plan.PlanEdge.{PlanEdge}
 use Rattle.pass_core.specs.declared.published.Published.{Published}
 use Rattle.pass_core.specs.declared.step.Step.TheVariants.{Claim, Fetch, Fill, Subtract}
-use Rattle.pass_core.specs.CoreStates.{CoreState, Allows, after, IsMarked, VisitWasMade, IsFilled, IsFinished, numbers_into, held, made, beginning}
+use Rattle.pass_core.specs.CoreStates.{CoreState, Allows, after, IsMarked, VisitWasMade, IsFilled, IsFinished, numbers_into, edge_result, visit_result, beginning}
 use Rattle.pass_core.specs.Laws.{ResultsMeetTheirEquation}
 use Rattle.pass_core.specs.Plans.{IsPlan, HasNoCycle, predecessors}
-use Rattle.pass_core.specs.Results.{NodeResult, node_result, judged, outs_of}
+use Rattle.pass_core.specs.Results.{NodeResult, node_result, judged_result, all_outs}
 use Rattle.ready_counters.specs.declared.view.View.{View}
 use Rattle.ready_counters.specs.Views.{nothing, one, all_of_it, lighter, together, times, with_claim, with_ticket, with_open, with_fill, with_subtract, with_fetch}
 use Rattle.ready_counters.specs.Sums.{total_of, claims, opens, fills, subtractions, fetches, draws}
-use Rattle.ready_counters.specs.Edges.{from_of, to_of, result_at, left_from}
-use Rattle.ready_counters.specs.Meaning.{taken, HasWord, AreFirst, HasEdge, IsBoard}
+use Rattle.ready_counters.specs.Edges.{edge_source, edge_target, result_at, left_from}
+use Rattle.ready_counters.specs.Meaning.{claimed_word, HasWord, AreFirst, HasEdge, IsBoard}
 use Rattle.ready_counters.specs.Ends.{IsDoneBy}
 use Rattle.ready_counters.specs.Shows.{counter_of, held_at, was_done, core_of, BoardStep, Claiming, Ticketing, Opening, Filling, Subtracting, Fetching, Splitting, Joining, Looking, core_step, IsStep, LeadsBy}
 use Rattle.ready_counters.proofs.Sums.{sum_set, sum_same, sum_at, sum_snoc, times_append, times_here}
@@ -34,17 +34,17 @@ use Rattle.ready_counters.proofs.Legality.{ends_from, ends_to}
 use Rattle.ready_counters.proofs.Ranges.{same_over, set_over, get_over, index_over}
 use Rattle.ready_counters.proofs.Entering.{into_map, all_into}
 
-counter_plain : (w : ℕ) → (w ≡ taken → ⊥) → counter_of w ≡ w
-counter_plain w ne = rw (ne_eqb w taken ne) refl
+counter_plain : (w : ℕ) → (w ≡ claimed_word → ⊥) → counter_of w ≡ w
+counter_plain w ne = rw (ne_eqb w claimed_word ne) refl
 
-counter_taken : (w : ℕ) → w ≡ taken → counter_of w ≡ 0
-counter_taken w is = rw (eq-eqb w taken is) refl
+counter_taken : (w : ℕ) → w ≡ claimed_word → counter_of w ≡ 0
+counter_taken w is = rw (eq-eqb w claimed_word is) refl
 
 pub done_some : (k : ℕ) → 1 ≤ k → was_done k ≡ true
 done_some zero l = absurd (omega arith)
 done_some (suc k) l = refl
 
-pub word_claimed : (c w l : ℕ) → HasWord c w l → 1 ≤ c → w ≡ taken
+pub word_claimed : (c w l : ℕ) → HasWord c w l → 1 ≤ c → w ≡ claimed_word
 word_claimed zero w l h le = absurd (omega arith)
 word_claimed (suc c) w l h le = h.0
 
@@ -74,7 +74,7 @@ abbrev counters_in : ℕ → List ℕ → List ℕ
 counters_in count words = map (λ n. counter_of (slice_index words n)) (range_with_len 0 count)
 
 abbrev claimed_in : ℕ → List ℕ → List Bool
-claimed_in count words = map (λ n. slice_index words n == taken) (range_with_len 0 count)
+claimed_in count words = map (λ n. slice_index words n == claimed_word) (range_with_len 0 count)
 
 abbrev filled_in : {O : Type 0} → (ℕ → NodeResult O) → ℕ → ℕ → List ℕ → List (Option (NodeResult O))
 filled_in result count many words =
@@ -91,9 +91,9 @@ module _ (words : List ℕ) (i x count : ℕ) where
       (λ k lo up. ap counter_of (get_or-set_other words i k x 0 (λ same. absurd (omega arith))))
 
   claimed_else : count ≤ i → claimed_in count (set words i x) ≡ claimed_in count words
-  claimed_else past = same_over (λ n. slice_index (set words i x) n == taken)
-      (λ n. slice_index words n == taken) 0 count
-      (λ k lo up. ap (λ w. w == taken) (get_or-set_other words i k x 0 (λ same. absurd (omega arith))))
+  claimed_else past = same_over (λ n. slice_index (set words i x) n == claimed_word)
+      (λ n. slice_index words n == claimed_word) 0 count
+      (λ k lo up. ap (λ w. w == claimed_word) (get_or-set_other words i k x 0 (λ same. absurd (omega arith))))
 
   filled_else : {O : Type 0} (result : ℕ → NodeResult O) (many : ℕ) → ((e : ℕ) → e < many → count + e ≢ i)
       → filled_in result count many (set words i x) ≡ filled_in result count many words
@@ -125,28 +125,28 @@ module _ {O A : Type 0} (mean : ℕ → List O → Result O Fault) (plan : Plan)
     few_left : left_from (subtractions s.views) 0 plan.edges n < 4294967296
     few_left = let b = left_bound (subtractions s.views) 0 plan.edges n in let f = is_plan.few in omega arith
 
-    claimed_at : slice_get (claimed_in plan.count s.words) n ≡ Some (slice_index s.words n == taken)
-    claimed_at = get_over (λ n. slice_index s.words n == taken) 0 plan.count n n (omega arith) node
+    claimed_at : slice_get (claimed_in plan.count s.words) n ≡ Some (slice_index s.words n == claimed_word)
+    claimed_at = get_over (λ n. slice_index s.words n == claimed_word) 0 plan.count n n (omega arith) node
 
     is_marked : 1 ≤ claims s.views n → IsMarked (claimed_in plan.count s.words) n
     is_marked le = claimed_at
-        ∙ ap Some (eq-eqb (slice_index s.words n) taken (word_claimed _ _ _ (holds.counters.words n node) le))
+        ∙ ap Some (eq-eqb (slice_index s.words n) claimed_word (word_claimed _ _ _ (holds.counters.words n node) le))
 
   module _ (e : ℕ) (inside : e < length plan.edges) where
     has_edge : HasEdge (opens s.views e) (fills s.views e) (fetches s.views e) (slice_index s.words (plan.count + e))
         (get_elem? s.homes e) (result_at mean plan e)
     has_edge = holds.states.words e inside
 
-    target : to_of plan.edges e < plan.count
+    target : edge_target plan.edges e < plan.count
     target = ends_to plan.count plan.edges is_plan.ends e inside
 
-    source : from_of plan.edges e < plan.count
+    source : edge_source plan.edges e < plan.count
     source = ends_from plan.count plan.edges is_plan.ends e inside
 
     opened_once : opens s.views e + fills s.views e ≤ 1
     opened_once = let a = filled_drawn plan.count plan.edges (result_at mean plan) s holds e inside in
-        let b = drawn_claimed plan.count plan.edges (result_at mean plan) s holds (from_of plan.edges e) in
-        let c = holds.counters.once (from_of plan.edges e) in omega arith
+        let b = drawn_claimed plan.count plan.edges (result_at mean plan) s holds (edge_source plan.edges e) in
+        let c = holds.counters.once (edge_source plan.edges e) in omega arith
 
     pub filled_at : 1 ≤ fills s.views e
         → slice_get (filled_in (result_at mean plan) plan.count (length plan.edges) s.words) e ≡ Some
@@ -165,9 +165,9 @@ module _ {O A : Type 0} (mean : ℕ → List O → Result O Fault) (plan : Plan)
 
   -- the visit of a node with a ticket was made, and what it made is its result
   module _ (n : ℕ) (node : n < plan.count) (drawn : 1 ≤ draws s.views n) where
-    in_fetched : (e : ℕ) → e < length plan.edges → to_of plan.edges e ≡ n → 1 ≤ fetches s.views e
+    in_fetched : (e : ℕ) → e < length plan.edges → edge_target plan.edges e ≡ n → 1 ≤ fetches s.views e
     in_fetched e inside to = let a = drawn_fetched plan.count plan.edges (result_at mean plan) s holds e inside in
-        let b : draws s.views (to_of plan.edges e) ≡ draws s.views n = ap (draws s.views) to in omega arith
+        let b : draws s.views (edge_target plan.edges e) ≡ draws s.views n = ap (draws s.views) to in omega arith
 
     pub visit_made : VisitWasMade plan core n
     visit_made = (
@@ -176,18 +176,18 @@ module _ {O A : Type 0} (mean : ℕ → List O → Result O Fault) (plan : Plan)
           (λ e inside to. fetched_at e inside ∙ ap Some (done_some (fetches s.views e) (in_fetched e inside to))),
     )
 
-    held_result : (e : ℕ) → e < length plan.edges → to_of plan.edges e ≡ n
-        → held core e ≡ node_result mean plan (from_of plan.edges e)
+    held_result : (e : ℕ) → e < length plan.edges → edge_target plan.edges e ≡ n
+        → edge_result core e ≡ node_result mean plan (edge_source plan.edges e)
     held_result e inside to =
         let a = in_fetched e inside to in let b = holds.states.order e in
         ap (λ (x : Option (Option (NodeResult O))). Rattle.pass_core.specs.CoreStates.result_in x)
         (filled_at e inside (omega arith))
 
     pub made_result : HasNoCycle plan.edges → ResultsMeetTheirEquation O
-        → made mean plan core n ≡ node_result mean plan n
+        → visit_result mean plan core n ≡ node_result mean plan n
     made_result free equation =
-        ap (λ (rs : List (NodeResult O)). judged (mean n) (outs_of rs))
-        (into_map (held core) (node_result mean plan) plan.edges n held_result)
+        ap (λ (rs : List (NodeResult O)). judged_result (mean n) (all_outs rs))
+        (into_map (edge_result core) (node_result mean plan) plan.edges n held_result)
         ∙ sym (equation mean plan n is_plan free node)
 
   module _ (id : ℕ) (v : View) (here : get_elem? s.views id ≡ some v) where
@@ -218,26 +218,26 @@ module _ {O A : Type 0} (mean : ℕ → List O → Result O Fault) (plan : Plan)
       allows_claim : Allows plan core (Claim (record { 0 = n }))
       allows_claim = (
         claimed_at n node ∙ ap Some
-            (ne_eqb (slice_index s.words n) taken (λ t. let e : 0 ≡ taken = sym free ∙ t in absurd (omega arith))),
+            (ne_eqb (slice_index s.words n) claimed_word (λ t. let e : 0 ≡ claimed_word = sym free ∙ t in absurd (omega arith))),
         get_over (λ n. counter_of (slice_index s.words n)) 0 plan.count n n (omega arith) node
             ∙ ap (λ w. Some (counter_of w)) free,
       )
 
-      after_claim : core_of mean plan (set s.words n taken) (set s.views id (with_claim v n)) ≡ after mean plan core
+      after_claim : core_of mean plan (set s.words n claimed_word) (set s.views id (with_claim v n)) ≡ after mean plan core
           (Claim (record { 0 = n }))
       after_claim = state_is _ _ _ _ _ _ _ _ _ _
-          (same_over (λ k. counter_of (slice_index (set s.words n taken) k))
+          (same_over (λ k. counter_of (slice_index (set s.words n claimed_word) k))
           (λ k. counter_of (slice_index s.words k)) 0 plan.count
           (λ k lo up. dite (ℕ_discrete k n)
-          (λ same. counter_taken (slice_index (set s.words n taken) k)
-          (ap (slice_index (set s.words n taken)) same ∙ get_or-set_same s.words n taken 0 (many n node))
+          (λ same. counter_taken (slice_index (set s.words n claimed_word) k)
+          (ap (slice_index (set s.words n claimed_word)) same ∙ get_or-set_same s.words n claimed_word 0 (many n node))
           ∙ sym (ap counter_of (ap (slice_index s.words) same ∙ free)))
-          (λ ne. ap counter_of (get_or-set_other s.words n k taken 0 ne))))
-          (set_over (λ k. slice_index (set s.words n taken) k == taken)
-          (λ k. slice_index s.words k == taken) 0 plan.count n n true (omega arith) node
-          (eq-eqb (slice_index (set s.words n taken) n) taken (get_or-set_same s.words n taken 0 (many n node)))
-          (λ k lo up ne. ap (λ w. w == taken) (get_or-set_other s.words n k taken 0 ne)))
-          (filled_else s.words n taken plan.count (result_at mean plan) (length plan.edges)
+          (λ ne. ap counter_of (get_or-set_other s.words n k claimed_word 0 ne))))
+          (set_over (λ k. slice_index (set s.words n claimed_word) k == claimed_word)
+          (λ k. slice_index s.words k == claimed_word) 0 plan.count n n true (omega arith) node
+          (eq-eqb (slice_index (set s.words n claimed_word) n) claimed_word (get_or-set_same s.words n claimed_word 0 (many n node)))
+          (λ k lo up ne. ap (λ w. w == claimed_word) (get_or-set_other s.words n k claimed_word 0 ne)))
+          (filled_else s.words n claimed_word plan.count (result_at mean plan) (length plan.edges)
           (λ e l same. absurd (omega arith)))
           (subtracted_kept (with_claim v n) refl) (fetched_kept (with_claim v n) refl)
 
@@ -254,18 +254,18 @@ module _ {O A : Type 0} (mean : ℕ → List O → Result O Fault) (plan : Plan)
         some_filled : 1 ≤ fills s.views e
         some_filled = let a = sum_at (λ (u : View). times e u.filled) s.views id v here in omega arith
 
-        the_word : (claims s.views (to_of plan.edges e) ≡ 0)
-            × (slice_index s.words (to_of plan.edges e) ≡ left_from (subtractions s.views) 0 plan.edges
-            (to_of plan.edges e))
+        the_word : (claims s.views (edge_target plan.edges e) ≡ 0)
+            × (slice_index s.words (edge_target plan.edges e) ≡ left_from (subtractions s.views) 0 plan.edges
+            (edge_target plan.edges e))
         the_word = lowering.the_word plan.count plan.edges (result_at mean plan) id e (v, []) inside
             (target e inside) live mine fresh s holds here
 
-        some_left : 1 ≤ left_from (subtractions s.views) 0 plan.edges (to_of plan.edges e)
+        some_left : 1 ≤ left_from (subtractions s.views) 0 plan.edges (edge_target plan.edges e)
         some_left = let a = lowering.one_less plan.count plan.edges (result_at mean plan) id e (v, []) inside
             (target e inside) live mine fresh s holds here in omega arith
 
-        free_word : slice_index s.words (to_of plan.edges e) ≡ taken → ⊥
-        free_word is = let a = the_word.1 in let b = few_left (to_of plan.edges e) (target e inside) in omega arith
+        free_word : slice_index s.words (edge_target plan.edges e) ≡ claimed_word → ⊥
+        free_word is = let a = the_word.1 in let b = few_left (edge_target plan.edges e) (target e inside) in omega arith
 
         allows_subtract : Allows plan core (Subtract e)
         allows_subtract = (
@@ -274,45 +274,45 @@ module _ {O A : Type 0} (mean : ℕ → List O → Result O Fault) (plan : Plan)
               ∙ ap (λ k. Some (was_done k)) none_yet,
         )
 
-        counter_less : counter_of (slice_index s.words (to_of plan.edges e) - 1) ≡ slice_index
-            (counters_in plan.count s.words) (to_of plan.edges e) - 1
+        counter_less : counter_of (slice_index s.words (edge_target plan.edges e) - 1) ≡ slice_index
+            (counters_in plan.count s.words) (edge_target plan.edges e) - 1
         counter_less =
-            let a = the_word.1 in let b = few_left (to_of plan.edges e) (target e inside) in let c = some_left in
-            let d = counter_plain (slice_index s.words (to_of plan.edges e) - 1) (λ is. absurd (omega arith)) in
-            let f = index_over (λ n. counter_of (slice_index s.words n)) 0 plan.count (to_of plan.edges e)
-            (to_of plan.edges e) (omega arith) (target e inside) in
-            let g = counter_plain (slice_index s.words (to_of plan.edges e)) free_word in
+            let a = the_word.1 in let b = few_left (edge_target plan.edges e) (target e inside) in let c = some_left in
+            let d = counter_plain (slice_index s.words (edge_target plan.edges e) - 1) (λ is. absurd (omega arith)) in
+            let f = index_over (λ n. counter_of (slice_index s.words n)) 0 plan.count (edge_target plan.edges e)
+            (edge_target plan.edges e) (omega arith) (target e inside) in
+            let g = counter_plain (slice_index s.words (edge_target plan.edges e)) free_word in
             d ∙ ap (λ w. w - 1) (sym (f ∙ g))
 
         after_subtract : core_of mean plan
-            (set s.words (to_of plan.edges e) (slice_index s.words (to_of plan.edges e) - 1))
+            (set s.words (edge_target plan.edges e) (slice_index s.words (edge_target plan.edges e) - 1))
             (set s.views id (with_subtract v e)) ≡ after mean plan core (Subtract e)
         after_subtract =
             state_is _ _ _ _ _ _ _ _ _ _
             (set_over (λ k. counter_of
-            (slice_index (set s.words (to_of plan.edges e) (slice_index s.words (to_of plan.edges e) - 1)) k))
-            (λ k. counter_of (slice_index s.words k)) 0 plan.count (to_of plan.edges e) (to_of plan.edges e)
-            (slice_index (counters_in plan.count s.words) (to_of plan.edges e) - 1) (omega arith) (target e inside)
-            (ap counter_of (get_or-set_same s.words (to_of plan.edges e)
-            (slice_index s.words (to_of plan.edges e) - 1) 0 (many (to_of plan.edges e) (target e inside)))
+            (slice_index (set s.words (edge_target plan.edges e) (slice_index s.words (edge_target plan.edges e) - 1)) k))
+            (λ k. counter_of (slice_index s.words k)) 0 plan.count (edge_target plan.edges e) (edge_target plan.edges e)
+            (slice_index (counters_in plan.count s.words) (edge_target plan.edges e) - 1) (omega arith) (target e inside)
+            (ap counter_of (get_or-set_same s.words (edge_target plan.edges e)
+            (slice_index s.words (edge_target plan.edges e) - 1) 0 (many (edge_target plan.edges e) (target e inside)))
             ∙ counter_less)
             (λ k lo up ne. ap counter_of
-            (get_or-set_other s.words (to_of plan.edges e) k (slice_index s.words (to_of plan.edges e) - 1) 0 ne)))
+            (get_or-set_other s.words (edge_target plan.edges e) k (slice_index s.words (edge_target plan.edges e) - 1) 0 ne)))
             (same_over (λ k. slice_index
-            (set s.words (to_of plan.edges e) (slice_index s.words (to_of plan.edges e) - 1)) k == taken)
-            (λ k. slice_index s.words k == taken) 0 plan.count
-            (λ k lo up. dite (ℕ_discrete k (to_of plan.edges e))
-            (λ same. let a = the_word.1 in let b = few_left (to_of plan.edges e) (target e inside) in
-            let is : slice_index (set s.words (to_of plan.edges e)
-            (slice_index s.words (to_of plan.edges e) - 1)) k ≡ slice_index s.words (to_of plan.edges e) - 1 =
-            ap (slice_index (set s.words (to_of plan.edges e) (slice_index s.words (to_of plan.edges e) - 1))) same
-            ∙ get_or-set_same s.words (to_of plan.edges e) (slice_index s.words (to_of plan.edges e) - 1) 0
-            (many (to_of plan.edges e) (target e inside)) in
-            ne_eqb _ taken (λ t. absurd (omega arith))
-            ∙ sym (ne_eqb (slice_index s.words k) taken (λ t. free_word (ap (slice_index s.words) (sym same) ∙ t))))
-            (λ ne. ap (λ w. w == taken)
-            (get_or-set_other s.words (to_of plan.edges e) k (slice_index s.words (to_of plan.edges e) - 1) 0 ne))))
-            (filled_else s.words (to_of plan.edges e) (slice_index s.words (to_of plan.edges e) - 1) plan.count
+            (set s.words (edge_target plan.edges e) (slice_index s.words (edge_target plan.edges e) - 1)) k == claimed_word)
+            (λ k. slice_index s.words k == claimed_word) 0 plan.count
+            (λ k lo up. dite (ℕ_discrete k (edge_target plan.edges e))
+            (λ same. let a = the_word.1 in let b = few_left (edge_target plan.edges e) (target e inside) in
+            let is : slice_index (set s.words (edge_target plan.edges e)
+            (slice_index s.words (edge_target plan.edges e) - 1)) k ≡ slice_index s.words (edge_target plan.edges e) - 1 =
+            ap (slice_index (set s.words (edge_target plan.edges e) (slice_index s.words (edge_target plan.edges e) - 1))) same
+            ∙ get_or-set_same s.words (edge_target plan.edges e) (slice_index s.words (edge_target plan.edges e) - 1) 0
+            (many (edge_target plan.edges e) (target e inside)) in
+            ne_eqb _ claimed_word (λ t. absurd (omega arith))
+            ∙ sym (ne_eqb (slice_index s.words k) claimed_word (λ t. free_word (ap (slice_index s.words) (sym same) ∙ t))))
+            (λ ne. ap (λ w. w == claimed_word)
+            (get_or-set_other s.words (edge_target plan.edges e) k (slice_index s.words (edge_target plan.edges e) - 1) 0 ne))))
+            (filled_else s.words (edge_target plan.edges e) (slice_index s.words (edge_target plan.edges e) - 1) plan.count
             (result_at mean plan) (length plan.edges) (λ x l same. let t = target e inside in absurd (omega arith)))
             (done_more (subtractions (set s.views id (with_subtract v e))) (subtractions s.views)
             (length plan.edges) e inside
@@ -323,7 +323,7 @@ module _ {O A : Type 0} (mean : ℕ → List O → Result O Fault) (plan : Plan)
             (fetched_kept (with_subtract v e) refl)
 
       -- a fetch
-      module _ (mine : 1 ≤ times (to_of plan.edges e) v.claimed) (fresh : times e v.fetched ≡ 0) where
+      module _ (mine : 1 ≤ times (edge_target plan.edges e) v.claimed) (fresh : times e v.fetched ≡ 0) where
         not_fetched : fetches s.views e ≡ 0
         not_fetched = filling.none_fetched plan.count plan.edges (result_at mean plan) s holds id e
             (v, []) here inside live (target e inside) mine fresh
@@ -334,9 +334,9 @@ module _ {O A : Type 0} (mean : ℕ → List O → Result O Fault) (plan : Plan)
 
         allows_fetch : Allows plan core (Fetch e)
         allows_fetch = (
-          is_marked (to_of plan.edges e) (target e inside)
+          is_marked (edge_target plan.edges e) (target e inside)
               (let o = claim_mine plan.count plan.edges (result_at mean plan) s holds id v here
-              (to_of plan.edges e) mine in omega arith),
+              (edge_target plan.edges e) mine in omega arith),
           (
             result_at mean plan e,
             filled_at e inside (filling.some_filled plan.count plan.edges (result_at mean plan) s holds id e
@@ -376,13 +376,13 @@ module _ {O A : Type 0} (mean : ℕ → List O → Result O Fault) (plan : Plan)
         written_word : slice_index s.words (plan.count + e) ≡ 1
         written_word = word_open _ _ _ _ _ _ (has_edge e inside) some_open
 
-        source_drawn : 1 ≤ draws s.views (from_of plan.edges e)
+        source_drawn : 1 ≤ draws s.views (edge_source plan.edges e)
         source_drawn = let a = some_open in
             let b = filled_drawn plan.count plan.edges (result_at mean plan) s holds e inside in omega arith
 
         allows_fill : Allows plan core (Fill e)
         allows_fill = (
-          visit_made (from_of plan.edges e) (source e inside) source_drawn,
+          visit_made (edge_source plan.edges e) (source e inside) source_drawn,
           get_over (λ x. held_at (slice_index s.words (plan.count + x)) (result_at mean plan x)) 0
               (length plan.edges) e e (omega arith) inside
               ∙ ap (λ w. Some (held_at w (result_at mean plan e))) written_word,
@@ -397,9 +397,9 @@ module _ {O A : Type 0} (mean : ℕ → List O → Result O Fault) (plan : Plan)
             (set_over (λ x. held_at (slice_index (set s.words (plan.count + e) 2) (plan.count + x))
             (result_at mean plan x))
             (λ x. held_at (slice_index s.words (plan.count + x)) (result_at mean plan x)) 0 (length plan.edges) e e
-            (Some (made mean plan core (from_of plan.edges e))) (omega arith) inside
+            (Some (visit_result mean plan core (edge_source plan.edges e))) (omega arith) inside
             (ap (λ w. held_at w (result_at mean plan e)) (get_or-set_same s.words (plan.count + e) 2 0 edge_word)
-            ∙ ap Some (sym (made_result (from_of plan.edges e) (source e inside) source_drawn free equation)))
+            ∙ ap Some (sym (made_result (edge_source plan.edges e) (source e inside) source_drawn free equation)))
             (λ k lo up ne. ap (λ w. held_at w (result_at mean plan k))
             (get_or-set_other s.words (plan.count + e) (plan.count + k) 2 0 (λ same. ne (omega arith)))))
             (subtracted_kept (with_fill v e) refl) (fetched_kept (with_fill v e) refl)
@@ -551,8 +551,8 @@ module _ {O : Type 0} (mean : ℕ → List O → Result O Fault) (plan : Plan) (
       (λ k lo up. counter_plain (slice_index words k)
       (λ is. let a = first_word k (omega arith) in absurd (omega arith)) ∙ first.1 k (omega arith)
       ∙ all_left 0 plan.edges k))
-      (same_over (λ n. slice_index words n == taken) (λ _. false) 0 plan.count
-      (λ k lo up. ne_eqb (slice_index words k) taken
+      (same_over (λ n. slice_index words n == claimed_word) (λ _. false) 0 plan.count
+      (λ k lo up. ne_eqb (slice_index words k) claimed_word
       (λ is. let a = first_word k (omega arith) in absurd (omega arith))) ∙ const_over false 0 plan.count)
       (same_over (λ e. held_at (slice_index words (plan.count + e)) (result_at mean plan e)) (λ _. None) 0
       (length plan.edges) (λ k lo up. ap (λ w. held_at w (result_at mean plan k))

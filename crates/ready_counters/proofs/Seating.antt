@@ -10,10 +10,10 @@ use Rattle.pass_core.specs.declared.plan.PlanEdge.{PlanEdge}
 use Rattle.pass_core.specs.declared.published.Published.{Published}
 use Rattle.pass_core.specs.Results.{NodeResult}
 use Rattle.ready_counters.specs.declared.view.View.{View}
-use Rattle.ready_counters.specs.Edges.{to_of, from_of}
+use Rattle.ready_counters.specs.Edges.{edge_target, edge_source}
 use Rattle.ready_counters.specs.Meaning.{IsView, IsBoard}
 use Rattle.ready_counters.specs.Sums.{total_of}
-use Rattle.ready_counters.specs.Views.{nothing, one, lighter, together, times, tickets_for, number_for, tickets_with}
+use Rattle.ready_counters.specs.Views.{nothing, one, lighter, together, times, tickets_for, ticket_number, tickets_with}
 use Rattle.ready_counters.proofs.Sums.{sum_set, sum_snoc, times_append, tickets_append, number_append, with_append}
 use Rattle.ready_counters.proofs.Frames.{counters_same, tickets_same, edges_same}
 
@@ -44,7 +44,7 @@ module _ {O A : Type 0} (count : ℕ) (edges : List PlanEdge) (result : ℕ → 
     tickets = tickets_same count edges _ _ _ _ _ _ _ _ refl
         (λ n. same (λ (v : View). tickets_for n v.tickets) refl refl (λ v. refl)
         (λ v w. tickets_append n v.tickets w.tickets))
-        (λ n. same (λ (v : View). number_for n v.tickets) refl refl (λ v. refl)
+        (λ n. same (λ (v : View). ticket_number n v.tickets) refl refl (λ v. refl)
         (λ v w. number_append n v.tickets w.tickets))
         (λ n. same (λ (v : View). tickets_with n v.tickets) refl refl (λ v. refl)
         (λ v w. with_append n v.tickets w.tickets)) holds.tickets;
@@ -59,7 +59,7 @@ empty_view count edges v idle a b c d f t = record {
   subtracted = λ e. let x = ap (times e) d in omega arith;
   sourced = λ e l. let x = ap (times e) b in let y = ap (times e) c in omega arith;
   drawn = λ n. let x = ap (tickets_for n) t in omega arith;
-  gathered = λ e l. let x = ap (tickets_for (to_of edges e)) t in omega arith;
+  gathered = λ e l. let x = ap (tickets_for (edge_target edges e)) t in omega arith;
   targeted = λ e l. let x = ap (times e) f in omega arith;
 }
 
@@ -87,14 +87,14 @@ both_view count edges v w live h k = record {
   subtracted = λ e. let x = times_append e v.subtracted w.subtracted in let y = times_append e v.filled w.filled in
       let a = h.subtracted e in let b = k.subtracted e in omega arith;
   sourced = λ e l. let x = times_append e v.opened w.opened in let y = times_append e v.filled w.filled in
-      let z = tickets_append (from_of edges e) v.tickets w.tickets in let a = h.sourced e l in
+      let z = tickets_append (edge_source edges e) v.tickets w.tickets in let a = h.sourced e l in
       let b = k.sourced e l in omega arith;
   drawn = λ n. let x = tickets_append n v.tickets w.tickets in let y = times_append n v.claimed w.claimed in
       let a = h.drawn n in let b = k.drawn n in omega arith;
-  gathered = λ e l. let x = tickets_append (to_of edges e) v.tickets w.tickets in
+  gathered = λ e l. let x = tickets_append (edge_target edges e) v.tickets w.tickets in
       let y = times_append e v.fetched w.fetched in let a = h.gathered e l in let b = k.gathered e l in omega arith;
   targeted = λ e l. let x = times_append e v.fetched w.fetched in
-      let y = times_append (to_of edges e) v.claimed w.claimed in let a = h.targeted e l in let b = k.targeted e l in
+      let y = times_append (edge_target edges e) v.claimed w.claimed in let a = h.targeted e l in let b = k.targeted e l in
       omega arith;
 }
 

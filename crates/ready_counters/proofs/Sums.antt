@@ -6,7 +6,7 @@ use Rattle.std.proofs.lemmas.Bool.Decides.{nat_tests}
 use mathlib.Core.Option.{some, some-injective, some-ne-none}
 use lib.ListN.{get_elem?}
 use Rattle.ready_counters.specs.Sums.{total_of, sum_below}
-use Rattle.ready_counters.specs.Views.{times, tickets_for, number_for, tickets_with}
+use Rattle.ready_counters.specs.Views.{times, tickets_for, ticket_number, tickets_with}
 
 module _ {V : Type 0} (f : V → ℕ) where
   -- one view is exchanged for another
@@ -87,10 +87,10 @@ module _ (k : ℕ) (ts : List (ℕ × ℕ)) where
   pub ticket_else : (m n : ℕ) → (m ≡ n → ⊥) → tickets_for m ((n, k) ∷ ts) ≡ tickets_for m ts
   ticket_else m n ne = grind (arith, nat_tests)
 
-  pub number_here : (n : ℕ) → number_for n ((n, k) ∷ ts) ≡ k + number_for n ts
+  pub number_here : (n : ℕ) → ticket_number n ((n, k) ∷ ts) ≡ k + ticket_number n ts
   number_here n = grind (arith, nat_tests)
 
-  pub number_else : (m n : ℕ) → (m ≡ n → ⊥) → number_for m ((n, k) ∷ ts) ≡ number_for m ts
+  pub number_else : (m n : ℕ) → (m ≡ n → ⊥) → ticket_number m ((n, k) ∷ ts) ≡ ticket_number m ts
   number_else m n ne = grind (arith, nat_tests)
 
   pub used_here : (n : ℕ) → tickets_with k ((n, k) ∷ ts) ≡ 1 + tickets_with k ts
@@ -100,15 +100,15 @@ module _ (k : ℕ) (ts : List (ℕ × ℕ)) where
   used_else j n ne = grind (arith, nat_tests)
 
 -- a node without a ticket has no number
-pub no_number : (n : ℕ) (ts : List (ℕ × ℕ)) → tickets_for n ts ≡ 0 → number_for n ts ≡ 0
+pub no_number : (n : ℕ) (ts : List (ℕ × ℕ)) → tickets_for n ts ≡ 0 → ticket_number n ts ≡ 0
 no_number n [] z = refl
-no_number n (t ∷ ts) z = let h : tickets_for n ts ≡ 0 → number_for n ts ≡ 0 = no_number n ts in grind (arith, nat_tests)
+no_number n (t ∷ ts) z = let h : tickets_for n ts ≡ 0 → ticket_number n ts ≡ 0 = no_number n ts in grind (arith, nat_tests)
 
 pub tickets_append : (x : ℕ) (xs ys : List (ℕ × ℕ)) → tickets_for x (xs ++ ys) ≡ tickets_for x xs + tickets_for x ys
 tickets_append x [] ys = omega arith
 tickets_append x (y ∷ xs) ys = let h = tickets_append x xs ys in omega arith
 
-pub number_append : (x : ℕ) (xs ys : List (ℕ × ℕ)) → number_for x (xs ++ ys) ≡ number_for x xs + number_for x ys
+pub number_append : (x : ℕ) (xs ys : List (ℕ × ℕ)) → ticket_number x (xs ++ ys) ≡ ticket_number x xs + ticket_number x ys
 number_append x [] ys = omega arith
 number_append x (y ∷ xs) ys = let h = number_append x xs ys in omega arith
 

@@ -11,10 +11,10 @@ use Rattle.pass_core.specs.declared.plan.PlanEdge.{PlanEdge}
 use Rattle.pass_core.specs.declared.published.Published.{Published}
 use Rattle.pass_core.specs.Results.{NodeResult}
 use Rattle.ready_counters.specs.declared.view.View.{View}
-use Rattle.ready_counters.specs.Edges.{to_of, from_of}
+use Rattle.ready_counters.specs.Edges.{edge_target, edge_source}
 use Rattle.ready_counters.specs.Meaning.{IsView, HasTickets, IsBoard}
 use Rattle.ready_counters.specs.Sums.{fetches, draws, drawn_numbers, uses}
-use Rattle.ready_counters.specs.Views.{times, tickets_for, number_for, tickets_with}
+use Rattle.ready_counters.specs.Views.{times, tickets_for, ticket_number, tickets_with}
 use Rattle.ready_counters.specs.Inside.{Draws}
 use Rattle.ready_counters.specs.Views.{with_ticket}
 use Rattle.ready_counters.proofs.Sums.{sum_set, sum_at, total_less, total_none, ticket_here, ticket_else, number_here, number_else, used_here, used_else, no_number, below_more, below_short}
@@ -32,7 +32,7 @@ module _ {O A : Type 0} (count : ℕ) (edges : List PlanEdge) (result : ℕ → 
     (me : Me (Option (Arc (Published O) A)) View) (small : count < 4294967296) (node : n < count)
     (live : 1 ≤ me.0.weight)
     (claimed : 1 ≤ times n me.0.claimed)
-    (ready : (e : ℕ) → e < length edges → to_of edges e ≡ n → 1 ≤ times e me.0.fetched)
+    (ready : (e : ℕ) → e < length edges → edge_target edges e ≡ n → 1 ≤ times e me.0.fetched)
     (fresh : tickets_for n me.0.tickets ≡ 0)
     (s : State (Option (Arc (Published O) A)) View) (holds : IsBoard count edges result s)
     (here : get_elem? s.views id ≡ some me.0) where
@@ -55,7 +55,7 @@ module _ {O A : Type 0} (count : ℕ) (edges : List PlanEdge) (result : ℕ → 
         let once = holds.counters.once n in omega arith
 
     none_numbered : drawn_numbers s.views n ≡ 0
-    none_numbered = total_none (λ (v : View). number_for n v.tickets) (λ (v : View). tickets_for n v.tickets) s.views
+    none_numbered = total_none (λ (v : View). ticket_number n v.tickets) (λ (v : View). tickets_for n v.tickets) s.views
         (λ j v at z. no_number n v.tickets z) no_ticket
 
     draws_here : draws (set s.views id (with_ticket me.0 n k)) n ≡ suc (draws s.views n)
@@ -69,13 +69,13 @@ module _ {O A : Type 0} (count : ℕ) (edges : List PlanEdge) (result : ℕ → 
 
     numbers_here : drawn_numbers (set s.views id (with_ticket me.0 n k)) n ≡ k
     numbers_here = let h =
-        sum_set (λ (v : View). number_for n v.tickets) s.views id me.0 (with_ticket me.0 n k) here in
+        sum_set (λ (v : View). ticket_number n v.tickets) s.views id me.0 (with_ticket me.0 n k) here in
         let t = number_here k me.0.tickets n in let z = none_numbered in omega arith
 
     numbers_else : (m : ℕ) → (m ≡ n → ⊥)
         → drawn_numbers (set s.views id (with_ticket me.0 n k)) m ≡ drawn_numbers s.views m
     numbers_else m ne = let h =
-        sum_set (λ (v : View). number_for m v.tickets) s.views id me.0 (with_ticket me.0 n k) here in
+        sum_set (λ (v : View). ticket_number m v.tickets) s.views id me.0 (with_ticket me.0 n k) here in
         let t = number_else k me.0.tickets m n ne in omega arith
 
     uses_here : uses (set s.views id (with_ticket me.0 n k)) k ≡ suc (uses s.views k)
@@ -99,35 +99,35 @@ module _ {O A : Type 0} (count : ℕ) (edges : List PlanEdge) (result : ℕ → 
         let b = tickets.above k (omega arith) in omega arith
 
     -- the source of an edge that someone fetched has a ticket
-    source_drawn : (e : ℕ) → e < length edges → 1 ≤ fetches s.views e → 1 ≤ draws s.views (from_of edges e)
+    source_drawn : (e : ℕ) → e < length edges → 1 ≤ fetches s.views e → 1 ≤ draws s.views (edge_source edges e)
     source_drawn e inside le = let a = holds.states.order e in
         let b = filled_drawn count edges result s holds e inside in omega arith
 
-    rises_here : (e : ℕ) → e < length edges → to_of edges e ≡ n
-        → drawn_numbers (set s.views id (with_ticket me.0 n k)) (from_of edges e) < drawn_numbers
-        (set s.views id (with_ticket me.0 n k)) (to_of edges e)
+    rises_here : (e : ℕ) → e < length edges → edge_target edges e ≡ n
+        → drawn_numbers (set s.views id (with_ticket me.0 n k)) (edge_source edges e) < drawn_numbers
+        (set s.views id (with_ticket me.0 n k)) (edge_target edges e)
     rises_here e inside to =
         let f = ready e inside to in
         let some_fetch = sum_at (λ (v : View). times e v.fetched) s.views id me.0 here in
         let d = source_drawn e inside (omega arith) in
-        let other : from_of edges e ≡ n → ⊥ = λ same. let z : draws s.views (from_of edges e) ≡ 0 =
+        let other : edge_source edges e ≡ n → ⊥ = λ same. let z : draws s.views (edge_source edges e) ≡ 0 =
         ap (draws s.views) same ∙ no_ticket in absurd (omega arith) in
-        let a = numbers_else (from_of edges e) other in
-        let b : drawn_numbers (set s.views id (with_ticket me.0 n k)) (to_of edges e) ≡ k =
+        let a = numbers_else (edge_source edges e) other in
+        let b : drawn_numbers (set s.views id (with_ticket me.0 n k)) (edge_target edges e) ≡ k =
         ap (drawn_numbers (set s.views id (with_ticket me.0 n k))) to ∙ numbers_here in
-        let c = tickets.numbered (from_of edges e) d in omega arith
+        let c = tickets.numbered (edge_source edges e) d in omega arith
 
-    rises_else : (e : ℕ) → e < length edges → (to_of edges e ≡ n → ⊥)
-        → 1 ≤ draws (set s.views id (with_ticket me.0 n k)) (to_of edges e)
-        → drawn_numbers (set s.views id (with_ticket me.0 n k)) (from_of edges e) < drawn_numbers
-        (set s.views id (with_ticket me.0 n k)) (to_of edges e)
+    rises_else : (e : ℕ) → e < length edges → (edge_target edges e ≡ n → ⊥)
+        → 1 ≤ draws (set s.views id (with_ticket me.0 n k)) (edge_target edges e)
+        → drawn_numbers (set s.views id (with_ticket me.0 n k)) (edge_source edges e) < drawn_numbers
+        (set s.views id (with_ticket me.0 n k)) (edge_target edges e)
     rises_else e inside ne le =
-        let same = draws_else (to_of edges e) ne in
+        let same = draws_else (edge_target edges e) ne in
         let g = drawn_fetched count edges result s holds e inside in
         let d = source_drawn e inside (omega arith) in
-        let other : from_of edges e ≡ n → ⊥ = λ same. let z : draws s.views (from_of edges e) ≡ 0 =
+        let other : edge_source edges e ≡ n → ⊥ = λ same. let z : draws s.views (edge_source edges e) ≡ 0 =
         ap (draws s.views) same ∙ no_ticket in absurd (omega arith) in
-        let a = numbers_else (from_of edges e) other in let b = numbers_else (to_of edges e) ne in
+        let a = numbers_else (edge_source edges e) other in let b = numbers_else (edge_target edges e) ne in
         let c = tickets.rises e inside (omega arith) in omega arith
 
     tickets_after : HasTickets count edges (suc k) (draws (set s.views id (with_ticket me.0 n k)))
@@ -146,7 +146,7 @@ module _ {O A : Type 0} (count : ℕ) (edges : List PlanEdge) (result : ℕ → 
           ap (drawn_numbers (set s.views id (with_ticket me.0 n k))) same ∙ numbers_here in omega arith)
           (λ ne. let a = numbers_else m ne in let d = draws_else m ne in let b = tickets.numbered m (omega arith) in
           omega arith);
-      rises = λ e inside le. dite (ℕ_discrete (to_of edges e) n) (λ same. rises_here e inside same)
+      rises = λ e inside le. dite (ℕ_discrete (edge_target edges e) n) (λ same. rises_here e inside same)
           (λ ne. rises_else e inside ne le);
     }
 
@@ -161,11 +161,11 @@ module _ {O A : Type 0} (count : ℕ) (edges : List PlanEdge) (result : ℕ → 
           (λ same. subst (λ x. tickets_for x ((n, k) ∷ me.0.tickets) ≤ times x me.0.claimed) (sym same)
           (let t = ticket_here k me.0.tickets n in omega arith))
           (λ ne. let t = ticket_else k me.0.tickets m n ne in let h = before.drawn m in omega arith);
-      gathered = λ e l. dite (ℕ_discrete (to_of edges e) n)
-          (λ same. let a : tickets_for (to_of edges e) ((n, k) ∷ me.0.tickets) ≡ 1 + tickets_for n me.0.tickets =
+      gathered = λ e l. dite (ℕ_discrete (edge_target edges e) n)
+          (λ same. let a : tickets_for (edge_target edges e) ((n, k) ∷ me.0.tickets) ≡ 1 + tickets_for n me.0.tickets =
           ap (λ x. tickets_for x ((n, k) ∷ me.0.tickets)) same ∙ ticket_here k me.0.tickets n in
           let r = ready e l same in omega arith)
-          (λ ne. let t = ticket_else k me.0.tickets (to_of edges e) n ne in let h = before.gathered e l in omega arith);
+          (λ ne. let t = ticket_else k me.0.tickets (edge_target edges e) n ne in let h = before.gathered e l in omega arith);
       targeted = before.targeted;
     }
 
@@ -183,7 +183,7 @@ module _ {O A : Type 0} (count : ℕ) (edges : List PlanEdge) (result : ℕ → 
 
 pub ticket_allows : {O A : Type 0} (count : ℕ) (edges : List PlanEdge) (result : ℕ → NodeResult O) (slots id n : ℕ)
     (me : Me (Option (Arc (Published O) A)) View) → count < 4294967296 → n < count → 1 ≤ me.0.weight
-    → 1 ≤ times n me.0.claimed → ((e : ℕ) → e < length edges → to_of edges e ≡ n → 1 ≤ times e me.0.fetched)
+    → 1 ≤ times n me.0.claimed → ((e : ℕ) → e < length edges → edge_target edges e ≡ n → 1 ≤ times e me.0.fetched)
     → tickets_for n me.0.tickets ≡ 0
     → Allows (IsBoard count edges result) slots id me (count + length edges) raised (Draws count n me)
 ticket_allows count edges result slots id n me small node live claimed ready fresh s holds many here tiny =

@@ -10,20 +10,20 @@ use Rattle.ready_counters.specs.declared.view.View.{View}
 use Rattle.ready_counters.specs.Views.{times}
 
 -- The targets of some edges.
-abbrev pub targets_of : List PlanEdge → List ℕ
-targets_of edges = map (λ (d : PlanEdge). d.to.0) edges
+abbrev pub edge_targets : List PlanEdge → List ℕ
+edge_targets edges = map (λ (d : PlanEdge). d.to.0) edges
 
 -- The source of the edge of a number.
-abbrev pub from_of : List PlanEdge → ℕ → ℕ
-from_of edges e = slice_index (sources edges) e
+abbrev pub edge_source : List PlanEdge → ℕ → ℕ
+edge_source edges e = slice_index (sources edges) e
 
 -- The target of the edge of a number.
-abbrev pub to_of : List PlanEdge → ℕ → ℕ
-to_of edges e = slice_index (targets_of edges) e
+abbrev pub edge_target : List PlanEdge → ℕ → ℕ
+edge_target edges e = slice_index (edge_targets edges) e
 
 -- The result of the source of the edge of a number.
 abbrev pub result_at : {O : Type 0} → (ℕ → List O → Result O Fault) → Plan → ℕ → NodeResult O
-result_at mean plan e = node_result mean plan (from_of plan.edges e)
+result_at mean plan e = node_result mean plan (edge_source plan.edges e)
 
 -- How many words a board of a plan has: a counter for each node, a state for each edge, and the ticket word.
 abbrev pub word_count : Plan → ℕ
@@ -31,7 +31,7 @@ word_count plan = suc (plan.count + length plan.edges)
 
 -- A seat has fetched every edge into a node.
 abbrev pub HasFetched : List PlanEdge → ℕ → View → Type 0
-HasFetched edges n v = (e : ℕ) → e < length edges → to_of edges e ≡ n → 1 ≤ times e v.fetched
+HasFetched edges n v = (e : ℕ) → e < length edges → edge_target edges e ≡ n → 1 ≤ times e v.fetched
 
 -- 1 where there is none.
 abbrev pub lacks : ℕ → ℕ

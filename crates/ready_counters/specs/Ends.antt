@@ -2,12 +2,12 @@
 use Rattle.std.specs.Prelude.{◌≡◌, ◌<◌, ℕ, List, length, slice_get, Some}
 use Rattle.pass_core.specs.declared.plan.PlanEdge.{PlanEdge}
 use Rattle.ready_counters.specs.declared.view.View.{View}
-use Rattle.ready_counters.specs.Views.{times, number_for}
+use Rattle.ready_counters.specs.Views.{times, ticket_number}
 
 -- The nodes stand by the numbers on their tickets.
 abbrev pub IsByTicket : ℕ → View → List ℕ → Type 0
 IsByTicket count v order =
-    (length order ≡ count) × ((n : ℕ) → n < count → slice_get order (number_for n v.tickets) ≡ Some n)
+    (length order ≡ count) × ((n : ℕ) → n < count → slice_get order (ticket_number n v.tickets) ≡ Some n)
 
 -- A seat claimed each node once, and filled, subtracted and fetched each edge once.
 abbrev pub IsDoneBy : ℕ → List PlanEdge → View → Type 0

@@ -7,26 +7,27 @@ use Rattle.pass_core.specs.declared.plan.Plan.{Plan}
 use Rattle.pass_core.specs.declared.plan.PlanEdge.{PlanEdge}
 use Rattle.pass_core.specs.declared.published.Published.{Published}
 use Rattle.pass_core.specs.Results.{NodeResult}
-use Rattle.pass_core.specs.Shown.{shown}
+use Rattle.pass_core.specs.Shown.{published_result}
 use Rattle.ready_counters.specs.declared.view.View.{View}
 use Rattle.ready_counters.specs.Views.{whole, times, tickets_for, tickets_with, with_claim, with_open, with_fill}
 use Rattle.ready_counters.specs.Views.{with_subtract, with_fetch, with_ticket}
-use Rattle.ready_counters.specs.Edges.{from_of, to_of, left_of}
-use Rattle.ready_counters.specs.Meaning.{taken, HasWord}
+use Rattle.ready_counters.specs.Edges.{edge_source, edge_target, left_of}
+use Rattle.ready_counters.specs.Meaning.{claimed_word, HasWord}
 
 -- What the number that a claim found says of the seat's own view.
 pub record Found (edges : List PlanEdge) (n : ℕ) (v : View) (found : ℕ) : Type 0 where
-  pub fresh : (found ≡ taken → ⊥) → times n v.claimed ≡ 0
-  pub left : (found ≡ taken → ⊥) → found ≤ left_of edges v n
-  pub gone : found ≡ taken → (e : ℕ) → e < length edges → to_of edges e ≡ n → 1 ≤ times (from_of edges e) v.claimed
+  pub fresh : (found ≡ claimed_word → ⊥) → times n v.claimed ≡ 0
+  pub left : (found ≡ claimed_word → ⊥) → found ≤ left_of edges v n
+  pub gone : found ≡ claimed_word → (e : ℕ) → e < length edges → edge_target edges e ≡ n
+      → 1 ≤ times (edge_source edges e) v.claimed
       → 1 ≤ times e v.subtracted
   pub exact : v.weight ≡ whole → HasWord (times n v.claimed) found (left_of edges v n)
 
 -- What the number that a subtraction found says of the seat's view after it.
 pub record Lowered (edges : List PlanEdge) (e : ℕ) (v : View) (found : ℕ) : Type 0 where
   pub some_left : 1 ≤ found
-  pub left : found ≤ suc (left_of edges v (to_of edges e))
-  pub exact : v.weight ≡ whole → found ≡ suc (left_of edges v (to_of edges e))
+  pub left : found ≤ suc (left_of edges v (edge_target edges e))
+  pub exact : v.weight ≡ whole → found ≡ suc (left_of edges v (edge_target edges e))
 
 module _ {S : Type 0} where
   -- Where 0 was found the node is claimed, and else nothing changes.
@@ -71,19 +72,20 @@ module _ {O A : Type 0} where
   abbrev pub Fetches : ℕ → NodeResult O → Me (Option (Arc (Published O) A)) View
       → Me (Option (Arc (Published O) A)) View → Type 0
   Fetches e value me after = (after.0 ≡ with_fetch me.0 e)
-      × ((shared : Arc (Published O) A) × (after.1 ≡ (e, Some shared) ∷ me.1) × (shown (arc_value shared) ≡ value))
+      × ((shared : Arc (Published O) A) × (after.1 ≡ (e, Some shared) ∷ me.1)
+      × (published_result (arc_value shared) ≡ value))
 
 -- Each entry is a node, each node stands there once, and after all its predecessors.
 abbrev pub IsInOrder : ℕ → List PlanEdge → List ℕ → Type 0
 IsInOrder count edges order = ((i n : ℕ) → slice_get order i ≡ Some n → n < count)
     × ((n : ℕ) → n < count → times n order ≡ 1)
-    × ((e i j : ℕ) → e < length edges → slice_get order i ≡ Some (from_of edges e)
-    → slice_get order j ≡ Some (to_of edges e) → i < j)
+    × ((e i j : ℕ) → e < length edges → slice_get order i ≡ Some (edge_source edges e)
+    → slice_get order j ≡ Some (edge_target edges e) → i < j)
 
 -- The source of every edge is a node.
 abbrev pub BeginInside : Plan → Type 0
-BeginInside plan = (e : ℕ) → e < length plan.edges → from_of plan.edges e < plan.count
+BeginInside plan = (e : ℕ) → e < length plan.edges → edge_source plan.edges e < plan.count
 
 -- The target of every edge is a node.
 abbrev pub EndInside : Plan → Type 0
-EndInside plan = (e : ℕ) → e < length plan.edges → to_of plan.edges e < plan.count
+EndInside plan = (e : ℕ) → e < length plan.edges → edge_target plan.edges e < plan.count

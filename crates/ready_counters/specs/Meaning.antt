@@ -10,22 +10,22 @@ use Rattle.pass_core.specs.declared.plan.Plan.{Plan}
 use Rattle.pass_core.specs.declared.plan.PlanEdge.{PlanEdge}
 use Rattle.pass_core.specs.declared.published.Published.{Published}
 use Rattle.pass_core.specs.Results.{NodeResult}
-use Rattle.pass_core.specs.Shown.{shown}
+use Rattle.pass_core.specs.Shown.{published_result}
 use Rattle.ready_counters.specs.declared.view.View.{View}
 use Rattle.ready_counters.specs.Views.{whole, nothing, times, tickets_for}
 use Rattle.ready_counters.specs.Sums.{sum_below, weights, claims, opens, fills, subtractions, fetches, draws}
 use Rattle.ready_counters.specs.Sums.{drawn_numbers, uses}
-use Rattle.ready_counters.specs.Edges.{from_of, to_of, result_at, left_from}
+use Rattle.ready_counters.specs.Edges.{edge_source, edge_target, result_at, left_from}
 
 -- The word of a node that is claimed: 2^64 - 1.
-abbrev pub taken : ℕ
-taken = 18446744073709551615
+abbrev pub claimed_word : ℕ
+claimed_word = 18446744073709551615
 
 -- A counter is taken where the node is claimed, and else it is the number of in-edges that are left. Of a claimed node
 -- none is left.
 abbrev pub HasWord : ℕ → ℕ → ℕ → Type 0
 HasWord zero word left = word ≡ left
-HasWord (suc k) word left = (word ≡ taken) × (left ≡ 0)
+HasWord (suc k) word left = (word ≡ claimed_word) × (left ≡ 0)
 
 -- What one view keeps by itself: whatever it lists is in the plan, a joined seat lists nothing, and one thing was done
 -- before another.
@@ -35,10 +35,10 @@ pub record IsView (count : ℕ) (edges : List PlanEdge) (v : View) : Type 0 wher
   pub ends : (e : ℕ) → length edges ≤ e → times e v.opened + times e v.filled + times e v.fetched ≡ 0
   pub subtracted : (e : ℕ) → times e v.subtracted ≤ times e v.filled
   pub sourced : (e : ℕ) → e < length edges
-      → times e v.opened + times e v.filled ≤ tickets_for (from_of edges e) v.tickets
+      → times e v.opened + times e v.filled ≤ tickets_for (edge_source edges e) v.tickets
   pub drawn : (n : ℕ) → tickets_for n v.tickets ≤ times n v.claimed
-  pub gathered : (e : ℕ) → e < length edges → tickets_for (to_of edges e) v.tickets ≤ times e v.fetched
-  pub targeted : (e : ℕ) → e < length edges → times e v.fetched ≤ times (to_of edges e) v.claimed
+  pub gathered : (e : ℕ) → e < length edges → tickets_for (edge_target edges e) v.tickets ≤ times e v.fetched
+  pub targeted : (e : ℕ) → e < length edges → times e v.fetched ≤ times (edge_target edges e) v.claimed
 
 -- The counters, by how often each node was claimed and each edge subtracted. No node is claimed twice.
 pub record HasCounters (count : ℕ) (edges : List PlanEdge) (counter claimed subtracted : ℕ → ℕ) : Type 0 where
@@ -52,7 +52,8 @@ pub record HasTickets (count : ℕ) (edges : List PlanEdge) (word : ℕ) (drawn 
   pub below : (k : ℕ) → k < word → used k ≡ 1
   pub above : (k : ℕ) → word ≤ k → used k ≡ 0
   pub numbered : (n : ℕ) → 1 ≤ drawn n → number n < word
-  pub rises : (e : ℕ) → e < length edges → 1 ≤ drawn (to_of edges e) → number (from_of edges e) < number (to_of edges e)
+  pub rises : (e : ℕ) → e < length edges → 1 ≤ drawn (edge_target edges e)
+      → number (edge_source edges e) < number (edge_target edges e)
 
 -- The words at the start: a counter for each node, and 0 everywhere else.
 abbrev pub AreFirst : ℕ → ℕ → List PlanEdge → List ℕ → Type 0
@@ -64,7 +65,7 @@ module _ {O A : Type 0} where
   -- A full slot has the result.
   abbrev pub IsFull : NodeResult O → Maybe (Maybe (Option (Arc (Published O) A))) → Type 0
   IsFull value home = (shared : Arc (Published O) A) × (home ≡ some (some (Some shared)))
-      × (shown (arc_value shared) ≡ value)
+      × (published_result (arc_value shared) ≡ value)
 
   -- The word and the slot of an edge, by how often it is open, and was filled and fetched, and by the result of its
   -- source: 0 is empty, 1 is written, 2 is full and 3 is read.

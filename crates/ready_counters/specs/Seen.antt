@@ -8,8 +8,8 @@ use Rattle.ready_counters.specs.declared.view.View.{View}
 
 module _ {V O : Type 0} where
   -- The plan of a board.
-  abbrev pub plan_of : Board V O → Plan
-  plan_of board = board.table.shared.key.plan.value
+  abbrev pub plan_on_board : Board V O → Plan
+  plan_on_board board = board.table.shared.key.plan.value
 
   -- The visitor of a board.
   abbrev pub visitor_of : Board V O → V

@@ -15,12 +15,12 @@ use Rattle.ready_counters.specs.declared.view.View.{View}
 use Rattle.ready_counters.specs.Views.{nothing, one, lighter, together, times, with_claim, with_ticket, with_open}
 use Rattle.ready_counters.specs.Views.{with_fill, with_subtract, with_fetch}
 use Rattle.ready_counters.specs.Sums.{subtractions, fetches}
-use Rattle.ready_counters.specs.Edges.{to_of, result_at}
-use Rattle.ready_counters.specs.Meaning.{taken}
+use Rattle.ready_counters.specs.Edges.{edge_target, result_at}
+use Rattle.ready_counters.specs.Meaning.{claimed_word}
 
 -- A counter of the core, by the word of its node: a taken one stands for 0.
 abbrev pub counter_of : ℕ → ℕ
-counter_of word = if word == taken then 0 else word
+counter_of word = if word == claimed_word then 0 else word
 
 -- What an edge holds, by its word and the result of its source: it is filled where the word is full or read.
 abbrev pub held_at : {O : Type 0} → ℕ → NodeResult O → Option (NodeResult O)
@@ -37,7 +37,7 @@ module _ {O : Type 0} (mean : ℕ → List O → Result O Fault) (plan : Plan) w
   abbrev pub core_of : List ℕ → List View → CoreState O
   core_of words views = record {
     counters = map (λ n. counter_of (slice_index words n)) (range_with_len 0 plan.count);
-    claimed = map (λ n. slice_index words n == taken) (range_with_len 0 plan.count);
+    claimed = map (λ n. slice_index words n == claimed_word) (range_with_len 0 plan.count);
     filled = map (λ e. held_at (slice_index words (plan.count + e)) (result_at mean plan e))
         (range_with_len 0 (length plan.edges));
     subtracted = map (λ e. was_done (subtractions views e)) (range_with_len 0 (length plan.edges));
@@ -79,7 +79,7 @@ module _ {S : Type 0} where
   -- the seat must have done before. Slots aren't spoken of, since a core state doesn't depend on them.
   abbrev pub IsStep : Plan → BoardStep → ℕ → View → State S View → State S View → Type 0
   IsStep plan (Claiming n) id v s t = (n < plan.count) × (slice_index s.words n ≡ 0)
-      × Changes id v (with_claim v n) n taken s t
+      × Changes id v (with_claim v n) n claimed_word s t
   IsStep plan (Ticketing n) id v s t =
       Changes id v (with_ticket v n (slice_index s.words (plan.count + length plan.edges)))
       (plan.count + length plan.edges)
@@ -89,9 +89,10 @@ module _ {S : Type 0} where
   IsStep plan (Filling e) id v s t = (e < length plan.edges) × (1 ≤ times e v.opened)
       × Changes id v (with_fill v e) (plan.count + e) 2 s t
   IsStep plan (Subtracting e) id v s t = (e < length plan.edges) × (1 ≤ times e v.filled) × (times e v.subtracted ≡ 0)
-      × Changes id v (with_subtract v e) (to_of plan.edges e) (slice_index s.words (to_of plan.edges e) - 1) s t
+      × Changes id v (with_subtract v e) (edge_target plan.edges e)
+      (slice_index s.words (edge_target plan.edges e) - 1) s t
   IsStep plan (Fetching e) id v s t =
-      (e < length plan.edges) × (1 ≤ times (to_of plan.edges e) v.claimed) × (times e v.fetched ≡ 0)
+      (e < length plan.edges) × (1 ≤ times (edge_target plan.edges e) v.claimed) × (times e v.fetched ≡ 0)
       × Changes id v (with_fetch v e) (plan.count + e) 3 s t
   IsStep plan Splitting id v s t = (get_elem? s.views id ≡ some v) × (t.words ≡ s.words)
       × (t.views ≡ slice_set s.views id (lighter v) ++ one ∷ [])

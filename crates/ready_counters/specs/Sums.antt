@@ -1,7 +1,7 @@
 -- What all seats of a board have done together.
 use Rattle.std.specs.Prelude.{◌+◌, ℕ, zero, suc, List, [], ◌∷◌}
 use Rattle.ready_counters.specs.declared.view.View.{View}
-use Rattle.ready_counters.specs.Views.{times, tickets_for, number_for, tickets_with}
+use Rattle.ready_counters.specs.Views.{times, tickets_for, ticket_number, tickets_with}
 
 -- A number of each view, added up.
 abbrev pub total_of : {V : Type 0} → (V → ℕ) → List V → ℕ
@@ -43,7 +43,7 @@ draws views n = total_of (λ (v : View). tickets_for n v.tickets) views
 
 -- The number on a node's ticket.
 abbrev pub drawn_numbers : List View → ℕ → ℕ
-drawn_numbers views n = total_of (λ (v : View). number_for n v.tickets) views
+drawn_numbers views n = total_of (λ (v : View). ticket_number n v.tickets) views
 
 -- How many tickets have a number.
 abbrev pub uses : List View → ℕ → ℕ

@@ -91,16 +91,16 @@ with_open v e = record {
 }
 
 -- The list without its first entry.
-abbrev pub tail_of : List ℕ → List ℕ
-tail_of [] = []
-tail_of (x ∷ xs) = xs
+abbrev pub without_first : List ℕ → List ℕ
+without_first [] = []
+without_first (x ∷ xs) = xs
 
 -- The view once the edge that was opened last is filled.
 abbrev pub with_fill : View → ℕ → View
 with_fill v e = record {
   weight = v.weight;
   claimed = v.claimed;
-  opened = tail_of v.opened;
+  opened = without_first v.opened;
   filled = e ∷ v.filled;
   subtracted = v.subtracted;
   fetched = v.fetched;
@@ -154,9 +154,9 @@ tickets_for n [] = 0
 tickets_for n (t ∷ ts) = (if t.0 == n then 1 else 0) + tickets_for n ts
 
 -- The number on a node's ticket.
-abbrev pub number_for : ℕ → List (ℕ × ℕ) → ℕ
-number_for n [] = 0
-number_for n (t ∷ ts) = (if t.0 == n then t.1 else 0) + number_for n ts
+abbrev pub ticket_number : ℕ → List (ℕ × ℕ) → ℕ
+ticket_number n [] = 0
+ticket_number n (t ∷ ts) = (if t.0 == n then t.1 else 0) + ticket_number n ts
 
 -- How many tickets have a number.
 abbrev pub tickets_with : ℕ → List (ℕ × ℕ) → ℕ

@@ -1,5 +1,5 @@
 ghost use Rattle.std.specs.Prelude.{◌≡◌, ◌<◌, ℕ, length};
-ghost use Rattle.ready_counters.specs.Edges.{word_count, targets_of};
+ghost use Rattle.ready_counters.specs.Edges.{word_count, edge_targets};
 ghost use Rattle.ready_counters.specs.Inside.{BeginInside, EndInside};
 
 use crate::claim::Claim;
@@ -38,7 +38,7 @@ pub struct Board<V: Visit> {
     pub ghost begins: { BeginInside table.shared.key.plan.value },
     pub ghost ends: { EndInside table.shared.key.plan.value },
     pub ghost counted: { count ≡ table.shared.key.plan.value.count },
-    pub ghost targeted: { targets.items ≡ targets_of table.shared.key.plan.value.edges },
+    pub ghost targeted: { targets.items ≡ edge_targets table.shared.key.plan.value.edges },
     pub ghost sized: { table.shared.table_id.words ≡ word_count table.shared.key.plan.value },
     pub ghost small: { table.shared.key.plan.value.count < 4294967296 },
     pub ghost few: { length table.shared.key.plan.value.edges < 4294967296 },
@@ -59,19 +59,19 @@ impl<V: Visit> Board<V> {
     ghost use Rattle.std.specs.Arc.{arc_value};
     ghost use Rattle.pass_core.specs.Orders.{IsLegal, numbers};
     ghost use Rattle.pass_core.specs.Plans.{IsPlan};
-    ghost use Rattle.pass_core.specs.Shown.{shown};
+    ghost use Rattle.pass_core.specs.Shown.{published_result};
     ghost use Rattle.ready_counters.specs.Answers.{AnswersClaim, AnswersSubtract};
-    ghost use Rattle.ready_counters.specs.Edges.{from_of, to_of, result_at, HasFetched};
+    ghost use Rattle.ready_counters.specs.Edges.{edge_source, edge_target, result_at, HasFetched};
     ghost use Rattle.ready_counters.specs.Ends.{IsByTicket, IsDoneBy};
     ghost use Rattle.ready_counters.specs.Inside.{Claims, Draws, Subtracts};
-    ghost use Rattle.ready_counters.specs.Seen.{plan_of, visitor_of, view_of, IsSeatOf};
+    ghost use Rattle.ready_counters.specs.Seen.{plan_on_board, visitor_of, view_of, IsSeatOf};
     ghost use Rattle.ready_counters.specs.Views.{whole, times, tickets_for, tickets_with, all_of_it, lighter, one};
     ghost use Rattle.ready_counters.specs.Views.{together, with_fetch, with_filled, with_subtract, with_ticket};
 
     /// A board on which nothing is done, and its whole seat.
     pub fn new(alloc: Global, plan: &Plan, v: &V) -> Result<(Board<V>, Seat<V>), OutOfMemory>
         requires plan { IsPlan plan.now }
-        ensures plan { IfOk result (λ r. plan_of r.0 ≡ plan.now) }
+        ensures plan { IfOk result (λ r. plan_on_board r.0 ≡ plan.now) }
         ensures visitor { IfOk result (λ r. visitor_of r.0 ≡ v.now) }
         ensures seat { IfOk result (λ r. IsSeatOf r.0 r.1) }
         ensures whole { IfOk result (λ r. view_of r.1 ≡ all_of_it) }
@@ -125,9 +125,9 @@ impl<V: Visit> Board<V> {
     /// Claims a node, if none of its in-edges is left and no seat has it.
     pub fn claim(&self, seat: &mut Seat<V>, n: NodeId) -> Claim
         requires seat { IsSeatOf self.now seat.old }
-        requires node { n.0 < (plan_of self.now).count }
+        requires node { n.0 < (plan_on_board self.now).count }
         ensures seat { IsSeatOf self.now seat.new }
-        ensures told { AnswersClaim (plan_of self.now).edges n.0 (view_of seat.old) result (view_of seat.new) }
+        ensures told { AnswersClaim (plan_on_board self.now).edges n.0 (view_of seat.old) result (view_of seat.new) }
     {
         match self.claim_as::<Brand>(seat, n.0) {
             0 => Claim::Claimed,
@@ -139,13 +139,13 @@ impl<V: Visit> Board<V> {
     /// Draws the ticket of a node that the seat claimed, and of which it fetched all in-edges.
     pub fn ticket(&self, seat: &mut Seat<V>, n: NodeId) -> u64
         requires seat { IsSeatOf self.now seat.old }
-        requires node { n.0 < (plan_of self.now).count }
+        requires node { n.0 < (plan_on_board self.now).count }
         requires claimed { 1 ≤ times n.0 (view_of seat.old).claimed }
-        requires ready { HasFetched (plan_of self.now).edges n.0 (view_of seat.old) }
+        requires ready { HasFetched (plan_on_board self.now).edges n.0 (view_of seat.old) }
         requires fresh { tickets_for n.0 (view_of seat.old).tickets ≡ 0 }
         ensures seat { IsSeatOf self.now seat.new }
         ensures drawn { view_of seat.new ≡ with_ticket (view_of seat.old) n.0 result }
-        ensures below { result < (plan_of self.now).count }
+        ensures below { result < (plan_on_board self.now).count }
     {
         self.ticket_as::<Brand>(seat, n.0)
     }
@@ -153,10 +153,11 @@ impl<V: Visit> Board<V> {
     /// Puts the result of an edge's source into the edge.
     pub fn fill(&self, seat: &mut Seat<V>, e: u32, value: Arc<Published<V::Out>>)
         requires seat { IsSeatOf self.now seat.old }
-        requires edge { e < length (plan_of self.now).edges }
-        requires ticket { 1 ≤ tickets_for (from_of (plan_of self.now).edges e) (view_of seat.old).tickets }
+        requires edge { e < length (plan_on_board self.now).edges }
+        requires ticket { 1 ≤ tickets_for (edge_source (plan_on_board self.now).edges e) (view_of seat.old).tickets }
         requires fresh { times e (view_of seat.old).filled ≡ 0 }
-        requires value { shown (arc_value value) ≡ result_at (V.meaning (visitor_of self.now)) (plan_of self.now) e }
+        requires value { published_result (arc_value value)
+            ≡ result_at (V.meaning (visitor_of self.now)) (plan_on_board self.now) e }
         ensures seat { IsSeatOf self.now seat.new }
         ensures filled { view_of seat.new ≡ with_filled (view_of seat.old) e }
     {
@@ -167,12 +168,12 @@ impl<V: Visit> Board<V> {
     /// in-edges is left.
     pub fn subtract(&self, seat: &mut Seat<V>, e: u32) -> bool
         requires seat { IsSeatOf self.now seat.old }
-        requires edge { e < length (plan_of self.now).edges }
+        requires edge { e < length (plan_on_board self.now).edges }
         requires filled { 1 ≤ times e (view_of seat.old).filled }
         requires fresh { times e (view_of seat.old).subtracted ≡ 0 }
         ensures seat { IsSeatOf self.now seat.new }
         ensures subtracted { view_of seat.new ≡ with_subtract (view_of seat.old) e }
-        ensures ready { AnswersSubtract (plan_of self.now).edges e (view_of seat.new) result }
+        ensures ready { AnswersSubtract (plan_on_board self.now).edges e (view_of seat.new) result }
     {
         self.subtract_as::<Brand>(seat, e) == 1
     }
@@ -180,12 +181,13 @@ impl<V: Visit> Board<V> {
     /// Takes the result of its source out of an edge into a node that the seat claimed.
     pub fn fetch(&self, seat: &mut Seat<V>, e: u32) -> Arc<Published<V::Out>>
         requires seat { IsSeatOf self.now seat.old }
-        requires edge { e < length (plan_of self.now).edges }
-        requires claimed { 1 ≤ times (to_of (plan_of self.now).edges e) (view_of seat.old).claimed }
+        requires edge { e < length (plan_on_board self.now).edges }
+        requires claimed { 1 ≤ times (edge_target (plan_on_board self.now).edges e) (view_of seat.old).claimed }
         requires fresh { times e (view_of seat.old).fetched ≡ 0 }
         ensures seat { IsSeatOf self.now seat.new }
         ensures fetched { view_of seat.new ≡ with_fetch (view_of seat.old) e }
-        ensures value { shown (arc_value result) ≡ result_at (V.meaning (visitor_of self.now)) (plan_of self.now) e }
+        ensures value { published_result (arc_value result)
+            ≡ result_at (V.meaning (visitor_of self.now)) (plan_on_board self.now) e }
     {
         self.fetch_as::<Brand>(seat, e)
     }
@@ -193,16 +195,16 @@ impl<V: Visit> Board<V> {
     /// Ends a board, by a seat that has done all of it. `plan` is the board's plan once more, and `order` the nodes by
     /// ticket.
     pub fn close(self, seat: Seat<V>, plan: &Plan, order: Vec<NodeId>) -> Receipt<V>
-        requires plan { plan.now ≡ plan_of self }
+        requires plan { plan.now ≡ plan_on_board self }
         requires seat { IsSeatOf self seat }
         requires all { (view_of seat).weight ≡ whole }
-        requires ticketed { (n : ℕ) → n < (plan_of self).count → 1 ≤ tickets_for n (view_of seat).tickets }
-        requires order { IsByTicket (plan_of self).count (view_of seat) (numbers order.items) }
-        ensures done { IsDoneBy (plan_of self).count (plan_of self).edges (view_of seat) }
-        ensures numbered { (k : ℕ) → k < (plan_of self).count → tickets_with k (view_of seat).tickets ≡ 1 }
-        ensures plan { result.plan ≡ plan_of self }
+        requires ticketed { (n : ℕ) → n < (plan_on_board self).count → 1 ≤ tickets_for n (view_of seat).tickets }
+        requires order { IsByTicket (plan_on_board self).count (view_of seat) (numbers order.items) }
+        ensures done { IsDoneBy (plan_on_board self).count (plan_on_board self).edges (view_of seat) }
+        ensures numbered { (k : ℕ) → k < (plan_on_board self).count → tickets_with k (view_of seat).tickets ≡ 1 }
+        ensures plan { result.plan ≡ plan_on_board self }
         ensures order { result.order ≡ order.items }
-        ensures legal { IsLegal (plan_of self) (numbers order.items) }
+        ensures legal { IsLegal (plan_on_board self) (numbers order.items) }
     {
         let table = self.into_table();
         let last = seat.into_inner();
@@ -226,10 +228,10 @@ impl<V: Visit> Board<V> {
     }
 
     fn claim_as<E: Pick<V::Out>>(&self, seat: &mut Seat<V>, n: u32) -> u64
-        requires edges { (plan_of self.now).edges ≡ E.edges }
+        requires edges { (plan_on_board self.now).edges ≡ E.edges }
         requires named { n ≡ E.node }
         requires seat { IsSeatOf self.now seat.old }
-        requires node { n < (plan_of self.now).count }
+        requires node { n < (plan_on_board self.now).count }
         ensures seat { IsSeatOf self.now seat.new }
         ensures told { Claims E.edges E.node seat.old.seat.me result seat.new.seat.me }
     {
@@ -239,12 +241,12 @@ impl<V: Visit> Board<V> {
     }
 
     fn ticket_as<E: Pick<V::Out>>(&self, seat: &mut Seat<V>, n: u32) -> u64
-        requires count { (plan_of self.now).count ≡ E.count }
+        requires count { (plan_on_board self.now).count ≡ E.count }
         requires named { n ≡ E.node }
         requires seat { IsSeatOf self.now seat.old }
-        requires node { n < (plan_of self.now).count }
+        requires node { n < (plan_on_board self.now).count }
         requires claimed { 1 ≤ times n (view_of seat.old).claimed }
-        requires ready { HasFetched (plan_of self.now).edges n (view_of seat.old) }
+        requires ready { HasFetched (plan_on_board self.now).edges n (view_of seat.old) }
         requires fresh { tickets_for n (view_of seat.old).tickets ≡ 0 }
         ensures seat { IsSeatOf self.now seat.new }
         ensures told { Draws E.count E.node seat.old.seat.me result seat.new.seat.me }
@@ -258,10 +260,11 @@ impl<V: Visit> Board<V> {
     fn fill_as<E: Pick<V::Out>>(&self, seat: &mut Seat<V>, e: u32, value: Arc<Published<V::Out>>)
         requires named { e ≡ E.edge }
         requires seat { IsSeatOf self.now seat.old }
-        requires edge { e < length (plan_of self.now).edges }
-        requires ticket { 1 ≤ tickets_for (from_of (plan_of self.now).edges e) (view_of seat.old).tickets }
+        requires edge { e < length (plan_on_board self.now).edges }
+        requires ticket { 1 ≤ tickets_for (edge_source (plan_on_board self.now).edges e) (view_of seat.old).tickets }
         requires fresh { times e (view_of seat.old).filled ≡ 0 }
-        requires value { shown (arc_value value) ≡ result_at (V.meaning (visitor_of self.now)) (plan_of self.now) e }
+        requires value { published_result (arc_value value)
+            ≡ result_at (V.meaning (visitor_of self.now)) (plan_on_board self.now) e }
         ensures seat { IsSeatOf self.now seat.new }
         ensures filled { view_of seat.new ≡ with_filled (view_of seat.old) e }
     {
@@ -279,10 +282,10 @@ impl<V: Visit> Board<V> {
     }
 
     fn subtract_as<E: Pick<V::Out>>(&self, seat: &mut Seat<V>, e: u32) -> u64
-        requires edges { (plan_of self.now).edges ≡ E.edges }
+        requires edges { (plan_on_board self.now).edges ≡ E.edges }
         requires named { e ≡ E.edge }
         requires seat { IsSeatOf self.now seat.old }
-        requires edge { e < length (plan_of self.now).edges }
+        requires edge { e < length (plan_on_board self.now).edges }
         requires filled { 1 ≤ times e (view_of seat.old).filled }
         requires fresh { times e (view_of seat.old).subtracted ≡ 0 }
         ensures seat { IsSeatOf self.now seat.new }
@@ -296,14 +299,14 @@ impl<V: Visit> Board<V> {
 
     fn fetch_as<E: Pick<V::Out>>(&self, seat: &mut Seat<V>, e: u32) -> Arc<Published<V::Out>>
         requires named { e ≡ E.edge }
-        requires value { result_at (V.meaning (visitor_of self.now)) (plan_of self.now) e ≡ E.value }
+        requires value { result_at (V.meaning (visitor_of self.now)) (plan_on_board self.now) e ≡ E.value }
         requires seat { IsSeatOf self.now seat.old }
-        requires edge { e < length (plan_of self.now).edges }
-        requires claimed { 1 ≤ times (to_of (plan_of self.now).edges e) (view_of seat.old).claimed }
+        requires edge { e < length (plan_on_board self.now).edges }
+        requires claimed { 1 ≤ times (edge_target (plan_on_board self.now).edges e) (view_of seat.old).claimed }
         requires fresh { times e (view_of seat.old).fetched ≡ 0 }
         ensures seat { IsSeatOf self.now seat.new }
         ensures fetched { view_of seat.new ≡ with_fetch (view_of seat.old) e }
-        ensures value { shown (arc_value result) ≡ E.value }
+        ensures value { published_result (arc_value result) ≡ E.value }
     {
         let word = self.count as usize + e as usize;
         self.table

@@ -1,6 +1,6 @@
 ghost use Rattle.std.specs.Prelude.{◌≡◌, ◌<◌, ℕ, length, IfOk, replicate};
 ghost use Rattle.std.specs.Mem.Slots.{IsFull};
-ghost use Rattle.ready_counters.specs.Edges.{to_of, targets_of};
+ghost use Rattle.ready_counters.specs.Edges.{edge_target, edge_targets};
 ghost use Rattle.ready_counters.specs.Meaning.{AreFirst};
 
 use atomic_table::Closed;
@@ -26,7 +26,7 @@ fn zeros(alloc: Global, many: usize) -> Result<Vec<u64>, OutOfMemory>
 
 /// A counter for each node, and a 0 for each edge and for the tickets.
 pub fn first_words(alloc: Global, plan: &Plan) -> Result<Vec<u64>, OutOfMemory>
-    requires ends { (e : ℕ) → e < length plan.now.edges → to_of plan.now.edges e < plan.now.count }
+    requires ends { (e : ℕ) → e < length plan.now.edges → edge_target plan.now.edges e < plan.now.count }
     requires few { length plan.now.edges < 4294967296 }
     ensures { IfOk result (λ words. AreFirst plan.now.count (length plan.now.edges) plan.now.edges words.items) }
 {
@@ -40,7 +40,7 @@ pub fn first_words(alloc: Global, plan: &Plan) -> Result<Vec<u64>, OutOfMemory>
 
 /// The target of each edge.
 pub fn targets_of_plan(alloc: Global, plan: &Plan) -> Result<Vec<u32>, OutOfMemory>
-    ensures { IfOk result (λ targets. targets.items ≡ targets_of plan.now.edges) }
+    ensures { IfOk result (λ targets. targets.items ≡ edge_targets plan.now.edges) }
 {
     let edges = plan.edges.as_slice();
     let mut targets = Vec::with_capacity(alloc, edges.len())?;

@@ -7,7 +7,8 @@ use Rattle.bp_faults.specs.declared.fault.Fault.{Fault}
 use Rattle.bp_faults.specs.declared.limits.TheConstants.{MOST_EDGES}
 use Rattle.module_graph.specs.declared.graph.Edge.{Edge}
 use Rattle.module_graph.specs.declared.graph.Node.{Node}
-use Rattle.reverse_deps.specs.Applied.{all_edges, too_many, edges_counted}
+use Rattle.reverse_deps.specs.Applied.{too_many, edges_counted}
+use Rattle.module_graph.specs.Graphs.{all_edges}
 
 slice_get-append : {X : Type 0} (xs ys : List X) (n : ℕ) (x : X) → n < length xs → slice_get (xs ++ ys) n ≡ Some (get_or xs n x)
 slice_get-append [] ys n x lt = absurd (omega arith)

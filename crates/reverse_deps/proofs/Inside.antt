@@ -15,7 +15,7 @@ use Rattle.bp_props.specs.declared.module.Module.{Module}
 use Rattle.module_graph.specs.declared.graph.Node.{Node}
 use Rattle.mutator_rules.specs.declared.request.Request.{Request}
 use Rattle.reverse_deps.specs.Linked.{Link, link_of, links_in, links, same_way, edge_for}
-use Rattle.reverse_deps.specs.Resolved.{names_of, module_named, wrong_kind, request_fault, missing_variant, fitting, module_for, is_for, node_for, resolved}
+use Rattle.reverse_deps.specs.Resolved.{names_by_number, module_named, wrong_kind, request_fault, missing_variant, fitting, module_for, is_for, node_for, resolved_node}
 use Rattle.reverse_deps.proofs.Apart.{all_append}
 
 -- a place that is found is one of the list
@@ -41,8 +41,8 @@ number_inside_names k (first ∷ names) name n is =
 
 named_inside : (mods : List Module) (name : List ℕ) (n : ℕ) → module_named mods name ≡ Some n → n < length mods
 named_inside mods name n is =
-    let inside = number_inside_names 0 (names_of mods) name n is in
-    let many : length (names_of mods) ≡ length mods = length-map mods (λ (it : Module). it.name) in
+    let inside = number_inside_names 0 (names_by_number mods) name n is in
+    let many : length (names_by_number mods) ≡ length mods = length-map mods (λ (it : Module). it.name) in
     omega arith
 
 fitting_same : (mods : List Module) (r : Request) (n m : ℕ) → fitting mods r n ≡ Ok m → n ≡ m
@@ -66,7 +66,7 @@ module _ {P : Type 0} where
   number_inside nodes (Some k) fault n inside is = let same : record { 0 = k } ≡ n = cc in subst (λ (x : NodeId). x.0 < length nodes) same (inside k refl)
 
   -- the node of a request is one of the nodes
-  pub node_inside : (mods : List Module) (nodes : List (Node P)) (r : Request) (n : NodeId) → resolved mods nodes r ≡ Ok n → n.0 < length nodes
+  pub node_inside : (mods : List Module) (nodes : List (Node P)) (r : Request) (n : NodeId) → resolved_node mods nodes r ≡ Ok n → n.0 < length nodes
   node_inside mods nodes r n is = by (module_for mods r) is
     where
       by : (o : Result ℕ Fault) → then_do o (λ m. ok_or (node_for nodes m r.want) (missing_variant r)) ≡ Ok n → n.0 < length nodes

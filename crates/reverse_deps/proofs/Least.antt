@@ -9,7 +9,7 @@ use Rattle.module_graph.specs.declared.variations.Axis.TheVariants.{Target, Imag
 use Rattle.module_graph.specs.Laws.{SameMeansEqual}
 use Rattle.mutator_rules.specs.declared.request.Wanted.{Wanted}
 use Rattle.reverse_deps.specs.Laws.{along, IsFor, HasFor, IsLeastFor}
-use Rattle.reverse_deps.specs.Resolved.{has, is_wanted, is_for, node_for}
+use Rattle.reverse_deps.specs.Resolved.{has_variation, is_wanted, is_for, node_for}
 
 module _ {X : Type 0} (test : X → Bool) where
   -- the item at a place passes
@@ -65,8 +65,8 @@ module _ {P : Type 0} (told : SameMeansEqual) (m : ℕ) (want : Wanted) where
   passed x is =
       let own = both_so (nat_eq x.«module».0 m) (is_wanted want x.vars) is in
       let first =
-      both_so (has Target want.target x.vars) (has Image want.image x.vars && has Link want.link x.vars) own.1 in
-      let rest = both_so (has Image want.image x.vars) (has Link want.link x.vars) first.1 in
+      both_so (has_variation Target want.target x.vars) (has_variation Image want.image x.vars && has_variation Link want.link x.vars) own.1 in
+      let rest = both_so (has_variation Image want.image x.vars) (has_variation Link want.link x.vars) first.1 in
       record {
         of_module = eqb-true x.«module».0 m own.0;
         target = (told want.target (along Target x)).0 first.0;
@@ -77,9 +77,9 @@ module _ {P : Type 0} (told : SameMeansEqual) (m : ℕ) (want : Wanted) where
   passes : (x : Node P) → IsFor m want x → is_for m want x ≡ true
   passes x is =
       and_so (nat_eq x.«module».0 m) (is_wanted want x.vars) (eq-eqb x.«module».0 m is.of_module)
-      (and_so (has Target want.target x.vars) (has Image want.image x.vars && has Link want.link x.vars)
+      (and_so (has_variation Target want.target x.vars) (has_variation Image want.image x.vars && has_variation Link want.link x.vars)
       ((told want.target (along Target x)).1 is.target)
-      (and_so (has Image want.image x.vars) (has Link want.link x.vars)
+      (and_so (has_variation Image want.image x.vars) (has_variation Link want.link x.vars)
       ((told want.image (along Image x)).1 is.image) ((told want.link (along Link x)).1 is.link)))
 
   -- the node that is found is the least

@@ -5,22 +5,22 @@ use Rattle.std.proofs.lemmas.List.{length-map}
 use Rattle.module_graph.specs.declared.graph.Edge.{Edge}
 use Rattle.module_graph.specs.declared.graph.Node.{Node}
 use Rattle.module_graph.specs.Numbered.{by_number}
-use Rattle.module_graph.specs.Graphs.{outward, edges_of, NameNodes, IsValid}
+use Rattle.module_graph.specs.Graphs.{outward, edges_of, NameNodes, IsValid, all_edges}
 use Rattle.module_graph.specs.Walks.{NoneReturns}
 use Rattle.mutator_rules.specs.Conditions.{MayRun}
-use Rattle.reverse_deps.specs.Applied.{all_edges, edges_counted}
-use Rattle.reverse_deps.specs.Linked.{Link, gained, linked_from, linked}
+use Rattle.reverse_deps.specs.Applied.{edges_counted}
+use Rattle.reverse_deps.specs.Linked.{Link, gained_edges, linked_from, linked_nodes}
 use Rattle.reverse_deps.proofs.Apart.{all_append, Apart, apart_pairs, pairs_apart}
 use Rattle.reverse_deps.proofs.Counted.{few_edges}
 use Rattle.reverse_deps.proofs.Gained.{many_linked}
 use Rattle.reverse_deps.proofs.Inside.{LinksInside}
 
 -- what a node gets leads to nodes
-gained_inside : (count n : ℕ) (ls : List Link) → AllByRecursion (LinksInside count) ls → AllByRecursion (λ (e : Edge). e.to.0 < count) (gained n ls)
+gained_inside : (count n : ℕ) (ls : List Link) → AllByRecursion (LinksInside count) ls → AllByRecursion (λ (e : Edge). e.to.0 < count) (gained_edges n ls)
 gained_inside count n [] all = tt
 gained_inside count n (l ∷ ls) all = by (nat_eq l.0.0 n) (gained_inside count n ls all.1)
   where
-    by : (b : Bool) → AllByRecursion (λ (e : Edge). e.to.0 < count) (gained n ls) → AllByRecursion (λ (e : Edge). e.to.0 < count) (cons_option (cond b (Some l.1) None) (gained n ls))
+    by : (b : Bool) → AllByRecursion (λ (e : Edge). e.to.0 < count) (gained_edges n ls) → AllByRecursion (λ (e : Edge). e.to.0 < count) (cons_option (cond b (Some l.1) None) (gained_edges n ls))
     by true rest = (all.0.1, rest)
     by false rest = rest
 
@@ -28,11 +28,11 @@ module _ {P : Type 0} where
   ends_from : (count k : ℕ) (xs : List (Node P)) (ls : List Link) → AllByRecursion (LinksInside count) ls → AllByRecursion (λ (x : Node P). AllByRecursion (λ (e : Edge). e.to.0 < count) x.edges) xs
       → AllByRecursion (λ (x : Node P). AllByRecursion (λ (e : Edge). e.to.0 < count) x.edges) (linked_from k xs ls)
   ends_from count k [] ls inside ends = tt
-  ends_from count k (x ∷ xs) ls inside ends = (all_append (λ (e : Edge). e.to.0 < count) x.edges (gained k ls) ends.0 (gained_inside count k ls inside), ends_from count (k + 1) xs ls inside ends.1)
+  ends_from count k (x ∷ xs) ls inside ends = (all_append (λ (e : Edge). e.to.0 < count) x.edges (gained_edges k ls) ends.0 (gained_inside count k ls inside), ends_from count (k + 1) xs ls inside ends.1)
 
   -- each edge names a node
-  pub ends_linked : (nodes : List (Node P)) (ls : List Link) → AllByRecursion (LinksInside (length nodes)) ls → NameNodes nodes → NameNodes (linked nodes ls)
-  ends_linked nodes ls inside ends = subst (λ count. AllByRecursion (λ (x : Node P). AllByRecursion (λ (e : Edge). e.to.0 < count) x.edges) (linked nodes ls)) (sym (many_linked nodes ls)) (ends_from (length nodes) 0 nodes ls inside ends)
+  pub ends_linked : (nodes : List (Node P)) (ls : List Link) → AllByRecursion (LinksInside (length nodes)) ls → NameNodes nodes → NameNodes (linked_nodes nodes ls)
+  ends_linked nodes ls inside ends = subst (λ count. AllByRecursion (λ (x : Node P). AllByRecursion (λ (e : Edge). e.to.0 < count) x.edges) (linked_nodes nodes ls)) (sym (many_linked nodes ls)) (ends_from (length nodes) 0 nodes ls inside ends)
 
   accepted_from : (accepts : ℕ → Type 0) (k : ℕ) (xs : List (Node P)) (ls : List Link) → AllByRecursion (λ (x : Node P). accepts x.«module».0) xs → AllByRecursion (λ (x : Node P). accepts x.«module».0) (linked_from k xs ls)
   accepted_from accepts k [] ls all = tt
@@ -46,11 +46,11 @@ module _ {P : Type 0} where
       ∙ sym (length-append x.edges (all_edges xs))
 
   -- a rule may be run over it
-  pub may_linked : (accepts : ℕ → Type 0) (nodes : List (Node P)) (ls : List Link) → MayRun accepts nodes → AllByRecursion (LinksInside (length nodes)) ls → edges_counted (linked nodes ls) ≡ Ok tt → MayRun accepts (linked nodes ls)
+  pub may_linked : (accepts : ℕ → Type 0) (nodes : List (Node P)) (ls : List Link) → MayRun accepts nodes → AllByRecursion (LinksInside (length nodes)) ls → edges_counted (linked_nodes nodes ls) ≡ Ok tt → MayRun accepts (linked_nodes nodes ls)
   may_linked accepts nodes ls may inside counted =
       let many = many_linked nodes ls in
-      let as_many = many_edges 0 (linked nodes ls) in
-      let few : length (all_edges (linked nodes ls)) ≤ 2 ^ 22 = few_edges (linked nodes ls) counted in
+      let as_many = many_edges 0 (linked_nodes nodes ls) in
+      let few : length (all_edges (linked_nodes nodes ls)) ≤ 2 ^ 22 = few_edges (linked_nodes nodes ls) counted in
       let few_nodes = may.numbered.few_nodes in
       record {
         numbered = record { few_nodes = subst (λ n. n < 2 ^ 32) (sym many) few_nodes; few_edges = subst (λ n. n < 2 ^ 32) (sym as_many) (omega arith); ends = ends_linked nodes ls inside may.numbered.ends };
@@ -69,9 +69,9 @@ module _ {P : Type 0} where
   apart_from k (x ∷ xs) ls apart = (differ_from x (k + 1) xs ls apart.0, apart_from (k + 1) xs ls apart.1)
 
   -- it is valid, where no walk in it returns
-  pub valid_linked : (nodes : List (Node P)) (ls : List Link) → IsValid nodes → AllByRecursion (LinksInside (length nodes)) ls → NoneReturns (edges_of (linked nodes ls)) → IsValid (linked nodes ls)
+  pub valid_linked : (nodes : List (Node P)) (ls : List Link) → IsValid nodes → AllByRecursion (LinksInside (length nodes)) ls → NoneReturns (edges_of (linked_nodes nodes ls)) → IsValid (linked_nodes nodes ls)
   valid_linked nodes ls valid inside acyclic = record {
     ends = ends_linked nodes ls inside valid.ends;
-    distinct = pairs_apart Differ (linked nodes ls) (apart_from 0 nodes ls (apart_pairs Differ nodes valid.distinct));
+    distinct = pairs_apart Differ (linked_nodes nodes ls) (apart_from 0 nodes ls (apart_pairs Differ nodes valid.distinct));
     acyclic = acyclic;
   }

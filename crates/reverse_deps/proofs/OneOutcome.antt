@@ -8,8 +8,8 @@ use Rattle.bp_props.specs.declared.module.Module.{Module}
 use Rattle.module_graph.specs.declared.graph.Node.{Node}
 use Rattle.module_graph.specs.Laws.{AtMostOneCycleMeaning}
 use Rattle.mutator_rules.specs.declared.request.Request.{Request}
-use Rattle.reverse_deps.specs.Applied.{labels_of, edges_counted, IsAcyclic, IsCounted, found_for, IsApplied}
-use Rattle.reverse_deps.specs.Linked.{links, linked}
+use Rattle.reverse_deps.specs.Applied.{labels_of, edges_counted, AcyclicMeans, CountedMeans, found_for, ApplyMeans}
+use Rattle.reverse_deps.specs.Linked.{links, linked_nodes}
 
 abbrev done : Result (Unit {0}) Fault
 done = Ok tt
@@ -24,7 +24,7 @@ same_fault : (fault other : Fault) → faulty fault ≡ faulty other → fault �
 same_fault fault other is = cc
 
 module _ {P : Type 0} (one : AtMostOneCycleMeaning P) (mods : List Module) where
-  acyclic_once : (new : List (Node P)) (counted : Unit {0}) → IsOnce (IsAcyclic mods new counted)
+  acyclic_once : (new : List (Node P)) (counted : Unit {0}) → IsOnce (AcyclicMeans mods new counted)
   acyclic_once new counted (Ok made) (Ok other) x y = ap Ok (x.0 ∙ sym y.0)
   acyclic_once new counted (Ok made) (Err fault) x y =
       absurd (done_or_faulty fault (one new (labels_of mods new) done (faulty fault) x.1 y))
@@ -33,9 +33,9 @@ module _ {P : Type 0} (one : AtMostOneCycleMeaning P) (mods : List Module) where
   acyclic_once new counted (Err fault) (Err other) x y =
       ap Err (same_fault fault other (one new (labels_of mods new) (faulty fault) (faulty other) x y))
 
-  pub applied_once : (nodes : List (Node P)) (asked : List (NodeId × Request)) → IsOnce (IsApplied mods nodes asked)
+  pub applied_once : (nodes : List (Node P)) (asked : List (NodeId × Request)) → IsOnce (ApplyMeans mods nodes asked)
   applied_once nodes asked =
-      goes_on_once (found_for mods nodes asked) (λ found. IsCounted mods (linked nodes (links asked found)))
-      (λ found. goes_on_once (edges_counted (linked nodes (links asked found)))
-      (IsAcyclic mods (linked nodes (links asked found)))
-      (λ counted. acyclic_once (linked nodes (links asked found)) counted))
+      goes_on_once (found_for mods nodes asked) (λ found. CountedMeans mods (linked_nodes nodes (links asked found)))
+      (λ found. goes_on_once (edges_counted (linked_nodes nodes (links asked found)))
+      (AcyclicMeans mods (linked_nodes nodes (links asked found)))
+      (λ counted. acyclic_once (linked_nodes nodes (links asked found)) counted))

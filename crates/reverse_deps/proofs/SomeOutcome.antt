@@ -10,9 +10,9 @@ use Rattle.module_graph.specs.Graphs.{IsValid, NameNodes}
 use Rattle.module_graph.specs.Laws.{OneCycleMeaning}
 use Rattle.mutator_rules.specs.declared.request.Request.{Request}
 use Rattle.mutator_rules.specs.Conditions.{MayRun, places_in}
-use Rattle.reverse_deps.specs.Applied.{AskInside, labels_of, edges_counted, IsAcyclic, IsCounted, found_for, IsApplied}
+use Rattle.reverse_deps.specs.Applied.{AskInside, labels_of, edges_counted, AcyclicMeans, CountedMeans, found_for, ApplyMeans}
 use Rattle.reverse_deps.specs.Laws.{IsFitStill}
-use Rattle.reverse_deps.specs.Linked.{links, linked}
+use Rattle.reverse_deps.specs.Linked.{links, linked_nodes}
 use Rattle.reverse_deps.proofs.Inside.{links_inside}
 use Rattle.reverse_deps.proofs.Made.{ends_linked}
 use Rattle.reverse_deps.proofs.Whole.{found_inside, bare_made, may_made, valid_made}
@@ -31,34 +31,34 @@ came_from (Err fault) Next made h = cc
 
 module _ {P : Type 0} (mods : List Module) where
   module _ (one : OneCycleMeaning P) where
-    some_acyclic : (new : List (Node P)) (counted : Unit {0}) → NameNodes new → HasOutcome (IsAcyclic mods new counted)
+    some_acyclic : (new : List (Node P)) (counted : Unit {0}) → NameNodes new → HasOutcome (AcyclicMeans mods new counted)
     some_acyclic new counted ends = let said = one new (labels_of mods new) ends in by said.0 said.1
       where
         by : (said : Result (Unit {0}) Fault) → CycleMeans new (labels_of mods new) said
-            → HasOutcome (IsAcyclic mods new counted)
+            → HasOutcome (AcyclicMeans mods new counted)
         by (Ok done) means = (Ok new, (refl, means))
         by (Err fault) means = (Err fault, means)
 
-    some_counted : (new : List (Node P)) → NameNodes new → HasOutcome (IsCounted mods new)
+    some_counted : (new : List (Node P)) → NameNodes new → HasOutcome (CountedMeans mods new)
     some_counted new ends =
-        goes_on_from (edges_counted new) (IsAcyclic mods new) (λ counted is. some_acyclic new counted ends)
+        goes_on_from (edges_counted new) (AcyclicMeans mods new) (λ counted is. some_acyclic new counted ends)
 
     pub some_outcome : (nodes : List (Node P)) (asked : List (NodeId × Request)) → NameNodes nodes
-        → AskInside (length nodes) asked → HasOutcome (IsApplied mods nodes asked)
+        → AskInside (length nodes) asked → HasOutcome (ApplyMeans mods nodes asked)
     some_outcome nodes asked ends asking =
-        goes_on_from (found_for mods nodes asked) (λ found. IsCounted mods (linked nodes (links asked found)))
-        (λ found is. some_counted (linked nodes (links asked found))
+        goes_on_from (found_for mods nodes asked) (λ found. CountedMeans mods (linked_nodes nodes (links asked found)))
+        (λ found is. some_counted (linked_nodes nodes (links asked found))
         (ends_linked nodes (links asked found)
         (links_inside (length nodes) asked found asking (found_inside mods nodes asked found is)) ends))
 
   pub applied_keeps : (nodes : List (Node P)) (asked : List (NodeId × Request)) (new : List (Node P))
       → IsValid nodes → MayRun (places_in (length mods)) nodes → AskInside (length nodes) asked
-      → IsApplied mods nodes asked (Ok new) → IsFitStill (length mods) nodes new
+      → ApplyMeans mods nodes asked (Ok new) → IsFitStill (length mods) nodes new
   applied_keeps nodes asked new valid may asking applied =
       let (found, found_is, rest) =
-      came_from (found_for mods nodes asked) (λ found. IsCounted mods (linked nodes (links asked found))) new applied in
-      let graph : List (Node P) = linked nodes (links asked found) in
-      let (counted, counted_is, acyclic) = came_from (edges_counted graph) (IsAcyclic mods graph) new rest in
+      came_from (found_for mods nodes asked) (λ found. CountedMeans mods (linked_nodes nodes (links asked found))) new applied in
+      let graph : List (Node P) = linked_nodes nodes (links asked found) in
+      let (counted, counted_is, acyclic) = came_from (edges_counted graph) (AcyclicMeans mods graph) new rest in
       subst (IsFitStill (length mods) nodes) (sym acyclic.0) (record {
         valid = valid_made mods nodes asked found found_is asking graph refl counted_is acyclic.1 valid;
         may = may_made mods nodes asked found found_is asking graph refl counted_is may;

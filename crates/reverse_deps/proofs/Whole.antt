@@ -10,9 +10,9 @@ use Rattle.module_graph.specs.Graphs.{edges_of, IsValid}
 use Rattle.module_graph.specs.Walks.{NoneReturns}
 use Rattle.mutator_rules.specs.Conditions.{MayRun, places_in}
 use Rattle.mutator_rules.specs.declared.request.Request.{Request}
-use Rattle.reverse_deps.specs.Applied.{AskInside, edges_counted, found_for, IsAcyclic, IsCounted, IsApplied}
-use Rattle.reverse_deps.specs.Linked.{bare, links, linked}
-use Rattle.reverse_deps.specs.Resolved.{resolved}
+use Rattle.reverse_deps.specs.Applied.{AskInside, edges_counted, found_for, AcyclicMeans, CountedMeans, ApplyMeans}
+use Rattle.reverse_deps.specs.Linked.{without_edges, links, linked_nodes}
+use Rattle.reverse_deps.specs.Resolved.{resolved_node}
 use Rattle.reverse_deps.proofs.Each.{all_made, as_many}
 use Rattle.reverse_deps.proofs.Gained.{bare_linked}
 use Rattle.reverse_deps.proofs.Inside.{LinksInside, links_inside, node_inside}
@@ -20,33 +20,33 @@ use Rattle.reverse_deps.proofs.Made.{may_linked, valid_linked}
 
 module _ {P : Type 0} (mods : List Module) (nodes : List (Node P)) (asked : List (NodeId × Request)) (found : List NodeId) (found_is : found_for mods nodes asked ≡ Ok found) where
   pub many_found : length found ≡ length asked
-  many_found = as_many (λ (a : NodeId × Request). resolved mods nodes a.1) asked found found_is
+  many_found = as_many (λ (a : NodeId × Request). resolved_node mods nodes a.1) asked found found_is
 
   pub found_inside : AllByRecursion (λ (n : NodeId). n.0 < length nodes) found
-  found_inside = all_made (λ (a : NodeId × Request). resolved mods nodes a.1) (λ (n : NodeId). n.0 < length nodes) (λ a n is. node_inside mods nodes a.1 n is) asked found found_is
+  found_inside = all_made (λ (a : NodeId × Request). resolved_node mods nodes a.1) (λ (n : NodeId). n.0 < length nodes) (λ a n is. node_inside mods nodes a.1 n is) asked found found_is
 
-  module _ (asking : AskInside (length nodes) asked) (made : List (Node P)) (made_is : made ≡ linked nodes (links asked found)) where
+  module _ (asking : AskInside (length nodes) asked) (made : List (Node P)) (made_is : made ≡ linked_nodes nodes (links asked found)) where
     inside : AllByRecursion (LinksInside (length nodes)) (links asked found)
     inside = links_inside (length nodes) asked found asking found_inside
 
-    pub bare_made : map bare made ≡ map bare nodes
-    bare_made = ap (map bare) made_is ∙ bare_linked nodes (links asked found)
+    pub bare_made : map without_edges made ≡ map without_edges nodes
+    bare_made = ap (map without_edges) made_is ∙ bare_linked nodes (links asked found)
 
     module _ (counted : edges_counted made ≡ Ok tt) where
-      as_linked : edges_counted (linked nodes (links asked found)) ≡ Ok tt
+      as_linked : edges_counted (linked_nodes nodes (links asked found)) ≡ Ok tt
       as_linked = subst (λ (xs : List (Node P)). edges_counted xs ≡ Ok tt) made_is counted
 
       pub may_made : MayRun (places_in (length mods)) nodes → MayRun (places_in (length mods)) made
       may_made may = subst (MayRun (places_in (length mods))) (sym made_is) (may_linked (places_in (length mods)) nodes (links asked found) may inside as_linked)
 
       module _ (acyclic : NoneReturns (edges_of made)) where
-        linked_acyclic : NoneReturns (edges_of (linked nodes (links asked found)))
+        linked_acyclic : NoneReturns (edges_of (linked_nodes nodes (links asked found)))
         linked_acyclic = subst (λ (xs : List (Node P)). NoneReturns (edges_of xs)) made_is acyclic
 
         pub valid_made : IsValid nodes → IsValid made
         valid_made valid = subst IsValid (sym made_is) (valid_linked nodes (links asked found) valid inside linked_acyclic)
 
-        pub means_made : IsApplied mods nodes asked (Ok made)
+        pub means_made : ApplyMeans mods nodes asked (Ok made)
         means_made =
-            subst (λ (r : Result (List NodeId) Fault). GoesOn r (λ found. IsCounted mods (linked nodes (links asked found))) (Ok made)) (sym found_is)
-            (subst (λ (r : Result (Unit {0}) Fault). GoesOn r (IsAcyclic mods (linked nodes (links asked found))) (Ok made)) (sym as_linked) (made_is, linked_acyclic))
+            subst (λ (r : Result (List NodeId) Fault). GoesOn r (λ found. CountedMeans mods (linked_nodes nodes (links asked found))) (Ok made)) (sym found_is)
+            (subst (λ (r : Result (Unit {0}) Fault). GoesOn r (AcyclicMeans mods (linked_nodes nodes (links asked found))) (Ok made)) (sym as_linked) (made_is, linked_acyclic))

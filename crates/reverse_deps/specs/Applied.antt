@@ -12,12 +12,12 @@ use Rattle.bp_props.specs.declared.module.Module.{Module}
 use Rattle.module_graph.specs.declared.graph.Edge.{Edge}
 use Rattle.module_graph.specs.declared.graph.Node.{Node}
 use Rattle.module_graph.specs.Cycles.{IsReported}
-use Rattle.module_graph.specs.Graphs.{edges_of}
+use Rattle.module_graph.specs.Graphs.{edges_of, all_edges}
 use Rattle.module_graph.specs.Names.{label_of}
 use Rattle.module_graph.specs.Walks.{NoneReturns}
 use Rattle.mutator_rules.specs.declared.request.Request.{Request}
-use Rattle.reverse_deps.specs.Linked.{links, linked}
-use Rattle.reverse_deps.specs.Resolved.{resolved}
+use Rattle.reverse_deps.specs.Linked.{links, linked_nodes}
+use Rattle.reverse_deps.specs.Resolved.{resolved_node}
 
 -- Each asking node is a node.
 abbrev pub AskInside : ℕ → List (NodeId × Request) → Type 0
@@ -32,10 +32,6 @@ module _ {P : Type 0} where
   abbrev pub labels_of : List Module → List (Node P) → List (List ℕ)
   labels_of mods nodes = map (λ (x : Node P). label_of (name_of mods x.«module».0) x.vars) nodes
 
-  -- The edges of a graph, in node order.
-  abbrev pub all_edges : List (Node P) → List Edge
-  all_edges nodes = flat_map (λ (x : Node P). x.edges) nodes
-
 -- The fault of the first edge beyond the limit.
 abbrev pub too_many : Edge → Fault
 too_many e = fault_on TooMany e.at (codes "edges")
@@ -47,19 +43,19 @@ edges_counted nodes =
 
 module _ {P : Type 0} (mods : List Module) where
   -- A graph is the outcome where no walk in it returns to its start, and else the cycle is reported.
-  abbrev pub IsAcyclic : List (Node P) → Unit {0} → Result (List (Node P)) Fault → Type 0
-  IsAcyclic new counted (Ok made) = (made ≡ new) × NoneReturns (edges_of new)
-  IsAcyclic new counted (Err fault) = IsReported new (labels_of mods new) fault
+  abbrev pub AcyclicMeans : List (Node P) → Unit {0} → Result (List (Node P)) Fault → Type 0
+  AcyclicMeans new counted (Ok made) = (made ≡ new) × NoneReturns (edges_of new)
+  AcyclicMeans new counted (Err fault) = IsReported new (labels_of mods new) fault
 
   -- First the edges are counted.
-  abbrev pub IsCounted : List (Node P) → Result (List (Node P)) Fault → Type 0
-  IsCounted new = GoesOn (edges_counted new) (IsAcyclic new)
+  abbrev pub CountedMeans : List (Node P) → Result (List (Node P)) Fault → Type 0
+  CountedMeans new = GoesOn (edges_counted new) (AcyclicMeans new)
 
   -- The nodes that requests are for, or the fault of the first that isn't resolved in the graph as it is.
   abbrev pub found_for : List (Node P) → List (NodeId × Request) → Result (List NodeId) Fault
-  found_for nodes asked = each_in_turn (λ (a : NodeId × Request). resolved mods nodes a.1) asked
+  found_for nodes asked = each_in_turn (λ (a : NodeId × Request). resolved_node mods nodes a.1) asked
 
   -- What requests make of a graph: all are resolved, then the edges are added and counted, and then no walk returns.
-  abbrev pub IsApplied : List (Node P) → List (NodeId × Request) → Result (List (Node P)) Fault → Type 0
-  IsApplied nodes asked =
-      GoesOn (found_for nodes asked) (λ found. IsCounted (linked nodes (links asked found)))
+  abbrev pub ApplyMeans : List (Node P) → List (NodeId × Request) → Result (List (Node P)) Fault → Type 0
+  ApplyMeans nodes asked =
+      GoesOn (found_for nodes asked) (λ found. CountedMeans (linked_nodes nodes (links asked found)))

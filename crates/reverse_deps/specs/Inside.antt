@@ -9,7 +9,7 @@ use Rattle.module_graph.specs.declared.graph.Node.{Node}
 use Rattle.module_graph.specs.Numbered.{by_number}
 use Rattle.mutator_rules.specs.declared.request.Wanted.{Wanted}
 use Rattle.reverse_deps.specs.Linked.{Link}
-use Rattle.reverse_deps.specs.Resolved.{names_of, is_wanted}
+use Rattle.reverse_deps.specs.Resolved.{names_by_number, is_wanted}
 
 -- The nodes that get edges are nodes.
 abbrev pub AreHeld : ℕ → List Link → Type 0
@@ -35,6 +35,6 @@ module _ {P : Type 0} where
   -- A table has the first module of each name, and lists have the nodes of each module.
   pub record IsDirectory (mods : List Module) (nodes : List (Node P)) (names : List (List ℕ × ℕ))
       (lists : List (List NodeId)) : Type 0 where
-    pub first : NumbersFirst (names_of mods) names
+    pub first : NumbersFirst (names_by_number mods) names
     pub many : length lists ≡ length mods
     pub each : ListsNodes nodes (length mods) lists

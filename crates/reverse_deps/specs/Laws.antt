@@ -8,19 +8,19 @@ use Rattle.module_graph.specs.declared.variation.Variation.{Variation}
 use Rattle.module_graph.specs.declared.variation.Variation.TheVariants.{Empty}
 use Rattle.module_graph.specs.declared.variations.Axis.{Axis}
 use Rattle.module_graph.specs.declared.variations.Axis.TheVariants.{Target, Image, Link}
-use Rattle.module_graph.specs.Axes.{place_of}
+use Rattle.module_graph.specs.Axes.{axis_index}
 use Rattle.module_graph.specs.Graphs.{IsValid, NameNodes}
 use Rattle.mutator_rules.specs.declared.request.Request.{Request}
 use Rattle.mutator_rules.specs.declared.request.Wanted.{Wanted}
 use Rattle.mutator_rules.specs.Conditions.{MayRun, places_in}
-use Rattle.reverse_deps.specs.Applied.{AskInside, IsApplied}
-use Rattle.reverse_deps.specs.Linked.{bare}
+use Rattle.reverse_deps.specs.Applied.{AskInside, ApplyMeans}
+use Rattle.reverse_deps.specs.Linked.{without_edges}
 use Rattle.reverse_deps.specs.Resolved.{node_for}
 
 module _ {P : Type 0} where
   -- The variation of a node along an axis.
   abbrev pub along : Axis → Node P → Variation
-  along axis x = slice_index_or x.vars (place_of axis) Empty
+  along axis x = slice_index_or x.vars (axis_index axis) Empty
 
   -- A node is of a module and has the wanted target, image and link.
   pub record IsFor (m : ℕ) (want : Wanted) (x : Node P) : Type 0 where
@@ -44,7 +44,7 @@ module _ {P : Type 0} where
 pub record IsFitStill {P : Type 0} (count : ℕ) (old new : List (Node P)) : Type 0 where
   pub valid : IsValid new
   pub may : MayRun (places_in count) new
-  pub same : map bare new ≡ map bare old
+  pub same : map without_edges new ≡ map without_edges old
 
 module _ (P : Type 0) where
   -- The node that is found is the least of its module with the wanted variations, and none is found where there is
@@ -57,17 +57,17 @@ module _ (P : Type 0) where
   abbrev pub OneOutcome : Type 0
   OneOutcome =
       (mods : List Module) (nodes : List (Node P)) (asked : List (NodeId × Request))
-      → IsOnce (IsApplied mods nodes asked)
+      → IsOnce (ApplyMeans mods nodes asked)
 
   -- Whatever the nodes of a graph ask for makes something of it.
   abbrev pub SomeOutcome : Type 0
   SomeOutcome =
       (mods : List Module) (nodes : List (Node P)) (asked : List (NodeId × Request))
-      → NameNodes nodes → AskInside (length nodes) asked → HasOutcome (IsApplied mods nodes asked)
+      → NameNodes nodes → AskInside (length nodes) asked → HasOutcome (ApplyMeans mods nodes asked)
 
   -- The graph that it makes of a valid one is fit for the next mutator.
   abbrev pub AppliedKeeps : Type 0
   AppliedKeeps =
       (mods : List Module) (nodes : List (Node P)) (asked : List (NodeId × Request)) (new : List (Node P))
       → IsValid nodes → MayRun (places_in (length mods)) nodes → AskInside (length nodes) asked
-      → IsApplied mods nodes asked (Ok new) → IsFitStill (length mods) nodes new
+      → ApplyMeans mods nodes asked (Ok new) → IsFitStill (length mods) nodes new

@@ -20,19 +20,19 @@ use Rattle.module_graph.specs.declared.variation.Variation.{Variation}
 use Rattle.module_graph.specs.declared.variation.Variation.TheVariants.{Empty}
 use Rattle.module_graph.specs.declared.variations.Axis.{Axis}
 use Rattle.module_graph.specs.declared.variations.Axis.TheVariants.{Target, Image, Link}
-use Rattle.module_graph.specs.Axes.{place_of}
+use Rattle.module_graph.specs.Axes.{axis_index}
 use Rattle.module_graph.specs.Names.{label_of}
 use Rattle.mutator_rules.specs.declared.request.Request.{Request}
 use Rattle.mutator_rules.specs.declared.request.Wanted.{Wanted}
 use Rattle.module_graph.specs.Same.{same}
 
 -- The names of modules, by number.
-abbrev pub names_of : List Module → List (List ℕ)
-names_of mods = map (λ (m : Module). m.name) mods
+abbrev pub names_by_number : List Module → List (List ℕ)
+names_by_number mods = map (λ (m : Module). m.name) mods
 
 -- A name means the first module of that name.
 abbrev pub module_named : List Module → List ℕ → Option ℕ
-module_named mods name = first_number (names_of mods) name
+module_named mods name = first_number (names_by_number mods) name
 
 -- An edge of kind Defaults leads to a `cc_defaults`, and one of kind Sources to a `filegroup`.
 abbrev pub wrong_kind : EdgeKind → ModuleKind → Option FaultKind
@@ -43,12 +43,13 @@ wrong_kind Sources kind = Some BadSource
 wrong_kind edge kind = None
 
 -- A node has a variation along an axis.
-abbrev pub has : Axis → Variation → List Variation → Bool
-has axis variation vars = same variation (slice_index_or vars (place_of axis) Empty)
+abbrev pub has_variation : Axis → Variation → List Variation → Bool
+has_variation axis variation vars = same variation (slice_index_or vars (axis_index axis) Empty)
 
 -- It has the wanted target, image and link.
 abbrev pub is_wanted : Wanted → List Variation → Bool
-is_wanted want vars = has Target want.target vars && (has Image want.image vars && has Link want.link vars)
+is_wanted want vars =
+    has_variation Target want.target vars && (has_variation Image want.image vars && has_variation Link want.link vars)
 
 -- It is of a module, and has them.
 abbrev pub is_for : {P : Type 0} → ℕ → Wanted → Node P → Bool
@@ -79,6 +80,6 @@ abbrev pub module_for : List Module → Request → Result ℕ Fault
 module_for mods r = then_do (ok_or (module_named mods r.name) (request_fault MissingModule r)) (fitting mods r)
 
 -- The node of a request: the least of the module that is wanted.
-abbrev pub resolved : {P : Type 0} → List Module → List (Node P) → Request → Result NodeId Fault
-resolved mods nodes r =
+abbrev pub resolved_node : {P : Type 0} → List Module → List (Node P) → Request → Result NodeId Fault
+resolved_node mods nodes r =
     then_do (module_for mods r) (λ m. ok_or (node_for nodes m r.want) (missing_variant r))

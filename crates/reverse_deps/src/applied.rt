@@ -5,8 +5,8 @@ ghost use Rattle.bp_faults.specs.declared.ids.NodeId.{NodeId};
 ghost use Rattle.module_graph.specs.Cycles.{CycleMeans};
 ghost use Rattle.module_graph.specs.Graphs.{IsValid};
 ghost use Rattle.mutator_rules.specs.Conditions.{MayRun, places_in};
-ghost use Rattle.reverse_deps.specs.Applied.{labels_of, found_for, AskInside, IsApplied};
-ghost use Rattle.reverse_deps.specs.Linked.{links, linked, bare};
+ghost use Rattle.reverse_deps.specs.Applied.{labels_of, found_for, AskInside, ApplyMeans};
+ghost use Rattle.reverse_deps.specs.Linked.{links, linked_nodes, without_edges};
 
 use crate::counting::count_edges;
 use crate::directory::Directory;
@@ -51,7 +51,7 @@ fn with_links<P: Drop>(
     requires many { length found.now ≡ length asked.now }
     requires asking { AskInside (length g.nodes) asked.now }
     requires found { AllByRecursion (λ (n : NodeId). n.0 < length g.nodes) found.now }
-    ensures { IfOk result (λ made. made.nodes ≡ linked g.nodes (links asked.now found.now)) }
+    ensures { IfOk result (λ made. made.nodes ≡ linked_nodes g.nodes (links asked.now found.now)) }
 {
     let links = links(alloc, asked, found)?;
     let mut nodes = g.nodes.into_vec();
@@ -89,8 +89,8 @@ pub fn apply<P: Drop>(
     requires few { length mods.now < 2 ^ 32 }
     requires may { MayRun (places_in (length mods.now)) g.nodes }
     requires asking { AskInside (length g.nodes) asked.now }
-    ensures means { Tells (λ made. made.nodes) (IsApplied mods.now g.nodes asked.now) result }
-    ensures bare { IfOk result (λ made. map bare made.nodes ≡ map bare g.nodes) }
+    ensures means { Tells (λ made. made.nodes) (ApplyMeans mods.now g.nodes asked.now) result }
+    ensures bare { IfOk result (λ made. map without_edges made.nodes ≡ map without_edges g.nodes) }
     ensures may { IfOk result (λ made. MayRun (places_in (length mods.now)) made.nodes) }
     ensures valid { IsValid g.nodes → IfOk result (λ made. IsValid made.nodes) }
 {

@@ -3,7 +3,7 @@ ghost use Rattle.std.specs.List.{find};
 ghost use Rattle.bp_names.specs.Meaning.{number_of, NumbersFirst};
 ghost use Rattle.mutator_rules.specs.Conditions.{MayRun, places_in};
 ghost use Rattle.reverse_deps.specs.Inside.{IsDirectory, ListsNodes, is_wanted_at};
-ghost use Rattle.reverse_deps.specs.Resolved.{has, is_wanted, names_of, node_for};
+ghost use Rattle.reverse_deps.specs.Resolved.{has_variation, is_wanted, names_by_number, node_for};
 
 use bp_faults::{NodeId, OutOfMemory, Seq, Text};
 use bp_names::laws::tables_grow_with_lists;
@@ -24,7 +24,7 @@ pub struct Directory<'a> {
 /// The number of the first module of each name.
 fn number_names<'a>(alloc: Global, mods: &'a [Module]) -> Result<NameIndex<'a>, OutOfMemory>
     requires { length mods.now < 2 ^ 32 }
-    ensures { IfOk result (λ table. NumbersFirst (names_of mods.now) table) }
+    ensures { IfOk result (λ table. NumbersFirst (names_by_number mods.now) table) }
 {
     tables_grow_with_lists();
     let mut table = NameIndex::new(alloc);
@@ -63,7 +63,7 @@ fn nodes_by_module<P>(
 }
 
 fn has(axis: Axis, variation: Variation, vars: &Variations) -> bool
-    ensures { result ≡ has axis variation vars.now }
+    ensures { result ≡ has_variation axis variation vars.now }
 {
     variation.is_same(vars.get(axis))
 }

@@ -1,7 +1,7 @@
 //! Requests for edges: each is resolved to a node of the graph, and then all edges are added.
 //!
 //! The modules, a graph and what its nodes ask for flow in; the graph with the edges flows out, or the first fault.
-//! It is measured by `resolved` of `specs/Resolved.antt` and by `IsApplied` of `specs/Applied.antt`.
+//! It is measured by `resolved_node` of `specs/Resolved.antt` and by `ApplyMeans` of `specs/Applied.antt`.
 #![tactic(auto)]
 
 mod applied;

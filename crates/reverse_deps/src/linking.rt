@@ -1,6 +1,6 @@
 ghost use Rattle.std.specs.Prelude.{◌≡◌, ◌++◌, IfOk, OnOk, length, zip};
 ghost use Rattle.reverse_deps.specs.Inside.{AreHeld};
-ghost use Rattle.reverse_deps.specs.Linked.{edge_for, link_of, links_in, links, linked, same_way};
+ghost use Rattle.reverse_deps.specs.Linked.{edge_for, link_of, links_in, links, linked_nodes, same_way};
 
 use bp_faults::{NodeId, OutOfMemory};
 use module_graph::{Edge, Node};
@@ -70,7 +70,7 @@ pub fn links(
 /// Gives each node the edges that it gets.
 pub fn link<P>(nodes: &mut [Node<P>], links: &[(NodeId, Edge)]) -> Result<(), OutOfMemory>
     requires { AreHeld (length nodes.old) links.now }
-    ensures { OnOk result (nodes.new ≡ linked nodes.old links.now) }
+    ensures { OnOk result (nodes.new ≡ linked_nodes nodes.old links.now) }
 {
     for (holder, edge) in links {
         let node = &mut nodes[holder.0 as usize];

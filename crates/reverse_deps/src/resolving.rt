@@ -3,7 +3,7 @@ ghost use Rattle.bp_faults.specs.Answers.{Answers};
 ghost use Rattle.mutator_rules.specs.Conditions.{MayRun, places_in};
 ghost use Rattle.reverse_deps.specs.Inside.{IsDirectory};
 ghost use Rattle.reverse_deps.specs.Resolved.{wrong_kind, request_fault, missing_variant, fitting};
-ghost use Rattle.reverse_deps.specs.Resolved.{module_for, resolved};
+ghost use Rattle.reverse_deps.specs.Resolved.{module_for, resolved_node};
 
 use crate::directory::Directory;
 use bp_faults::{Fault, FaultKind, NodeId, OutOfMemory, Refusal};
@@ -82,7 +82,7 @@ pub fn resolve_by<P>(
     r: &Request,
 ) -> Result<NodeId, Refusal>
     requires { IsDirectory mods.now g.now.nodes directory.now.names directory.now.nodes.items }
-    ensures { Answers (λ n. n) result (resolved mods.now g.now.nodes r.now) }
+    ensures { Answers (λ n. n) result (resolved_node mods.now g.now.nodes r.now) }
 {
     let m = module_for(alloc, directory, mods, g, r)?;
     match directory.node_for(mods, g, m, r.want) {
@@ -104,7 +104,7 @@ pub fn resolve<P>(
 ) -> Result<NodeId, GraphError>
     requires few { length mods.now < 2 ^ 32 }
     requires may { MayRun (places_in (length mods.now)) g.now.nodes }
-    ensures { Answers (λ n. n) result (resolved mods.now g.now.nodes r.now) }
+    ensures { Answers (λ n. n) result (resolved_node mods.now g.now.nodes r.now) }
 {
     let directory = Directory::new(alloc, mods, g)?;
     resolve_by(alloc, &directory, mods, g, r)

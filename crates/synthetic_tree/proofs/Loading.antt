@@ -9,7 +9,7 @@ use Rattle.std.proofs.lemmas.List.{length-map}
 use Rattle.std.proofs.lemmas.List.FromFn.{length-range_with_len}
 use Rattle.std.proofs.lemmas.List.Sorted.{length_permutation}
 use Rattle.bp_load.specs.Directories.{AreInFileOrder, directories}
-use Rattle.synthetic_tree.specs.Blocks.{CanLoad, File, block_cmp, block_count, block_directory, block_file, block_path}
+use Rattle.synthetic_tree.specs.Blocks.{CanLoad, TreeFile, block_cmp, block_count, block_directory, block_file, block_path}
 use Rattle.synthetic_tree.proofs.Lengths.{block_short}
 use Rattle.synthetic_tree.proofs.Paths.{components}
 
@@ -39,7 +39,7 @@ in_order modules (x ∷ xs) few there h =
     let rest : Within modules xs = λ k d below. there (suc k) d (omega arith) in
     (all_below modules x xs few here rest h.0, in_order modules xs few rest h.1)
 
-paths_are : (seed modules : ℕ) (blocks : List ℕ) → map (λ (f : File). f.0) (map (block_file seed modules) blocks) ≡ map block_path blocks
+paths_are : (seed modules : ℕ) (blocks : List ℕ) → map (λ (f : TreeFile). f.0) (map (block_file seed modules) blocks) ≡ map block_path blocks
 paths_are seed modules [] = refl
 paths_are seed modules (b ∷ bs) = ap (λ (ps : List (List ℕ)). block_path b ∷ ps) (paths_are seed modules bs)
 

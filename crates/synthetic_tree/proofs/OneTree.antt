@@ -7,7 +7,7 @@ use Rattle.std.specs.declared.cmp.Ordering.{Ordering}
 use Rattle.std.specs.declared.cmp.Ordering.TheVariants.{Less, Equal, Greater}
 use Rattle.std.proofs.lemmas.Cmp.{nat_list_cmp_total}
 use Rattle.std.proofs.lemmas.List.Sorted.{All-permutation, IsPermutation-sym}
-use Rattle.synthetic_tree.specs.Blocks.{AreTree, File, block_cmp, block_count, block_directory, block_file}
+use Rattle.synthetic_tree.specs.Blocks.{AreTree, TreeFile, block_cmp, block_count, block_directory, block_file}
 
 abbrev Has : {X : Type 0} → List X → X → Type 0
 Has [] q = ⊥
@@ -73,7 +73,7 @@ one_order n first second moved moved_too sorted sorted_too =
     (λ q has. kept second all (IsPermutation-sym all second moved_too) q (kept all first moved q has))
     (λ q has. kept first all (IsPermutation-sym all first moved) q (kept all second moved_too q has))
 
-pub one_tree : (seed modules : ℕ) (first second : List File) → AreTree seed modules first → AreTree seed modules second
+pub one_tree : (seed modules : ℕ) (first second : List TreeFile) → AreTree seed modules first → AreTree seed modules second
     → first ≡ second
 one_tree seed modules first second one other =
     one.3 ∙ ap (λ (blocks : List ℕ). map (block_file seed modules) blocks)

@@ -10,8 +10,8 @@ use Rattle.bp_load.specs.Directories.{AreInFileOrder}
 use Rattle.synthetic_tree.specs.Modules.{module_text}
 
 -- A file: its path and its bytes.
-abbrev pub File : Type 0
-File = List ℕ × List ℕ
+abbrev pub TreeFile : Type 0
+TreeFile = List ℕ × List ℕ
 
 -- The directory of a block.
 abbrev pub block_directory : ℕ → List ℕ
@@ -30,7 +30,7 @@ abbrev pub block_text : ℕ → ℕ → ℕ → List ℕ
 block_text seed modules b = flat_map (module_text seed) (range_with_len (64 * b) (block_size modules b))
 
 -- The file of a block.
-abbrev pub block_file : ℕ → ℕ → ℕ → File
+abbrev pub block_file : ℕ → ℕ → ℕ → TreeFile
 block_file seed modules b = (block_path b, block_text seed modules b)
 
 -- How many files the tree has.
@@ -42,13 +42,13 @@ abbrev pub block_cmp : ℕ → ℕ → Ordering
 block_cmp a b = slice_cmp nat_cmp (block_directory a) (block_directory b)
 
 -- These are the files: those of all blocks, and their directories strictly ascend.
-abbrev pub AreTree : ℕ → ℕ → List File → Type 0
+abbrev pub AreTree : ℕ → ℕ → List TreeFile → Type 0
 AreTree seed modules files =
     (blocks : List ℕ) × IsPermutation (range_with_len 0 (block_count modules)) blocks
     × IsStrictlySortedBy block_cmp blocks × (files ≡ map (block_file seed modules) blocks)
 
 -- What loading asks of files: there are few, in file order, and each is short.
-pub record CanLoad (files : List File) : Type 0 where
+pub record CanLoad (files : List TreeFile) : Type 0 where
   pub few : length files ≤ 2 ^ 14
   pub order : AreInFileOrder (map (λ f. f.0) files)
   pub short : All (λ f. length f.1 ≤ 2 ^ 20) files

@@ -1,8 +1,8 @@
 -- What holds of all synthetic trees.
 use Rattle.std.specs.Prelude.{◌≡◌, ℕ, List}
-use Rattle.synthetic_tree.specs.Blocks.{AreTree, File}
+use Rattle.synthetic_tree.specs.Blocks.{AreTree, TreeFile}
 
 -- A seed and a number of modules have one tree.
 abbrev pub OneTree : Type 0
-OneTree = (seed modules : ℕ) (first second : List File) → AreTree seed modules first → AreTree seed modules second
+OneTree = (seed modules : ℕ) (first second : List TreeFile) → AreTree seed modules first → AreTree seed modules second
     → first ≡ second

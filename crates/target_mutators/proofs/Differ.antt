@@ -14,7 +14,7 @@ use Rattle.module_graph.specs.declared.variation.Variation.TheVariants.{Empty, C
 use Rattle.module_rules.specs.Flags.{is_enabled}
 use Rattle.module_rules.specs.Groups.{with_group}
 use Rattle.module_rules.specs.Laws.{VariantsDiffer}
-use Rattle.target_mutators.specs.Arch.{is_built, target_variants, variants_of}
+use Rattle.target_mutators.specs.Arch.{is_built, target_variants, variants_for_targets}
 use Rattle.target_mutators.specs.Groups.{with_groups}
 use Rattle.target_mutators.specs.Images.{is_for_device, is_in_system, is_in_vendor, is_in_recovery, device_images, images_of}
 use Rattle.target_mutators.specs.Targets.{groups_of}
@@ -69,7 +69,7 @@ one_differs true v i j d before inside = absurd (omega arith)
 one_differs false v i j d before inside = absurd (omega arith)
 
 -- what `arch` makes of a node
-pub arch_differ : (kind : ModuleKind) (p : Props) (targets : List Target) → AllPairs (λ a b. a ≢ b) targets → VariantsDiffer (variants_of kind p targets)
+pub arch_differ : (kind : ModuleKind) (p : Props) (targets : List Target) → AllPairs (λ a b. a ≢ b) targets → VariantsDiffer (variants_for_targets kind p targets)
 arch_differ Defaults p targets apart = none_differ
 arch_differ Filegroup p targets apart = one_differs (is_enabled p) (Common, p)
 arch_differ Binary p targets apart = targets_differ Binary p [] targets apart

@@ -77,11 +77,11 @@ target_variants kind p before (target ∷ targets) =
     target_variant kind p before target ++ target_variants kind p (before ++ target ∷ []) targets
 
 -- Defaults aren't built, and a `filegroup` is the same for all targets.
-abbrev pub variants_of : ModuleKind → Props → List Target → List (Variation × Props)
-variants_of Defaults p targets = []
-variants_of Filegroup p targets = if_enabled Common p
-variants_of kind p targets = target_variants kind p [] targets
+abbrev pub variants_for_targets : ModuleKind → Props → List Target → List (Variation × Props)
+variants_for_targets Defaults p targets = []
+variants_for_targets Filegroup p targets = if_enabled Common p
+variants_for_targets kind p targets = target_variants kind p [] targets
 
 -- A node is split by the targets of a configuration.
 abbrev pub arch_variants : Config → Module → Node Props → List (Variation × Props)
-arch_variants c m x = variants_of m.kind x.payload c.targets
+arch_variants c m x = variants_for_targets m.kind x.payload c.targets

@@ -7,7 +7,7 @@ ghost use Rattle.module_rules.specs.Shaped.{splits_shaped};
 ghost use Rattle.module_rules.specs.Variants.{if_enabled};
 ghost use Rattle.mutator_rules.specs.Conditions.{places_in};
 ghost use Rattle.target_mutators.specs.Arch.{is_supported, default_multilib, multilib_of, is_of_class, is_narrow};
-ghost use Rattle.target_mutators.specs.Arch.{is_taken, is_built, target_variant, target_variants, variants_of};
+ghost use Rattle.target_mutators.specs.Arch.{is_taken, is_built, target_variant, target_variants, variants_for_targets};
 ghost use Rattle.target_mutators.specs.Arch.{arch_variants};
 ghost use Rattle.target_mutators.specs.Groups.{with_groups};
 ghost use Rattle.target_mutators.specs.Targets.{row_of, groups_of};

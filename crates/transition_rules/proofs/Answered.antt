@@ -8,18 +8,10 @@ use Rattle.bp_faults.specs.declared.ids.ModuleId.{ModuleId}
 use Rattle.bp_faults.specs.declared.ids.NodeId.{NodeId}
 use Rattle.bp_faults.proofs.Lists.{all_contained, all_map}
 use Rattle.pass_core.specs.declared.plan.Plan.{Plan}
-use Rattle.pass_core.specs.Outcomes.{IsOutcome}
 use Rattle.module_graph.specs.declared.graph.Node.{Node}
-use Rattle.mutator_rules.specs.declared.error.KindError.{KindError}
-use Rattle.mutator_rules.specs.declared.error.KindError.TheVariants.{At, Nodes, Edges, OutOfMemory}
 use Rattle.mutator_rules.specs.Conditions.{MayRun}
-use Rattle.mutator_rules.specs.Outcomes.{KindOutcome, FaultAt}
-use Rattle.pass_ways.specs.declared.error.WayError.{WayError}
-use Rattle.pass_ways.specs.declared.error.WayError.TheVariants.{At as AtNode, Refused as RefusedPass, OutOfMemory as Want}
-use Rattle.pass_ways.specs.Ways.{AnswersBy, Runs}
-use Rattle.variant_graphs.specs.declared.error.StepError.TheVariants.{Kind}
+use Rattle.mutator_rules.specs.Outcomes.{KindOutcome}
 use Rattle.variant_graphs.specs.Laws.{HasModulesOf}
-use Rattle.variant_graphs.specs.Steps.{AnswersStep, HasFollowed, step_error}
 
 -- an error that is handed on says what it said
 pub handed : {T E : Type 0} (Q : Result T E → Type 0) (e : E) (r : Result T E) → IsErr r → IsErrAnd r (λ x. x ≡ e)
@@ -44,30 +36,3 @@ may_run_on {P} accepts old new may has = record {
         → AllByRecursion (λ (at : ModuleId). accepts at.0) (map (λ (y : Node P). y.«module») xs)
     taken [] h = tt
     taken (x ∷ xs) h = (h.0, taken xs h.1)
-
-module _ {O T G : Type 0} (Follows : List (ℕ × NodeId) → Type 0)
-    (Refuses : List (ℕ × NodeId) → ℕ → Plan → Fault → Type 0) (mean : ℕ → List O → Result O Fault) (plan : Plan)
-    (pass : ℕ) (before : List (ℕ × NodeId)) (view : T → G) (Means : KindOutcome G → Type 0)
-    (order_of : T → List NodeId) where
-  -- the fault of a pass is that of the step
-  pub step_failed : ((n : ℕ) (fault : Fault) → IsOutcome mean plan (Err (n, fault)) → Means (FaultAt n fault))
-      → (e : WayError) → AnswersBy Follows Refuses mean plan pass before (Err e)
-      → AnswersStep view Means (Refuses before pass plan) (Err (step_error e))
-  step_failed told (AtNode n fault) h = told n.0 fault h.0
-  step_failed told (RefusedPass fault) h = h
-  step_failed told Want h = tt
-
-  -- and some order was followed
-  pub step_followed : (e : WayError) → AnswersBy Follows Refuses mean plan pass before (Err e)
-      → HasFollowed order_of (Runs Follows plan pass before) (Err (step_error e))
-  step_followed (AtNode n fault) h = h.1
-  step_followed (RefusedPass fault) h = tt
-  step_followed Want h = tt
-
-  -- an order that was followed was followed whatever comes then
-  pub kind_followed : (order : List NodeId) → Runs Follows plan pass before order → (e : KindError)
-      → HasFollowed order_of (Runs Follows plan pass before) (Err (Kind e))
-  kind_followed order runs (At n fault) = (order, runs)
-  kind_followed order runs (Nodes at) = (order, runs)
-  kind_followed order runs (Edges at) = (order, runs)
-  kind_followed order runs OutOfMemory = tt

@@ -10,8 +10,8 @@ use Rattle.module_graph.specs.declared.variation.Variation.{Variation}
 use Rattle.module_graph.specs.Names.{spelling}
 use Rattle.module_graph.specs.Same.{same}
 use Rattle.transition_rules.proofs.Pairs.{Apart}
-use Rattle.transition_rules.specs.Spelled.{is_spelled_before, inserted}
-use Rattle.transition_rules.specs.Wants.{added}
+use Rattle.transition_rules.specs.Spelled.{is_spelled_before, list_with}
+use Rattle.transition_rules.specs.Wants.{wants_with}
 use Rattle.transition_rules.proofs.Adding.{all_inserted}
 
 less_if : (o : Ordering) → is_lt o ≡ true → o ≡ Less
@@ -37,21 +37,21 @@ before_first w x y wx yx =
 abbrev Stand : List Variation → Type 0
 Stand xs = Apart (λ v w. is_spelled_before w v ≡ false) xs
 
-inserted_stand : (w : Variation) (xs : List Variation) → Stand xs → Stand (inserted w xs)
+inserted_stand : (w : Variation) (xs : List Variation) → Stand xs → Stand (list_with w xs)
 inserted_stand w [] h = (tt, tt)
 inserted_stand w (x ∷ xs) h = by (is_spelled_before w x) refl (inserted_stand w xs h.1)
   where
-    by : (b : Bool) → is_spelled_before w x ≡ b → Stand (inserted w xs) → Stand (cond b (w ∷ x ∷ xs) (x ∷ inserted w xs))
+    by : (b : Bool) → is_spelled_before w x ≡ b → Stand (list_with w xs) → Stand (cond b (w ∷ x ∷ xs) (x ∷ list_with w xs))
     by true wx rest = ((not_after w x wx, all_map (λ y. is_spelled_before y x ≡ false) (λ y. is_spelled_before y w ≡ false) (λ y yx. before_first w x y wx yx) xs h.0), h)
     by false wx rest = (all_inserted (λ y. is_spelled_before y x ≡ false) w xs wx h.0, rest)
 
-added_stand : (own others : List Variation) (w : Variation) → Stand others → Stand (added own others w)
+added_stand : (own others : List Variation) (w : Variation) → Stand others → Stand (wants_with own others w)
 added_stand own others w h = by (list_any (same w) own || list_any (same w) others)
   where
-    by : (b : Bool) → Stand (cond b others (inserted w others))
+    by : (b : Bool) → Stand (cond b others (list_with w others))
     by true = h
     by false = inserted_stand w others h
 
-pub all_stand : (own others ws : List Variation) → Apart (λ v w. is_spelled_before w v ≡ false) others → Apart (λ v w. is_spelled_before w v ≡ false) (fold (added own) others ws)
+pub all_stand : (own others ws : List Variation) → Apart (λ v w. is_spelled_before w v ≡ false) others → Apart (λ v w. is_spelled_before w v ≡ false) (fold (wants_with own) others ws)
 all_stand own others [] h = h
-all_stand own others (w ∷ ws) h = all_stand own (added own others w) ws (added_stand own others w h)
+all_stand own others (w ∷ ws) h = all_stand own (wants_with own others w) ws (added_stand own others w h)

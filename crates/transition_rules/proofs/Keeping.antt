@@ -11,7 +11,7 @@ use Rattle.variant_graphs.specs.Laws.{NewPayloadsStayValid, NewPayloadsKeepModul
 use Rattle.variant_graphs.specs.Payloads.{with_payloads}
 use Rattle.variant_graphs.specs.Splitting.{splitting, HasFreeAxis}
 use Rattle.transition_rules.specs.Laws.{WantsSplit}
-use Rattle.transition_rules.specs.Passes.{wanted_variants, varied, MutateMeans, SplitsDiffer, WantsMean}
+use Rattle.transition_rules.specs.Passes.{wanted_variants, varied_graph, MutateMeans, SplitsDiffer, WantsMean}
 use Rattle.transition_rules.proofs.Answered.{may_run_on}
 
 module _ {P : Type 0} (m : TransitionMeaning P) (nodes new : List (Node P)) (count : ℕ) (valid : IsValid nodes)
@@ -34,7 +34,7 @@ module _ {P : Type 0} (m : TransitionMeaning P) (nodes new : List (Node P)) (cou
       let may_split = splits m nodes lists may.numbered valid differ wants in
       subst (IsKept count (Some m.axis) nodes) (sym is) (record {
         valid = stay_valid split nodes valid free may_split;
-        may = may_run_on (places_in count) nodes (varied m nodes lists) may
+        may = may_run_on (places_in count) nodes (varied_graph m nodes lists) may
             (keep_modules split nodes may.numbered may_split within);
         free = λ axis other axis_free. stay_free split nodes axis (λ same. other (ap Some (sym same))) axis_free;
       })

@@ -14,10 +14,11 @@ use Rattle.module_graph.specs.declared.variation.Variation.{Variation}
 use Rattle.module_graph.specs.Planned.{plan_of}
 use Rattle.mutator_rules.specs.Meaning.{TransitionMeaning}
 use Rattle.mutator_rules.specs.Outcomes.{KindOutcome, Made, FaultAt, NodesBeyond, EdgesBeyond}
-use Rattle.variant_graphs.specs.Limits.{all_edges, IsFirstNodeBeyond, IsFirstEdgeBeyond}
+use Rattle.variant_graphs.specs.Limits.{IsFirstNodeBeyond, IsFirstEdgeBeyond}
 use Rattle.variant_graphs.specs.Payloads.{with_payloads}
 use Rattle.transition_rules.specs.Wants.{variations_meant}
-use Rattle.transition_rules.specs.Passes.{AreWants, AreMutated, varied, MutateMeans, StepsOn, TransitionMeans, WantsMean}
+use Rattle.transition_rules.specs.Passes.{WantsMeans, MutatedMeans, varied_graph, MutateMeans, StepsOn, TransitionMeans, WantsMean}
+use Rattle.module_graph.specs.Graphs.{all_edges}
 
 same_some : {A : Type 0} (x y : A) → Some x ≡ Some y → x ≡ y
 same_some x y e = cc
@@ -47,25 +48,25 @@ module _ {P : Type 0} where
       cc
 
 module _ {P : Type 0} (once : AtMostOneOutcome (List Variation)) (m : TransitionMeaning P) (nodes : List (Node P)) where
-  wants_same : (r s : Result (List (List Variation)) (ℕ × Fault)) → AreWants m nodes r → AreWants m nodes s → r ≡ s
+  wants_same : (r s : Result (List (List Variation)) (ℕ × Fault)) → WantsMeans m nodes r → WantsMeans m nodes s → r ≡ s
   wants_same r s a b = once (variations_meant m nodes) (plan_of TopDown nodes) r s a b
 
-  lists_same : (a b : List (List Variation)) → AreWants m nodes (Ok a) → AreWants m nodes (Ok b) → a ≡ b
+  lists_same : (a b : List (List Variation)) → WantsMeans m nodes (Ok a) → WantsMeans m nodes (Ok b) → a ≡ b
   lists_same a b x y = same_made a b (wants_same (Ok a) (Ok b) x y)
 
-  never : (a : List (List Variation)) (at : ℕ × Fault) → AreWants m nodes (Ok a) → AreWants m nodes (Err at) → ⊥
+  never : (a : List (List Variation)) (at : ℕ × Fault) → WantsMeans m nodes (Ok a) → WantsMeans m nodes (Err at) → ⊥
   never a at x y = made_or_fault a at (wants_same (Ok a) (Err at) x y)
 
   pub one_wants : (x y : KindOutcome (List (Node P))) → WantsMean m nodes x → WantsMean m nodes y → x ≡ y
   one_wants (Made new) (Made other) a b =
-      ap Made (a.3 ∙ ap (varied m nodes) (lists_same a.0 b.0 a.1 b.1) ∙ sym b.3)
+      ap Made (a.3 ∙ ap (varied_graph m nodes) (lists_same a.0 b.0 a.1 b.1) ∙ sym b.3)
   one_wants (Made new) (FaultAt n f) a b = absurd (never a.0 (n, f) a.1 b)
   one_wants (Made new) (NodesBeyond p) a b =
-      absurd (few_not_beyond (varied m nodes a.0) p a.2.few_nodes
-      (subst (λ l. IsFirstNodeBeyond (varied m nodes l) p) (lists_same b.0 a.0 b.1 a.1) b.2))
+      absurd (few_not_beyond (varied_graph m nodes a.0) p a.2.few_nodes
+      (subst (λ l. IsFirstNodeBeyond (varied_graph m nodes l) p) (lists_same b.0 a.0 b.1 a.1) b.2))
   one_wants (Made new) (EdgesBeyond p) a b =
-      absurd (few_edges_not (varied m nodes a.0) p a.2.few_edges
-      (subst (λ l. IsFirstEdgeBeyond (varied m nodes l) p) (lists_same b.0 a.0 b.1 a.1) b.2))
+      absurd (few_edges_not (varied_graph m nodes a.0) p a.2.few_edges
+      (subst (λ l. IsFirstEdgeBeyond (varied_graph m nodes l) p) (lists_same b.0 a.0 b.1 a.1) b.2))
   one_wants (FaultAt n f) (Made new) a b = absurd (never b.0 (n, f) b.1 a)
   one_wants (FaultAt n f) (FaultAt k g) a b =
       ap (λ (at : ℕ × Fault). FaultAt at.0 at.1)
@@ -73,29 +74,29 @@ module _ {P : Type 0} (once : AtMostOneOutcome (List Variation)) (m : Transition
   one_wants (FaultAt n f) (NodesBeyond p) a b = absurd (never b.0 (n, f) b.1 a)
   one_wants (FaultAt n f) (EdgesBeyond p) a b = absurd (never b.0 (n, f) b.1 a)
   one_wants (NodesBeyond p) (Made new) a b =
-      absurd (few_not_beyond (varied m nodes b.0) p b.2.few_nodes
-      (subst (λ l. IsFirstNodeBeyond (varied m nodes l) p) (lists_same a.0 b.0 a.1 b.1) a.2))
+      absurd (few_not_beyond (varied_graph m nodes b.0) p b.2.few_nodes
+      (subst (λ l. IsFirstNodeBeyond (varied_graph m nodes l) p) (lists_same a.0 b.0 a.1 b.1) a.2))
   one_wants (NodesBeyond p) (FaultAt n f) a b = absurd (never a.0 (n, f) a.1 b)
   one_wants (NodesBeyond p) (NodesBeyond q) a b =
       ap NodesBeyond (same_some p q
-      (sym a.2 ∙ subst (λ l. IsFirstNodeBeyond (varied m nodes l) q) (lists_same b.0 a.0 b.1 a.1) b.2))
+      (sym a.2 ∙ subst (λ l. IsFirstNodeBeyond (varied_graph m nodes l) q) (lists_same b.0 a.0 b.1 a.1) b.2))
   one_wants (NodesBeyond p) (EdgesBeyond q) a b =
-      absurd (few_not_beyond (varied m nodes b.0) p b.2.few_nodes
-      (subst (λ l. IsFirstNodeBeyond (varied m nodes l) p) (lists_same a.0 b.0 a.1 b.1) a.2))
+      absurd (few_not_beyond (varied_graph m nodes b.0) p b.2.few_nodes
+      (subst (λ l. IsFirstNodeBeyond (varied_graph m nodes l) p) (lists_same a.0 b.0 a.1 b.1) a.2))
   one_wants (EdgesBeyond p) (Made new) a b =
-      absurd (few_edges_not (varied m nodes b.0) p b.2.few_edges
-      (subst (λ l. IsFirstEdgeBeyond (varied m nodes l) p) (lists_same a.0 b.0 a.1 b.1) a.2))
+      absurd (few_edges_not (varied_graph m nodes b.0) p b.2.few_edges
+      (subst (λ l. IsFirstEdgeBeyond (varied_graph m nodes l) p) (lists_same a.0 b.0 a.1 b.1) a.2))
   one_wants (EdgesBeyond p) (FaultAt n f) a b = absurd (never a.0 (n, f) a.1 b)
   one_wants (EdgesBeyond p) (NodesBeyond q) a b =
-      absurd (few_not_beyond (varied m nodes a.0) q a.2.few_nodes
-      (subst (λ l. IsFirstNodeBeyond (varied m nodes l) q) (lists_same b.0 a.0 b.1 a.1) b.2))
+      absurd (few_not_beyond (varied_graph m nodes a.0) q a.2.few_nodes
+      (subst (λ l. IsFirstNodeBeyond (varied_graph m nodes l) q) (lists_same b.0 a.0 b.1 a.1) b.2))
   one_wants (EdgesBeyond p) (EdgesBeyond q) a b =
-      let c : IsFirstEdgeBeyond (varied m nodes a.0) q =
-      subst (λ l. IsFirstEdgeBeyond (varied m nodes l) q) (lists_same b.0 a.0 b.1 a.1) b.2 in
+      let c : IsFirstEdgeBeyond (varied_graph m nodes a.0) q =
+      subst (λ l. IsFirstEdgeBeyond (varied_graph m nodes l) q) (lists_same b.0 a.0 b.1 a.1) b.2 in
       ap EdgesBeyond (same_some p q (sym a.2.beyond ∙ c.beyond))
 
 module _ {P : Type 0} (once : AtMostOneOutcome P) (m : TransitionMeaning P) (nodes : List (Node P)) where
-  mutated_same : (r s : Result (List P) (ℕ × Fault)) → AreMutated m nodes r → AreMutated m nodes s → r ≡ s
+  mutated_same : (r s : Result (List P) (ℕ × Fault)) → MutatedMeans m nodes r → MutatedMeans m nodes s → r ≡ s
   mutated_same r s a b = once (m.mutate nodes) (plan_of BottomUp nodes) r s a b
 
   pub one_mutate : (x y : KindOutcome (List (Node P))) → MutateMeans m nodes x → MutateMeans m nodes y → x ≡ y

@@ -13,8 +13,8 @@ use Rattle.module_graph.specs.declared.variation.Variation.{Variation}
 use Rattle.module_graph.specs.Laws.{SameMeansEqual}
 use Rattle.module_graph.specs.Names.{spelling}
 use Rattle.module_graph.specs.Same.{same}
-use Rattle.transition_rules.specs.Spelled.{is_spelled_before, inserted, FitsNumber}
-use Rattle.transition_rules.specs.Wants.{added, others_of}
+use Rattle.transition_rules.specs.Spelled.{is_spelled_before, list_with, FitsNumber}
+use Rattle.transition_rules.specs.Wants.{wants_with, others_of}
 use Rattle.transition_rules.proofs.Adding.{all_inserted, all_added_differ, has_wanted}
 use Rattle.transition_rules.proofs.BySpelling.{all_stand}
 use Rattle.transition_rules.proofs.Members.{Has, has_all, all_have}
@@ -23,12 +23,12 @@ use Rattle.transition_rules.proofs.Spellings.{same_spelled}
 
 -- what holds of the variations so far and of all that are wanted holds of all
 all_added : (Q : Variation → Type 0) (own others ws : List Variation) → AllByRecursion Q others → AllByRecursion Q ws
-    → AllByRecursion Q (fold (added own) others ws)
+    → AllByRecursion Q (fold (wants_with own) others ws)
 all_added Q own others [] h k = h
 all_added Q own others (w ∷ ws) h k =
-    all_added Q own (added own others w) ws (by (list_any (same w) own || list_any (same w) others)) k.1
+    all_added Q own (wants_with own others w) ws (by (list_any (same w) own || list_any (same w) others)) k.1
   where
-    by : (b : Bool) → AllByRecursion Q (cond b others (inserted w others))
+    by : (b : Bool) → AllByRecursion Q (cond b others (list_with w others))
     by true = h
     by false = all_inserted Q w others k.0 h
 

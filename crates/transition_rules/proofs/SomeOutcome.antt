@@ -15,7 +15,7 @@ use Rattle.mutator_rules.specs.Outcomes.{KindOutcome, Made, FaultAt, NodesBeyond
 use Rattle.variant_graphs.specs.Laws.{LimitsTell}
 use Rattle.variant_graphs.specs.Limits.{IsWithinLimits, IsFirstNodeBeyond, IsFirstEdgeBeyond}
 use Rattle.variant_graphs.specs.Payloads.{with_payloads}
-use Rattle.transition_rules.specs.Passes.{AreMutated, AreWants, MutateMeans, WantsMean, varied}
+use Rattle.transition_rules.specs.Passes.{MutatedMeans, WantsMeans, MutateMeans, WantsMean, varied_graph}
 use Rattle.transition_rules.specs.Wants.{variations_meant}
 
 module _ {P : Type 0} (plans : PlansOfGraphsArePlans P) (acyclic : ValidPlansHaveNoCycle P) (m : TransitionMeaning P)
@@ -23,7 +23,7 @@ module _ {P : Type 0} (plans : PlansOfGraphsArePlans P) (acyclic : ValidPlansHav
   abbrev Mutated : Type 0
   Mutated = (outcome : KindOutcome (List (Node P))) × MutateMeans m nodes outcome
 
-  mutated_by : (o : Result (List P) (ℕ × Fault)) → AreMutated m nodes o → Mutated
+  mutated_by : (o : Result (List P) (ℕ × Fault)) → MutatedMeans m nodes o → Mutated
   mutated_by (Ok outs) is = (Made (with_payloads nodes outs), (outs, is, refl))
   mutated_by (Err at) is = (FaultAt at.0 at.1, is)
 
@@ -36,18 +36,18 @@ module _ {P : Type 0} (plans : PlansOfGraphsArePlans P) (acyclic : ValidPlansHav
   abbrev Wanted : Type 0
   Wanted = (outcome : KindOutcome (List (Node P))) × WantsMean m nodes outcome
 
-  within_by : (lists : List (List Variation)) → AreWants m nodes (Ok lists)
-      → IsWithinLimits (varied m nodes lists)
-      ⊎ (((at : ModuleId) × IsFirstNodeBeyond (varied m nodes lists) at)
-      ⊎ ((at : Place) × IsFirstEdgeBeyond (varied m nodes lists) at))
+  within_by : (lists : List (List Variation)) → WantsMeans m nodes (Ok lists)
+      → IsWithinLimits (varied_graph m nodes lists)
+      ⊎ (((at : ModuleId) × IsFirstNodeBeyond (varied_graph m nodes lists) at)
+      ⊎ ((at : Place) × IsFirstEdgeBeyond (varied_graph m nodes lists) at))
       → Wanted
-  within_by lists is (inl within) = (Made (varied m nodes lists), (lists, is, within, refl))
+  within_by lists is (inl within) = (Made (varied_graph m nodes lists), (lists, is, within, refl))
   within_by lists is (inr (inl beyond)) = (NodesBeyond beyond.0, (lists, is, beyond.1))
   within_by lists is (inr (inr beyond)) = (EdgesBeyond beyond.0, (lists, is, beyond.1))
 
   module _ (tell : LimitsTell P) where
-    wanted_by : (o : Result (List (List Variation)) (ℕ × Fault)) → AreWants m nodes o → Wanted
-    wanted_by (Ok lists) is = within_by lists is (tell (varied m nodes lists))
+    wanted_by : (o : Result (List (List Variation)) (ℕ × Fault)) → WantsMeans m nodes o → Wanted
+    wanted_by (Ok lists) is = within_by lists is (tell (varied_graph m nodes lists))
     wanted_by (Err at) is = (FaultAt at.0 at.1, is)
 
     pub some_wants : OneOutcome (List Variation) → Wanted

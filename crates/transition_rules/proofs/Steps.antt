@@ -12,11 +12,11 @@ use Rattle.variant_graphs.specs.declared.error.StepError.TheVariants.{Kind}
 use Rattle.variant_graphs.specs.Splits.{AnswersSplit}
 use Rattle.variant_graphs.specs.Splitting.{splitting}
 use Rattle.variant_graphs.specs.Steps.{AnswersStep}
-use Rattle.transition_rules.specs.Passes.{wanted_variants, AreWants, MutateMeans, TransitionMeans, WantsMean}
+use Rattle.transition_rules.specs.Passes.{wanted_variants, WantsMeans, MutateMeans, TransitionMeans, WantsMean}
 
 module _ {P T : Type 0} (m : TransitionMeaning P) (nodes : List (Node P)) where
   -- what is beyond the limits of the graph of the variants
-  pub split_failed : (lists : List (List Variation)) → AreWants m nodes (Ok lists) → (view : T → List (Node P))
+  pub split_failed : (lists : List (List Variation)) → WantsMeans m nodes (Ok lists) → (view : T → List (Node P))
       (Refuses : Fault → Type 0) (e : KindError)
       → AnswersSplit (splitting (wanted_variants m nodes) lists) nodes (Err e)
       → AnswersStep view (WantsMean m nodes) Refuses (Err (Kind e))

@@ -23,8 +23,8 @@ use Rattle.mutator_rules.specs.Meaning.{TransitionMeaning}
 use Rattle.variant_graphs.specs.Splits.{IsSplitting}
 use Rattle.variant_graphs.specs.Splitting.{splitting}
 use Rattle.transition_rules.specs.Laws.{WantsMeetTheirEquation}
-use Rattle.transition_rules.specs.Passes.{AreWants, wanted_variants, SplitsDiffer}
-use Rattle.transition_rules.specs.Wants.{others_of, handed, wanted, variations_meant}
+use Rattle.transition_rules.specs.Passes.{WantsMeans, wanted_variants, SplitsDiffer}
+use Rattle.transition_rules.specs.Wants.{others_of, handed_variation, wanted_variations, variations_meant}
 use Rattle.transition_rules.proofs.Adding.{variations_differ, has_wanted}
 use Rattle.transition_rules.proofs.Members.{Has, has_all, has_left, has_right, has_image, all_have, none_at_position, edges_arrive, edges_at_is}
 use Rattle.transition_rules.proofs.Pairs.{apart_pairs, pairs_apart}
@@ -39,7 +39,7 @@ place_within p xs i d is = (position-Some p xs i d is).0
 
 module _ {P : Type 0} (many : OutsAreMany (List Variation)) (equations : WantsMeetTheirEquation P)
     (means : SameMeansEqual) (m : TransitionMeaning P) (nodes : List (Node P)) (lists : List (List Variation))
-    (numbered : IsNumbered nodes) (valid : IsValid nodes) (wants : AreWants m nodes (Ok lists)) where
+    (numbered : IsNumbered nodes) (valid : IsValid nodes) (wants : WantsMeans m nodes (Ok lists)) where
   pub many_lists : length lists ≡ length nodes
   many_lists = many (variations_meant m nodes) (plan_of TopDown nodes) lists wants
 
@@ -48,24 +48,24 @@ module _ {P : Type 0} (many : OutsAreMany (List Variation)) (equations : WantsMe
 
   equation : (n : ℕ) → n < length nodes → (own : List Variation) × (m.split nodes n ≡ Ok own)
       × (get_or lists n [] ≡ own ++ others_of own
-      (wanted m nodes n (arrivals nodes n) (map (λ a. get_or lists a.0.0 []) (arrivals nodes n))))
+      (wanted_variations m nodes n (arrivals nodes n) (map (λ a. get_or lists a.0.0 []) (arrivals nodes n))))
   equation n lt = equations m nodes lists n numbered valid wants lt
 
   -- what a variant of the source wants along an edge is wanted
-  wanted_along : (n : ℕ) (arrived : List (NodeId × EdgeKind)) (a : NodeId × EdgeKind) (v : Variation) → Has arrived a → Has (get_or lists a.0.0 []) v → Has (wanted m nodes n arrived (map (λ a. get_or lists a.0.0 []) arrived)) (handed m nodes n a v)
+  wanted_along : (n : ℕ) (arrived : List (NodeId × EdgeKind)) (a : NodeId × EdgeKind) (v : Variation) → Has arrived a → Has (get_or lists a.0.0 []) v → Has (wanted_variations m nodes n arrived (map (λ a. get_or lists a.0.0 []) arrived)) (handed_variation m nodes n a v)
   wanted_along n [] a v at has = absurd at
   wanted_along n (b ∷ arrived) a v (inl e) has =
-      has_left (map (handed m nodes n b) (list_of b)) (wanted m nodes n arrived (map (λ a. get_or lists a.0.0 []) arrived)) (handed m nodes n a v)
-      (subst (λ (c : NodeId × EdgeKind). Has (map (handed m nodes n b) (list_of b)) (handed m nodes n c v)) e (has_image (handed m nodes n b) (list_of b) v (subst (λ (c : NodeId × EdgeKind). Has (list_of c) v) (sym e) has)))
-  wanted_along n (b ∷ arrived) a v (inr at) has = has_right (map (handed m nodes n b) (list_of b)) (wanted m nodes n arrived (map (λ a. get_or lists a.0.0 []) arrived)) (handed m nodes n a v) (wanted_along n arrived a v at has)
+      has_left (map (handed_variation m nodes n b) (list_of b)) (wanted_variations m nodes n arrived (map (λ a. get_or lists a.0.0 []) arrived)) (handed_variation m nodes n a v)
+      (subst (λ (c : NodeId × EdgeKind). Has (map (handed_variation m nodes n b) (list_of b)) (handed_variation m nodes n c v)) e (has_image (handed_variation m nodes n b) (list_of b) v (subst (λ (c : NodeId × EdgeKind). Has (list_of c) v) (sym e) has)))
+  wanted_along n (b ∷ arrived) a v (inr at) has = has_right (map (handed_variation m nodes n b) (list_of b)) (wanted_variations m nodes n arrived (map (λ a. get_or lists a.0.0 []) arrived)) (handed_variation m nodes n a v) (wanted_along n arrived a v at has)
 
   -- so its target has it
-  has_handed : (t : ℕ) (a : NodeId × EdgeKind) (v : Variation) → t < length nodes → Has (arrivals nodes t) a → Has (get_or lists a.0.0 []) v → Has (get_or lists t []) (handed m nodes t a v)
+  has_handed : (t : ℕ) (a : NodeId × EdgeKind) (v : Variation) → t < length nodes → Has (arrivals nodes t) a → Has (get_or lists a.0.0 []) v → Has (get_or lists t []) (handed_variation m nodes t a v)
   has_handed t a v lt at has =
       let e = equation t lt in
-      let ws = wanted m nodes t (arrivals nodes t) (map (λ a. get_or lists a.0.0 []) (arrivals nodes t)) in
-      let w = handed m nodes t a v in
-      subst (λ (l : List Variation). Has l (handed m nodes t a v)) (sym e.2) (by e.0 ws w (has_wanted means e.0 [] ws w (wanted_along t (arrivals nodes t) a v at has)))
+      let ws = wanted_variations m nodes t (arrivals nodes t) (map (λ a. get_or lists a.0.0 []) (arrivals nodes t)) in
+      let w = handed_variation m nodes t a v in
+      subst (λ (l : List Variation). Has l (handed_variation m nodes t a v)) (sym e.2) (by e.0 ws w (has_wanted means e.0 [] ws w (wanted_along t (arrivals nodes t) a v at has)))
     where
       by : (own ws : List Variation) (w : Variation) → Has own w ⊎ Has (others_of own ws) w → Has (own ++ others_of own ws) w
       by own ws w (inl h) = has_left own (others_of own ws) w h
@@ -76,8 +76,8 @@ module _ {P : Type 0} (many : OutsAreMany (List Variation)) (equations : WantsMe
     differ_at n lt =
         let e = equation n lt in
         subst (λ (l : List Variation). AllPairs (λ v w. v ≢ w) l) (sym e.2)
-        (pairs_apart (λ v w. v ≢ w) (e.0 ++ others_of e.0 (wanted m nodes n (arrivals nodes n) (map (λ a. get_or lists a.0.0 []) (arrivals nodes n))))
-        (variations_differ means e.0 (wanted m nodes n (arrivals nodes n) (map (λ a. get_or lists a.0.0 []) (arrivals nodes n))) (apart_pairs (λ v w. v ≢ w) e.0 (differ n e.0 lt e.1))))
+        (pairs_apart (λ v w. v ≢ w) (e.0 ++ others_of e.0 (wanted_variations m nodes n (arrivals nodes n) (map (λ a. get_or lists a.0.0 []) (arrivals nodes n))))
+        (variations_differ means e.0 (wanted_variations m nodes n (arrivals nodes n) (map (λ a. get_or lists a.0.0 []) (arrivals nodes n))) (apart_pairs (λ v w. v ≢ w) e.0 (differ n e.0 lt e.1))))
 
     default_same : (n : ℕ) (d : List Variation) → n < length lists → get_or lists n d ≡ get_or lists n []
     default_same n d lt = get_or_default lists n d [] lt
@@ -85,7 +85,7 @@ module _ {P : Type 0} (many : OutsAreMany (List Variation)) (equations : WantsMe
     found : (n : ℕ) (v : Variation) (e : Edge) → n < length nodes → e.to.0 < length nodes → Has (get_or lists n []) v → Has {A = NodeId × EdgeKind} (arrivals nodes e.to.0) (record { 0 = n }, e.kind)
         → position (same (m.incoming nodes e.to.0 (m.outgoing nodes n e.kind v))) (get_or lists e.to.0 []) ≡ None → ⊥
     found n v e lt inside has at none =
-        let w = handed m nodes e.to.0 (record { 0 = n }, e.kind) v in
+        let w = handed_variation m nodes e.to.0 (record { 0 = n }, e.kind) v in
         let no_one = none_at_position (same w) (get_or lists e.to.0 []) none in
         let miss : same w w ≡ false = has_all (λ x. same w x ≡ false) (get_or lists e.to.0 []) w no_one (has_handed e.to.0 (record { 0 = n }, e.kind) v inside at has) in
         let hit : same w w ≡ true = (means w w).1 refl in

@@ -12,10 +12,10 @@ use Rattle.mutator_rules.specs.Meaning.{TransitionMeaning}
 use Rattle.variant_graphs.specs.Splits.{IsSplitting}
 use Rattle.variant_graphs.specs.Laws.{IsKept}
 use Rattle.variant_graphs.specs.Splitting.{splitting, HasFreeAxis}
-use Rattle.transition_rules.specs.Wants.{others_of, wanted}
+use Rattle.transition_rules.specs.Wants.{others_of, wanted_variations}
 use Rattle.mutator_rules.specs.Conditions.{MayRun, places_in}
 use Rattle.mutator_rules.specs.Outcomes.{KindOutcome, Made}
-use Rattle.transition_rules.specs.Passes.{AreWants, wanted_variants, MutateMeans, SplitsDiffer, TransitionMeans}
+use Rattle.transition_rules.specs.Passes.{WantsMeans, wanted_variants, MutateMeans, SplitsDiffer, TransitionMeans}
 use Rattle.transition_rules.specs.Passes.{WantsMean}
 
 module _ (P : Type 0) where
@@ -24,17 +24,17 @@ module _ (P : Type 0) where
   abbrev pub WantsMeetTheirEquation : Type 0
   WantsMeetTheirEquation =
       (m : TransitionMeaning P) (nodes : List (Node P)) (lists : List (List Variation)) (n : ℕ) → IsNumbered nodes
-      → IsValid nodes → AreWants m nodes (Ok lists) → n < length nodes
+      → IsValid nodes → WantsMeans m nodes (Ok lists) → n < length nodes
       → (own : List Variation) × (m.split nodes n ≡ Ok own)
       × (slice_index_or lists n [] ≡ own ++ others_of own
-      (wanted m nodes n (arrivals nodes n) (map (λ a. slice_index_or lists a.0.0 []) (arrivals nodes n))))
+      (wanted_variations m nodes n (arrivals nodes n) (map (λ a. slice_index_or lists a.0.0 []) (arrivals nodes n))))
 
   -- So the variants of the nodes differ, and each edge of each variant leads to a variant that its target has: none
   -- is dropped.
   abbrev pub WantsSplit : Type 0
   WantsSplit =
       (m : TransitionMeaning P) (nodes : List (Node P)) (lists : List (List Variation)) → IsNumbered nodes
-      → IsValid nodes → SplitsDiffer m nodes → AreWants m nodes (Ok lists)
+      → IsValid nodes → SplitsDiffer m nodes → WantsMeans m nodes (Ok lists)
       → IsSplitting (splitting (wanted_variants m nodes) lists) nodes
 
 module _ (P : Type 0) where

@@ -2,7 +2,7 @@
 use Rattle.std.specs.Prelude.{◌≡◌, ◌≢◌, ◌<◌, ℕ, List, length, Result, Ok, Err}
 use Rattle.std.specs.List.{AllPairs, position}
 use Rattle.bp_faults.specs.declared.fault.Fault.{Fault}
-use Rattle.pass_core.specs.Outcomes.{IsOutcome}
+use Rattle.pass_core.specs.Outcomes.{PassOutcomeMeans}
 use Rattle.module_graph.specs.declared.direction.Direction.TheVariants.{BottomUp, TopDown}
 use Rattle.module_graph.specs.declared.graph.Node.{Node}
 use Rattle.module_graph.specs.declared.variation.Variation.{Variation}
@@ -17,8 +17,8 @@ use Rattle.transition_rules.specs.Wants.{variations_meant}
 
 module _ {P : Type 0} (m : TransitionMeaning P) (nodes : List (Node P)) where
   -- What the first pass, from the top down, comes to: the variations of each node, or a node's fault.
-  abbrev pub AreWants : Result (List (List Variation)) (ℕ × Fault) → Type 0
-  AreWants = IsOutcome (variations_meant m nodes) (plan_of TopDown nodes)
+  abbrev pub WantsMeans : Result (List (List Variation)) (ℕ × Fault) → Type 0
+  WantsMeans = PassOutcomeMeans (variations_meant m nodes) (plan_of TopDown nodes)
 
   -- How variants are made: each has its node's payload, and its edge to t leads to the variant of t that is wanted
   -- along it.
@@ -31,27 +31,28 @@ module _ {P : Type 0} (m : TransitionMeaning P) (nodes : List (Node P)) where
   }
 
   -- The graph of the variants, by the variations of each node.
-  abbrev pub varied : List (List Variation) → List (Node P)
-  varied lists = split_nodes (splitting wanted_variants lists) nodes
+  abbrev pub varied_graph : List (List Variation) → List (Node P)
+  varied_graph lists = split_nodes (splitting wanted_variants lists) nodes
 
   -- The first step: the variations of each node, and the graph of the variants within its limits.
   abbrev pub WantsMean : KindOutcome (List (Node P)) → Type 0
   WantsMean (Made new) =
-      (lists : List (List Variation)) × AreWants (Ok lists) × IsWithinLimits (varied lists) × (new ≡ varied lists)
-  WantsMean (FaultAt n fault) = AreWants (Err (n, fault))
+      (lists : List (List Variation)) × WantsMeans (Ok lists) × IsWithinLimits (varied_graph lists)
+      × (new ≡ varied_graph lists)
+  WantsMean (FaultAt n fault) = WantsMeans (Err (n, fault))
   WantsMean (NodesBeyond at) =
-      (lists : List (List Variation)) × AreWants (Ok lists) × IsFirstNodeBeyond (varied lists) at
+      (lists : List (List Variation)) × WantsMeans (Ok lists) × IsFirstNodeBeyond (varied_graph lists) at
   WantsMean (EdgesBeyond at) =
-      (lists : List (List Variation)) × AreWants (Ok lists) × IsFirstEdgeBeyond (varied lists) at
+      (lists : List (List Variation)) × WantsMeans (Ok lists) × IsFirstEdgeBeyond (varied_graph lists) at
 
   -- What the second pass, from the bottom up, comes to: the payload of each node, or a node's fault.
-  abbrev pub AreMutated : Result (List P) (ℕ × Fault) → Type 0
-  AreMutated = IsOutcome (m.mutate nodes) (plan_of BottomUp nodes)
+  abbrev pub MutatedMeans : Result (List P) (ℕ × Fault) → Type 0
+  MutatedMeans = PassOutcomeMeans (m.mutate nodes) (plan_of BottomUp nodes)
 
   -- The second step: each node of a graph with its new payload. The graph is as large as before.
   abbrev pub MutateMeans : KindOutcome (List (Node P)) → Type 0
-  MutateMeans (Made new) = (outs : List P) × AreMutated (Ok outs) × (new ≡ with_payloads nodes outs)
-  MutateMeans (FaultAt n fault) = AreMutated (Err (n, fault))
+  MutateMeans (Made new) = (outs : List P) × MutatedMeans (Ok outs) × (new ≡ with_payloads nodes outs)
+  MutateMeans (FaultAt n fault) = MutatedMeans (Err (n, fault))
   MutateMeans (NodesBeyond at) = ⊥
   MutateMeans (EdgesBeyond at) = ⊥
 

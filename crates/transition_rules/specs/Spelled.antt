@@ -11,9 +11,9 @@ abbrev pub is_spelled_before : Variation → Variation → Bool
 is_spelled_before v w = is_lt (slice_cmp nat_cmp (spelling v) (spelling w))
 
 -- A list with one variation more, before the first whose spelling stands after its own.
-abbrev pub inserted : Variation → List Variation → List Variation
-inserted w [] = w ∷ []
-inserted w (x ∷ xs) = if is_spelled_before w x then w ∷ x ∷ xs else x ∷ inserted w xs
+abbrev pub list_with : Variation → List Variation → List Variation
+list_with w [] = w ∷ []
+list_with w (x ∷ xs) = if is_spelled_before w x then w ∷ x ∷ xs else x ∷ list_with w xs
 
 -- The number of a source fits 64 bits, as all do that a program holds.
 abbrev pub FitsNumber : Variation → Type 0

@@ -11,28 +11,28 @@ use Rattle.module_graph.specs.declared.variation.Variation.{Variation}
 use Rattle.mutator_rules.specs.Arrivals.{arrivals}
 use Rattle.mutator_rules.specs.Meaning.{TransitionMeaning}
 use Rattle.module_graph.specs.Same.{same}
-use Rattle.transition_rules.specs.Spelled.{inserted}
+use Rattle.transition_rules.specs.Spelled.{list_with}
 
 -- A wanted variation among the others: each stands there once, and none of the node's own.
-abbrev pub added : List Variation → List Variation → Variation → List Variation
-added own others w = if list_any (same w) own || list_any (same w) others then others else inserted w others
+abbrev pub wants_with : List Variation → List Variation → Variation → List Variation
+wants_with own others w = if list_any (same w) own || list_any (same w) others then others else list_with w others
 
 -- The wanted variations that aren't the node's own, each once, by spelling.
 abbrev pub others_of : List Variation → List Variation → List Variation
-others_of own wanted = fold (added own) [] wanted
+others_of own wanted_variations = fold (wants_with own) [] wanted_variations
 
 module _ {P : Type 0} (m : TransitionMeaning P) (nodes : List (Node P)) where
   -- What a variant of a node wants of node n along an edge.
-  abbrev pub handed : ℕ → NodeId × EdgeKind → Variation → Variation
-  handed n a v = m.incoming nodes n (m.outgoing nodes a.0.0 a.1 v)
+  abbrev pub handed_variation : ℕ → NodeId × EdgeKind → Variation → Variation
+  handed_variation n a v = m.incoming nodes n (m.outgoing nodes a.0.0 a.1 v)
 
   -- What is wanted of node n along the edges that lead to it, given the variations of their sources.
-  abbrev pub wanted : ℕ → List (NodeId × EdgeKind) → List (List Variation) → List Variation
-  wanted n [] lists = []
-  wanted n (a ∷ rest) [] = []
-  wanted n (a ∷ rest) (vs ∷ lists) = map (handed n a) vs ++ wanted n rest lists
+  abbrev pub wanted_variations : ℕ → List (NodeId × EdgeKind) → List (List Variation) → List Variation
+  wanted_variations n [] lists = []
+  wanted_variations n (a ∷ rest) [] = []
+  wanted_variations n (a ∷ rest) (vs ∷ lists) = map (handed_variation n a) vs ++ wanted_variations n rest lists
 
   -- The variations of node n, given those of the nodes whose edges lead to it.
   abbrev pub variations_meant : ℕ → List (List Variation) → Result (List Variation) Fault
   variations_meant n lists =
-      then_do (m.split nodes n) (λ own. Ok (own ++ others_of own (wanted n (arrivals nodes n) lists)))
+      then_do (m.split nodes n) (λ own. Ok (own ++ others_of own (wanted_variations n (arrivals nodes n) lists)))

@@ -5,7 +5,7 @@ ghost use Rattle.module_graph.specs.Planned.{plan_of};
 ghost use Rattle.mutator_rules.specs.Conditions.{MayRun, MayVisit};
 ghost use Rattle.pass_ways.specs.Ways.{AnswersWay, Follows, IsPassWay, RefusesPass, Runs};
 ghost use Rattle.variant_graphs.specs.Splitting.{StayFree};
-ghost use Rattle.variant_graphs.specs.Steps.{AnswersStep, HasFollowed};
+ghost use Rattle.variant_graphs.specs.Steps.{AnswersStep, FollowedMeans};
 ghost use Rattle.transition_rules.specs.Passes.{MutateMeans};
 
 use bp_faults::{NodeId, Payload, Seq};
@@ -110,7 +110,7 @@ where
     requires follows { Follows way.now before.now }
     ensures means { AnswersStep (λ made. made.graph.nodes) (MutateMeans (M.meaning rule.now) g.nodes)
         (RefusesPass way.now before.now pass (plan_of BottomUp g.nodes)) result }
-    ensures followed { HasFollowed (λ made. made.order)
+    ensures followed { FollowedMeans (λ made. made.order)
         (Runs (Follows way.now) (plan_of BottomUp g.nodes) pass before.now) result }
     ensures valid { IfOk result (λ made. IsValid made.graph.nodes) }
     ensures may { IfOk result (λ made. MayRun (M.accepts rule.now) made.graph.nodes) }

@@ -3,7 +3,8 @@ ghost use Rattle.std.specs.Arc.{arc_value};
 ghost use Rattle.std.specs.List.{AllByRecursion, fold};
 ghost use Rattle.mutator_rules.specs.Arrivals.{arrivals, all_arrivals};
 ghost use Rattle.mutator_rules.specs.Conditions.{MayRun, MayVisit};
-ghost use Rattle.transition_rules.specs.Wants.{added, others_of, handed, wanted, variations_meant};
+ghost use Rattle.transition_rules.specs.Wants.{wants_with, others_of, handed_variation, wanted_variations};
+ghost use Rattle.transition_rules.specs.Wants.{variations_meant};
 
 use crate::spelled::insert_spelled;
 use bp_faults::{NodeId, OutOfMemory, Seq};
@@ -22,7 +23,7 @@ fn add(
     others: &mut Vec<Variation>,
     w: Variation,
 ) -> Result<(), OutOfMemory>
-    ensures { OnOk result (others.new.items ≡ added own.now others.old.items w) }
+    ensures { OnOk result (others.new.items ≡ wants_with own.now others.old.items w) }
 {
     if holds(own, w) || holds(others, w) {
         return Ok(());
@@ -44,8 +45,8 @@ fn add_handed<P, M: Transition<P>>(
     requires may { MayRun (M.accepts rule.now) g.now.nodes }
     requires inside { n.0 < length g.now.nodes }
     requires from { arrival.0.0 < length g.now.nodes }
-    ensures { OnOk result (others.new.items ≡ fold (added own.now) others.old.items
-        (map (handed (M.meaning rule.now) g.now.nodes n.0 arrival) list.now)) }
+    ensures { OnOk result (others.new.items ≡ fold (wants_with own.now) others.old.items
+        (map (handed_variation (M.meaning rule.now) g.now.nodes n.0 arrival) list.now)) }
 {
     for v in list {
         let w = rule.incoming(g, n, rule.outgoing(g, arrival.0, arrival.1, *v));
@@ -69,7 +70,8 @@ fn others_wanted<P, M: Transition<P>>(
     requires from { AllByRecursion (λ a. a.0.0 < length g.now.nodes) arriving.now }
     requires many { length lists.now ≡ length arriving.now }
     ensures { IfOk result (λ others. others.items
-        ≡ others_of own.now (wanted (M.meaning rule.now) g.now.nodes n.0 arriving.now (map arc_value lists.now))) }
+        ≡ others_of own.now
+        (wanted_variations (M.meaning rule.now) g.now.nodes n.0 arriving.now (map arc_value lists.now))) }
 {
     let mut others = Vec::new(alloc);
     for (i, arrival) in arriving.iter().enumerate() {

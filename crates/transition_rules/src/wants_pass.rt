@@ -6,8 +6,8 @@ ghost use Rattle.mutator_rules.specs.Conditions.{MayRun};
 ghost use Rattle.pass_ways.specs.Ways.{AnswersWay, Follows, IsPassWay, RefusesPass, Runs};
 ghost use Rattle.variant_graphs.specs.Splits.{AnswersSplit};
 ghost use Rattle.variant_graphs.specs.Splitting.{splitting, HasFreeAxis, StayFree};
-ghost use Rattle.variant_graphs.specs.Steps.{AnswersStep, HasFollowed};
-ghost use Rattle.transition_rules.specs.Passes.{wanted_variants, AreWants, SplitsDiffer, WantsMean};
+ghost use Rattle.variant_graphs.specs.Steps.{AnswersStep, FollowedMeans};
+ghost use Rattle.transition_rules.specs.Passes.{wanted_variants, WantsMeans, SplitsDiffer, WantsMean};
 ghost use Rattle.transition_rules.specs.Wants.{variations_meant};
 
 use crate::laws::wants_split;
@@ -69,7 +69,7 @@ fn split<P: Payload + Drop, M: Transition<P>>(
     requires valid { IsValid g.now.nodes }
     requires may { MayRun (M.accepts rule.now) g.now.nodes }
     requires differ { SplitsDiffer (M.meaning rule.now) g.now.nodes }
-    requires wants { AreWants (M.meaning rule.now) g.now.nodes (Ok lists.items) }
+    requires wants { WantsMeans (M.meaning rule.now) g.now.nodes (Ok lists.items) }
     ensures { AnswersSplit
         (splitting (wanted_variants (M.meaning rule.now) g.now.nodes) lists.items) g.now.nodes result }
 {
@@ -112,7 +112,7 @@ where
     requires follows { Follows way.now before.now }
     ensures means { AnswersStep (λ made. made.graph.nodes) (WantsMean (M.meaning rule.now) g.nodes)
         (RefusesPass way.now before.now pass (plan_of TopDown g.nodes)) result }
-    ensures followed { HasFollowed (λ made. made.order)
+    ensures followed { FollowedMeans (λ made. made.order)
         (Runs (Follows way.now) (plan_of TopDown g.nodes) pass before.now) result }
     ensures valid { IfOk result (λ made. IsValid made.graph.nodes) }
     ensures may { IfOk result (λ made. MayRun (M.accepts rule.now) made.graph.nodes) }

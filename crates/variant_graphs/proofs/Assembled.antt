@@ -18,16 +18,17 @@ use Rattle.variant_graphs.proofs.Alls.{by_number_step}
 use Rattle.variant_graphs.proofs.Alls.{edges_at_is}
 use Rattle.mutator_rules.specs.declared.error.KindError.{KindError}
 use Rattle.mutator_rules.specs.declared.error.KindError.TheVariants.{At, Nodes, Edges, OutOfMemory}
-use Rattle.variant_graphs.specs.Inside.{total, before, repeated, is_kept, kept_places, new_places, AnswersBegins, IsEdgeBeyond}
+use Rattle.variant_graphs.specs.Inside.{total, before, copies_of, is_kept, kept_places, new_places, AnswersBegins, IsEdgeBeyond}
 use Rattle.variant_graphs.specs.Splits.{IsSplitting}
 use Rattle.bp_faults.specs.declared.limits.TheConstants.{MOST_NODES, MOST_EDGES}
-use Rattle.variant_graphs.specs.Limits.{all_edges, IsWithinLimits, IsFirstNodeBeyond, IsFirstEdgeBeyond}
-use Rattle.variant_graphs.specs.Splitting.{Splitting, variants_at, first_of, led, variant_node, split_nodes}
+use Rattle.variant_graphs.specs.Limits.{IsWithinLimits, IsFirstNodeBeyond, IsFirstEdgeBeyond}
+use Rattle.variant_graphs.specs.Splitting.{Splitting, variants_at, first_of, led_edge, variant_node, split_nodes}
 use Rattle.variant_graphs.specs.Inside.{counts_of}
 use Rattle.variant_graphs.specs.Splits.{AnswersSplit}
 use Rattle.variant_graphs.proofs.Begun.{get_lengths, total_is, before_is}
 use Rattle.variant_graphs.proofs.NewNodes.{piece, first_more, first_node, length-before, length-split}
 use Rattle.variant_graphs.proofs.Pieces.{by_number_at, get_middle}
+use Rattle.module_graph.specs.Graphs.{all_edges}
 
 -- an answer that is handed on says what the first one says
 pub handed_on : {P B : Type 0} (s : Splitting P B) (nodes : List (Node P)) (e : KindError) (r : Result (Graph P) KindError) → IsErr r → IsErrAnd r (λ x. x ≡ e) → AnswersSplit s nodes (Err e) → AnswersSplit s nodes r
@@ -86,27 +87,27 @@ module _ {P B : Type 0} (s : Splitting P B) (nodes : List (Node P)) (splits : Is
   kept_one e false is es = ap (λ b. map at_of (cond b (e ∷ filter (is_kept (counts_of s)) es) (filter (is_kept (counts_of s)) es))) is
 
   -- the places of the edges of one variant
-  variant_places : (n : ℕ) (v : Variation) (es : List Edge) → AllByRecursion (λ (e : Edge). s.lead n v e ≡ None → length (variants_at s e.to.0) ≡ 0) es → map at_of (filter_map (led s n v) es) ≡ kept_places (counts_of s) es
+  variant_places : (n : ℕ) (v : Variation) (es : List Edge) → AllByRecursion (λ (e : Edge). s.lead n v e ≡ None → length (variants_at s e.to.0) ≡ 0) es → map at_of (filter_map (led_edge s n v) es) ≡ kept_places (counts_of s) es
   variant_places n v [] h = refl
   variant_places n v (e ∷ es) h = by (s.lead n v e) refl (variant_places n v es h.1)
     where
-      by : (o : Option ℕ) → s.lead n v e ≡ o → map at_of (filter_map (led s n v) es) ≡ kept_places (counts_of s) es → map at_of (filter_map (led s n v) (e ∷ es)) ≡ kept_places (counts_of s) (e ∷ es)
+      by : (o : Option ℕ) → s.lead n v e ≡ o → map at_of (filter_map (led_edge s n v) es) ≡ kept_places (counts_of s) es → map at_of (filter_map (led_edge s n v) (e ∷ es)) ≡ kept_places (counts_of s) (e ∷ es)
       by None is rest =
           let none = h.0 is in
           let count = get_lengths s.variants e.to.0 in
           let t : is_kept (counts_of s) e ≡ false = grind (arith, nat_tests) in
-          ap (λ o. map at_of (cons_option (option_map (λ place. record { kind = e.kind; to = record { 0 = first_of s e.to.0 + place }; at = e.at }) o) (filter_map (led s n v) es))) is ∙ rest ∙ sym (kept_one e false t es)
+          ap (λ o. map at_of (cons_option (option_map (λ place. record { kind = e.kind; to = record { 0 = first_of s e.to.0 + place }; at = e.at }) o) (filter_map (led_edge s n v) es))) is ∙ rest ∙ sym (kept_one e false t es)
       by (Some place) is rest =
           let within = splits.within n v e place is in
           let count = get_lengths s.variants e.to.0 in
           let t : is_kept (counts_of s) e ≡ true = grind (arith, nat_tests) in
-          ap (λ o. map at_of (cons_option (option_map (λ place. record { kind = e.kind; to = record { 0 = first_of s e.to.0 + place }; at = e.at }) o) (filter_map (led s n v) es))) is ∙ ap (λ l. e.at ∷ l) rest ∙ sym (kept_one e true t es)
+          ap (λ o. map at_of (cons_option (option_map (λ place. record { kind = e.kind; to = record { 0 = first_of s e.to.0 + place }; at = e.at }) o) (filter_map (led_edge s n v) es))) is ∙ ap (λ l. e.at ∷ l) rest ∙ sym (kept_one e true t es)
 
   variants_places : (n : ℕ) (x : Node P) (bs : List B) → AllByRecursion (λ (b : B). AllByRecursion (λ (e : Edge). s.lead n (s.variation b) e ≡ None → length (variants_at s e.to.0) ≡ 0) x.edges) bs
-      → map at_of (flat_map edges_in (map (variant_node s n x) bs)) ≡ repeated (length bs) (kept_places (counts_of s) x.edges)
+      → map at_of (flat_map edges_in (map (variant_node s n x) bs)) ≡ copies_of (length bs) (kept_places (counts_of s) x.edges)
   variants_places n x [] h = refl
   variants_places n x (b ∷ bs) h =
-      map-append at_of (filter_map (led s n (s.variation b)) x.edges) (flat_map edges_in (map (variant_node s n x) bs))
+      map-append at_of (filter_map (led_edge s n (s.variation b)) x.edges) (flat_map edges_in (map (variant_node s n x) bs))
       ∙ ap (λ (l : List Place). l ++ map at_of (flat_map edges_in (map (variant_node s n x) bs))) (variant_places n (s.variation b) x.edges h.0)
       ∙ ap (λ (l : List Place). kept_places (counts_of s) x.edges ++ l) (variants_places n x bs h.1)
 
@@ -124,8 +125,8 @@ module _ {P B : Type 0} (s : Splitting P B) (nodes : List (Node P)) (splits : Is
       ∙ ap (λ (l : List (Node P)). map at_of (all_edges l)) (by_number_step (piece s nodes splits.many) nodes n x lt)
       ∙ ap (map at_of) (flat_map_append edges_in front here) ∙ map-append at_of (all_edges front) (all_edges here)
       ∙ ap (λ (l : List Place). l ++ map at_of (all_edges here)) (places_to n (omega arith))
-      ∙ ap (λ (l : List Place). new_places (counts_of s) (take n nodes) ++ l) (variants_places n node (variants_at s n) led_here ∙ ap (λ k. repeated k (kept_places (counts_of s) node.edges)) (sym (get_lengths s.variants n)))
-      ∙ sym (by_number_step (λ n (x : Node P). repeated (get_or (counts_of s) n 0) (kept_places (counts_of s) x.edges)) nodes n x lt)
+      ∙ ap (λ (l : List Place). new_places (counts_of s) (take n nodes) ++ l) (variants_places n node (variants_at s n) led_here ∙ ap (λ k. copies_of k (kept_places (counts_of s) node.edges)) (sym (get_lengths s.variants n)))
+      ∙ sym (by_number_step (λ n (x : Node P). copies_of (get_or (counts_of s) n 0) (kept_places (counts_of s) x.edges)) nodes n x lt)
       ∙ ap (λ k. new_places (counts_of s) (take k nodes)) (sym e)
 
   -- the places of the edges of the new graph, in node order

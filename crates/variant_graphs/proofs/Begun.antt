@@ -14,8 +14,8 @@ use Rattle.module_graph.specs.declared.graph.Edge.{Edge}
 use Rattle.module_graph.specs.declared.variation.Variation.{Variation}
 use Rattle.variant_graphs.specs.Inside.{total, before, begun, theirs, IsNumbering, IsFit, led_by, node_by}
 use Rattle.variant_graphs.specs.declared.numbering.Numbering.{Numbering}
-use Rattle.variant_graphs.specs.Splitting.{SplitRule, Splitting, splitting, variants_at, first_of, led, variant_node}
-use Rattle.module_graph.specs.Axes.{place_of}
+use Rattle.variant_graphs.specs.Splitting.{SplitRule, Splitting, splitting, variants_at, first_of, led_edge, variant_node}
+use Rattle.module_graph.specs.Axes.{axis_index}
 use Rattle.module_graph.specs.declared.graph.Node.{Node}
 use Rattle.std.specs.Option.{option_map}
 use Rattle.std.specs.Prelude.{Option, slice_set}
@@ -111,7 +111,7 @@ module _ {P B : Type 0} (rule : SplitRule P B) (lists : List (List B)) (numberin
       inside t lt = let long = begins_long (splitting rule lists) numbering h in omega arith
 
   same_edge : (n : ℕ) (v : Variation) (e : Edge) → e.to.0 < length lists
-      → led_by rule numbering n v e ≡ led (splitting rule lists) n v e
+      → led_by rule numbering n v e ≡ led_edge (splitting rule lists) n v e
   same_edge n v e lt = λ i.
       option_map (λ place. record {
         kind = e.kind;
@@ -124,11 +124,11 @@ module _ {P B : Type 0} (rule : SplitRule P B) (lists : List (List B)) (numberin
       → node_by rule numbering n x b ≡ variant_node (splitting rule lists) n x b
   same_variant n x b ends = λ i. record {
     «module» = x.«module»;
-    vars = slice_set x.vars (place_of rule.axis) (rule.variation b);
+    vars = slice_set x.vars (axis_index rule.axis) (rule.variation b);
     payload = rule.payload x b;
-    edges = filter_map-same (led_by rule numbering n (rule.variation b)) (led (splitting rule lists) n (rule.variation b))
+    edges = filter_map-same (led_by rule numbering n (rule.variation b)) (led_edge (splitting rule lists) n (rule.variation b))
         x.edges
         (all_map (λ (e : Edge). e.to.0 < length lists)
-        (λ (e : Edge). led_by rule numbering n (rule.variation b) e ≡ led (splitting rule lists) n (rule.variation b) e)
+        (λ (e : Edge). led_by rule numbering n (rule.variation b) e ≡ led_edge (splitting rule lists) n (rule.variation b) e)
         (λ e lt. same_edge n (rule.variation b) e lt) x.edges ends) i;
   }

@@ -11,12 +11,12 @@ use Rattle.module_graph.specs.declared.graph.Edge.{Edge}
 use Rattle.module_graph.specs.declared.graph.Node.{Node}
 use Rattle.module_graph.specs.declared.variation.Variation.{Variation}
 use Rattle.module_graph.specs.Numbered.{by_number}
-use Rattle.module_graph.specs.Graphs.{outward, edges_of, NameNodes, IsNumbered, IsValid}
-use Rattle.module_graph.specs.Planned.{turned, by_target, plan_of}
+use Rattle.module_graph.specs.Graphs.{outward, edges_of, NameNodes, IsNumbered, IsValid, all_edges}
+use Rattle.module_graph.specs.Planned.{turned_edge, by_target, plan_of}
 use Rattle.module_graph.specs.Walks.{NoneReturns}
 use Rattle.variant_graphs.proofs.Alls.{all_image, all_before, all_by_number}
 use Rattle.variant_graphs.specs.Laws.{HasModulesOf}
-use Rattle.variant_graphs.specs.Limits.{all_edges, IsWithinLimits}
+use Rattle.variant_graphs.specs.Limits.{IsWithinLimits}
 use Rattle.variant_graphs.specs.Payloads.{with_payloads}
 use Rattle.variant_graphs.specs.Splitting.{Splitting, variants_at, variant_node, split_nodes, HasFreeAxis}
 use Rattle.variant_graphs.specs.Splits.{IsSplitting}
@@ -24,7 +24,7 @@ use Rattle.bp_faults.proofs.Lists.{get_else}
 use Rattle.module_graph.specs.declared.variation.Variation.TheVariants.{Empty}
 use Rattle.module_graph.specs.declared.variations.Axis.{Axis}
 use Rattle.module_graph.specs.declared.variations.Axis.TheVariants.{Target, Image, Link, PerSource, Sanitize}
-use Rattle.module_graph.specs.Axes.{place_of}
+use Rattle.module_graph.specs.Axes.{axis_index}
 use Rattle.std.specs.Prelude.{◌≢◌, slice_get, Some}
 use Rattle.variant_graphs.proofs.Apart.{Apart, apart_pairs, pairs_apart, all_each}
 use Rattle.variant_graphs.proofs.Valid.{Differ, ends_stay}
@@ -45,7 +45,7 @@ module _ {P : Type 0} where
   edges_given xs ps = numbered_given (λ n es. map (outward n) es) 0 xs ps
 
   pub plan_given : (dir : Direction) (xs : List (Node P)) (ps : List P) → plan_of dir (with_payloads xs ps) ≡ plan_of dir xs
-  plan_given BottomUp xs ps = λ i. record { count = length-given xs ps i; edges = numbered_given (λ n es. map (turned n) es) 0 xs ps i }
+  plan_given BottomUp xs ps = λ i. record { count = length-given xs ps i; edges = numbered_given (λ n es. map (turned_edge n) es) 0 xs ps i }
   plan_given TopDown xs ps = λ i. record { count = length-given xs ps i; edges = by_target (length-given xs ps i) (edges_given xs ps i) }
 
   -- what holds of each module, its variations and its edges
@@ -122,7 +122,7 @@ modules_given {P} nodes outs numbered = record {
 pub free_given : {P : Type 0} (nodes : List (Node P)) (outs : List P) (axis : Axis) → HasFreeAxis axis nodes
     → HasFreeAxis axis (with_payloads nodes outs)
 free_given nodes outs axis free =
-    all_given (λ (m : ModuleId) vars es. slice_get vars (place_of axis) ≡ Some Empty) nodes outs free
+    all_given (λ (m : ModuleId) vars es. slice_get vars (axis_index axis) ≡ Some Empty) nodes outs free
 
 axis_at : ℕ → Axis
 axis_at zero = Target
@@ -131,7 +131,7 @@ axis_at (suc (suc zero)) = Link
 axis_at (suc (suc (suc zero))) = PerSource
 axis_at (suc (suc (suc (suc n)))) = Sanitize
 
-axis_back : (axis : Axis) → axis_at (place_of axis) ≡ axis
+axis_back : (axis : Axis) → axis_at (axis_index axis) ≡ axis
 unfolding axis_at
 axis_back Target = refl
 axis_back Image = refl
@@ -140,7 +140,7 @@ axis_back PerSource = refl
 axis_back Sanitize = refl
 
 -- axes that differ have places that differ
-places_differ : (axis other : Axis) → axis ≢ other → place_of axis ≢ place_of other
+places_differ : (axis other : Axis) → axis ≢ other → axis_index axis ≢ axis_index other
 places_differ axis other differs same =
     differs (sym (axis_back axis) ∙ ap axis_at same ∙ axis_back other)
 
@@ -150,11 +150,11 @@ module _ {P B : Type 0} (s : Splitting P B) where
   free_stays nodes axis differs free =
       all_by_number Free Free (0 + length nodes) (λ n x. map (variant_node s n x) (variants_at s n))
       (λ n x lt q. all_image (λ (b : B). ⊤) Free (variant_node s n x)
-      (λ b _. get_else x.vars (place_of s.axis) (place_of axis) (s.variation b) (places_differ axis s.axis differs) ∙ q)
+      (λ b _. get_else x.vars (axis_index s.axis) (axis_index axis) (s.variation b) (places_differ axis s.axis differs) ∙ q)
       (variants_at s n) (all_each (λ (b : B). ⊤) (λ b. tt) (variants_at s n))) 0 nodes refl free
     where
       Free : Node P → Type 0
-      Free x = slice_get x.vars (place_of axis) ≡ Some Empty
+      Free x = slice_get x.vars (axis_index axis) ≡ Some Empty
 
   pub modules_kept : (nodes : List (Node P)) → IsNumbered nodes → IsSplitting s nodes
       → IsWithinLimits (split_nodes s nodes) → HasModulesOf nodes (split_nodes s nodes)

@@ -3,7 +3,7 @@ use Rattle.std.proofs.Common.{◌≡◌, ◌+◌, ◌-◌, ◌<◌, ◌++◌, �
 use Rattle.std.proofs.Common.{ap, ◌∙◌, sym, arith, append-nil, append_assoc, add-zero, zero-add}
 use Rattle.std.specs.Prelude.{slice_get, slice_range}
 use Rattle.module_graph.specs.Numbered.{by_number}
-use Rattle.variant_graphs.specs.Inside.{repeated, before}
+use Rattle.variant_graphs.specs.Inside.{copies_of, before}
 use Rattle.std.proofs.lemmas.List.{drop_at, drop_more, take-append-drop, take_at}
 use Rattle.std.proofs.lemmas.List.Concat.{flat_map-append}
 use Rattle.std.proofs.lemmas.List.Sums.{sum_by_more}
@@ -45,17 +45,17 @@ module _ {A : Type 0} where
   get_middle [] (y ∷ ys) zs (suc j) lt = ap (slice_get (y ∷ (ys ++ zs))) (zero-add (suc j)) ∙ (let r = get_middle [] ys zs j (omega arith) in ap (slice_get (ys ++ zs)) (sym (zero-add j)) ∙ r)
   get_middle (x ∷ xs) ys zs j lt = (let e : length (x ∷ xs) + j ≡ suc (length xs + j) = omega arith in ap (slice_get (x ∷ (xs ++ (ys ++ zs)))) e) ∙ get_middle xs ys zs j lt
 
-  pub repeated_more : (k : ℕ) (xs : List A) → repeated (k + 1) xs ≡ repeated k xs ++ xs
+  pub repeated_more : (k : ℕ) (xs : List A) → copies_of (k + 1) xs ≡ copies_of k xs ++ xs
   repeated_more zero xs = append-nil xs
   repeated_more (suc k) xs =
       let e : suc k + 1 ≡ suc (k + 1) = omega arith in
-      ap (λ n. repeated n xs) e ∙ ap (λ l. xs ++ l) (repeated_more k xs) ∙ sym (append_assoc xs (repeated k xs) xs)
+      ap (λ n. copies_of n xs) e ∙ ap (λ l. xs ++ l) (repeated_more k xs) ∙ sym (append_assoc xs (copies_of k xs) xs)
 
   -- a list many times over, taken apart at one time
-  pub repeated_at : (k j : ℕ) (xs : List A) → j < k → (rest : List A) × (repeated k xs ≡ repeated j xs ++ (xs ++ rest))
+  pub repeated_at : (k j : ℕ) (xs : List A) → j < k → (rest : List A) × (copies_of k xs ≡ copies_of j xs ++ (xs ++ rest))
   repeated_at zero j xs lt = absurd (omega arith)
-  repeated_at (suc k) zero xs lt = (repeated k xs, refl)
-  repeated_at (suc k) (suc j) xs lt = let r = repeated_at k j xs (omega arith) in (r.0, ap (λ l. xs ++ l) r.1 ∙ sym (append_assoc xs (repeated j xs) (xs ++ r.0)))
+  repeated_at (suc k) zero xs lt = (copies_of k xs, refl)
+  repeated_at (suc k) (suc j) xs lt = let r = repeated_at k j xs (omega arith) in (r.0, ap (λ l. xs ++ l) r.1 ∙ sym (append_assoc xs (copies_of j xs) (xs ++ r.0)))
 
 pub before_more : (counts : List ℕ) (n : ℕ) → n < length counts → before counts (n + 1) ≡ before counts n + get_or counts n 0
 before_more counts n lt = sum_by_more (λ k. k) counts n 0 lt

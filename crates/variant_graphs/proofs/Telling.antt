@@ -9,7 +9,8 @@ use Rattle.bp_faults.specs.declared.place.Place.{Place}
 use Rattle.module_graph.specs.declared.graph.Edge.{Edge}
 use Rattle.module_graph.specs.declared.graph.Node.{Node}
 use Rattle.variant_graphs.specs.Laws.{LimitsTell}
-use Rattle.variant_graphs.specs.Limits.{all_edges, IsWithinLimits, IsFirstNodeBeyond, IsFirstEdgeBeyond}
+use Rattle.variant_graphs.specs.Limits.{IsWithinLimits, IsFirstNodeBeyond, IsFirstEdgeBeyond}
+use Rattle.module_graph.specs.Graphs.{all_edges}
 
 -- where nothing stands at a place, there are no more items than that
 none_there : {X : Type 0} (xs : List X) (n : ℕ) → slice_get xs n ≡ None → length xs ≤ n

@@ -13,12 +13,12 @@ use Rattle.module_graph.specs.declared.graph.Edge.{Edge}
 use Rattle.module_graph.specs.declared.graph.Node.{Node}
 use Rattle.module_graph.specs.declared.variation.Variation.{Variation}
 use Rattle.module_graph.specs.declared.variation.Variation.TheVariants.{Empty}
-use Rattle.module_graph.specs.Axes.{place_of}
+use Rattle.module_graph.specs.Axes.{axis_index}
 use Rattle.module_graph.specs.Numbered.{by_number}
 use Rattle.module_graph.specs.Graphs.{outward, edges_of, NameNodes, IsValid}
 use Rattle.variant_graphs.proofs.Alls.{all_append, all_image, all_by_number}
 use Rattle.module_graph.specs.Laws.{NoneReturnsWhereNumberingRises, EdgesJoinNodes}
-use Rattle.variant_graphs.specs.Splitting.{Splitting, variants_at, first_of, led, variant_node, split_nodes, HasFreeAxis}
+use Rattle.variant_graphs.specs.Splitting.{Splitting, variants_at, first_of, led_edge, variant_node, split_nodes, HasFreeAxis}
 use Rattle.variant_graphs.specs.Splits.{IsSplitting}
 use Rattle.variant_graphs.proofs.Apart.{all_split, Apart, apart_pairs, pairs_apart, apart_append, apart_image, all_each, all_kept}
 use Rattle.variant_graphs.proofs.NewNodes.{piece, first_more, variant_inside}
@@ -51,7 +51,7 @@ module _ {P B : Type 0} (s : Splitting P B) (nodes : List (Node P)) (named : Nam
   pub ends_stay : NameNodes (split_nodes s nodes)
   ends_stay = all_by_number (λ (x : Node P). AllByRecursion (λ (e : Edge). e.to.0 < length nodes) x.edges) (λ (y : Node P). AllByRecursion (λ (e : Edge). e.to.0 < length (split_nodes s nodes)) y.edges) (length nodes) (piece s nodes splits.many)
       (λ n x lt h. all_image (λ (b : B). ⊤) (λ (y : Node P). AllByRecursion (λ (e : Edge). e.to.0 < length (split_nodes s nodes)) y.edges) (variant_node s n x)
-      (λ b _. all_kept (λ (e : Edge). e.to.0 < length nodes) (λ (e : Edge). e.to.0 < length (split_nodes s nodes)) (led s n (s.variation b)) (λ e y inside is. one n (s.variation b) e y inside (s.lead n (s.variation b) e) refl is) x.edges h)
+      (λ b _. all_kept (λ (e : Edge). e.to.0 < length nodes) (λ (e : Edge). e.to.0 < length (split_nodes s nodes)) (led_edge s n (s.variation b)) (λ e y inside is. one n (s.variation b) e y inside (s.lead n (s.variation b) e) refl is) x.edges h)
       (variants_at s n) (all_each (λ (b : B). ⊤) (λ b. tt) (variants_at s n))) 0 nodes (zero-add (length nodes)) named
     where
       one : (n : ℕ) (v : Variation) (e y : Edge) → e.to.0 < length nodes → (o : Option ℕ) → s.lead n v e ≡ o → option_map (λ place. record { kind = e.kind; to = record { 0 = first_of s e.to.0 + place }; at = e.at }) o ≡ Some y → y.to.0 < length (split_nodes s nodes)
@@ -62,12 +62,12 @@ module _ {P B : Type 0} (s : Splitting P B) (nodes : List (Node P)) (named : Nam
 
 module _ {P B : Type 0} (join : EdgesJoinNodes P) (rising : NoneReturnsWhereNumberingRises) (s : Splitting P B) (nodes : List (Node P)) (valid : IsValid nodes) (free : HasFreeAxis s.axis nodes) (splits : IsSplitting s nodes) where
   abbrev Free : Node P → Type 0
-  Free x = slice_get x.vars (place_of s.axis) ≡ Some Empty
+  Free x = slice_get x.vars (axis_index s.axis) ≡ Some Empty
 
   -- variants of one node differ
   apart_here : (n : ℕ) (x : Node P) → n < length nodes → Free x → Apart Differ (map (variant_node s n x) (variants_at s n))
   apart_here n x lt open' =
-      apart_image (λ (b c : B). s.variation b ≢ s.variation c) Differ (variant_node s n x) (λ b c ne _ e. ne (same_set x.vars (place_of s.axis) (s.variation b) (s.variation c) open' e)) (variants_at s n)
+      apart_image (λ (b c : B). s.variation b ≢ s.variation c) Differ (variant_node s n x) (λ b c ne _ e. ne (same_set x.vars (axis_index s.axis) (s.variation b) (s.variation c) open' e)) (variants_at s n)
       (apart_pairs (λ (b c : B). s.variation b ≢ s.variation c) (variants_at s n) (All-from_recursion (AllPairs (λ (b c : B). s.variation b ≢ s.variation c)) s.variants splits.differ n [] (let e = splits.many in omega arith)))
 
   apart_from : (k : ℕ) (xs : List (Node P)) → k + length xs ≡ length nodes → Apart Differ xs → AllByRecursion Free xs → Apart Differ (by_number (piece s nodes splits.many) k xs)
@@ -77,7 +77,7 @@ module _ {P B : Type 0} (join : EdgesJoinNodes P) (rising : NoneReturnsWhereNumb
       (all_image (λ (b : B). ⊤) (λ (y : Node P). AllByRecursion (Differ y) (by_number (piece s nodes splits.many) (k + 1) xs)) (variant_node s k x)
       (λ b _. all_by_number (λ (z : Node P). Differ x z × Free z) (λ (w : Node P). Differ (variant_node s k x b) w) (length nodes) (piece s nodes splits.many)
       (λ n z lt hz. all_image (λ (c : B). ⊤) (λ (w : Node P). Differ (variant_node s k x b) w) (variant_node s n z)
-      (λ c _ same vars. hz.0 same (same_but_set x.vars z.vars (place_of s.axis) (s.variation b) (s.variation c) open'.0 hz.1 vars)) (variants_at s n) (all_each (λ (c : B). ⊤) (λ c. tt) (variants_at s n)))
+      (λ c _ same vars. hz.0 same (same_but_set x.vars z.vars (axis_index s.axis) (s.variation b) (s.variation c) open'.0 hz.1 vars)) (variants_at s n) (all_each (λ (c : B). ⊤) (λ c. tt) (variants_at s n)))
       (k + 1) xs (omega arith) (all_with (Differ x) Free (λ (z : Node P). Differ x z × Free z) (λ z a f. (a, f)) xs h.0 open'.1))
       (variants_at s k) (all_each (λ (b : B). ⊤) (λ b. tt) (variants_at s k)))
 
@@ -103,10 +103,10 @@ module _ {P B : Type 0} (join : EdgesJoinNodes P) (rising : NoneReturnsWhereNumb
 
   -- the edges of one variant rise
   variant_rises : (n place : ℕ) (v : Variation) (es : List Edge) → n < length nodes → place < length (variants_at s n) → AllByRecursion (λ (e : Edge). e.to.0 < length nodes) es → AllByRecursion (λ (e : Edge). old_free.rank n < old_free.rank e.to.0) es
-      → AllByRecursion Rises (map (outward (first_of s n + place)) (filter_map (led s n v) es))
+      → AllByRecursion Rises (map (outward (first_of s n + place)) (filter_map (led_edge s n v) es))
   variant_rises n place v es lt within inside rise =
-      all_image (λ (e : Edge). old_free.rank n < level e.to.0) Rises (outward (first_of s n + place)) (λ e h. let a = level_is n place lt within in omega arith) (filter_map (led s n v) es)
-      (all_kept (λ (e : Edge). (e.to.0 < length nodes) × (old_free.rank n < old_free.rank e.to.0)) (λ (e : Edge). old_free.rank n < level e.to.0) (led s n v) (λ e y h is. one e y h.0 h.1 (s.lead n v e) refl is) es
+      all_image (λ (e : Edge). old_free.rank n < level e.to.0) Rises (outward (first_of s n + place)) (λ e h. let a = level_is n place lt within in omega arith) (filter_map (led_edge s n v) es)
+      (all_kept (λ (e : Edge). (e.to.0 < length nodes) × (old_free.rank n < old_free.rank e.to.0)) (λ (e : Edge). old_free.rank n < level e.to.0) (led_edge s n v) (λ e y h is. one e y h.0 h.1 (s.lead n v e) refl is) es
       (all_with (λ (e : Edge). e.to.0 < length nodes) (λ (e : Edge). old_free.rank n < old_free.rank e.to.0) (λ (e : Edge). (e.to.0 < length nodes) × (old_free.rank n < old_free.rank e.to.0)) (λ e a b. (a, b)) es inside rise))
     where
       one : (e y : Edge) → e.to.0 < length nodes → old_free.rank n < old_free.rank e.to.0 → (o : Option ℕ) → s.lead n v e ≡ o → option_map (λ place. record { kind = e.kind; to = record { 0 = first_of s e.to.0 + place }; at = e.at }) o ≡ Some y → old_free.rank n < level y.to.0
@@ -121,7 +121,7 @@ module _ {P B : Type 0} (join : EdgesJoinNodes P) (rising : NoneReturnsWhereNumb
   variants_rise n place x [] lt within inside rise = tt
   variants_rise n place x (b ∷ bs) lt within inside rise =
       let e : first_of s n + (place + 1) ≡ (first_of s n + place) + 1 = omega arith in
-      all_append Rises (map (outward (first_of s n + place)) (filter_map (led s n (s.variation b)) x.edges)) (by_number (λ i (y : Node P). map (outward i) y.edges) ((first_of s n + place) + 1) (map (variant_node s n x) bs))
+      all_append Rises (map (outward (first_of s n + place)) (filter_map (led_edge s n (s.variation b)) x.edges)) (by_number (λ i (y : Node P). map (outward i) y.edges) ((first_of s n + place) + 1) (map (variant_node s n x) bs))
       (variant_rises n place (s.variation b) x.edges lt (omega arith) inside rise)
       (subst (λ k. AllByRecursion Rises (by_number (λ i (y : Node P). map (outward i) y.edges) k (map (variant_node s n x) bs))) e (variants_rise n (place + 1) x bs lt (omega arith) inside rise))
 

@@ -11,7 +11,7 @@ use Rattle.bp_faults.specs.declared.place.Place.{Place}
 use Rattle.module_graph.specs.declared.graph.Edge.{Edge}
 use Rattle.module_graph.specs.declared.graph.Node.{Node}
 use Rattle.module_graph.specs.declared.variation.Variation.{Variation}
-use Rattle.module_graph.specs.Axes.{place_of}
+use Rattle.module_graph.specs.Axes.{axis_index}
 use Rattle.module_graph.specs.Numbered.{by_number}
 use Rattle.mutator_rules.specs.declared.error.KindError.{KindError}
 use Rattle.mutator_rules.specs.declared.error.KindError.TheVariants.{At, Nodes, Edges, OutOfMemory}
@@ -31,9 +31,9 @@ abbrev pub begins : List ℕ → List ℕ
 begins counts = map (before counts) (range_with_len 0 (length counts + 1))
 
 -- A list k times over.
-abbrev pub repeated : {A : Type 0} → ℕ → List A → List A
-repeated zero xs = []
-repeated (suc k) xs = xs ++ repeated k xs
+abbrev pub copies_of : {A : Type 0} → ℕ → List A → List A
+copies_of zero xs = []
+copies_of (suc k) xs = xs ++ copies_of k xs
 
 -- An edge is kept where its target has a variant.
 abbrev pub is_kept : List ℕ → Edge → Bool
@@ -47,7 +47,7 @@ module _ {P : Type 0} where
   -- The places of the edges of all variants, in node order.
   abbrev pub new_places : List ℕ → List (Node P) → List Place
   new_places counts nodes =
-      by_number (λ n (x : Node P). repeated (slice_index_or counts n 0) (kept_places counts x.edges)) 0 nodes
+      by_number (λ n (x : Node P). copies_of (slice_index_or counts n 0) (kept_places counts x.edges)) 0 nodes
 
   -- Where the variants of each node begin, or the module of the node whose variants pass the limit.
   abbrev pub AnswersBegins : List ℕ → List (Node P) → Result (Vec ℕ Global) KindError → Type 0
@@ -112,7 +112,7 @@ module _ {P B : Type 0} (rule : SplitRule P B) (numbering : Numbering) where
   abbrev pub node_by : ℕ → Node P → B → Node P
   node_by n x b = record {
     «module» = x.«module»;
-    vars = slice_set x.vars (place_of rule.axis) (rule.variation b);
+    vars = slice_set x.vars (axis_index rule.axis) (rule.variation b);
     payload = rule.payload x b;
     edges = filter_map (led_by n (rule.variation b)) x.edges;
   }

@@ -7,12 +7,9 @@ use Rattle.bp_faults.specs.declared.limits.TheConstants.{MOST_EDGES, MOST_NODES}
 use Rattle.bp_faults.specs.declared.place.Place.{Place}
 use Rattle.module_graph.specs.declared.graph.Edge.{Edge}
 use Rattle.module_graph.specs.declared.graph.Node.{Node}
+use Rattle.module_graph.specs.Graphs.{all_edges}
 
 module _ {P : Type 0} where
-  -- The edges of a graph, in node order.
-  abbrev pub all_edges : List (Node P) → List Edge
-  all_edges nodes = flat_map (λ (x : Node P). x.edges) nodes
-
   -- A graph is within the limits.
   pub record IsWithinLimits (nodes : List (Node P)) : Type 0 where
     pub few_nodes : length nodes ≤ MOST_NODES

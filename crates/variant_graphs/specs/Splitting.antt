@@ -9,7 +9,7 @@ use Rattle.module_graph.specs.declared.graph.Node.{Node}
 use Rattle.module_graph.specs.declared.variation.Variation.{Variation}
 use Rattle.module_graph.specs.declared.variation.Variation.TheVariants.{Empty}
 use Rattle.module_graph.specs.declared.variations.Axis.{Axis}
-use Rattle.module_graph.specs.Axes.{place_of}
+use Rattle.module_graph.specs.Axes.{axis_index}
 use Rattle.module_graph.specs.Numbered.{by_number}
 
 -- How a kind of mutator makes variants. A variant is whatever the kind keeps of it.
@@ -52,8 +52,8 @@ module _ {P B : Type 0} (s : Splitting P B) where
   first_of n = sum_by length (take n s.variants)
 
   -- The edge of a variant of node n with variation v.
-  abbrev pub led : ℕ → Variation → Edge → Option Edge
-  led n v e =
+  abbrev pub led_edge : ℕ → Variation → Edge → Option Edge
+  led_edge n v e =
       option_map (λ place. record { kind = e.kind; to = record { 0 = first_of e.to.0 + place }; at = e.at })
       (s.lead n v e)
 
@@ -61,9 +61,9 @@ module _ {P B : Type 0} (s : Splitting P B) where
   abbrev pub variant_node : ℕ → Node P → B → Node P
   variant_node n x b = record {
     «module» = x.«module»;
-    vars = slice_set x.vars (place_of s.axis) (s.variation b);
+    vars = slice_set x.vars (axis_index s.axis) (s.variation b);
     payload = s.payload x b;
-    edges = filter_map (led n (s.variation b)) x.edges;
+    edges = filter_map (led_edge n (s.variation b)) x.edges;
   }
 
   -- The new nodes stand by old number, and then by place among the variants.
@@ -72,7 +72,7 @@ module _ {P B : Type 0} (s : Splitting P B) where
 
 -- No node has a variation on the axis yet.
 abbrev pub HasFreeAxis : {P : Type 0} → Axis → List (Node P) → Type 0
-HasFreeAxis {P} axis nodes = AllByRecursion (λ (x : Node P). slice_get x.vars (place_of axis) ≡ Some Empty) nodes
+HasFreeAxis {P} axis nodes = AllByRecursion (λ (x : Node P). slice_get x.vars (axis_index axis) ≡ Some Empty) nodes
 
 -- The axes that were free and aren't the one that a rule splits along, if it splits along one, are free.
 abbrev pub StayFree : {P : Type 0} → Option Axis → List (Node P) → List (Node P) → Type 0

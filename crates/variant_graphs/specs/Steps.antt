@@ -24,10 +24,10 @@ AnswersStep view Means Refuses (Err (Refused fault)) = Refuses fault
 AnswersStep view Means Refuses (Err (Kind error)) = AnswersKind view Means (Err error)
 
 -- Some order was followed, and it is the one that an answer tells. Nothing is said where the way refuses.
-abbrev pub HasFollowed : {T : Type 0} → (T → List NodeId) → (List NodeId → Type 0) → Result T StepError → Type 0
-HasFollowed order_of Runs (Ok made) = Runs (order_of made)
-HasFollowed order_of Runs (Err (Refused fault)) = ⊤
-HasFollowed order_of Runs (Err (Kind (At n fault))) = (order : List NodeId) × Runs order
-HasFollowed order_of Runs (Err (Kind (Nodes m))) = (order : List NodeId) × Runs order
-HasFollowed order_of Runs (Err (Kind (Edges p))) = (order : List NodeId) × Runs order
-HasFollowed order_of Runs (Err (Kind OutOfMemory)) = ⊤
+abbrev pub FollowedMeans : {T : Type 0} → (T → List NodeId) → (List NodeId → Type 0) → Result T StepError → Type 0
+FollowedMeans order_of Runs (Ok made) = Runs (order_of made)
+FollowedMeans order_of Runs (Err (Refused fault)) = ⊤
+FollowedMeans order_of Runs (Err (Kind (At n fault))) = (order : List NodeId) × Runs order
+FollowedMeans order_of Runs (Err (Kind (Nodes m))) = (order : List NodeId) × Runs order
+FollowedMeans order_of Runs (Err (Kind (Edges p))) = (order : List NodeId) × Runs order
+FollowedMeans order_of Runs (Err (Kind OutOfMemory)) = ⊤

@@ -1,7 +1,7 @@
 ghost use Rattle.std.specs.Prelude.{◌≡◌, ◌<◌, ◌+◌, ◌++◌, IfOk, OnOk, length, map, slice_set};
 ghost use Rattle.std.specs.List.{AllByRecursion, filter_map};
 ghost use Rattle.module_graph.specs.declared.graph.Edge.{Edge};
-ghost use Rattle.module_graph.specs.Axes.{place_of};
+ghost use Rattle.module_graph.specs.Axes.{axis_index};
 ghost use Rattle.module_graph.specs.Graphs.{IsNumbered};
 ghost use Rattle.variant_graphs.specs.Inside.{led_by, node_by, IsFit, IsNumbering};
 ghost use Rattle.variant_graphs.specs.Splits.{AnswersSplit, IsSplitting, MayLead};
@@ -18,7 +18,7 @@ use std::alloc::Global;
 
 /// The variations of a variant.
 fn varied(alloc: Global, old: &Variations, axis: Axis, variation: Variation) -> Variations
-    ensures { result ≡ slice_set old.now (place_of axis) variation }
+    ensures { result ≡ slice_set old.now (axis_index axis) variation }
 {
     let mut vars = old.copy(alloc);
     vars.set(axis, variation);

@@ -9,23 +9,23 @@ use Rattle.pass_core.specs.declared.plan.PlanEdge.{PlanEdge}
 use Rattle.pass_core.specs.Plans.{IsPlan, StandByTarget, in_edges}
 use Rattle.pass_core.specs.InEdges.{edges_below, AreStarts}
 use Rattle.pass_core.specs.Laws.{InEdgesAreTogether, PlacesOfEdgesRise, PlacesTellTargets}
-use Rattle.ready_counters.specs.Edges.{from_of, to_of}
+use Rattle.ready_counters.specs.Edges.{edge_source, edge_target}
 
-edge_to : (edges : List PlanEdge) (i : ℕ) (d : PlanEdge) → i < length edges → (get_or edges i d).to.0 ≡ to_of edges i
+edge_to : (edges : List PlanEdge) (i : ℕ) (d : PlanEdge) → i < length edges → (get_or edges i d).to.0 ≡ edge_target edges i
 edge_to [] i d l = absurd (omega arith)
 edge_to (y ∷ ys) zero d l = refl
 edge_to (y ∷ ys) (suc i) d l = edge_to ys i d (omega arith)
 
 pub edge_from : (edges : List PlanEdge) (i : ℕ) (d : PlanEdge) → i < length edges
-    → (get_or edges i d).from.0 ≡ from_of edges i
+    → (get_or edges i d).from.0 ≡ edge_source edges i
 edge_from [] i d l = absurd (omega arith)
 edge_from (y ∷ ys) zero d l = refl
 edge_from (y ∷ ys) (suc i) d l = edge_from ys i d (omega arith)
 
 -- an edge leads to the node exactly where its number is in the node's range
 in_range : PlacesTellTargets → (edges : List PlanEdge) (n e : ℕ) (d : PlanEdge) → StandByTarget edges → e < length edges
-    → (edges_below edges n ≤ e → e < edges_below edges (n + 1) → to_of edges e ≡ n)
-    × (to_of edges e ≡ n → (edges_below edges n ≤ e) × (e < edges_below edges (n + 1)))
+    → (edges_below edges n ≤ e → e < edges_below edges (n + 1) → edge_target edges e ≡ n)
+    × (edge_target edges e ≡ n → (edges_below edges n ≤ e) × (e < edges_below edges (n + 1)))
 in_range tell edges n e d by l =
     let to = edge_to edges e d l in
     let low = tell edges n e d by l in let high = tell edges (n + 1) e d by l in (
@@ -48,8 +48,8 @@ module _ (together : InEdgesAreTogether) (rise : PlacesOfEdgesRise) (tell : Plac
   ends = are.begins (n + 1) (omega arith)
 
   pub range : (e : ℕ) (d : PlanEdge) → e < length plan.edges
-      → (slice_index starts n ≤ e → e < slice_index starts (n + 1) → to_of plan.edges e ≡ n)
-      × (to_of plan.edges e ≡ n → (slice_index starts n ≤ e) × (e < slice_index starts (n + 1)))
+      → (slice_index starts n ≤ e → e < slice_index starts (n + 1) → edge_target plan.edges e ≡ n)
+      × (edge_target plan.edges e ≡ n → (slice_index starts n ≤ e) × (e < slice_index starts (n + 1)))
   range e d l =
       let b = begins in let f = ends in let r = in_range tell plan.edges n e d is_plan.by_target l in (
         (λ x y. r.0 (omega arith) (omega arith)),
@@ -78,7 +78,7 @@ module _ (together : InEdgesAreTogether) (rise : PlacesOfEdgesRise) (tell : Plac
   -- the edge at a place among them has this number
   pub into_at : (items : List PlanEdge) (i e : ℕ) (d : PlanEdge) → items ≡ in_edges plan.edges n → i < length items
       → e ≡ slice_index starts n + i
-      → (e < length plan.edges) × (e < slice_index starts (n + 1)) × ((get_or items i d).from.0 ≡ from_of plan.edges e)
+      → (e < length plan.edges) × (e < slice_index starts (n + 1)) × ((get_or items i d).from.0 ≡ edge_source plan.edges e)
   into_at items i e d is l at =
       let b = begins in let f = ends in let up = (rise plan.edges n).0 in let most = (rise plan.edges (n + 1)).1 in
       let m = many_into in

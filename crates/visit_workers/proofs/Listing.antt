@@ -10,7 +10,7 @@ use mathlib.Core.Logic.{dite}
 use native.Mathlib.Decide.{ℕ_discrete}
 use Rattle.pass_core.specs.declared.plan.PlanEdge.{PlanEdge}
 use Rattle.pass_core.specs.Plans.{HaveEndsBelow}
-use Rattle.ready_counters.specs.Edges.{from_of}
+use Rattle.ready_counters.specs.Edges.{edge_source}
 use Rattle.ready_counters.specs.Views.{times}
 use Rattle.visit_workers.proofs.Counting.{times_here, times_else, times_append}
 use Rattle.visit_workers.specs.Links.{numbers_from, chain_end, IsChain, AreOuts}
@@ -28,14 +28,14 @@ module _ (d : PlanEdge) (k n : ℕ) (rest : List ℕ) where
       rw is (times_else x k rest (λ same. ne same f) ∙ z)
   head_never x ne z false is = rw is z
 
-from_never : (k : ℕ) (ds : List PlanEdge) (n x : ℕ) → ((i : ℕ) → i < length ds → k + i ≡ x → from_of ds i ≡ n → ⊥)
+from_never : (k : ℕ) (ds : List PlanEdge) (n x : ℕ) → ((i : ℕ) → i < length ds → k + i ≡ x → edge_source ds i ≡ n → ⊥)
     → times x (numbers_from k ds n) ≡ 0
 from_never k [] n x h = refl
 from_never k (d ∷ ds) n x h =
     head_never d k n (numbers_from (suc k) ds n) x (λ same f. h 0 (omega arith) (omega arith) f)
     (from_never (suc k) ds n x (λ i l e f. h (suc i) (omega arith) (omega arith) f)) (d.from.0 == n) refl
 
-from_once : (k : ℕ) (ds : List PlanEdge) (n i : ℕ) → i < length ds → from_of ds i ≡ n
+from_once : (k : ℕ) (ds : List PlanEdge) (n i : ℕ) → i < length ds → edge_source ds i ≡ n
     → times (k + i) (numbers_from k ds n) ≡ 1
 from_once k [] n i l f = absurd (omega arith)
 from_once k (d ∷ ds) n zero l f =
@@ -48,20 +48,20 @@ from_once k (d ∷ ds) n (suc i) l f =
     head_else d k n (numbers_from (suc k) ds n) (k + suc i) (λ same. omega arith) (d.from.0 == n) refl
     ∙ ap (λ y. times y (numbers_from (suc k) ds n)) (sym e) ∙ r
 
-pub listed_once : (edges : List PlanEdge) (n e : ℕ) → e < length edges → from_of edges e ≡ n
+pub listed_once : (edges : List PlanEdge) (n e : ℕ) → e < length edges → edge_source edges e ≡ n
     → times e (numbers_from 0 edges n) ≡ 1
 listed_once edges n e l f = let z : 0 + e ≡ e = omega arith in
     subst (λ y. times y (numbers_from 0 edges n) ≡ 1) z (from_once 0 edges n e l f)
 
-pub listed_never : (edges : List PlanEdge) (n e : ℕ) → (from_of edges e ≡ n → ⊥) → times e (numbers_from 0 edges n) ≡ 0
+pub listed_never : (edges : List PlanEdge) (n e : ℕ) → (edge_source edges e ≡ n → ⊥) → times e (numbers_from 0 edges n) ≡ 0
 listed_never edges n e ne =
-    from_never 0 edges n e (λ i l is f. let s : i ≡ e = omega arith in ne (ap (from_of edges) (sym s) ∙ f))
+    from_never 0 edges n e (λ i l is f. let s : i ≡ e = omega arith in ne (ap (edge_source edges) (sym s) ∙ f))
 
 listed_outside : (edges : List PlanEdge) (n e : ℕ) → length edges ≤ e → times e (numbers_from 0 edges n) ≡ 0
 listed_outside edges n e le = from_never 0 edges n e (λ i l is f. omega arith)
 
 listed_most : (edges : List PlanEdge) (n e : ℕ) → times e (numbers_from 0 edges n) ≤ 1
-listed_most edges n e = dite (ℕ_discrete (from_of edges e) n)
+listed_most edges n e = dite (ℕ_discrete (edge_source edges e) n)
     (λ same. dite (dec_lt e (length edges)) (λ l. let o = listed_once edges n e l same in omega arith)
     (λ past. let z = listed_outside edges n e (omega arith) in omega arith))
     (λ ne. let z = listed_never edges n e ne in omega arith)
@@ -76,8 +76,8 @@ module _ (edges : List PlanEdge) (n e : ℕ) (done rest : List ℕ) (all : done 
   entry_inside = dite (dec_lt e (length edges)) (λ inside. inside)
       (λ past. let z = listed_outside edges n e (omega arith) in let t = times_all in absurd (omega arith))
 
-  pub entry_source : from_of edges e ≡ n
-  entry_source = dite (ℕ_discrete (from_of edges e) n) (λ same. same)
+  pub entry_source : edge_source edges e ≡ n
+  entry_source = dite (ℕ_discrete (edge_source edges e) n) (λ same. same)
       (λ ne. let z = listed_never edges n e ne in let t = times_all in absurd (omega arith))
 
   pub entry_fresh : times e done ≡ 0
@@ -99,9 +99,6 @@ pushed_all xs new x is P h p = subst (λ l. All P l) (sym is) (All-push P xs x h
 take_front : {X : Type 0} (xs zs : List X) → take (length xs) (xs ++ zs) ≡ xs
 take_front [] zs = refl
 take_front (x ∷ xs) zs = ap (λ l. x ∷ l) (take_front xs zs)
-
-pub whole_front : {X : Type 0} (k : ℕ) (xs zs : List X) → k ≡ length xs → take k (xs ++ zs) ≡ xs
-whole_front k xs zs is = ap (λ j. take j (xs ++ zs)) is ∙ take_front xs zs
 
 -- chains
 pub chain_ends : (next : List ℕ) (at : ℕ) (xs : List ℕ) → IsChain next at xs → at ≡ chain_end → length next < 4294967296

@@ -8,12 +8,12 @@ use Rattle.pass_core.specs.declared.plan.Plan.{Plan}
 use Rattle.pass_core.specs.Results.{NodeResult, node_result}
 use Rattle.bp_faults.proofs.Lists.{all_pushed}
 use Rattle.ready_counters.specs.declared.view.View.{View}
-use Rattle.ready_counters.specs.Views.{times, together, tickets_for, number_for, tickets_with}
+use Rattle.ready_counters.specs.Views.{times, together, tickets_for, ticket_number, tickets_with}
 use Rattle.visit_workers.proofs.Counting.{tickets_append, number_append, with_append}
 use Rattle.visit_workers.specs.declared.made.Made.{Made}
 use Rattle.visit_workers.specs.Making.{pairs, IsRight, IsMadeBy, IsWorking}
-use Rattle.ready_counters.specs.Views.{lighter, one, all_of_it}
-use Rattle.visit_workers.proofs.Settling.{settled_both, settled_lighter, settled_one, settled_first}
+use Rattle.ready_counters.specs.Views.{lighter, one}
+use Rattle.visit_workers.proofs.Settling.{settled_both, settled_lighter, settled_one}
 
 pub all_append : {X : Type 0} (P : X → Type 0) (xs ys : List X) → AllByRecursion P xs → AllByRecursion P ys
     → AllByRecursion P (xs ++ ys)
@@ -38,7 +38,7 @@ module _ {O : Type 0} where
           right = all_pushed (IsRight count results) made m h.right right;
           drawn = λ x. let a = ap (tickets_for x) (pairs_append made (m ∷ [])) in
               let b = tickets_append x (pairs made) (pairs (m ∷ [])) in let c = h.drawn x in omega arith;
-          numbered = λ x. let a = ap (number_for x) (pairs_append made (m ∷ [])) in
+          numbered = λ x. let a = ap (ticket_number x) (pairs_append made (m ∷ [])) in
               let b = number_append x (pairs made) (pairs (m ∷ [])) in let c = h.numbered x in omega arith;
           used = λ x. let a = ap (tickets_with x) (pairs_append made (m ∷ [])) in
               let b = with_append x (pairs made) (pairs (m ∷ [])) in let c = h.used x in omega arith;
@@ -51,7 +51,7 @@ module _ {O : Type 0} where
       drawn = λ x. let a = ap (tickets_for x) (pairs_append made more) in
           let b = tickets_append x (pairs made) (pairs more) in let c = tickets_append x ts us in let d = h.drawn x in
           let e = k.drawn x in omega arith;
-      numbered = λ x. let a = ap (number_for x) (pairs_append made more) in
+      numbered = λ x. let a = ap (ticket_number x) (pairs_append made more) in
           let b = number_append x (pairs made) (pairs more) in let c = number_append x ts us in
           let d = h.numbered x in let e = k.numbered x in omega arith;
       used = λ x. let a = ap (tickets_with x) (pairs_append made more) in
@@ -75,10 +75,6 @@ module _ {O : Type 0} where
               made_both plan.count (node_result mean plan) v.tickets w.tickets made more h.made_by k.made_by;
         }))
 
-    pub working_first : IsWorking mean plan all_of_it []
-    working_first = record
-        { settled = settled_first plan.edges; made_by = made_none plan.count (node_result mean plan) }
-
     pub working_one : IsWorking mean plan one []
     working_one = record { settled = settled_one plan.edges; made_by = made_none plan.count (node_result mean plan) }
 
@@ -90,11 +86,11 @@ module _ {O : Type 0} where
     pub by_tickets : (v : View) (made xs : List (Made O)) → xs ≡ made → IsWorking mean plan v made
         → ((n : ℕ) → tickets_for n v.tickets ≤ 1) → ((n : ℕ) → n < plan.count → 1 ≤ times n v.claimed)
         → (order : List ℕ)
-        → ((n : ℕ) → tickets_for n (pairs xs) ≡ 1 → slice_get order (number_for n (pairs xs)) ≡ Some n)
-        → (n : ℕ) → n < plan.count → slice_get order (number_for n v.tickets) ≡ Some n
+        → ((n : ℕ) → tickets_for n (pairs xs) ≡ 1 → slice_get order (ticket_number n (pairs xs)) ≡ Some n)
+        → (n : ℕ) → n < plan.count → slice_get order (ticket_number n v.tickets) ≡ Some n
     by_tickets v made xs is h single each order placed n l =
         let drawn = h.made_by.drawn n in let ticketed = h.settled.ticketed n in let most = single n in
         let some = each n l in
-        ap (slice_get order) (h.made_by.numbered n ∙ ap (λ ms. number_for n (pairs ms)) (sym is))
+        ap (slice_get order) (h.made_by.numbered n ∙ ap (λ ms. ticket_number n (pairs ms)) (sym is))
         ∙ placed n (ap (λ ms. tickets_for n (pairs ms)) is
         ∙ (let one : tickets_for n (pairs made) ≡ 1 = omega arith in one))

@@ -6,8 +6,8 @@ use mathlib.Core.Logic.{dite}
 use native.Mathlib.Decide.{ℕ_discrete}
 use Rattle.pass_core.specs.declared.plan.PlanEdge.{PlanEdge}
 use Rattle.ready_counters.specs.declared.view.View.{View}
-use Rattle.ready_counters.specs.Edges.{left_from, left_of, lacks, from_of, to_of}
-use Rattle.ready_counters.specs.Views.{one, all_of_it, together, lighter, times, tickets_for}
+use Rattle.ready_counters.specs.Edges.{left_from, left_of, lacks, edge_source, edge_target}
+use Rattle.ready_counters.specs.Views.{one, together, lighter, times, tickets_for}
 use Rattle.ready_counters.specs.Views.{with_claim, with_fetch, with_ticket, with_subtract}
 use Rattle.ready_counters.specs.Views.{with_filled}
 use Rattle.visit_workers.proofs.Counting.{times_append, tickets_append, times_here, times_else, ticket_here, ticket_else}
@@ -20,10 +20,6 @@ pub settled_one : (edges : List PlanEdge) → IsSettled edges one
 settled_one edges = record
     { ticketed = λ n. refl; fetched = λ e l. refl; filled = λ e l. refl; subtracted = λ e l. refl }
 
-pub settled_first : (edges : List PlanEdge) → IsSettled edges all_of_it
-settled_first edges =
-    record { ticketed = λ n. refl; fetched = λ e l. refl; filled = λ e l. refl; subtracted = λ e l. refl }
-
 pub settled_lighter : (edges : List PlanEdge) (v : View) → IsSettled edges v → IsSettled edges (lighter v)
 settled_lighter edges v h =
     record { ticketed = h.ticketed; fetched = h.fetched; filled = h.filled; subtracted = h.subtracted }
@@ -34,52 +30,52 @@ settled_both edges v w h k = record {
   ticketed = λ n. let a = tickets_append n v.tickets w.tickets in let b = times_append n v.claimed w.claimed in
       let c = h.ticketed n in let d = k.ticketed n in omega arith;
   fetched = λ e l. let a = times_append e v.fetched w.fetched in
-      let b = times_append (to_of edges e) v.claimed w.claimed in let c = h.fetched e l in let d = k.fetched e l in
+      let b = times_append (edge_target edges e) v.claimed w.claimed in let c = h.fetched e l in let d = k.fetched e l in
       omega arith;
   filled = λ e l. let a = times_append e v.filled w.filled in
-      let b = times_append (from_of edges e) v.claimed w.claimed in let c = h.filled e l in let d = k.filled e l in
+      let b = times_append (edge_source edges e) v.claimed w.claimed in let c = h.filled e l in let d = k.filled e l in
       omega arith;
   subtracted = λ e l. let a = times_append e v.subtracted w.subtracted in
-      let b = times_append (from_of edges e) v.claimed w.claimed in let c = h.subtracted e l in
+      let b = times_append (edge_source edges e) v.claimed w.claimed in let c = h.subtracted e l in
       let d = k.subtracted e l in omega arith;
 }
 
 -- the new node has its ticket, its edges in are fetched and its edges out filled and subtracted
 module _ (edges : List PlanEdge) (n k begin end : ℕ) (v a b : View) (h : IsSettled edges v)
     (range : (e : ℕ) → e < length edges
-    → (begin ≤ e → e < end → to_of edges e ≡ n) × (to_of edges e ≡ n → (begin ≤ e) × (e < end)))
+    → (begin ≤ e → e < end → edge_target edges e ≡ n) × (edge_target edges e ≡ n → (begin ≤ e) × (e < end)))
     (g : IsGathering begin end (with_claim v n) a) (s : IsSpreading (numbers_from 0 edges n) (with_ticket a n k) b)
   where
     claims_now : (x : ℕ) → times x b.claimed ≡ times x (n ∷ v.claimed)
     claims_now x = ap (times x) s.claimed ∙ ap (times x) g.claimed
 
-    fetched_now : (e : ℕ) → e < length edges → times e b.fetched ≡ times (to_of edges e) b.claimed
+    fetched_now : (e : ℕ) → e < length edges → times e b.fetched ≡ times (edge_target edges e) b.claimed
     fetched_now e l =
-        let p = ap (times e) s.fetched in let c = claims_now (to_of edges e) in let x = h.fetched e l in
+        let p = ap (times e) s.fetched in let c = claims_now (edge_target edges e) in let x = h.fetched e l in
         let r = range e l in
-        dite (ℕ_discrete (to_of edges e) n)
+        dite (ℕ_discrete (edge_target edges e) n)
         (λ same. let m = r.1 same in let d = g.done e m.0 m.1 in
-        let w : times (to_of edges e) (n ∷ v.claimed) ≡ 1 + times (to_of edges e) v.claimed =
+        let w : times (edge_target edges e) (n ∷ v.claimed) ≡ 1 + times (edge_target edges e) v.claimed =
         subst (λ y. times y (n ∷ v.claimed) ≡ 1 + times y v.claimed) (sym same) (times_here n v.claimed) in
         omega arith)
-        (λ ne. let w = times_else (to_of edges e) n v.claimed ne in dite (dec_lt e begin)
+        (λ ne. let w = times_else (edge_target edges e) n v.claimed ne in dite (dec_lt e begin)
         (λ before. let d = g.before e before in omega arith)
         (λ from. dite (dec_lt e end) (λ inside. absurd (ne (r.0 (omega arith) inside)))
         (λ past. let d = g.rest e (omega arith) in omega arith)))
 
     filled_now : (e : ℕ) → e < length edges
-        → (times e b.filled ≡ times (from_of edges e) b.claimed)
-        × (times e b.subtracted ≡ times (from_of edges e) b.claimed)
+        → (times e b.filled ≡ times (edge_source edges e) b.claimed)
+        × (times e b.subtracted ≡ times (edge_source edges e) b.claimed)
     filled_now e l =
         let p = s.filled e in let q = s.subtracted e in let y = ap (times e) g.filled in
-        let z = ap (times e) g.subtracted in let c = claims_now (from_of edges e) in let x = h.filled e l in
+        let z = ap (times e) g.subtracted in let c = claims_now (edge_source edges e) in let x = h.filled e l in
         let u = h.subtracted e l in
-        dite (ℕ_discrete (from_of edges e) n)
+        dite (ℕ_discrete (edge_source edges e) n)
         (λ same. let one = listed_once edges n e l same in
-        let w : times (from_of edges e) (n ∷ v.claimed) ≡ 1 + times (from_of edges e) v.claimed =
+        let w : times (edge_source edges e) (n ∷ v.claimed) ≡ 1 + times (edge_source edges e) v.claimed =
         subst (λ y. times y (n ∷ v.claimed) ≡ 1 + times y v.claimed) (sym same) (times_here n v.claimed) in
         (omega arith, omega arith))
-        (λ ne. let none = listed_never edges n e ne in let w = times_else (from_of edges e) n v.claimed ne in
+        (λ ne. let none = listed_never edges n e ne in let w = times_else (edge_source edges e) n v.claimed ne in
         (omega arith, omega arith))
 
     ticketed_now : (m : ℕ) → tickets_for m b.tickets ≡ times m b.claimed
@@ -107,7 +103,7 @@ lacks_some zero e = absurd (omega arith)
 lacks_some (suc k) e = refl
 
 nothing_left : (done : ℕ → ℕ) (k : ℕ) (es : List PlanEdge) (n : ℕ)
-    → ((i : ℕ) → i < length es → to_of es i ≡ n → 1 ≤ done (k + i)) → left_from done k es n ≡ 0
+    → ((i : ℕ) → i < length es → edge_target es i ≡ n → 1 ≤ done (k + i)) → left_from done k es n ≡ 0
 nothing_left done k [] n h = refl
 nothing_left done k (e ∷ es) n h =
     let rest = nothing_left done (suc k) es n
@@ -122,16 +118,11 @@ nothing_left done k (e ∷ es) n h =
 
 -- the sweep: where a settled seat has claimed all sources, nothing is left of the node's edges in its view
 pub sweep_ready : (edges : List PlanEdge) (v : View) (n : ℕ) → IsSettled edges v
-    → ((e : ℕ) → e < length edges → to_of edges e ≡ n → 1 ≤ times (from_of edges e) v.claimed) → left_of edges v n ≡ 0
+    → ((e : ℕ) → e < length edges → edge_target edges e ≡ n → 1 ≤ times (edge_source edges e) v.claimed) → left_of edges v n ≡ 0
 sweep_ready edges v n h before =
     nothing_left (λ e. times e v.subtracted) 0 edges n
     (λ i l to. let a = before i l to in let b = h.subtracted i l in let s : 0 + i ≡ i = omega arith in
     subst (λ x. 1 ≤ times x v.subtracted) (sym s) (omega arith))
-
--- after the sweep each node has a ticket
-pub sweep_ticketed : (count : ℕ) (edges : List PlanEdge) (v : View) → IsSettled edges v
-    → ((n : ℕ) → n < count → 1 ≤ times n v.claimed) → (n : ℕ) → n < count → 1 ≤ tickets_for n v.tickets
-sweep_ticketed count edges v h all n l = let a = all n l in let b = h.ticketed n in omega arith
 
 -- gathering goes on by the next edge
 pub gathering_more : (begin e : ℕ) (old v w : View) → begin ≤ e → w ≡ with_fetch v e → IsGathering begin e old v

@@ -14,39 +14,20 @@ use Rattle.bp_faults.specs.declared.ids.NodeId.{NodeId}
 use Rattle.pass_core.specs.Orders.{IsLegal, numbers}
 use Rattle.bp_faults.proofs.Lists.{same_at}
 use Rattle.ready_counters.specs.declared.view.View.{View}
-use Rattle.ready_counters.specs.declared.claim.Claim.TheVariants.{Claimed, NotReady, Gone}
-use Rattle.ready_counters.specs.Edges.{from_of, to_of}
+use Rattle.ready_counters.specs.declared.claim.Claim.TheVariants.{NotReady}
+use Rattle.ready_counters.specs.Edges.{edge_source, edge_target}
 use Rattle.ready_counters.specs.Views.{whole, times}
 use Rattle.ready_counters.specs.Answers.{AnswersClaim}
-use Rattle.visit_workers.proofs.Counting.{times_here}
-use Rattle.visit_workers.proofs.Counting.{times_grow}
-use Rattle.visit_workers.specs.Settled.{IsSettled, Reaches, JustClaimed}
+use Rattle.visit_workers.specs.Settled.{IsSettled, Reaches}
 use Rattle.visit_workers.proofs.Settling.{sweep_ready}
 
 module _ (edges : List PlanEdge) (n : ℕ) (v w : View) (settled : IsSettled edges v) where
-  pub reaches_gone : AnswersClaim edges n v Gone w → Reaches edges n v w
-  reaches_gone t = (
-    (λ m. subst (λ (u : View). times m v.claimed ≤ times m u.claimed) (sym t.0) (omega arith)),
-    (λ heavy before. subst (λ (u : View). 1 ≤ times n u.claimed) (sym t.0) (t.2 heavy)),
-  )
-
   -- a whole settled seat that claimed all sources is never told that the node isn't ready
   pub reaches_waiting : (k : ℕ) → AnswersClaim edges n v (NotReady k) w → Reaches edges n v w
   reaches_waiting k t = (
     (λ m. subst (λ (u : View). times m v.claimed ≤ times m u.claimed) (sym t.0) (omega arith)),
     (λ heavy before. let z = sweep_ready edges v n settled before in let e = t.4 heavy in let one = t.2 in
         absurd (omega arith)),
-  )
-
-  pub just_claimed : AnswersClaim edges n v Claimed w → JustClaimed edges n w
-  just_claimed t = (v, settled, t.0, t.1)
-
-  pub reaches_claimed : (x : View) → AnswersClaim edges n v Claimed w → x.claimed ≡ w.claimed → Reaches edges n v x
-  reaches_claimed x t same = (
-    (λ m. let a : times m x.claimed ≡ times m (n ∷ v.claimed) =
-        ap (times m) (same ∙ ap (λ (u : View). u.claimed) t.0) in let b = times_grow m n v.claimed in omega arith),
-    (λ heavy before. let a : times n x.claimed ≡ times n (n ∷ v.claimed) =
-        ap (times n) (same ∙ ap (λ (u : View). u.claimed) t.0) in let b = times_here n v.claimed in omega arith),
   )
 
 pick_first : (P : ℕ → Type 0) (d : PlanEdge) (fs : List PlanEdge) (n : ℕ) → d.to.0 ≡ n → (b : Bool)
@@ -62,7 +43,7 @@ pick_rest P d fs false h = h
 
 -- what holds of each predecessor holds of the source of each edge to the node
 pub source_of : (P : ℕ → Type 0) (edges : List PlanEdge) (n : ℕ) → AllByRecursion P (predecessors edges n) → (e : ℕ)
-    → e < length edges → to_of edges e ≡ n → P (from_of edges e)
+    → e < length edges → edge_target edges e ≡ n → P (edge_source edges e)
 source_of P [] n h e l to = absurd (omega arith)
 source_of P (d ∷ ds) n h zero l to = pick_first P d (in_edges ds n) n to (d.to.0 == n) refl h
 source_of P (d ∷ ds) n h (suc e) l to =
@@ -80,8 +61,8 @@ module _ (plan : Plan) (order : List ℕ) (legal : IsLegal plan order) where
       let c = source_of (Contains (take i order)) plan.edges (slice_index order i) (legal.after i l) e le to in
       let short = length-take-le i order (omega arith) in let k = c.1 in
       let lt : c.0 < i = omega arith in
-      let is : slice_index order c.0 ≡ from_of plan.edges e = same_at order c.0 0 (from_of plan.edges e) (omega arith)
-      ∙ sym (get_or-take i order c.0 (from_of plan.edges e) lt) ∙ c.2 in
+      let is : slice_index order c.0 ≡ edge_source plan.edges e = same_at order c.0 0 (edge_source plan.edges e) (omega arith)
+      ∙ sym (get_or-take i order c.0 (edge_source plan.edges e) lt) ∙ c.2 in
       subst (λ x. 1 ≤ times x v.claimed) is (before c.0 lt (omega arith)))))
       (λ ne. let b = before j (omega arith) inside in let g = r.0 (slice_index order j) in omega arith)
 

@@ -7,7 +7,7 @@ use Rattle.pass_core.specs.Results.{NodeResult, IsDone, node_result}
 use Rattle.pass_core.specs.Outcomes.{AnswersPass}
 use Rattle.pass_core.specs.declared.error.PassError.{PassError}
 use Rattle.ready_counters.specs.declared.view.View.{View}
-use Rattle.ready_counters.specs.Views.{tickets_for, number_for, tickets_with}
+use Rattle.ready_counters.specs.Views.{tickets_for, ticket_number, tickets_with}
 use Rattle.visit_workers.specs.declared.made.Made.{Made}
 use Rattle.visit_workers.specs.Settled.{IsSettled}
 use Rattle.visit_workers.specs.Verdicts.{verdict_result}
@@ -26,14 +26,14 @@ module _ {O : Type 0} where
   -- An order has each node that was made once at the number on its ticket.
   abbrev pub StandByTicket : List (Made O) → List ℕ → Type 0
   StandByTicket made order =
-      (n : ℕ) → tickets_for n (pairs made) ≡ 1 → slice_get order (number_for n (pairs made)) ≡ Some n
+      (n : ℕ) → tickets_for n (pairs made) ≡ 1 → slice_get order (ticket_number n (pairs made)) ≡ Some n
 
   -- What was made is right, and its tickets are those of the seat.
   pub record IsMadeBy (count : ℕ) (results : ℕ → NodeResult O) (tickets : List (ℕ × ℕ))
       (made : List (Made O)) : Type 0 where
     pub right : AllByRecursion (IsRight count results) made
     pub drawn : (n : ℕ) → tickets_for n tickets ≡ tickets_for n (pairs made)
-    pub numbered : (n : ℕ) → number_for n tickets ≡ number_for n (pairs made)
+    pub numbered : (n : ℕ) → ticket_number n tickets ≡ ticket_number n (pairs made)
     pub used : (k : ℕ) → tickets_with k tickets ≡ tickets_with k (pairs made)
 
   -- Between two nodes a worker's seat is settled, and all that it visited stands in what it made.

@@ -11,7 +11,7 @@ use Rattle.pass_core.specs.Results.{NodeResult, node_result}
 use Rattle.pass_core.specs.declared.visit.Visit.{Ghosts}
 use Rattle.ready_counters.specs.declared.seat.Seat.{Seat}
 use Rattle.ready_counters.specs.declared.view.View.{View}
-use Rattle.ready_counters.specs.Seen.{plan_of, visitor_of, view_of}
+use Rattle.ready_counters.specs.Seen.{plan_on_board, visitor_of, view_of}
 use Rattle.visit_workers.specs.declared.made.Made.{Made}
 use Rattle.visit_workers.specs.declared.pass.Pass.{Pass}
 use Rattle.visit_workers.specs.declared.verdict.Verdict.{Verdict}
@@ -25,7 +25,7 @@ pub record IsPass {V G O : Type 0} (takes : ℕ → ℕ → Type 0) (pass : Pass
   pub is_plan : IsPlan pass.plan.now
   pub free : HasNoCycle pass.plan.now.edges
   pub takes_plan : TakesPlan takes pass.plan.now
-  pub board_plan : pass.plan.now ≡ plan_of pass.board.now
+  pub board_plan : pass.plan.now ≡ plan_on_board pass.board.now
   pub board_visitor : pass.visitor.now ≡ visitor_of pass.board.now
   pub starts : AreStarts pass.plan.now pass.starts.now
   pub outs : AreOuts pass.plan.now.count pass.plan.now.edges pass.outs.now

@@ -2,7 +2,7 @@ ghost use Rattle.std.specs.Prelude.{◌≡◌, ◌<◌, map, IfOk};
 ghost use Rattle.std.specs.Option.{option_map};
 ghost use Rattle.std.specs.Arc.{arc_value};
 ghost use Rattle.pass_core.specs.Plans.{predecessors};
-ghost use Rattle.pass_core.specs.Results.{outs_of};
+ghost use Rattle.pass_core.specs.Results.{all_outs};
 ghost use Rattle.visit_workers.specs.Passes.{IsPass, result_of, AreInsOf};
 ghost use Rattle.visit_workers.specs.Settled.{outcomes};
 ghost use Rattle.visit_workers.specs.Verdicts.{verdict_result};
@@ -21,7 +21,7 @@ fn all_done<O: Drop>(
     alloc: Global,
     ins: &[Arc<Published<O>>],
 ) -> Result<Option<Vec<Arc<O>>>, OutOfMemory>
-    ensures { IfOk result (λ r. option_map (λ outs. map arc_value outs.items) r ≡ outs_of (outcomes ins.now)) }
+    ensures { IfOk result (λ r. option_map (λ outs. map arc_value outs.items) r ≡ all_outs (outcomes ins.now)) }
 {
     let mut outs = Vec::with_capacity(alloc, ins.len())?;
     for published in ins {

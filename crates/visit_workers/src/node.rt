@@ -1,7 +1,7 @@
 ghost use Rattle.std.specs.Prelude.{◌≡◌, ◌<◌, ◌≤◌, ◌+◌, [], length, IfOk, OnOk};
 ghost use Rattle.std.specs.Arc.{arc_value};
-ghost use Rattle.pass_core.specs.Shown.{shown};
-ghost use Rattle.ready_counters.specs.Edges.{from_of};
+ghost use Rattle.pass_core.specs.Shown.{published_result};
+ghost use Rattle.ready_counters.specs.Edges.{edge_source};
 ghost use Rattle.ready_counters.specs.Seen.{view_of, IsSeatOf};
 ghost use Rattle.ready_counters.specs.Views.{times, tickets_for, with_filled, with_subtract};
 ghost use Rattle.visit_workers.specs.Passes.{IsPass, result_of, AreInsOf, HasGathered, HasSpread};
@@ -61,10 +61,10 @@ fn spread_to<V: Visit, G: Gate>(
     requires pass { IsPass (V.takes pass.now.visitor.now) pass.now }
     requires seat { IsSeatOf pass.now.board.now seat.old }
     requires edge { e < length pass.now.plan.now.edges }
-    requires source { from_of pass.now.plan.now.edges e ≡ n.0 }
+    requires source { edge_source pass.now.plan.now.edges e ≡ n.0 }
     requires ticket { 1 ≤ tickets_for n.0 (view_of seat.old).tickets }
     requires fresh { (times e (view_of seat.old).filled ≡ 0) × (times e (view_of seat.old).subtracted ≡ 0) }
-    requires value { shown (arc_value value.now) ≡ result_of (V.meaning pass.now.visitor.now) pass.now n.0 }
+    requires value { published_result (arc_value value.now) ≡ result_of (V.meaning pass.now.visitor.now) pass.now n.0 }
     ensures seat { IsSeatOf pass.now.board.now seat.new }
     ensures weight { (view_of seat.new).weight ≡ (view_of seat.old).weight }
     ensures went { OnOk result (view_of seat.new ≡ with_subtract (with_filled (view_of seat.old) e) e) }

@@ -1,6 +1,6 @@
 ghost use Rattle.std.specs.Prelude.{◌≡◌, IfOk};
 ghost use Rattle.std.specs.Arc.{arc_value};
-ghost use Rattle.pass_core.specs.Shown.{shown};
+ghost use Rattle.pass_core.specs.Shown.{published_result};
 ghost use Rattle.visit_workers.specs.Verdicts.{verdict_result};
 
 use bp_faults::{Fault, OutOfMemory, Payload};
@@ -19,7 +19,7 @@ pub enum Verdict<O> {
 impl<O: Drop> Verdict<O> {
     /// The same result, as a board holds it. An `Arc` is shared.
     pub fn publish(&self, alloc: Global) -> Result<Arc<Published<O>>, OutOfMemory>
-        ensures { IfOk result (λ published. shown (arc_value published) ≡ verdict_result self.now) }
+        ensures { IfOk result (λ published. published_result (arc_value published) ≡ verdict_result self.now) }
     {
         let published = match self {
             Verdict::Done(out) => Published::Done(Arc::try_clone(out)?),

@@ -1,6 +1,6 @@
 use Rattle.std.proofs.Common.{arith, ap, sym, subst, ◌≡◌, ◌∙◌, false}
 use Rattle.std.specs.Prelude.{IfOk, encode_utf8_all, chars}
-use Rattle.bp_lexer.specs.Strings.{unescaped}
+use Rattle.bp_lexer.specs.Strings.{unescaped_chars}
 use Rattle.bp_lexer.specs.Meaning.{string_of, word_of}
 use Rattle.bp_lexer.proofs.Boundary.{token_span, before_token, after_token, inner_begins, inner_ends, inner_is}
 use Rattle.bp_lexer.proofs.value.value_of.Goals as goal
@@ -27,7 +27,7 @@ range-requires-in_default c = record {
 pub returns-in_ok-inner-in-Quoted : goal.returns-in_ok-inner-in-Quoted
 returns-in_ok-inner-in-Quoted c =
     let same = c.range.ensures.value ∙ inner_is _ c.args.text.now c.args.token.now c.requires in
-    c.compact.ensures ∙ c.in_ok-inner-in-Quoted.ensures ∙ ap (λ l. encode_utf8_all (unescaped false (chars l))) same ∙ ap (λ k. string_of k (word_of c.args.text.now c.args.token.now)) (sym c.in-Quoted.is)
+    c.compact.ensures ∙ c.in_ok-inner-in-Quoted.ensures ∙ ap (λ l. encode_utf8_all (unescaped_chars false (chars l))) same ∙ ap (λ k. string_of k (word_of c.args.text.now c.args.token.now)) (sym c.in-Quoted.is)
 
 pub returns-in-Raw : goal.returns-in-Raw
 returns-in-Raw c =

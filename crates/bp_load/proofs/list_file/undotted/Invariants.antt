@@ -1,7 +1,7 @@
 use Rattle.std.proofs.Common.{◌≡◌, length}
 use denote.Text.{Utf8}
 use denote.Shadow.{shadow}
-use Rattle.bp_load.specs.ListFile.{undotted as without_dots}
+use Rattle.bp_load.specs.ListFile.{without_dots}
 use Rattle.bp_load.proofs.list_file.undotted.Given as goal
 
 abbrev pub invariant-loop-rest : goal.invariant-loop-rest

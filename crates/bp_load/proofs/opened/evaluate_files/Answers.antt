@@ -6,7 +6,7 @@ use Rattle.std.proofs.lemmas.Result.{err_from_is_err_and}
 use Rattle.bp_values.specs.Scopes.{pairs_of}
 use Rattle.bp_load.specs.declared.parsed.Parsed.{Parsed}
 use Rattle.bp_load.specs.Trees.{Placed, placed_of}
-use Rattle.bp_load.specs.Opened.{turn_of, turned, all_turned, no_turn}
+use Rattle.bp_load.specs.Opened.{turn_of, next_turn, all_turned, no_turn}
 use Rattle.bp_faults.proofs.Refusals.{answered}
 use Rattle.bp_load.proofs.Turns.{turned_more, turned_fault}
 use Rattle.bp_load.proofs.opened.evaluate_files.Goals as goal
@@ -39,6 +39,6 @@ returns-in_err-evaluation-clause-turn c =
     let road = YieldsList-from_vec {s = c.into_iter-file-iterator.result} files c.into_iter-file-iterator.ensures.into_iter_gives.0 (c.into_iter-file-iterator.ensures.into_iter_gives.1 ∙ c.args.files.ok.0) in
     let turn = YieldsList-turn road c.loop-file.yielded c.loop-file.file-iterator c.loop-file.yielded_by c.next.result c.next.new.self c.in-Some.file c.in-Some.is c.next.ensures.steps in
     rw (refused.1, refused.2)
-    (answered turn_of c.in_err-evaluation.field-0.0 (turned base (turn_of c.loop-file.evaluation) (placed_of c.in-Some.file)) (all_turned base no_turn (map placed_of files)) (c.in_err-evaluation.ensures.turn base c.loop-file.invariant.1)
+    (answered turn_of c.in_err-evaluation.field-0.0 (next_turn base (turn_of c.loop-file.evaluation) (placed_of c.in-Some.file)) (all_turned base no_turn (map placed_of files)) (c.in_err-evaluation.ensures.turn base c.loop-file.invariant.1)
     (turned_fault base (map placed_of files) i (turn_of c.loop-file.evaluation) (placed_of c.in-Some.file)
     (omega (arith, turn.0, length-map {B = Placed} files placed_of)) (placed_at files i c.in-Some.file turn.0 turn.1) c.loop-file.invariant.0))

@@ -4,7 +4,7 @@ use Rattle.std.proofs.lemmas.List.{length-take, map-append}
 use Rattle.std.proofs.lemmas.Result.{err_from_is_err_and}
 use Rattle.bp_load.specs.declared.parsed.Parsed.{Parsed}
 use Rattle.bp_faults.specs.Phases.{Each, Phase}
-use Rattle.bp_load.specs.Trees.{Source, FileMeans, placed_of, sources}
+use Rattle.bp_load.specs.Trees.{Source, SourceFileMeans, placed_of, sources_given}
 use Rattle.bp_faults.proofs.Refusals.{told_first}
 use Rattle.bp_load.proofs.Eachs.{each_push}
 use Rattle.bp_load.proofs.Sources.{length_sources, source_at, short_at, take_source}
@@ -20,13 +20,13 @@ returns-in_err-parse_file c =
     let refused = err_from_is_err_and c.from_residual.result c.from_residual.ensures.1 in
     let number : c.files.next ≡ c.args.number + c.files.file-index = c.files.invariant.0 in
     rw (refused.1, refused.2)
-    (told_first (λ (parsed : Vec Parsed Global). map placed_of parsed.items) (Phase FileMeans c.args.number (sources files)) c.in_err-parse_file.field-0.0 placed_of (FileMeans c.files.next (file.0, file.1.items)) c.in_err-parse_file.ensures
+    (told_first (λ (parsed : Vec Parsed Global). map placed_of parsed.items) (Phase SourceFileMeans c.args.number (sources_given files)) c.in_err-parse_file.field-0.0 placed_of (SourceFileMeans c.files.next (file.0, file.1.items)) c.in_err-parse_file.ensures
     (λ fault first. record {
       at = c.files.file-index;
       inside = omega (arith, length_sources files);
       before = map placed_of c.files.all.items;
       each = c.files.invariant.1;
-      here = λ d. subst (λ n. FileMeans n (get_or (sources files) c.files.file-index d) (Err fault)) number (subst (λ f. FileMeans c.files.next f (Err fault)) (sym (source_at files c.files.file-index file d (omega arith) c.file-item.is)) first);
+      here = λ d. subst (λ n. SourceFileMeans n (get_or (sources_given files) c.files.file-index d) (Err fault)) number (subst (λ f. SourceFileMeans c.files.next f (Err fault)) (sym (source_at files c.files.file-index file d (omega arith) c.file-item.is)) first);
     }))
 
 pub files-preserved : goal.files-preserved
@@ -36,12 +36,12 @@ files-preserved c =
     let source : Source = (file.0, file.1.items) in
     let i = c.files.file-index in
     let size = length_sources files in
-    let number : c.files.next ≡ c.args.number + length (take i (sources files)) = omega (arith, c.files.invariant.0, length-take i (sources files), size) in
-    let front : take (i + 1) (sources files) ≡ take i (sources files) ++ source ∷ [] = take_source files i file (omega arith) c.file-item.is in
+    let number : c.files.next ≡ c.args.number + length (take i (sources_given files)) = omega (arith, c.files.invariant.0, length-take i (sources_given files), size) in
+    let front : take (i + 1) (sources_given files) ≡ take i (sources_given files) ++ source ∷ [] = take_source files i file (omega arith) c.file-item.is in
     let all : map placed_of c.push.new.self.items ≡ map placed_of c.files.all.items ++ placed_of c.in_ok-parse_file.field-0 ∷ [] = ap (map placed_of) c.in_ok-push.ensures.items ∙ map-append placed_of c.files.all.items (c.in_ok-parse_file.field-0 ∷ []) in (
       omega (arith, c.files.invariant.0),
-      subst (λ xs. Each FileMeans c.args.number xs (map placed_of c.push.new.self.items)) (sym front)
-          (subst (Each FileMeans c.args.number (take i (sources files) ++ source ∷ [])) (sym all)
-          (each_push FileMeans c.args.number (take i (sources files)) (map placed_of c.files.all.items) source (placed_of c.in_ok-parse_file.field-0) c.files.invariant.1
-          (subst (λ n. FileMeans n source (Ok (placed_of c.in_ok-parse_file.field-0))) number c.in_ok-parse_file.ensures))),
+      subst (λ xs. Each SourceFileMeans c.args.number xs (map placed_of c.push.new.self.items)) (sym front)
+          (subst (Each SourceFileMeans c.args.number (take i (sources_given files) ++ source ∷ [])) (sym all)
+          (each_push SourceFileMeans c.args.number (take i (sources_given files)) (map placed_of c.files.all.items) source (placed_of c.in_ok-parse_file.field-0) c.files.invariant.1
+          (subst (λ n. SourceFileMeans n source (Ok (placed_of c.in_ok-parse_file.field-0))) number c.in_ok-parse_file.ensures))),
     )

@@ -5,7 +5,7 @@ use Rattle.bp_faults.proofs.Refusals.{refused, unanswered}
 use Rattle.bp_props.specs.declared.module.Module.{Module}
 use Rattle.bp_load.specs.declared.parsed.Parsed.{Parsed}
 use Rattle.bp_load.specs.Directories.{directory_cmp}
-use Rattle.bp_load.specs.Trees.{placed_of, sources, TreesMean}
+use Rattle.bp_load.specs.Trees.{placed_of, sources_given, TreesMean}
 use Rattle.bp_load.specs.Inherited.{placed_raw, all_evaluated, RawMean}
 use Rattle.bp_load.specs.Loaded.{all_named, LoadMeans}
 use Rattle.bp_load.proofs.AsTexts.{answers_then}
@@ -16,13 +16,13 @@ use Rattle.bp_load.proofs.tree.load.Goals as goal
 pub evaluate_by-requires-after_bounds : goal.evaluate_by-requires-after_bounds
 evaluate_by-requires-after_bounds g c κs within =
     subst (IsStrictlySortedBy directory_cmp)
-    (sym (each_directories (sources c.args.files.now) (map placed_of c.in_ok-parsed.parsed.items) c.in_ok-parsed.ensures))
+    (sym (each_directories (sources_given c.args.files.now) (map placed_of c.in_ok-parsed.parsed.items) c.in_ok-parsed.ensures))
     c.requires.order
 
 pub returns-in_err-parsed : goal.returns-in_err-parsed
 returns-in_err-parsed g c =
     refused {T = Vec Parsed Global} {U = Vec Module Global} (λ parsed. map placed_of parsed.items)
-    (λ modules. modules.items) (TreesMean (sources c.args.files.now)) (LoadMeans (sources c.args.files.now))
+    (λ modules. modules.items) (TreesMean (sources_given c.args.files.now)) (LoadMeans (sources_given c.args.files.now))
     (λ fault first. (Err fault, (Err fault, first, refl), refl)) c.in_err-parsed.field-0.0 c.from_residual.result
     c.from_residual.ensures.1 c.in_err-parsed.ensures
 
@@ -30,13 +30,13 @@ pub returns-in_err-raws : goal.returns-in_err-raws
 returns-in_err-raws g c =
     let trees = map placed_of c.in_ok-parsed.parsed.items in
     unanswered {U = Vec Module Global} (λ modules. modules.items) (all_evaluated [] trees)
-    (LoadMeans (sources c.args.files.now))
+    (LoadMeans (sources_given c.args.files.now))
     (λ fault is. (Err fault, (Ok trees, c.in_ok-parsed.ensures, is), refl)) c.in_err-raws.field-0.0
     c.from_residual-in_err-raws.result c.from_residual-in_err-raws.ensures.1 c.in_err-raws.ensures
 
 pub returns : goal.returns
 returns g c =
     let trees = map placed_of c.in_ok-parsed.parsed.items in
-    answers_then {T = Vec Module Global} (λ modules. modules.items) (RawMean (sources c.args.files.now)) all_named
+    answers_then {T = Vec Module Global} (λ modules. modules.items) (RawMean (sources_given c.args.files.now)) all_named
     (map placed_raw c.in_ok-raws.raws.items) (Ok trees, c.in_ok-parsed.ensures, c.in_ok-raws.ensures)
     c.typed_and_named.result c.typed_and_named.ensures

@@ -8,7 +8,7 @@ use Rattle.bp_faults.specs.Answers.{then_do}
 use Rattle.bp_props.specs.declared.module.Module.{Module}
 use Rattle.bp_values.specs.declared.file.RawModule.{RawModule}
 use Rattle.bp_values.specs.Meaning.{Raw, raw_of}
-use Rattle.property_tables.specs.Meaning.{typed}
+use Rattle.property_tables.specs.Meaning.{typed_module}
 use Rattle.std.specs.Option.{option_to_list}
 use Rattle.bp_load.specs.Inherited.{placed_raw}
 use Rattle.bp_load.specs.Loaded.{all_typed}
@@ -31,7 +31,7 @@ returns-in_err-put_typed c =
     let road = YieldsList-from_vec {s = c.into_iter-raw-iterator.result} raws c.into_iter-raw-iterator.ensures.into_iter_gives.0 (c.into_iter-raw-iterator.ensures.into_iter_gives.1 ∙ c.args.raws.ok.0) in
     let turn = YieldsList-turn road c.loop-raw.yielded c.loop-raw.raw-iterator c.loop-raw.yielded_by c.next.result c.next.new.self c.in-Some.raw c.in-Some.is c.next.ensures.steps in
     rw (refused.1, refused.2)
-    (answered (λ (modules : Vec Module Global). modules.items) c.in_err-put_typed.field-0.0 (then_do (typed (raw_of c.in-Some.raw.1) c.in-Some.raw.0) (λ made. Ok (c.loop-raw.modules.items ++ option_to_list made))) (all_typed (map placed_raw raws)) c.in_err-put_typed.ensures
+    (answered (λ (modules : Vec Module Global). modules.items) c.in_err-put_typed.field-0.0 (then_do (typed_module (raw_of c.in-Some.raw.1) c.in-Some.raw.0) (λ made. Ok (c.loop-raw.modules.items ++ option_to_list made))) (all_typed (map placed_raw raws)) c.in_err-put_typed.ensures
     (λ fault is. typed_fault (map placed_raw raws) i c.loop-raw.modules.items (placed_raw c.in-Some.raw) fault (omega (arith, turn.0, many raws)) (placed_at raws i c.in-Some.raw turn.0 turn.1) c.loop-raw.invariant is))
 
 pub loop-raw-preserved : goal.loop-raw-preserved

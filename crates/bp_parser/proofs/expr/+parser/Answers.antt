@@ -8,7 +8,7 @@ use Rattle.bp_lexer.specs.Meaning.{word_of}
 use Rattle.bp_parser.specs.Trees.{Entry, tree_of, tree_and, term_and, no_entry, entry_and}
 use Rattle.bp_parser.specs.Words.{all_words}
 use Rattle.bp_parser.specs.Grammar.{IsMark}
-use Rattle.bp_parser.specs.Machine.{an_expr, more_terms, items, more_items, entries, more_entries, stuck, depth_of, has_name}
+use Rattle.bp_parser.specs.Machine.{an_expr, more_terms, items, more_items, entries, more_entries, stuck, depth_of, is_among}
 use Rattle.bp_names.specs.Meaning.{knows}
 use Rattle.bp_parser.proofs.Steps.{pass_mark, pass_plus, into_list, into_map, items_expr, ended, more_items_stop, more_entries_stop, entries_stop, colon_stop, stops_within, stops_at, trees_then_push, terms_then_push, entries_then_push, names_push, names_in, name_again, to_colon, to_value, has_name_push, map_roll}
 use Rattle.bp_parser.proofs.PartsRead.{ident_here, item_spelled, item_passed, entry_spelled, entry_passed, comma_before, within_part, too_nested, repeated, known_from, new_from}
@@ -249,7 +249,7 @@ map_at-reading-preserved t c =
           ap (λ n. cond (bytes_eq n q) true (knows c.reading.known q)) c.text.ensures ∙
           ap (λ b. cond (bytes_eq word q) true b) (c.reading.invariant.known q) ∙
           sym (has_name_push q word names) ∙
-          ap (has_name q) (sym all_names);
+          ap (is_among q) (sym all_names);
       first = λ other more rest s.
           rw (pushed, entries_then_push, c.in_ok-entry.ensures)
           (c.reading.invariant.first (c.reading-test.ensures.other refl) (entry_and word name.place value more) rest

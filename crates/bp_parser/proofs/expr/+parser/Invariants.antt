@@ -4,7 +4,7 @@ use Rattle.bp_parser.specs.Trees.{tree_of, term_of, entry_of, trees_then, terms_
 use Rattle.bp_parser.specs.Words.{Word, all_words}
 use Rattle.bp_parser.specs.Grammar.{SpellsTerms, SpellsItems, SpellsEntries}
 use Rattle.bp_parser.specs.Flaws.{SpellsFirst}
-use Rattle.bp_parser.specs.Machine.{Part, more_terms, items, entries, stuck, depth_of, has_name}
+use Rattle.bp_parser.specs.Machine.{Part, more_terms, items, entries, stuck, depth_of, is_among}
 use Rattle.bp_parser.specs.Reading.{HasMark, LacksMark}
 use Rattle.bp_names.specs.Meaning.{knows}
 use Rattle.bp_parser.proofs.Steps.{names_in}
@@ -52,7 +52,7 @@ invariant-map_at-reading l = record {
   started : l.at < l.next;
   within : l.next ≤ length l.words;
   opened : HasMark OpenBrace l.words l.at;
-  known : (q : List ℕ) → knows l.known q ≡ has_name q (names_in l.entries.items);
+  known : (q : List ℕ) → knows l.known q ≡ is_among q (names_in l.entries.items);
   first : LacksMark CloseBrace l.words l.next → (more : Entries) (rest : List Word) → SpellsFirst more (drop l.next (all_words l.text l.words)) rest → SpellsFirst (entries_then (map entry_of l.entries.items) more) (drop (l.at + 1) (all_words l.text l.words)) rest;
   spells : (more : Entries) (rest : List Word) → SpellsEntries more (drop l.next (all_words l.text l.words)) rest → SpellsEntries (entries_then (map entry_of l.entries.items) more) (drop (l.at + 1) (all_words l.text l.words)) rest;
   goes_on : (parts : List Part) → depth_of parts ≡ l.depth → stuck (drop (l.at + 1) (all_words l.text l.words)) (l.at + 1) (entries [] ∷ parts) ≡ stuck (drop l.next (all_words l.text l.words)) l.next (entries (names_in l.entries.items) ∷ parts);

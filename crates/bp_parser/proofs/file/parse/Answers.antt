@@ -3,7 +3,7 @@ use Rattle.bp_parser.specs.Trees.{definition_of}
 use Rattle.bp_parser.specs.Words.{all_words, words_of}
 use Rattle.bp_parser.specs.Grammar.{SpellsFile}
 use Rattle.bp_parser.specs.Machine.{stuck, DefsStopWith}
-use Rattle.bp_parser.specs.Meaning.{file_of, fault_of}
+use Rattle.bp_parser.specs.Meaning.{number_of_file, parse_fault}
 use Rattle.bp_parser.specs.Reading.{AreTokens}
 use Rattle.bp_parser.proofs.DefsRead.{kept_tokens, tree_meant, flaw_meant}
 use Rattle.bp_parser.proofs.file.parse.Goals as goal
@@ -24,7 +24,7 @@ returns-in-Ok c =
     let words = ap (all_words text) (c.as_slice.ensures.value ∙ c.in_ok-words.ensures) in
     let again = ap (all_words text) (c.as_slice-in-Ok.ensures.value ∙ c.in_ok-words.ensures) in
     let defs = map definition_of c.in-Ok.defs.items in
-    tree_meant (words_of text c.args.tokens.now) c.file_of.result defs (c.file_of.ensures ∙ ap file_of again) (subst (SpellsFile defs) words c.in-Ok.ensures.spells) (subst (λ ws. stuck ws 0 [] ≡ None) words c.in-Ok.ensures.whole)
+    tree_meant (words_of text c.args.tokens.now) c.file_of.result defs (c.file_of.ensures ∙ ap number_of_file again) (subst (SpellsFile defs) words c.in-Ok.ensures.spells) (subst (λ ws. stuck ws 0 [] ≡ None) words c.in-Ok.ensures.whole)
 
 pub returns-in-Err-Bad : goal.returns-in-Err-Bad
 returns-in-Err-Bad c =
@@ -34,5 +34,5 @@ returns-in-Err-Bad c =
     let flaw = c.in-Err-Bad.flaw in (
       flaw,
       flaw_meant (words_of text c.args.tokens.now) flaw c.in-Err-Bad.field-0 (cc) (subst (λ ws. DefsStopWith ws 0 c.in-Err-Bad.field-0) words c.in-Err-Bad.ensures.stops),
-      c.in_ok-fault_of-in-Err-Bad.ensures ∙ ap (λ ws. fault_of text ws flaw) again,
+      c.in_ok-fault_of-in-Err-Bad.ensures ∙ ap (λ ws. parse_fault text ws flaw) again,
     )

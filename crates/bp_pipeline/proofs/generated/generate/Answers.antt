@@ -4,7 +4,7 @@ use Rattle.std.specs.Global.{Global}
 use Rattle.bp_faults.proofs.Refusals.{refused}
 use Rattle.pass_ways.specs.declared.way.Way.TheVariants.{Workers}
 use Rattle.bp_pipeline.specs.declared.generated.Generated.{Generated}
-use Rattle.bp_pipeline.specs.Generated.{AreSizes, TextMeans, written}
+use Rattle.bp_pipeline.specs.Generated.{AreSizes, TextMeans, text_within_limit}
 use Rattle.bp_pipeline.specs.Journals.{IsLegalJournal}
 use Rattle.bp_pipeline.proofs.Whole.{all_refused, file_means, legal_journal, text_means}
 use Rattle.bp_pipeline.proofs.generated.generate.Goals as goal
@@ -23,7 +23,7 @@ returns-in_err-text-clause-text g c =
     let config = c.args.c.now in
     let file = c.in_ok-file.file in
     refused {T = Vec ℕ Global} {U = Generated} (λ text. text.items) (λ made. made.ninja)
-    (λ outcome. written file ≡ outcome)
+    (λ outcome. text_within_limit file ≡ outcome)
     (TextMeans mods config)
     (λ fault is. text_means mods config (Workers c.args.workers c.args.gate) ran.journal.items
     (map arc_value ran.made.items)

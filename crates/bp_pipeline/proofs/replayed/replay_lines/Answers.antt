@@ -3,7 +3,7 @@ use Rattle.std.specs.Arc.{arc_value}
 use Rattle.std.specs.Global.{Global}
 use Rattle.bp_faults.specs.declared.refusal.Refusal.TheVariants.{Bad}
 use Rattle.bp_faults.proofs.Refusals.{refused}
-use Rattle.bp_pipeline.specs.Generated.{written}
+use Rattle.bp_pipeline.specs.Generated.{text_within_limit}
 use Rattle.bp_pipeline.specs.Replays.{ReplayMeans}
 use Rattle.bp_pipeline.proofs.Replaying.{replay_behind, replay_refused, replay_told}
 use Rattle.bp_pipeline.proofs.replayed.replay_lines.Goals as goal
@@ -28,7 +28,7 @@ returns-in_err-text g c =
     let ran = c.in_ok-ran.ran in
     let many : c.len.result ≡ length ran.journal.items = omega (arith, c.len.ensures) in
     refused {T = Vec ℕ Global} {U = List ℕ} (λ text. text.items) (λ text. text)
-    (λ outcome. written c.in_ok-ninja.ninja ≡ outcome)
+    (λ outcome. text_within_limit c.in_ok-ninja.ninja ≡ outcome)
     (ReplayMeans c.args.mods.now c.args.c.now c.args.lines.now c.args.file)
     (λ fault is. replay_told {T = List ℕ} (λ text. text) c.args.mods.now c.args.c.now
     (record { lines = c.args.lines; file = c.args.file }) ran.journal.items (map arc_value ran.made.items)

@@ -11,7 +11,7 @@ use Rattle.module_graph.specs.Planned.{plan_of}
 use Rattle.mutator_kinds.specs.declared.pass_graph.PassGraph.{PassGraph}
 use Rattle.mutator_kinds.specs.BottomUp.{BottomUpMeans}
 use Rattle.mutator_rules.specs.declared.request.Request.{Request}
-use Rattle.reverse_deps.specs.Applied.{IsApplied, AskInside}
+use Rattle.reverse_deps.specs.Applied.{ApplyMeans, AskInside}
 use Rattle.bp_pipeline.specs.Limits.{ComesTo}
 use Rattle.bp_pipeline.specs.Passes.{AnswerOver}
 use Rattle.bp_pipeline.specs.Runs.{TellsPass}
@@ -39,7 +39,7 @@ returns-in_err-made-clause-tells g c =
     c.requires.along c.in_err-made.ensures.tells in
     first_refuses c.args.shop.now.way (plan_of BottomUp nodes) c.args.pass c.args.journal.now.items
     {T = PassGraph _} {U = Graph _} {A = Asked _} (λ made. (made.graph.nodes, made.asked)) (λ g. g.nodes)
-    (First mods answer nodes None) (λ made. IsApplied mods made.0 made.1)
+    (First mods answer nodes None) (λ made. ApplyMeans mods made.0 made.1)
     c.run_rule.new.journal.items c.in_err-made.field-0.0 c.from_residual.result c.from_residual.ensures.1
     here
 
@@ -65,9 +65,9 @@ returns-clause-tells g c =
     c.requires.along c.in_ok-made.ensures.tells.1 in
     next_tells c.args.shop.now.way (plan_of BottomUp nodes) c.args.pass c.args.journal.now.items
     {T = PassGraph _} {U = Graph _} {A = Asked _} (λ made. (made.graph.nodes, made.asked)) (λ g. g.nodes)
-    (First mods answer nodes None) (λ made. IsApplied mods made.0 made.1)
+    (First mods answer nodes None) (λ made. ApplyMeans mods made.0 made.1)
     c.run_rule.new.journal.items made (c.in_ok-made.ensures.tells.0, here) c.apply.result
-    (subst (λ asked. Tells {T = Graph _} (λ g. g.nodes) (IsApplied mods made.graph.nodes asked) c.apply.result)
+    (subst (λ asked. Tells {T = Graph _} (λ g. g.nodes) (ApplyMeans mods made.graph.nodes asked) c.apply.result)
     c.as_slice.ensures c.apply.ensures.means)
 
 pub returns-clause-free : goal.returns-clause-free

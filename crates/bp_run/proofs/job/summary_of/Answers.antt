@@ -7,13 +7,13 @@ use Rattle.module_graph.specs.declared.graph.Node.{Node}
 use Rattle.bp_pipeline.specs.declared.sizes.Sizes.{Sizes}
 use Rattle.bp_pipeline.specs.Course.{GraphAfter}
 use Rattle.bp_pipeline.specs.Generated.{AreSizes, sizes_of}
-use Rattle.bp_pipeline.specs.Mutators.{built}
+use Rattle.bp_pipeline.specs.Mutators.{mutator_count}
 use Rattle.bp_run.specs.Job.{synth_config}
 use Rattle.bp_run.proofs.job.summary_of.Goals as goal
 
 -- the size of the graph after a mutator, by its place in the list
 size_at : (typed : List Module) (sizes given : List Sizes) → given ≡ sizes → AreSizes typed synth_config sizes
-    → (k : ℕ) → k < built → (none : Sizes)
+    → (k : ℕ) → k < mutator_count → (none : Sizes)
     → (nodes : List (Node Props)) × GraphAfter typed synth_config (suc k) (Ok nodes)
     × (slice_index_or given k none ≡ sizes_of nodes)
 size_at typed sizes given same are k within none =

@@ -1,6 +1,6 @@
-use Rattle.bp_load.specs.Trees.{sources}
+use Rattle.bp_load.specs.Trees.{sources_given}
 use Rattle.bp_run.proofs.Counted.{few_modules}
 use Rattle.bp_run.proofs.load.load_files.Goals as goal
 
 pub returns-clause-few : goal.returns-clause-few
-returns-clause-few g c = few_modules (sources c.args.files.now) c.in_ok-typed.typed.items c.in_ok-typed.ensures
+returns-clause-few g c = few_modules (sources_given c.args.files.now) c.in_ok-typed.typed.items c.in_ok-typed.ensures

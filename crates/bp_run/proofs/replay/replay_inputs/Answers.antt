@@ -2,7 +2,7 @@ use Rattle.std.proofs.Common.{List, Vec, Ok, Err, subst, ℕ}
 use Rattle.std.specs.declared.alloc.Global.{Global}
 use Rattle.bp_faults.specs.Answers.{Tells}
 use Rattle.bp_load.specs.Loaded.{LoadMeans}
-use Rattle.bp_load.specs.Trees.{sources}
+use Rattle.bp_load.specs.Trees.{sources_given}
 use Rattle.bp_pipeline.specs.Replays.{OrderMeans}
 use Rattle.bp_props.specs.declared.module.Module.{Module}
 use Rattle.bp_run.specs.declared.made.Made.{Made}
@@ -18,11 +18,11 @@ returns-in_err-typed-clause-gives g c =
     let inputs = c.args.inputs.now in
     let stop = c.in_err-typed.field-0.0 in
     first_stops {T = Vec Module Global} {U = Made} (λ typed. typed.items) (λ made. made.text)
-    (LoadMeans (sources inputs.files.items))
+    (LoadMeans (sources_given inputs.files.items))
     (λ typed. OrderMeans typed (config_of words.targets) inputs.order.items c.args.number) stop
     c.from_residual.result c.from_residual.ensures.1
     (subst (λ files. GivesOrStops {T = Vec Module Global} {V = List Module} (λ typed. typed.items)
-    (LoadMeans (sources files)) Never (Err stop)) c.deref.ensures.value c.in_err-typed.ensures.gives)
+    (LoadMeans (sources_given files)) Never (Err stop)) c.deref.ensures.value c.in_err-typed.ensures.gives)
 
 pub returns-in_err-text-clause-gives : goal.returns-in_err-text-clause-gives
 returns-in_err-text-clause-gives g c =
@@ -32,9 +32,9 @@ returns-in_err-text-clause-gives g c =
     let wanted = config_of words.targets in
     let refusal = c.in_err-text.field-0.0 in
     second_gives {T = Vec Module Global} {U = Made} (λ typed. typed.items) (λ made. made.text)
-    (LoadMeans (sources inputs.files.items))
+    (LoadMeans (sources_given inputs.files.items))
     (λ typed. OrderMeans typed wanted inputs.order.items c.args.number) typed
-    (subst (λ files. LoadMeans (sources files) (Ok typed)) c.deref.ensures.value c.in_ok-typed.ensures.gives)
+    (subst (λ files. LoadMeans (sources_given files) (Ok typed)) c.deref.ensures.value c.in_ok-typed.ensures.gives)
     c.from_residual-in_err-text.result
     (told {T = List ℕ} {U = Made} (λ text. text) (λ made. made.text)
     (OrderMeans typed wanted inputs.order.items c.args.number)
@@ -56,7 +56,7 @@ returns-clause-gives g c =
     let wanted = config_of words.targets in
     let text = c.in_ok-text.text in (
       Ok typed,
-      subst (λ files. LoadMeans (sources files) (Ok typed)) c.deref.ensures.value c.in_ok-typed.ensures.gives,
+      subst (λ files. LoadMeans (sources_given files) (Ok typed)) c.deref.ensures.value c.in_ok-typed.ensures.gives,
       subst (λ m. OrderMeans m wanted inputs.order.items c.args.number (Ok text)) c.deref-2.ensures.value
           (subst (λ o. OrderMeans c.deref-2.result.now wanted o c.args.number (Ok text)) c.deref-3.ensures.value
           (subst (λ config. OrderMeans c.deref-2.result.now config c.deref-3.result.now c.args.number (Ok text))

@@ -7,7 +7,7 @@ use Rattle.bp_values.specs.declared.file.RawModule.{RawModule}
 use Rattle.bp_values.specs.declared.map_places.MapPlaces.{MapPlaces}
 use Rattle.bp_values.specs.declared.scope.Scope.{Scope}
 use Rattle.bp_values.specs.Inside.{known_of, is_noted, is_extended_or}
-use Rattle.bp_values.specs.Meaning.{Known, after_definitions, evaluated, raw_of}
+use Rattle.bp_values.specs.Meaning.{Known, after_definitions, file_evaluation, raw_of}
 use Rattle.bp_values.specs.MapPlaces.{PlacesOf}
 use Rattle.bp_values.specs.Scopes.{Pairs, pairs_of, count_of, value_in}
 use Rattle.bp_values.proofs.Extended.{marks_at_first}
@@ -43,7 +43,7 @@ returns-in_err-define_all-clause-values c =
     let refused = err_from_is_err_and c.from_residual-in_err-define_all.result c.from_residual-in_err-define_all.ensures.1 in
     rw (refused.1, refused.2)
     (answered (λ (r : Vec RawModule Global × Scope). (map raw_of r.0.items, pairs_of r.1)) c.in_err-define_all.field-0.0
-    (after_definitions inherited (known inherited used) ds) (evaluated inherited ds) (subst (Refuses c.in_err-define_all.field-0.0) meant c.in_err-define_all.ensures.known)
+    (after_definitions inherited (known inherited used) ds) (file_evaluation inherited ds) (subst (Refuses c.in_err-define_all.field-0.0) meant c.in_err-define_all.ensures.known)
     (λ fault is. sym marks ∙ ap (λ r. then_do r (λ k. Ok (k.modules, k.scope))) is))
 
 pub returns-clause-values : goal.returns-clause-values

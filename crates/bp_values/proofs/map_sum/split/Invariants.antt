@@ -2,10 +2,10 @@ use Rattle.std.proofs.Common.{◌≡◌, ◌++◌, ℕ, map}
 use Rattle.std.specs.Option.{option_or}
 use Rattle.bp_values.specs.Values.{field_of}
 use Rattle.bp_values.specs.PlaceTable.{found_place}
-use Rattle.bp_values.specs.Places.{value_for, unplaced, value_at_place}
+use Rattle.bp_values.specs.Places.{value_for, unplaced_fields, value_at_place}
 use Rattle.bp_values.proofs.map_sum.split.Given as goal
 
 abbrev pub invariant-loop-entry : goal.invariant-loop-entry
 invariant-loop-entry l =
     ((i : ℕ) → value_for (found_place l.names) i (map field_of l.fn.second.items) ≡ option_or (value_at_place l.shared i) (value_for (found_place l.names) i (map field_of l.entry-iterator.rest.items)))
-    × (unplaced (found_place l.names) (map field_of l.fn.second.items) ≡ map field_of l.others.items ++ unplaced (found_place l.names) (map field_of l.entry-iterator.rest.items))
+    × (unplaced_fields (found_place l.names) (map field_of l.fn.second.items) ≡ map field_of l.others.items ++ unplaced_fields (found_place l.names) (map field_of l.entry-iterator.rest.items))

@@ -1,7 +1,7 @@
 use Rattle.std.proofs.Common.{Some, map, ap, ◌∙◌}
 use Rattle.std.specs.Arc.{arc_value}
 use Rattle.module_graph.specs.declared.graph.Edge.{Edge}
-use Rattle.build_actions.specs.Paths.{product_of, link_of}
+use Rattle.build_actions.specs.Paths.{product_of, link_variation}
 use Rattle.build_actions.specs.Files.{results_of}
 use Rattle.build_actions.specs.Compiles.{compiler_of, compile_steps, outs_of_steps}
 use Rattle.build_actions.specs.Products.{is_whole, objects_over, product_step}
@@ -29,6 +29,6 @@ returns c =
     ∙ ap (objects_over (outs_of_steps steps)) wholes)
     c.in_ok-output.ensures
     (c.in_ok-product.ensures
-    ∙ ap (product_step c.args.modules.now c.args.graph.now.nodes x (product_of (link_of x)) out)
+    ∙ ap (product_step c.args.modules.now c.args.graph.now.nodes x (product_of (link_variation x)) out)
     c.as_slice-4.ensures.value)
     c.in_ok-push.ensures.items

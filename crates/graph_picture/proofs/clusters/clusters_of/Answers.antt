@@ -1,7 +1,7 @@
 use Rattle.std.proofs.Common.{◌∙◌, ℕ, List, get_or, ap, subst, rules, []}
 use Rattle.bp_faults.proofs.Lists.{same_at, take-past}
 use Rattle.bp_names.specs.Meaning.{LearnsNumber, number_of}
-use Rattle.graph_picture.specs.Drawing.{clusters_behind, module_at}
+use Rattle.graph_picture.specs.Drawing.{clusters_behind, module_name_at}
 use Rattle.graph_picture.proofs.Clustered.{grouped_none, grouped_more, grouped_inside}
 use Rattle.graph_picture.proofs.clusters.clusters_of.Goals as goal
 
@@ -38,7 +38,7 @@ loop-n-preserved c =
     let table = c.loop-n.table in
     let new = c.learn.new.self in
     let Named : List ℕ → Type 0 = λ name. LearnsNumber table name c.len.result new in
-    let Numbered : ℕ → Type 0 = λ k. LearnsNumber table (module_at variants n) k new in
+    let Numbered : ℕ → Type 0 = λ k. LearnsNumber table (module_name_at variants n) k new in
     grouped_more variants numbers i n lt (same_at numbers i 0 _ lt) table c.loop-n.clusters.items c.loop-n.invariant
     c.tables_grow_with_lists.ensures c.in_ok-known.known new c.put_number.new.clusters.items
     (c.in_ok-known.ensures.had ∙ ap (number_of table) c.module_at.ensures)

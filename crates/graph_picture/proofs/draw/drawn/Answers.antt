@@ -2,7 +2,7 @@ use Rattle.std.proofs.Common.{◌∙◌, ◌++◌, ℕ, List, [], length, ap, ar
 use Rattle.module_graph.specs.Numbered.{by_number}
 use Rattle.graph_picture.specs.declared.clusters.Cluster.{Cluster}
 use Rattle.graph_picture.specs.declared.style.TheConstants.{HEAD}
-use Rattle.graph_picture.specs.Drawing.{cluster_drawn, clusters_behind, drawn}
+use Rattle.graph_picture.specs.Drawing.{cluster_drawn, clusters_behind, picture_of}
 use Rattle.graph_picture.proofs.Chains.{four}
 use Rattle.graph_picture.proofs.Drawings.{marked_few}
 use Rattle.graph_picture.proofs.draw.drawn.Goals as goal
@@ -12,7 +12,7 @@ clusters_of-requires c =
     omega (arith, marked_few c.args.marks.now, ap length (c.deref.ensures.value ∙ c.in_ok-numbers.ensures), c.requires)
 
 pub returns : goal.returns
-unfolding drawn
+unfolding picture_of
 returns c =
     let variants = c.args.variants.now in
     let clusters_are =

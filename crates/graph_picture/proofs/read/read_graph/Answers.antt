@@ -1,6 +1,6 @@
 use Rattle.std.proofs.Common.{arith, ap, length, subst, List}
 use Rattle.graph_picture.specs.declared.variant.Variant.{Variant}
-use Rattle.graph_picture.specs.Lines.{LeadInside, lines_of}
+use Rattle.graph_picture.specs.Lines.{LeadInside, all_variant_lines}
 use Rattle.graph_picture.proofs.ByLine.{ended_few, variants_few}
 use Rattle.graph_picture.proofs.read.read_graph.Goals as goal
 
@@ -8,7 +8,7 @@ pub outside_line-requires : goal.outside_line-requires
 outside_line-requires c =
     let variants = c.in_ok-variants.variants.items in
     rw c.deref.ensures.value
-    (omega (arith, ended_few (lines_of variants), ap length c.in_ok-variants.ensures.1, c.requires))
+    (omega (arith, ended_few (all_variant_lines variants), ap length c.in_ok-variants.ensures.1, c.requires))
 
 pub returns-in-None : goal.returns-in-None
 returns-in-None c =

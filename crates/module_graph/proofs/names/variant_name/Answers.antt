@@ -1,11 +1,11 @@
 use Rattle.std.proofs.Common.{◌∙◌, ap, get_or}
 use Rattle.module_graph.specs.declared.variation.Variation.TheVariants.{Empty}
-use Rattle.module_graph.specs.Inside.{added}
+use Rattle.module_graph.specs.Inside.{name_with}
 use Rattle.module_graph.specs.Names.{spelling}
 use Rattle.module_graph.proofs.Spelled.{name_more}
 use Rattle.module_graph.proofs.names.variant_name.Goals as goal
 
 pub loop-variation-preserved : goal.loop-variation-preserved
 loop-variation-preserved c =
-    c.in_ok-append.ensures ∙ ap (λ name. added name (spelling (get_or c.as_slice-variation-items.result.now c.loop-variation.variation-index Empty))) c.loop-variation.invariant
+    c.in_ok-append.ensures ∙ ap (λ name. name_with name (spelling (get_or c.as_slice-variation-items.result.now c.loop-variation.variation-index Empty))) c.loop-variation.invariant
     ∙ name_more c.as_slice-variation-items.result.now c.loop-variation.variation-index Empty c.loop-variation-test.true

@@ -2,13 +2,13 @@ use Rattle.std.proofs.Common.{◌∙◌, ap, sym, subst, map, Some, Ok, Err}
 use Rattle.std.proofs.lemmas.List.{length-map}
 use Rattle.pass_core.specs.CoreKept.{shown_in}
 use Rattle.pass_core.specs.CoreStates.{result_in}
-use Rattle.pass_core.specs.Results.{Done, judged}
+use Rattle.pass_core.specs.Results.{Done, judged_result}
 use Rattle.pass_core.proofs.HeldOuts.{none_gathered, passed_many, judged_gathered}
 use Rattle.pass_core.proofs.held.visit_held.Goals as goal
 
 pub returns-in_default : goal.returns-in_default
 returns-in_default g c =
-    sym (ap (judged (g.V.Visit.meaning c.args.v.now c.args.n.0)) (none_gathered (map (λ h. result_in (Some (shown_in h))) c.args.held.now) c.in_ok-ins.field-0 c.in_ok-ins.ensures c.in_default.is))
+    sym (ap (judged_result (g.V.Visit.meaning c.args.v.now c.args.n.0)) (none_gathered (map (λ h. result_in (Some (shown_in h))) c.args.held.now) c.in_ok-ins.field-0 c.in_ok-ins.ensures c.in_default.is))
 
 pub visit-requires : goal.visit-requires
 visit-requires g c =

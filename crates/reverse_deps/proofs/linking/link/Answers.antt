@@ -1,7 +1,7 @@
 use Rattle.std.proofs.Common.{◌<◌, ◌+◌, length, set, drop, get_or, ap, sym, subst, ◌∙◌, length-set, arith}
 use Rattle.std.proofs.lemmas.List.{drop_more, drop_all}
 use Rattle.module_graph.specs.declared.graph.EdgeKind.TheVariants.{Defaults}
-use Rattle.reverse_deps.specs.Linked.{Link, linked}
+use Rattle.reverse_deps.specs.Linked.{Link, linked_nodes}
 use Rattle.reverse_deps.proofs.Apart.{all_at}
 use Rattle.reverse_deps.proofs.Gained.{one_link, no_links}
 use Rattle.reverse_deps.proofs.linking.link.Goals as goal
@@ -22,12 +22,12 @@ loop-holder-preserved g c =
     record {
       many = length-set nodes l.0.0 _ ∙ many;
       rest =
-          ap (λ es. linked (set nodes l.0.0 (record (get_or nodes l.0.0 d) { edges = es })) (drop (i + 1) links)) c.in_ok-push.ensures.ok
+          ap (λ es. linked_nodes (set nodes l.0.0 (record (get_or nodes l.0.0 d) { edges = es })) (drop (i + 1) links)) c.in_ok-push.ensures.ok
           ∙ sym (one_link nodes d l (drop (i + 1) links) inside)
-          ∙ ap (linked nodes) (sym (drop_more links i none c.loop-holder-test.true))
+          ∙ ap (linked_nodes nodes) (sym (drop_more links i none c.loop-holder-test.true))
           ∙ c.loop-holder.invariant.rest;
     }
 
 pub returns : goal.returns
 returns g c =
-    sym (no_links c.loop-holder.nodes) ∙ ap (linked c.loop-holder.nodes) (sym (drop_all c.loop-holder.holder-index c.args.links.now (omega arith))) ∙ c.loop-holder.invariant.rest
+    sym (no_links c.loop-holder.nodes) ∙ ap (linked_nodes c.loop-holder.nodes) (sym (drop_all c.loop-holder.holder-index c.args.links.now (omega arith))) ∙ c.loop-holder.invariant.rest

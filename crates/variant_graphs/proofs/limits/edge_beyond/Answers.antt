@@ -1,6 +1,6 @@
 use Rattle.std.proofs.Common.{◌≡◌, ◌∙◌, ◌<◌, ◌+◌, ◌-◌, ap, get_or, length, arith, sym, slice_get, take}
 use Rattle.module_graph.specs.declared.graph.Node.{Node}
-use Rattle.variant_graphs.specs.Inside.{repeated, kept_places, new_places}
+use Rattle.variant_graphs.specs.Inside.{copies_of, kept_places, new_places}
 use Rattle.variant_graphs.proofs.Beyond.{places_more, place_beyond, length-repeated_more, beyond_is}
 use Rattle.variant_graphs.proofs.limits.edge_beyond.Goals as goal
 
@@ -10,8 +10,8 @@ returns-then-kept-total g c =
     let edges_are : c.as_slice-edges.result.now ≡ (get_or nodes n x).edges = c.as_slice-edges.ensures ∙ ap (λ (y : Node _). y.edges) c.node-item.is ∙ ap (λ l. (get_or l n x).edges) c.as_slice-node-items.ensures in
     let kept_are : kept_places counts c.as_slice-edges.result.now ≡ kept_places counts (get_or nodes n x).edges = ap (kept_places counts) edges_are in
     let front = length (new_places counts (take n nodes)) in
-    let times = length (repeated c.loop-copy._copy (kept_places counts (get_or nodes n x).edges)) in
-    let total : c.loop-copy.total ≡ front + times = c.loop-copy.invariant.0 ∙ ap (λ l. front + length (repeated c.loop-copy._copy l)) kept_are in
+    let times = length (copies_of c.loop-copy._copy (kept_places counts (get_or nodes n x).edges)) in
+    let total : c.loop-copy.total ≡ front + times = c.loop-copy.invariant.0 ∙ ap (λ l. front + length (copies_of c.loop-copy._copy l)) kept_are in
     let many : c.count_kept-kept.result ≡ length (kept_places counts (get_or nodes n x).edges) = c.count_kept-kept.ensures ∙ ap length kept_are in
     let few = c.loop-copy.invariant.1 in
     let within : 4194304 - c.loop-copy.total < length (kept_places counts (get_or nodes n x).edges) = omega arith in
@@ -37,6 +37,6 @@ loop-n-preserved g c =
     let lt : n < length nodes = omega arith in
     let whole : c.loop-copy._copy ≡ get_or counts n 0 = omega arith in
     let more = places_more counts nodes n x lt in
-    let total : c.loop-copy.total ≡ front + length (repeated (get_or counts n 0) (kept_places counts (get_or nodes n x).edges)) =
-    c.loop-copy.invariant.0 ∙ ap (λ l. front + length (repeated c.loop-copy._copy (kept_places counts l))) edges_are ∙ ap (λ k. front + length (repeated k (kept_places counts (get_or nodes n x).edges))) whole in
+    let total : c.loop-copy.total ≡ front + length (copies_of (get_or counts n 0) (kept_places counts (get_or nodes n x).edges)) =
+    c.loop-copy.invariant.0 ∙ ap (λ l. front + length (copies_of c.loop-copy._copy (kept_places counts l))) edges_are ∙ ap (λ k. front + length (copies_of k (kept_places counts (get_or nodes n x).edges))) whole in
     (total ∙ sym more, c.loop-copy.invariant.1)

@@ -3,7 +3,7 @@ use Rattle.std.specs.Prelude.{slice_index}
 use Rattle.pass_core.specs.declared.plan.Plan.{Plan}
 use Rattle.pass_core.specs.declared.plan.PlanEdge.{PlanEdge}
 use Rattle.ready_counters.specs.declared.view.View.{View}
-use Rattle.ready_counters.specs.Edges.{to_of}
+use Rattle.ready_counters.specs.Edges.{edge_target}
 use Rattle.ready_counters.specs.Views.{times}
 use Rattle.ready_counters.specs.Seen.{view_of}
 use Rattle.visit_workers.specs.Links.{numbers_from}
@@ -17,7 +17,7 @@ blank = record { from = record { 0 = 0 }; to = record { 0 = 0 } }
 
 pub ticket-ticket-requires-clause-ready : goal.ticket-ticket-requires-clause-ready
 ticket-ticket-requires-clause-ready g c =
-    subst (λ (q : Plan). (e : ℕ) → e < length q.edges → to_of q.edges e ≡ c.args.n.0
+    subst (λ (q : Plan). (e : ℕ) → e < length q.edges → edge_target q.edges e ≡ c.args.n.0
     → 1 ≤ times e (view_of c.gather.new.seat).fetched) c.requires.pass.board_plan
     (λ e l to. let r = (range c.in_edges_are_together.ensures c.places_of_edges_rise.ensures
     c.places_tell_targets.ensures c.args.pass.now.plan.now c.requires.pass.is_plan c.args.pass.now.starts.now

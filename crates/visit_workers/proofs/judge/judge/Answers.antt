@@ -1,7 +1,7 @@
 use Rattle.std.proofs.Common.{◌∙◌, ap, sym, subst, map, length, Ok, Err}
 use Rattle.std.specs.Arc.{arc_value}
 use Rattle.std.proofs.lemmas.List.{length-map}
-use Rattle.pass_core.specs.Results.{outs_of}
+use Rattle.pass_core.specs.Results.{all_outs}
 use Rattle.pass_core.specs.Results.NodeResult.{Done, Bad}
 use Rattle.visit_workers.specs.Settled.{outcomes}
 use Rattle.visit_workers.proofs.Judging.{poisoned, visited, as_many, mapped_none, mapped_some}
@@ -12,7 +12,7 @@ returns-in_default g c =
     sym (poisoned c.results_meet_their_equation.ensures (g.V.Visit.meaning c.args.pass.now.visitor.now)
     c.args.pass.now.plan.now c.requires.pass.is_plan c.requires.pass.free c.args.n.0 c.requires.inside c.args.ins.now
     c.requires.values (mapped_none (λ outs. map arc_value outs.items) c.in_ok-outs.field-0 c.in_default.is
-    (outs_of (outcomes c.args.ins.now)) c.in_ok-outs.ensures))
+    (all_outs (outcomes c.args.ins.now)) c.in_ok-outs.ensures))
 
 pub visit-requires : goal.visit-requires
 visit-requires g c =
@@ -20,7 +20,7 @@ visit-requires g c =
     c.args.pass.now.plan.now c.requires.pass.is_plan c.requires.pass.free c.args.n.0 c.requires.inside
     c.args.ins.now c.requires.values (map arc_value c.in-Some.outs.items)
     (mapped_some (λ outs. map arc_value outs.items) c.in_ok-outs.field-0 c.in-Some.outs c.in-Some.is
-    (outs_of (outcomes c.args.ins.now)) c.in_ok-outs.ensures) in
+    (all_outs (outcomes c.args.ins.now)) c.in_ok-outs.ensures) in
     subst (λ k. g.V.Visit.takes c.args.pass.now.visitor.now c.args.n.0 k)
     (sym many ∙ length-map c.in-Some.outs.items arc_value ∙ ap length (sym c.deref.ensures.value))
     (c.requires.pass.takes_plan c.args.n.0 c.requires.inside)
@@ -32,7 +32,7 @@ returns-in-Ok g c =
     c.args.pass.now.plan.now c.requires.pass.is_plan c.requires.pass.free c.args.n.0 c.requires.inside
     c.args.ins.now c.requires.values (map arc_value c.in-Some.outs.items)
     (mapped_some (λ outs. map arc_value outs.items) c.in_ok-outs.field-0 c.in-Some.outs c.in-Some.is
-    (outs_of (outcomes c.args.ins.now)) c.in_ok-outs.ensures) (Ok c.in-Ok.out)
+    (all_outs (outcomes c.args.ins.now)) c.in_ok-outs.ensures) (Ok c.in-Ok.out)
     (ap (λ l. g.V.Visit.meaning c.args.pass.now.visitor.now c.args.n.0 (map arc_value l))
     (sym c.deref.ensures.value) ∙ c.in-Ok.ensures))
 
@@ -44,6 +44,6 @@ returns-in-Err-Bad g c =
     c.args.pass.now.plan.now c.requires.pass.is_plan c.requires.pass.free c.args.n.0 c.requires.inside
     c.args.ins.now c.requires.values (map arc_value c.in-Some.outs.items)
     (mapped_some (λ outs. map arc_value outs.items) c.in_ok-outs.field-0 c.in-Some.outs c.in-Some.is
-    (outs_of (outcomes c.args.ins.now)) c.in_ok-outs.ensures) (Err c.in-Err-Bad.fault)
+    (all_outs (outcomes c.args.ins.now)) c.in_ok-outs.ensures) (Err c.in-Err-Bad.fault)
     (ap (λ l. g.V.Visit.meaning c.args.pass.now.visitor.now c.args.n.0 (map arc_value l))
     (sym c.deref.ensures.value) ∙ told))

@@ -5,11 +5,11 @@ use Rattle.std.proofs.lemmas.List.{map-append}
 use Rattle.pass_core.specs.declared.plan.Plan.{Plan}
 use Rattle.pass_core.specs.declared.plan.PlanEdge.{PlanEdge}
 use Rattle.pass_core.specs.Results.{node_result}
-use Rattle.pass_core.specs.Shown.{shown}
+use Rattle.pass_core.specs.Shown.{published_result}
 use Rattle.bp_faults.proofs.Lists.{take-past}
-use Rattle.ready_counters.specs.Edges.{to_of, result_at}
+use Rattle.ready_counters.specs.Edges.{edge_target, result_at}
 use Rattle.ready_counters.specs.Views.{times}
-use Rattle.ready_counters.specs.Seen.{plan_of, view_of}
+use Rattle.ready_counters.specs.Seen.{plan_on_board, view_of}
 use Rattle.visit_workers.specs.Settled.{IsGathering, outcomes}
 use Rattle.visit_workers.proofs.Gathered.{into_at, all_into, range, mapped, mapped_more}
 use Rattle.visit_workers.proofs.Settling.{gathering_more}
@@ -37,7 +37,7 @@ fetch-shared-requires-clause-claimed g c =
     c.requires.inside c.loop-edge.e blank at.0).0 (let h = c.loop-edge.invariant.counted in omega arith) at.1 in
     let mine : 1 ≤ times c.args.n.0 (view_of c.loop-edge.seat).claimed = let h = c.requires.claimed in
     let same = ap (times c.args.n.0) c.loop-edge.invariant.gathering.claimed in omega arith in
-    subst (λ (q : Plan). 1 ≤ times (to_of q.edges c.loop-edge.e) (view_of c.loop-edge.seat).claimed)
+    subst (λ (q : Plan). 1 ≤ times (edge_target q.edges c.loop-edge.e) (view_of c.loop-edge.seat).claimed)
     c.requires.pass.board_plan (subst (λ x. 1 ≤ times x (view_of c.loop-edge.seat).claimed) (sym to) mine)
 
 pub fetch-shared-requires-clause-fresh : goal.fetch-shared-requires-clause-fresh
@@ -73,14 +73,14 @@ loop-edge-preserved g c =
           (view_of c.args.seat.now) (view_of c.loop-edge.seat) (view_of c.fetch-shared.new.seat)
           (let h = c.loop-edge.invariant.counted in omega arith) c.fetch-shared.ensures.fetched
           c.loop-edge.invariant.gathering;
-      values = ap outcomes c.in_ok-push.ensures.items ∙ map-append (λ a. shown (arc_value a)) c.loop-edge.ins.items
+      values = ap outcomes c.in_ok-push.ensures.items ∙ map-append (λ a. published_result (arc_value a)) c.loop-edge.ins.items
           (c.fetch-shared.result ∷ [])
           ∙ mapped_more (node_result (g.V.Visit.meaning c.args.pass.now.visitor.now) c.args.pass.now.plan.now)
           c.edges_into-edges.result.now c.loop-edge._edge-index c.loop-edge.e blank
-          (outcomes c.loop-edge.ins.items) (shown (arc_value c.fetch-shared.result)) c.loop-edge-test.true
+          (outcomes c.loop-edge.ins.items) (published_result (arc_value c.fetch-shared.result)) c.loop-edge-test.true
           c.loop-edge.invariant.values
           (c.fetch-shared.ensures.value
-          ∙ ap (λ w. result_at (g.V.Visit.meaning w) (plan_of c.args.pass.now.board.now) c.loop-edge.e)
+          ∙ ap (λ w. result_at (g.V.Visit.meaning w) (plan_on_board c.args.pass.now.board.now) c.loop-edge.e)
           (sym c.requires.pass.board_visitor)
           ∙ ap (λ (q : Plan). result_at (g.V.Visit.meaning c.args.pass.now.visitor.now) q c.loop-edge.e)
           (sym c.requires.pass.board_plan)

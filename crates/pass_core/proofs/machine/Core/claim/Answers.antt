@@ -5,7 +5,7 @@ use Rattle.pass_core.specs.declared.step.Step.TheVariants.{Claim}
 use Rattle.pass_core.specs.CoreStates.{Allows}
 use Rattle.pass_core.specs.CoreKept.{state_of, shown_in}
 use Rattle.std.proofs.lemmas.Option.{slice_get_read}
-use Rattle.pass_core.specs.CoreStates.{made}
+use Rattle.pass_core.specs.CoreStates.{visit_result}
 use Rattle.pass_core.proofs.CoreSteps.{claim_core, steps_most}
 use Rattle.pass_core.proofs.CoreTables.{mark_shows, publishes_as, test_zero, zero_test}
 use Rattle.pass_core.proofs.HeldPlaced.{starts_rise, starts_end, slice_judged, slice_many}
@@ -54,7 +54,7 @@ invariant_of-self-2 g c =
     ) in
     let counted : c.index-2.result.now ≡ slice_index f.unfetched.items c.args.n.0 = c.index-2.ensures ∙ same_at f.unfetched.items c.args.n.0 c.index-2.result.now 0 (subst (λ x. c.args.n.0 < x) (sym kept.unfetched_many) inside) in
     claim_core (g.V.Visit.meaning f.visitor) (g.V.Visit.takes f.visitor) f.plan f.starts.items s f.unfetched.items f.published.items f.steps kept c.args.n may inside c.publish_last.new.published.items
-    (publishes_as c.args.n.0 _ (made (g.V.Visit.meaning f.visitor) f.plan s c.args.n.0) f.published.items c.publish_last.new.published.items
+    (publishes_as c.args.n.0 _ (visit_result (g.V.Visit.meaning f.visitor) f.plan s c.args.n.0) f.published.items c.publish_last.new.published.items
     (test_zero c.index-2.result.now (slice_index f.unfetched.items c.args.n.0) 0 counted) (zero_test c.index-2.result.now (slice_index f.unfetched.items c.args.n.0) 0 counted)
     (slice_judged f.plan f.starts.items kept.is_plan kept.are_starts c.args.n.0 inside f.filled.items many c.held_by-held.result.now slice (g.V.Visit.meaning f.visitor c.args.n.0)) c.in_ok-publish_last.ensures.done)
 

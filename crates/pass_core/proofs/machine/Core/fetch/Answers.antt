@@ -6,7 +6,7 @@ use Rattle.pass_core.specs.declared.step.Step.TheVariants.{Fetch}
 use Rattle.pass_core.specs.CoreStates.{Allows, to_of, after}
 use Rattle.pass_core.specs.CoreKept.{IsCore, state_of, shown_in}
 use Rattle.std.proofs.Common.{get_or}
-use Rattle.pass_core.specs.CoreStates.{IsMarked, made}
+use Rattle.pass_core.specs.CoreStates.{IsMarked, visit_result}
 use Rattle.pass_core.specs.CoreKept.{PublishesLast}
 use Rattle.pass_core.proofs.CoreSteps.{fetch_core, fetch_some, steps_most}
 use Rattle.pass_core.proofs.CoreTables.{filled_shows, mark_shows, to_is, count_is, lowered_is, publishes_as, test_zero, zero_test}
@@ -111,13 +111,13 @@ invariant_of-self-2 g c =
     let ready : to_of f.plan c.args.e < length f.unfetched.items = subst (λ x. to_of f.plan c.args.e < x) (sym kept.unfetched_many) at in
     let lowered = lowered_is f.plan c.as_slice.result.now c.as_slice.ensures c.args.e d inside f.unfetched.items c.index_mut.result.now ready c.index_mut.ensures.value in
     let counted : c.index-3.result.now ≡ slice_index f.unfetched.items node = c.index-3.ensures ∙ same_at f.unfetched.items node c.index-3.result.now 0 (subst (λ x. node < x) (sym kept.unfetched_many) in_node) in
-    let published : PublishesLast (slice_index f.unfetched.items node ≡ 1) node (made (g.V.Visit.meaning f.visitor) f.plan s node) f.published.items c.publish_last.new.published.items =
-    publishes_as node _ (made (g.V.Visit.meaning f.visitor) f.plan s node) f.published.items c.publish_last.new.published.items
+    let published : PublishesLast (slice_index f.unfetched.items node ≡ 1) node (visit_result (g.V.Visit.meaning f.visitor) f.plan s node) f.published.items c.publish_last.new.published.items =
+    publishes_as node _ (visit_result (g.V.Visit.meaning f.visitor) f.plan s node) f.published.items c.publish_last.new.published.items
     (test_zero c.index-3.result.now (slice_index f.unfetched.items node) 1 counted) (zero_test c.index-3.result.now (slice_index f.unfetched.items node) 1 counted)
     (slice_judged f.plan f.starts.items kept.is_plan kept.are_starts node in_node f.filled.items many c.held_by-held.result.now slice (g.V.Visit.meaning f.visitor node)) c.in_ok-publish_last.ensures.done in
     subst (λ us. IsCore (g.V.Visit.meaning f.visitor) (g.V.Visit.takes f.visitor) f.plan f.starts.items (after (g.V.Visit.meaning f.visitor) f.plan s (Fetch c.args.e)) us c.publish_last.new.published.items (f.steps + 1)) (sym lowered)
     (fetch_core (g.V.Visit.meaning f.visitor) (g.V.Visit.takes f.visitor) f.plan f.starts.items s f.unfetched.items f.published.items f.steps kept c.args.e may c.publish_last.new.published.items
-    (subst (λ x. PublishesLast (slice_index f.unfetched.items x ≡ 1) x (made (g.V.Visit.meaning f.visitor) f.plan s x) f.published.items c.publish_last.new.published.items) (sym to) published))
+    (subst (λ x. PublishesLast (slice_index f.unfetched.items x ≡ 1) x (visit_result (g.V.Visit.meaning f.visitor) f.plan s x) f.published.items c.publish_last.new.published.items) (sym to) published))
 
 pub returns : goal.returns
 returns g c =

@@ -1,15 +1,15 @@
 use Rattle.ready_counters.specs.Edges.{result_at}
-use Rattle.ready_counters.specs.Seen.{plan_of, visitor_of}
+use Rattle.ready_counters.specs.Seen.{plan_on_board, visitor_of}
 use Rattle.ready_counters.proofs.board.Board.fetch.Given as goal
 
 abbrev pub ghosts-fetch_as : goal.ghosts-fetch_as
 ghosts-fetch_as g a =
     record {
-      count = (plan_of a.self.now).count;
+      count = (plan_on_board a.self.now).count;
       edges =
-          (plan_of a.self.now).edges;
+          (plan_on_board a.self.now).edges;
       node = 0;
       edge = a.e;
       value =
-          result_at (g.V.Visit.meaning (visitor_of a.self.now)) (plan_of a.self.now) a.e;
+          result_at (g.V.Visit.meaning (visitor_of a.self.now)) (plan_on_board a.self.now) a.e;
     }

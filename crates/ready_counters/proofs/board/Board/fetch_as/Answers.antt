@@ -2,7 +2,7 @@ use Rattle.std.proofs.Common.{◌<◌, ◌≤◌, ◌+◌, ◌∙◌, ap, subst,
 use Rattle.atomic_table.specs.Table.{rest}
 use Rattle.ready_counters.specs.Edges.{result_at}
 use Rattle.ready_counters.specs.Views.{times}
-use Rattle.ready_counters.specs.Seen.{plan_of, visitor_of}
+use Rattle.ready_counters.specs.Seen.{plan_on_board, visitor_of}
 use Rattle.ready_counters.proofs.Sums.{times_here}
 use Rattle.ready_counters.proofs.Named.{fetch_as, return_as}
 use Rattle.ready_counters.proofs.board.Board.fetch_as.Goals as goal
@@ -12,9 +12,9 @@ compare_exchange-requires g c = (
   c.requires.seat,
   subst (λ k. c.args.self.now.count + c.args.e < k) (sym c.args.self.now.sized)
       (omega (arith, c.requires.edge, c.args.self.now.counted)),
-  fetch_as (plan_of c.args.self.now).count (plan_of c.args.self.now).edges
+  fetch_as (plan_on_board c.args.self.now).count (plan_on_board c.args.self.now).edges
       (result_at (g.V.Visit.meaning (visitor_of c.args.self.now))
-      (plan_of c.args.self.now)) c.args.self.now.table.shared.table_id.slots c.args.seat.now.seat.id
+      (plan_on_board c.args.self.now)) c.args.self.now.table.shared.table_id.slots c.args.seat.now.seat.id
       c.args.seat.now.seat.me c.args.seat.now.live c.args.e g.E.Pick.edge c.args.self.now.count g.E.Pick.value
       c.requires.named c.args.self.now.counted c.requires.value
       c.requires.edge (c.args.self.now.ends c.args.e c.requires.edge) c.requires.claimed c.requires.fresh,
@@ -35,9 +35,9 @@ load-requires g c =
       i.0 ∙ h.0 ∙ c.requires.seat,
       subst (λ k. c.args.self.now.count + c.args.e < k) (sym c.args.self.now.sized)
           (omega (arith, c.requires.edge, c.args.self.now.counted)),
-      return_as (plan_of c.args.self.now).count (plan_of c.args.self.now).edges
+      return_as (plan_on_board c.args.self.now).count (plan_on_board c.args.self.now).edges
           (result_at (g.V.Visit.meaning (visitor_of c.args.self.now))
-          (plan_of c.args.self.now)) c.args.self.now.table.shared.table_id.slots c.exchange-full.new.seat.id
+          (plan_on_board c.args.self.now)) c.args.self.now.table.shared.table_id.slots c.exchange-full.new.seat.id
           c.exchange-full.new.seat.me
           (subst (λ v. 1 ≤ v.weight)
           (sym view) c.args.seat.now.live) c.args.e c.args.self.now.count c.args.self.now.counted c.requires.edge

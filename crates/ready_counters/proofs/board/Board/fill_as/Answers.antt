@@ -1,7 +1,7 @@
 use Rattle.std.proofs.Common.{◌<◌, ◌≤◌, ◌+◌, ◌∙◌, ap, subst, sym, arith, ◌∷◌, Some, None}
 use Rattle.atomic_table.specs.Table.{rest}
 use Rattle.ready_counters.specs.Edges.{result_at}
-use Rattle.ready_counters.specs.Seen.{plan_of, visitor_of}
+use Rattle.ready_counters.specs.Seen.{plan_on_board, visitor_of}
 use Rattle.ready_counters.proofs.Named.{open_as, fill_as}
 use Rattle.ready_counters.proofs.board.Board.fill_as.Goals as goal
 
@@ -10,9 +10,9 @@ compare_exchange-requires g c = (
   c.requires.seat,
   subst (λ k. c.args.self.now.count + c.args.e < k) (sym c.args.self.now.sized)
       (omega (arith, c.requires.edge, c.args.self.now.counted)),
-  open_as (plan_of c.args.self.now).count (plan_of c.args.self.now).edges
+  open_as (plan_on_board c.args.self.now).count (plan_on_board c.args.self.now).edges
       (result_at (g.V.Visit.meaning (visitor_of c.args.self.now))
-      (plan_of c.args.self.now)) c.args.self.now.table.shared.table_id.slots c.args.seat.now.seat.id
+      (plan_on_board c.args.self.now)) c.args.self.now.table.shared.table_id.slots c.args.seat.now.seat.id
       c.args.seat.now.seat.me c.args.seat.now.live c.args.e g.E.Pick.edge c.args.self.now.count c.requires.named
       c.args.self.now.counted c.requires.edge c.requires.ticket c.args.seat.now.shut c.requires.fresh,
 )
@@ -29,9 +29,9 @@ store-requires g c =
       i.0 ∙ h.0 ∙ c.requires.seat,
       subst (λ k. c.args.self.now.count + c.args.e < k) (sym c.args.self.now.sized)
           (omega (arith, c.requires.edge, c.args.self.now.counted)),
-      fill_as (plan_of c.args.self.now).count (plan_of c.args.self.now).edges
+      fill_as (plan_on_board c.args.self.now).count (plan_on_board c.args.self.now).edges
           (result_at (g.V.Visit.meaning (visitor_of c.args.self.now))
-          (plan_of c.args.self.now)) c.args.self.now.table.shared.table_id.slots c.exchange-before.new.seat.id
+          (plan_on_board c.args.self.now)) c.args.self.now.table.shared.table_id.slots c.exchange-before.new.seat.id
           c.exchange-before.new.seat.me
           (subst (λ v. 1 ≤ v.weight)
           (sym (ap (λ m. m.0) i.3

@@ -1,6 +1,6 @@
 use Rattle.std.proofs.Common.{◌<◌, ap, ◌∙◌, subst, sym, arith}
 use Rattle.ready_counters.specs.Edges.{result_at}
-use Rattle.ready_counters.specs.Seen.{plan_of, visitor_of}
+use Rattle.ready_counters.specs.Seen.{plan_on_board, visitor_of}
 use Rattle.ready_counters.proofs.Seating.{join_allows}
 use Rattle.ready_counters.proofs.Differing.{differ_allows}
 use Rattle.ready_counters.proofs.board.Board.join.Goals as goal
@@ -12,9 +12,9 @@ join_seat-requires g c =
       ap (λ s. s.table_id) same ∙ c.requires.other,
       c.into_inner-theirs.ensures.free,
       subst (λ k. 0 < k) (sym c.args.self.now.sized) (omega arith),
-      join_allows (plan_of c.args.self.now).count (plan_of c.args.self.now).edges
+      join_allows (plan_on_board c.args.self.now).count (plan_on_board c.args.self.now).edges
           (result_at (g.V.Visit.meaning (visitor_of c.args.self.now))
-          (plan_of c.args.self.now)) c.args.seat.now.seat.id c.args.seat.now.seat.me.0 c.into_inner-theirs.result.id
+          (plan_on_board c.args.self.now)) c.args.seat.now.seat.id c.args.seat.now.seat.me.0 c.into_inner-theirs.result.id
           c.into_inner-theirs.result.me.0 c.args.seat.now.live,
     )
 
@@ -22,8 +22,8 @@ pub load-requires : goal.load-requires
 load-requires g c = (
   c.join_seat.ensures.0 ∙ c.requires.seat,
   subst (λ k. 0 < k) (sym c.args.self.now.sized) (omega arith),
-  differ_allows (plan_of c.args.self.now).count (plan_of c.args.self.now).edges
+  differ_allows (plan_on_board c.args.self.now).count (plan_on_board c.args.self.now).edges
       (result_at (g.V.Visit.meaning (visitor_of c.args.self.now))
-      (plan_of c.args.self.now)) c.args.self.now.table.shared.table_id.slots c.join_seat.new.seat.id 0
+      (plan_on_board c.args.self.now)) c.args.self.now.table.shared.table_id.slots c.join_seat.new.seat.id 0
       c.join_seat.new.seat.me,
 )

@@ -9,7 +9,7 @@ use Rattle.module_graph.specs.declared.graph.EdgeKind.{EdgeKind}
 use Rattle.module_graph.specs.declared.graph.Node.{Node}
 use Rattle.module_graph.specs.declared.variation.Variation.{Variation}
 use Rattle.mutator_rules.specs.Arrivals.{arrivals, all_arrivals}
-use Rattle.transition_rules.specs.Wants.{others_of, wanted}
+use Rattle.transition_rules.specs.Wants.{others_of, wanted_variations}
 use Rattle.transition_rules.proofs.wanting.WantsVisitVisit.visit.Goals as goal
 
 arrivals_read : {P : Type 0} (nodes : List (Node P)) (arriving : List (List (NodeId × EdgeKind))) (n : ℕ) (d here : List (NodeId × EdgeKind)) → arriving ≡ all_arrivals nodes → n < length nodes → here ≡ get_or arriving n d → here ≡ arrivals nodes n
@@ -41,7 +41,7 @@ returns g c =
     let lists = map arc_value c.args.ins.now in
     let own = c.in_ok-own.own.items in
     let at = arrivals_read nodes c.args.self.now.arriving.now n c.index-self-n.result c.as_slice-arriving.result.now c.requires.1 c.requires.0.inside c.as_slice-arriving.ensures in
-    let others : c.deref-2.result.now ≡ others_of own (wanted m nodes n (arrivals nodes n) lists) =
-    c.deref-2.ensures.value ∙ c.in_ok-others.ensures ∙ ap (λ l. others_of l (wanted m nodes n c.as_slice-arriving.result.now lists)) c.deref.ensures.value ∙ ap (λ l. others_of own (wanted m nodes n l lists)) at in
-    ap (λ (r : Result (List Variation) Fault). then_do r (λ own. Ok (own ++ others_of own (wanted m nodes n (arrivals nodes n) lists)))) c.in_ok-own.ensures
+    let others : c.deref-2.result.now ≡ others_of own (wanted_variations m nodes n (arrivals nodes n) lists) =
+    c.deref-2.ensures.value ∙ c.in_ok-others.ensures ∙ ap (λ l. others_of l (wanted_variations m nodes n c.as_slice-arriving.result.now lists)) c.deref.ensures.value ∙ ap (λ l. others_of own (wanted_variations m nodes n l lists)) at in
+    ap (λ (r : Result (List Variation) Fault). then_do r (λ own. Ok (own ++ others_of own (wanted_variations m nodes n (arrivals nodes n) lists)))) c.in_ok-own.ensures
     ∙ ap (λ (l : List Variation). Ok (own ++ l)) (sym others) ∙ ap Ok (sym (c.new.ensures ∙ c.in_ok-extend_from_slice.ensures.items))
