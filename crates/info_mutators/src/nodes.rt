@@ -84,6 +84,26 @@ fn nodes_of(alloc: Global, keys: &[u32]) -> Result<Vec<NodeId>, OutOfMemory>
     Ok(nodes)
 }
 
+/// How many nodes a dependency puts into a link line.
+fn line_part_len(dependency: &Dependency) -> usize {
+    match dependency.kind() {
+        EdgeKind::Whole => dependency.line().len(),
+        EdgeKind::Static => dependency.line().len().saturating_add(1),
+        _ => 0,
+    }
+}
+
+/// A set with room for what all dependencies put into a link line, but for no more than one node beyond the longest.
+fn room_for_line(alloc: Global, dependencies: &[Dependency]) -> Result<IndexSet<u32>, OutOfMemory>
+    ensures { IfOk result (λ seen. seen.keys ≡ []) }
+{
+    let mut room: usize = 0;
+    for dependency in dependencies {
+        room = room.saturating_add(line_part_len(dependency));
+    }
+    Ok(IndexSet::with_capacity(alloc, room.min(LONGEST_LINE + 1))?)
+}
+
 /// The static libraries that a module is linked with, where they aren't too many.
 pub fn link_line_of(
     alloc: Global,
@@ -91,7 +111,7 @@ pub fn link_line_of(
 ) -> Result<Option<Vec<NodeId>>, OutOfMemory>
     ensures { IfOk result (λ line. option_map (λ line. line.items) line ≡ if_short (link_line_of dependencies.now)) }
 {
-    let mut seen = IndexSet::new(alloc);
+    let mut seen = room_for_line(alloc, dependencies)?;
     note_line(&mut seen, dependencies)?;
     if seen.len() > LONGEST_LINE {
         return Ok(None);
