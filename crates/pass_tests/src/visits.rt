@@ -1,4 +1,4 @@
-ghost use Rattle.std.specs.Prelude.{◌≡◌, IsTrue, IfOk, IfSome, ⊤};
+ghost use Rattle.std.specs.Prelude.{◌≡◌, IsTrue, IfOk, IfSome, Ok, ⊤};
 ghost use Rattle.pass_tests.specs.Visits.{counted_but};
 ghost use Rattle.pass_core.specs.Plans.{IsPlan, HasNoCycle};
 
@@ -8,6 +8,7 @@ use pass_core::{
     edges_into, heights, laws, run_order, run_pass, serial_order, starts_of,
 };
 use std::alloc::Global;
+use std::cell::Cell;
 use std::process::Abort;
 use std::sync::Arc;
 use std::test::Fail;
@@ -265,6 +266,42 @@ fn edges_and_heights_of_the_diamond(rt: HostRuntime) -> Result<(), Fail> {
 #[test]
 fn order_of_the_diamond(rt: HostRuntime) -> Result<(), Fail> {
     assert!(rt; diamond_order(rt.alloc())?.as_slice() == ORDER.as_slice());
+    Ok(())
+}
+
+/// Counts its visits.
+#[derive(Drop)]
+struct CountVisits {
+    visits: Cell<u32>,
+}
+
+impl Visit for CountVisits {
+    type Out = u32;
+
+    ghost meaning = { λ _ n _. Ok n };
+
+    ghost takes = { λ _ _ _. ⊤ };
+
+    fn visit(&self, _alloc: Global, n: NodeId, _ins: &[Arc<u32>]) -> Result<u32, VisitError> {
+        self.visits.set(self.visits.get().wrapping_add(1));
+        Ok(n.0)
+    }
+}
+
+/// How many visits a run along an order of the diamond makes.
+fn visits_along(alloc: Global, order: &[NodeId]) -> Result<u32, OrderError> {
+    let counted = CountVisits {
+        visits: Cell::new(0),
+    };
+    if let Some(plan) = diamond(alloc)? {
+        run_order(alloc, &plan, &counted, order)?;
+    }
+    Ok(counted.visits.get())
+}
+
+#[test]
+fn an_order_visits_each_node_once(rt: HostRuntime) -> Result<(), Fail> {
+    assert_eq!(rt; visits_along(rt.alloc(), &ORDER)?, 4);
     Ok(())
 }
 
