@@ -243,14 +243,17 @@ fn listed(alloc: Global, g: &Graph<bool>) -> Result<String, OutOfMemory> {
 }
 
 /// What requests make of the graph: its edges, or the line of the fault.
-fn said(alloc: Global, mods: &[Module], asks: &[Ask]) -> Result<String, OutOfMemory> {
+fn told(
+    alloc: Global,
+    mods: &[Module],
+    asked: &[(NodeId, Request)],
+) -> Result<String, OutOfMemory> {
     let g = graph(alloc)?;
-    let asked = requests(alloc, asks)?;
     let few = mods.len() < 1 << 32;
-    if !few || !may_run(mods, &g) || !ask_inside(&asked, g.nodes.as_slice().len()) {
+    if !few || !may_run(mods, &g) || !ask_inside(asked, g.nodes.as_slice().len()) {
         return Ok(String::from_str(alloc, "no graph")?);
     }
-    match apply(alloc, mods, g, &asked) {
+    match apply(alloc, mods, g, asked) {
         Ok(made) => listed(alloc, &made),
         Err(Refusal::Bad(fault)) => Ok(fault_line(alloc, &fault, &[])?),
         Err(Refusal::OutOfMemory) => Err(OutOfMemory),
@@ -260,7 +263,8 @@ fn said(alloc: Global, mods: &[Module], asks: &[Ask]) -> Result<String, OutOfMem
 fn check_cases(rt: &impl Abort, alloc: Global, cases: &[Case]) -> Result<(), Fail> {
     let mods = modules(alloc)?;
     for (asks, want) in cases {
-        assert_eq!(rt; said(alloc, &mods, asks)?.as_str(), *want);
+        let asked = requests(alloc, asks)?;
+        assert_eq!(rt; told(alloc, &mods, &asked)?.as_str(), *want);
     }
     Ok(())
 }
@@ -295,5 +299,28 @@ fn one_request_alone(rt: HostRuntime) -> Result<(), Fail> {
     }
     laws::one_outcome::<bool>();
     laws::nodes_for_are_least::<bool>();
+    Ok(())
+}
+
+/// The one request, so many times.
+fn repeated(alloc: Global, count: u32) -> Result<Vec<(NodeId, Request)>, OutOfMemory> {
+    let mut asked = Vec::new(alloc);
+    for _time in 0..count {
+        for one in requests(alloc, &ALONE)? {
+            asked.push(one)?;
+        }
+    }
+    Ok(asked)
+}
+
+#[test]
+fn one_edge_more_than_a_graph_may_have(rt: HostRuntime) -> Result<(), Fail> {
+    let alloc = rt.alloc();
+    let mods = modules(alloc)?;
+    let asked = repeated(alloc, 4_194_305)?;
+    assert_eq!(rt;
+        told(alloc, &mods, &asked)?.as_str(),
+        ":1:1: error 30: too many: edges\n"
+    );
     Ok(())
 }
