@@ -309,3 +309,78 @@ fn long_link_lines(rt: HostRuntime) -> Result<(), Fail> {
     assert_eq!(rt; other_link(&rt, rt.alloc(), LONG_LINKS)?, None);
     Ok(())
 }
+
+// So many sources, each with a comma.
+fn push_sources(text: &mut String, count: u32) -> Result<(), OutOfMemory> {
+    for number in 0..count {
+        write!(text, "\"s{number}.c\",")?;
+    }
+    Ok(())
+}
+
+/// What stands before some sources, how many there are, and what stands behind them; then a text, how often it stands
+/// there, the last text, and the line of the fault.
+type ManySources = (
+    &'static str,
+    u32,
+    &'static str,
+    &'static str,
+    usize,
+    &'static str,
+    &'static str,
+);
+
+/// More text than OUT may have, since each source's statement has the flag; and more edges than a graph may have, since
+/// each source's variant has them.
+const MANY_SOURCES: &[ManySources] = &[
+    (
+        "@Android.bp\ncc_binary { name: \"a\", srcs: [",
+        560,
+        "], cflags: [\"",
+        DIGITS,
+        16_000,
+        "\"] }",
+        "list:1:1: error 34: output is too large\n",
+    ),
+    (
+        "@Android.bp\ncc_test { name: \"t\", test_per_src: true, srcs: [",
+        65,
+        "],\nstatic_libs: [",
+        "\"z\",",
+        65_536,
+        "] }\ncc_library_static { name: \"z\" }",
+        "Android.bp:2:15: error 30: too many: edges\n",
+    ),
+];
+
+// Whether a tree with many sources is refused with the line.
+fn refuses_sources<R: Threads + Sync>(
+    rt: &R,
+    alloc: Global,
+    (first, sources, behind, text, count, last, line): &ManySources,
+) -> Result<bool, OutOfMemory> {
+    let mut start = String::from_str(alloc, first)?;
+    push_sources(&mut start, *sources)?;
+    start.push_str(behind)?;
+    let tree = repeated(alloc, start.as_str(), text, *count, last)?;
+    refuses(rt, alloc, tree_of(alloc, tree.as_str())?, line)
+}
+
+// The line of the first fault of these that isn't told so.
+fn other_sources<R: Threads + Sync>(
+    rt: &R,
+    alloc: Global,
+) -> Result<Option<&'static str>, OutOfMemory> {
+    for case in MANY_SOURCES {
+        if !refuses_sources(rt, alloc, case)? {
+            return Ok(Some(case.6));
+        }
+    }
+    Ok(None)
+}
+
+#[test]
+fn many_sources(rt: HostRuntime) -> Result<(), Fail> {
+    assert_eq!(rt; other_sources(&rt, rt.alloc())?, None);
+    Ok(())
+}
