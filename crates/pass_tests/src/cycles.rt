@@ -152,6 +152,18 @@ fn chain(
     })
 }
 
+/// A chain from node 0 on that passes over node 1, which leads to node 0.
+fn chain_over_one(alloc: Global, count: u32) -> Result<Graph<bool>, OutOfMemory> {
+    let mut nodes = chain(alloc, count, true, false)?.nodes.into_vec();
+    if nodes.len() > 1 {
+        nodes[0].edges = edges_to(alloc, 1, &[2])?;
+        nodes[1].edges = edges_to(alloc, 1, &[0])?;
+    }
+    Ok(Graph {
+        nodes: Seq::new(nodes),
+    })
+}
+
 /// How many labels the reported cycle has.
 fn labels_in_cycle(alloc: Global, g: &Graph<bool>) -> Result<usize, OutOfMemory> {
     if !is_numbered(g) {
@@ -178,6 +190,8 @@ fn long_chains(rt: HostRuntime) -> Result<(), Fail> {
         let g = chain(alloc, count, forward, closed)?;
         assert_eq!(rt; labels_in_cycle(alloc, &g)?, labels);
     }
+    let g = chain_over_one(alloc, count)?;
+    assert_eq!(rt; labels_in_cycle(alloc, &g)?, 0);
     Ok(())
 }
 
