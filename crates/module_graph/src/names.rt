@@ -6,6 +6,9 @@ use crate::{Variation, Variations};
 use bp_faults::{OutOfMemory, Text};
 use std::alloc::Global;
 
+/// The bytes for which a variant's name has room at first.
+const COMMON_LEN: usize = 32;
+
 /// Adds the spelling of a variation.
 fn push_spelling(alloc: Global, name: &mut String, variation: Variation) -> Result<(), OutOfMemory>
     ensures { OnOk result (string_bytes name.new ≡ string_bytes name.old ++ spelling variation) }
@@ -50,7 +53,7 @@ pub fn variation_name(alloc: Global, variation: Variation) -> Result<Text, OutOf
 pub fn variant_name(alloc: Global, variations: &Variations) -> Result<Text, OutOfMemory>
     ensures { IfOk result (λ name. name ≡ variant_name_of variations.now) }
 {
-    let mut name = String::new(alloc);
+    let mut name = String::with_capacity(alloc, COMMON_LEN)?;
     for variation in variations.as_slice() {
         append(alloc, &mut name, *variation)?;
     }

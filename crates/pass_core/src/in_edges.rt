@@ -26,7 +26,7 @@ pub fn starts_of(alloc: Global, plan: &Plan) -> Result<Vec<u32>, OutOfMemory>
     ensures { IfOk result (λ starts. AreStarts plan.now starts.items) }
 {
     let edges = plan.edges.as_slice();
-    let mut starts = Vec::new(alloc);
+    let mut starts = Vec::with_capacity(alloc, plan.count as usize + 1)?;
     let mut begin = 0;
     for n in 0..plan.count {
         starts.push(begin as u32)?;

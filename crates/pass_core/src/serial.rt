@@ -30,7 +30,7 @@ fn gather<O: Drop>(
     ensures { IfOk result (λ r. option_map (λ ins. map arc_value ins.items) r
         ≡ all_of (map (made_at made.now) (sources edges.now))) }
 {
-    let mut ins = Vec::new(alloc);
+    let mut ins = Vec::with_capacity(alloc, edges.len())?;
     for edge in edges {
         match &made[edge.from.0 as usize] {
             Some(out) => ins.push(Arc::try_clone(out)?)?,
