@@ -1,11 +1,11 @@
-ghost use Rattle.std.specs.Prelude.{◌≡◌, ◌<◌, length, IfOk, ⊤, []};
+ghost use Rattle.std.specs.Prelude.{◌≡◌, ◌≤◌, ◌<◌, length, IfOk, ⊤, []};
 ghost use Rattle.pass_core.specs.Plans.{IsPlan, HasNoCycle};
 ghost use Rattle.pass_tests.specs.Ways.{number_unless};
 ghost use Rattle.pass_ways.specs.Visits.{visits};
 ghost use Rattle.pass_ways.specs.Ways.{Follows, IsPassWay};
 
 use bp_faults::{Fault, FaultKind, NodeId, OutOfMemory, Place, Seq, Text};
-use bp_ports::OpenGate;
+use bp_ports::{Gate, OpenGate};
 use pass_core::{Plan, PlanEdge, Visit, VisitError};
 use pass_ways::laws::{
     legal_orders_are_whole, lines_say_one_order, one_refusal, parts_are_short,
@@ -15,6 +15,7 @@ use pass_ways::{OrderLine, OrderLines, Way, WayError, run_by_way};
 use std::alloc::Global;
 use std::process::Abort;
 use std::sync::Arc;
+use std::sync::atomic::{AtomicU32, Ordering};
 use std::test::Fail;
 use std::thread::Threads;
 
@@ -148,12 +149,24 @@ fn visits_of(alloc: Global, pass: u32, order: &[NodeId]) -> Result<Vec<(u32, Nod
     Ok(made)
 }
 
+/// A gate that counts how often it is entered.
+#[derive(Drop)]
+struct CountingGate {
+    entered: AtomicU32,
+}
+
+impl Gate for CountingGate {
+    fn enter(&self, _pass: u32, _n: NodeId) {
+        self.entered.fetch_add(1, Ordering::SeqCst);
+    }
+}
+
 /// Two passes one after the other, in some way.
-fn two_passes<R: Threads + Sync>(
+fn two_passes<R: Threads + Sync, G: Gate + Sync>(
     rt: &R,
     alloc: Global,
     plan: &Plan,
-    way: &Way<'_, OpenGate>,
+    way: &Way<'_, G>,
 ) -> Result<(usize, usize), WayError>
     requires plan { IsPlan plan.now }
     requires free { HasNoCycle plan.now.edges }
@@ -167,14 +180,24 @@ fn two_passes<R: Threads + Sync>(
     Ok((first.outs.len(), second.order.as_slice().len()))
 }
 
-/// Two passes of two nodes on two workers.
-fn two_on_workers<R: Threads + Sync>(rt: &R, alloc: Global) -> Result<(usize, usize), WayError> {
+/// Two passes of two nodes on workers, and how often they enter the gate.
+fn two_on_workers<R: Threads + Sync>(
+    rt: &R,
+    alloc: Global,
+    workers: u32,
+) -> Result<(usize, usize, u32), WayError>
+    requires { (1 ≤ workers) × (workers ≤ 64) }
+{
     let plan = two_nodes(alloc)?;
-    let workers = Way::Workers {
-        workers: 2,
-        gate: &OpenGate,
+    let gate = CountingGate {
+        entered: AtomicU32::new(0),
     };
-    two_passes(rt, alloc, &plan, &workers)
+    let way = Way::Workers {
+        workers,
+        gate: &gate,
+    };
+    let (outs, order) = two_passes(rt, alloc, &plan, &way)?;
+    Ok((outs, order, gate.entered.load(Ordering::SeqCst)))
 }
 
 /// Two passes of two nodes along fewer than 100 lines.
@@ -188,7 +211,7 @@ fn two_along<R: Threads + Sync>(
     if lines.len() >= 100 {
         return Err(WayError::OutOfMemory);
     }
-    let way = Way::Lines(OrderLines {
+    let way: Way<'_, OpenGate> = Way::Lines(OrderLines {
         lines: &lines,
         file: 9,
     });
@@ -197,7 +220,8 @@ fn two_along<R: Threads + Sync>(
 
 #[test]
 fn two_passes_on_workers(rt: HostRuntime) {
-    assert!(rt; matches!(two_on_workers(&rt, rt.alloc()), Ok((2, 2))));
+    assert!(rt; matches!(two_on_workers(&rt, rt.alloc(), 1), Ok((2, 2, 4))));
+    assert!(rt; matches!(two_on_workers(&rt, rt.alloc(), 2), Ok((2, 2, 4))));
 }
 
 #[test]

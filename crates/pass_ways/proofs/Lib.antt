@@ -1,3 +1,4 @@
+pub mod ByWay
 pub mod Lacking
 pub mod Parts
 pub mod Said

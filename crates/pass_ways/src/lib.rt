@@ -5,7 +5,9 @@
 //! refusal. It is measured by `AnswersWay` in `specs/Ways.antt`, over the outcome of a pass in pass_core.
 #![tactic(auto)]
 
+mod alone;
 mod along;
+mod deep;
 mod error;
 pub mod laws;
 mod way;

@@ -2,6 +2,7 @@ ghost use Rattle.pass_core.specs.Outcomes.{TakesPlan};
 ghost use Rattle.pass_core.specs.Plans.{IsPlan, HasNoCycle};
 ghost use Rattle.pass_ways.specs.Ways.{AnswersWay, Follows, IsPassWay};
 
+use crate::alone::run_alone;
 use crate::along::run_along;
 use crate::error::WayError;
 use crate::way::Way;
@@ -45,6 +46,9 @@ pub fn run_by_way<R: Threads + Sync, V: Visit<Out: Send + Sync> + Sync, G: Gate 
         Way::Workers { workers, gate } => {
             serial_order_is_legal();
             one_serial_order();
+            if *workers == 1 {
+                return run_alone(alloc, *gate, pass, plan, v);
+            }
             match visit_all(rt, alloc, pass, plan, v, *workers, *gate) {
                 Ok(run) => {
                     let (outs, order) = run.into_parts();
