@@ -1,23 +1,23 @@
 -- Nodes and their numbers: of what repeats, the same is kept.
-use Rattle.std.proofs.Common.{◌≡◌, ◌<◌, ◌≤◌, ◌++◌, ◌||◌, ℕ, List, [], ◌∷◌, Bool, true, false, cond, length, map, reverse, get_or, take, ◌+◌, nat_eq, Some, None, refl, sym, ap, subst, ◌∙◌}
+use Rattle.std.proofs.Common.{◌≡◌, ◌<◌, ◌≤◌, ◌++◌, ◌||◌, ℕ, List, [], ◌∷◌, Bool, true, false, cond, length, map, reverse, get_or, take, ◌+◌, nat_eq, nat_le, Option, option_map, Vec, Global, Some, None, refl, sym, ap, subst, ◌∙◌}
 use Rattle.std.proofs.lemmas.List.{length-map}
 use Rattle.std.proofs.lemmas.Bool.{eqb-true}
 use Rattle.bp_faults.proofs.Lists.{same_bytes}
 use Rattle.bp_faults.specs.declared.limits.TheConstants.{LONGEST_LINE}
 use Rattle.std.specs.Borrow.{Bor}
 use Rattle.std.specs.List.{list_any, flat_map}
-use Rattle.std.proofs.lemmas.List.{map-append, reverse-append, take_more}
+use Rattle.std.proofs.lemmas.List.{map-append, reverse-append, length-reverse, take_more}
 use Rattle.std.proofs.lemmas.List.Sums.{fold-append}
 use Rattle.indexmap.specs.IndexSet.{insert_key, insert_all}
 use Rattle.bp_faults.specs.declared.ids.NodeId.{NodeId}
-use Rattle.info_mutators.specs.Kept.{last_of_each, first_of_each, if_short}
+use Rattle.info_mutators.specs.Kept.{last_of_each, first_of_each, is_short, if_short}
 use Rattle.info_mutators.specs.Inside.{values_behind}
 use Rattle.info_mutators.specs.Info.{is_same_node, line_part, link_line_of, shared_part, needed_part, slibs_of, own_includes, include_part, includes_of, export_part, exports_of}
 use Rattle.pass_core.specs.Orders.{numbers}
 use Rattle.std.specs.Str.{bytes_eq}
 use Rattle.bp_props.specs.declared.props.Props.{Props}
 use Rattle.info_mutators.specs.Dependencies.{Dependency}
-use Rattle.info_mutators.proofs.Noted.{last_kept, first_kept, some_short, none_short, both_long, both_same, short_then, short_reversed, short_behind}
+use Rattle.info_mutators.proofs.Noted.{last_kept, first_kept, some_short, none_short, both_long, short_then, short_reversed, short_behind}
 
 pub map-reverse : {A B : Type 0} (f : A → B) (xs : List A) → map f (reverse xs) ≡ reverse (map f xs)
 map-reverse f [] = refl
@@ -52,15 +52,34 @@ from_numbers (x ∷ xs) = ap (λ ys. x ∷ ys) (from_numbers xs)
 numbers_same : (xs ys : List NodeId) → numbers xs ≡ numbers ys → xs ≡ ys
 numbers_same xs ys e = sym (from_numbers xs) ∙ ap (map node_of) e ∙ from_numbers ys
 
--- the set's keys are the numbers of a list up to the limit
-module _ (keys : List ℕ) (list : List NodeId) (e : if_short keys ≡ if_short (numbers list)) where
-  pub long_list : LONGEST_LINE < length keys → None ≡ if_short list
-  long_list long = sym (none_short list (subst (λ k. LONGEST_LINE < k) (length-map list (λ (n : NodeId). n.0)) (both_long keys (numbers list) e long)))
+-- a list of nodes is as short as that of their numbers
+short_numbers : (list : List NodeId) → if_short (numbers list) ≡ option_map numbers (if_short list)
+short_numbers list = ap (λ k. cond (nat_le k LONGEST_LINE) (Some (numbers list)) None) (length-map list (λ (n : NodeId). n.0)) ∙ by (is_short list)
+  where
+    by : (b : Bool) → cond b (Some (numbers list)) None ≡ option_map numbers (cond b (Some list) None)
+    by true = refl
+    by false = refl
 
-  pub short_list : (nodes : List NodeId) → length keys ≤ LONGEST_LINE → numbers nodes ≡ keys → Some nodes ≡ if_short list
-  short_list nodes few is =
-      let same = numbers_same nodes list (is ∙ both_same keys (numbers list) e few) in
-      ap Some same ∙ sym (some_short list (subst (λ k. k ≤ LONGEST_LINE) (length-map list (λ (n : NodeId). n.0)) (subst (λ (l : List ℕ). length l ≤ LONGEST_LINE) (both_same keys (numbers list) e few) few)))
+reversed_short : (keys : List ℕ) → if_short (reverse keys) ≡ option_map reverse (if_short keys)
+reversed_short keys = ap (λ k. cond (nat_le k LONGEST_LINE) (Some (reverse keys)) None) (length-reverse keys) ∙ by (is_short keys)
+  where
+    by : (b : Bool) → cond b (Some (reverse keys)) None ≡ option_map reverse (cond b (Some keys) None)
+    by true = refl
+    by false = refl
+
+-- the nodes are those of a list up to the limit where their numbers are
+short_nodes : (nodes : Option (List NodeId)) (list : List NodeId) → option_map numbers nodes ≡ if_short (numbers list) → nodes ≡ if_short list
+short_nodes nodes list e = by nodes (if_short list) (e ∙ short_numbers list)
+  where
+    by : (o p : Option (List NodeId)) → option_map numbers o ≡ option_map numbers p → o ≡ p
+    by None None is = refl
+    by None (Some ys) is = cc
+    by (Some xs) None is = cc
+    by (Some xs) (Some ys) is = let same : numbers xs ≡ numbers ys = cc in ap Some (numbers_same xs ys same)
+
+pub items_numbers : (lists : Option (Vec NodeId Global)) → option_map numbers (option_map (λ (list : Vec NodeId Global). list.items) lists) ≡ option_map (λ (list : Vec NodeId Global). numbers list.items) lists
+items_numbers None = refl
+items_numbers (Some list) = refl
 
 map_flat : {X A B : Type 0} (h : A → B) (f : X → List A) (xs : List X) → map h (flat_map f xs) ≡ flat_map (λ x. map h (f x)) xs
 map_flat h f [] = refl
@@ -70,7 +89,7 @@ same_numbers : (x y : ℕ) → nat_eq x y ≡ true → x ≡ y
 same_numbers x y e = eqb-true x y e
 
 -- a set that is filled from the end of what is line_part, turned round, is the line up to the limit
-pub line_numbers : (ds : List Dependency) (keys : List ℕ) → if_short keys ≡ if_short (insert_all nat_eq [] (reverse (flat_map (λ (d : Dependency). numbers (line_part d.node d.props d.kind)) ds)))
+line_numbers : (ds : List Dependency) (keys : List ℕ) → if_short keys ≡ if_short (insert_all nat_eq [] (reverse (flat_map (λ (d : Dependency). numbers (line_part d.node d.props d.kind)) ds)))
     → if_short (reverse keys) ≡ if_short (numbers (link_line_of ds))
 line_numbers ds keys e =
     let xs = flat_map (λ (d : Dependency). line_part d.node d.props d.kind) ds in
@@ -78,8 +97,17 @@ line_numbers ds keys e =
     short_reversed keys (insert_all nat_eq [] (reverse (flat_map (λ (d : Dependency). numbers (line_part d.node d.props d.kind)) ds))) e
     ∙ ap if_short (ap (λ ys. reverse (insert_all nat_eq [] (reverse ys))) (sym flat) ∙ last_kept nat_eq same_numbers (numbers xs) ∙ kept_numbers xs)
 
+-- the link line by what was noted from its end
+module _ (ds : List Dependency) (keys : List ℕ) (e : if_short keys ≡ if_short (insert_all nat_eq [] (reverse (flat_map (λ (d : Dependency). numbers (line_part d.node d.props d.kind)) ds)))) where
+  pub no_line : None ≡ if_short keys → None ≡ if_short (link_line_of ds)
+  no_line long = short_nodes None (link_line_of ds) (ap (option_map reverse) long ∙ sym (reversed_short keys) ∙ line_numbers ds keys e)
+
+  pub line_turned : (nodes line : List NodeId) → Some (numbers nodes) ≡ if_short keys → line ≡ reverse nodes → Some line ≡ if_short (link_line_of ds)
+  line_turned nodes line short turned =
+      short_nodes (Some line) (link_line_of ds) (ap (λ xs. Some (numbers xs)) turned ∙ ap Some (map-reverse (λ (n : NodeId). n.0) nodes) ∙ ap (option_map reverse) short ∙ sym (reversed_short keys) ∙ line_numbers ds keys e)
+
 -- a set that is filled in two steps, each up to the limit
-pub slibs_numbers : (ds : List Dependency) (between keys : List ℕ) → if_short between ≡ if_short (insert_all nat_eq [] (flat_map (λ (d : Dependency). numbers (shared_part d.node d.kind)) ds))
+slibs_numbers : (ds : List Dependency) (between keys : List ℕ) → if_short between ≡ if_short (insert_all nat_eq [] (flat_map (λ (d : Dependency). numbers (shared_part d.node d.kind)) ds))
     → if_short keys ≡ if_short (insert_all nat_eq between (flat_map (λ (d : Dependency). numbers (needed_part d)) ds))
     → if_short keys ≡ if_short (numbers (slibs_of ds))
 slibs_numbers ds between keys e f =
@@ -89,6 +117,13 @@ slibs_numbers ds between keys e f =
     ∙ ap (λ ys. if_short (insert_all nat_eq between ys)) (sym (map_flat (λ (n : NodeId). n.0) needed_part ds))
     ∙ short_then nat_eq between (insert_all nat_eq [] (numbers own)) (numbers more) (e ∙ ap (λ ys. if_short (insert_all nat_eq [] ys)) (sym (map_flat (λ (n : NodeId). n.0) (λ (d : Dependency). shared_part d.node d.kind) ds)))
     ∙ ap if_short (sym (fold-append (insert_key nat_eq) [] (numbers own) (numbers more)) ∙ ap (insert_all nat_eq []) (sym (map-append (λ (n : NodeId). n.0) own more)) ∙ first_kept nat_eq same_numbers (numbers (own ++ more)) ∙ first_numbers (own ++ more))
+
+-- the shared libraries by what was noted in two steps
+pub slibs_noted : (ds : List Dependency) (between keys : List ℕ) (nodes : Option (List NodeId))
+    → if_short between ≡ if_short (insert_all nat_eq [] (flat_map (λ (d : Dependency). numbers (shared_part d.node d.kind)) ds))
+    → if_short keys ≡ if_short (insert_all nat_eq between (flat_map (λ (d : Dependency). numbers (needed_part d)) ds))
+    → option_map numbers nodes ≡ if_short keys → nodes ≡ if_short (slibs_of ds)
+slibs_noted ds between keys nodes e f is = short_nodes nodes (slibs_of ds) (is ∙ slibs_numbers ds between keys e f)
 
 -- a set of references to paths
 module _ (keys : List (Bor (List ℕ))) (list : List (List ℕ)) (e : if_short (values_behind keys) ≡ if_short list) where

@@ -11,6 +11,7 @@ mod exports;
 mod info;
 pub mod laws;
 mod nodes;
+mod notes;
 mod paths;
 mod sanitize;
 mod sdk_level;

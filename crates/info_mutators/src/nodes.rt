@@ -1,4 +1,4 @@
-ghost use Rattle.std.specs.Prelude.{◌≡◌, ◌∷◌, [], OnOk, IfOk, reverse};
+ghost use Rattle.std.specs.Prelude.{◌≡◌, OnOk, IfOk, reverse};
 ghost use Rattle.std.specs.Option.{option_map};
 ghost use Rattle.std.specs.List.{flat_map};
 ghost use Rattle.pass_core.specs.Orders.{numbers};
@@ -7,54 +7,43 @@ ghost use Rattle.info_mutators.specs.Inside.{NotesNumbers};
 ghost use Rattle.info_mutators.specs.Kept.{if_short};
 
 use crate::dependency::Dependency;
-use bp_faults::limits::LONGEST_LINE;
+use crate::notes::Notes;
 use bp_faults::{NodeId, OutOfMemory};
-use indexmap::IndexSet;
 use module_graph::EdgeKind;
 use std::alloc::Global;
 
-/// Notes a node where it isn't there yet, unless there are too many.
-fn note(seen: &mut IndexSet<u32>, node: NodeId) -> Result<(), OutOfMemory>
-    ensures { OnOk result (NotesNumbers seen.old.keys (node.0 ∷ []) seen.new.keys) }
-{
-    if seen.len() <= LONGEST_LINE {
-        seen.insert_full(node.0)?;
-    }
-    Ok(())
-}
-
 /// Notes nodes in order, until there are too many.
-fn note_all(seen: &mut IndexSet<u32>, nodes: &[NodeId]) -> Result<(), OutOfMemory>
-    ensures { OnOk result (NotesNumbers seen.old.keys (numbers nodes.now) seen.new.keys) }
+fn note_all(notes: &mut Notes, nodes: &[NodeId]) -> Result<(), OutOfMemory>
+    ensures { OnOk result (NotesNumbers notes.old (numbers nodes.now) notes.new) }
 {
     for node in nodes {
-        note(seen, *node)?;
+        notes.note(*node)?;
     }
     Ok(())
 }
 
 /// Notes nodes from the last to the first, until there are too many.
-fn note_from_end(seen: &mut IndexSet<u32>, nodes: &[NodeId]) -> Result<(), OutOfMemory>
-    ensures { OnOk result (NotesNumbers seen.old.keys (reverse (numbers nodes.now)) seen.new.keys) }
+fn note_from_end(notes: &mut Notes, nodes: &[NodeId]) -> Result<(), OutOfMemory>
+    ensures { OnOk result (NotesNumbers notes.old (reverse (numbers nodes.now)) notes.new) }
 {
     let mut place = nodes.len();
     while place > 0 {
         place -= 1;
-        note(seen, nodes[place])?;
+        notes.note(nodes[place])?;
     }
     Ok(())
 }
 
 /// Notes what a dependency puts into the link line, from the last to the first.
-fn note_line_part(seen: &mut IndexSet<u32>, dependency: &Dependency) -> Result<(), OutOfMemory>
-    ensures { OnOk result (NotesNumbers seen.old.keys
-        (reverse (numbers (line_part dependency.now.node dependency.now.props dependency.now.kind))) seen.new.keys) }
+fn note_line_part(notes: &mut Notes, dependency: &Dependency) -> Result<(), OutOfMemory>
+    ensures { OnOk result (NotesNumbers notes.old
+        (reverse (numbers (line_part dependency.now.node dependency.now.props dependency.now.kind))) notes.new) }
 {
     match dependency.kind() {
-        EdgeKind::Whole => note_from_end(seen, dependency.line()),
+        EdgeKind::Whole => note_from_end(notes, dependency.line()),
         EdgeKind::Static => {
-            note_from_end(seen, dependency.line())?;
-            note(seen, dependency.node())?;
+            note_from_end(notes, dependency.line())?;
+            notes.note(dependency.node())?;
             Ok(())
         }
         _ => Ok(()),
@@ -62,26 +51,16 @@ fn note_line_part(seen: &mut IndexSet<u32>, dependency: &Dependency) -> Result<(
 }
 
 /// Notes what all dependencies put into it, from the last to the first.
-fn note_line(seen: &mut IndexSet<u32>, dependencies: &[Dependency]) -> Result<(), OutOfMemory>
-    ensures { OnOk result (NotesNumbers seen.old.keys
-        (reverse (flat_map (λ d. numbers (line_part d.node d.props d.kind)) dependencies.now)) seen.new.keys) }
+fn note_line(notes: &mut Notes, dependencies: &[Dependency]) -> Result<(), OutOfMemory>
+    ensures { OnOk result (NotesNumbers notes.old
+        (reverse (flat_map (λ d. numbers (line_part d.node d.props d.kind)) dependencies.now)) notes.new) }
 {
     let mut place = dependencies.len();
     while place > 0 {
         place -= 1;
-        note_line_part(seen, &dependencies[place])?;
+        note_line_part(notes, &dependencies[place])?;
     }
     Ok(())
-}
-
-fn nodes_of(alloc: Global, keys: &[u32]) -> Result<Vec<NodeId>, OutOfMemory>
-    ensures { IfOk result (λ nodes. numbers nodes.items ≡ keys.now) }
-{
-    let mut nodes = Vec::with_capacity(alloc, keys.len())?;
-    for number in keys {
-        nodes.push(NodeId(*number))?;
-    }
-    Ok(nodes)
 }
 
 /// How many nodes a dependency puts into a link line.
@@ -93,15 +72,13 @@ fn line_part_len(dependency: &Dependency) -> usize {
     }
 }
 
-/// A set with room for what all dependencies put into a link line, but for no more than one node beyond the longest.
-fn room_for_line(alloc: Global, dependencies: &[Dependency]) -> Result<IndexSet<u32>, OutOfMemory>
-    ensures { IfOk result (λ seen. seen.keys ≡ []) }
-{
-    let mut room: usize = 0;
+/// How many nodes all dependencies put into a link line.
+fn line_len(dependencies: &[Dependency]) -> usize {
+    let mut len: usize = 0;
     for dependency in dependencies {
-        room = room.saturating_add(line_part_len(dependency));
+        len = len.saturating_add(line_part_len(dependency));
     }
-    Ok(IndexSet::with_capacity(alloc, room.min(LONGEST_LINE + 1))?)
+    len
 }
 
 /// The static libraries that a module is linked with, where they aren't too many.
@@ -111,57 +88,74 @@ pub fn link_line_of(
 ) -> Result<Option<Vec<NodeId>>, OutOfMemory>
     ensures { IfOk result (λ line. option_map (λ line. line.items) line ≡ if_short (link_line_of dependencies.now)) }
 {
-    let mut seen = room_for_line(alloc, dependencies)?;
-    note_line(&mut seen, dependencies)?;
-    if seen.len() > LONGEST_LINE {
+    let mut notes = Notes::with_room(alloc, line_len(dependencies))?;
+    note_line(&mut notes, dependencies)?;
+    let Some(mut line) = notes.into_short() else {
         return Ok(None);
-    }
-    let mut line = nodes_of(alloc, seen.as_slice())?;
+    };
     line.reverse();
     Ok(Some(line))
 }
 
 /// Notes a dependency that is a shared library.
-fn note_shared_part(seen: &mut IndexSet<u32>, dependency: &Dependency) -> Result<(), OutOfMemory>
-    ensures { OnOk result (NotesNumbers seen.old.keys
-        (numbers (shared_part dependency.now.node dependency.now.kind)) seen.new.keys) }
+fn note_shared_part(notes: &mut Notes, dependency: &Dependency) -> Result<(), OutOfMemory>
+    ensures { OnOk result (NotesNumbers notes.old
+        (numbers (shared_part dependency.now.node dependency.now.kind)) notes.new) }
 {
     match dependency.kind() {
-        EdgeKind::Shared => note(seen, dependency.node()),
+        EdgeKind::Shared => notes.note(dependency.node()),
         _ => Ok(()),
     }
 }
 
 /// Notes the shared libraries that a dependency needs.
-fn note_needed_part(seen: &mut IndexSet<u32>, dependency: &Dependency) -> Result<(), OutOfMemory>
-    ensures { OnOk result (NotesNumbers seen.old.keys (numbers (needed_part dependency.now)) seen.new.keys) }
+fn note_needed_part(notes: &mut Notes, dependency: &Dependency) -> Result<(), OutOfMemory>
+    ensures { OnOk result (NotesNumbers notes.old (numbers (needed_part dependency.now)) notes.new) }
 {
     if dependency.is_archived() {
-        note_all(seen, dependency.slibs())?;
+        note_all(notes, dependency.slibs())?;
     }
     Ok(())
 }
 
 /// Notes the shared libraries that a module asks for.
-fn note_shared(seen: &mut IndexSet<u32>, dependencies: &[Dependency]) -> Result<(), OutOfMemory>
-    ensures { OnOk result (NotesNumbers seen.old.keys
-        (flat_map (λ d. numbers (shared_part d.node d.kind)) dependencies.now) seen.new.keys) }
+fn note_shared(notes: &mut Notes, dependencies: &[Dependency]) -> Result<(), OutOfMemory>
+    ensures { OnOk result (NotesNumbers notes.old
+        (flat_map (λ d. numbers (shared_part d.node d.kind)) dependencies.now) notes.new) }
 {
     for dependency in dependencies {
-        note_shared_part(seen, dependency)?;
+        note_shared_part(notes, dependency)?;
     }
     Ok(())
 }
 
 /// Notes what its static libraries need.
-fn note_needed(seen: &mut IndexSet<u32>, dependencies: &[Dependency]) -> Result<(), OutOfMemory>
+fn note_needed(notes: &mut Notes, dependencies: &[Dependency]) -> Result<(), OutOfMemory>
     ensures { OnOk result
-        (NotesNumbers seen.old.keys (flat_map (λ d. numbers (needed_part d)) dependencies.now) seen.new.keys) }
+        (NotesNumbers notes.old (flat_map (λ d. numbers (needed_part d)) dependencies.now) notes.new) }
 {
     for dependency in dependencies {
-        note_needed_part(seen, dependency)?;
+        note_needed_part(notes, dependency)?;
     }
     Ok(())
+}
+
+/// How many shared libraries a dependency is or needs.
+fn slibs_part_len(dependency: &Dependency) -> usize {
+    match dependency.kind() {
+        EdgeKind::Whole | EdgeKind::Static => dependency.slibs().len(),
+        EdgeKind::Shared => 1,
+        _ => 0,
+    }
+}
+
+/// How many shared libraries all dependencies are or need.
+fn slibs_len(dependencies: &[Dependency]) -> usize {
+    let mut len: usize = 0;
+    for dependency in dependencies {
+        len = len.saturating_add(slibs_part_len(dependency));
+    }
+    len
 }
 
 /// The shared libraries that a module is linked with, where they aren't too many.
@@ -171,11 +165,8 @@ pub fn slibs_of(
 ) -> Result<Option<Vec<NodeId>>, OutOfMemory>
     ensures { IfOk result (λ list. option_map (λ list. list.items) list ≡ if_short (slibs_of dependencies.now)) }
 {
-    let mut seen = IndexSet::new(alloc);
-    note_shared(&mut seen, dependencies)?;
-    note_needed(&mut seen, dependencies)?;
-    if seen.len() > LONGEST_LINE {
-        return Ok(None);
-    }
-    Ok(Some(nodes_of(alloc, seen.as_slice())?))
+    let mut notes = Notes::with_room(alloc, slibs_len(dependencies))?;
+    note_shared(&mut notes, dependencies)?;
+    note_needed(&mut notes, dependencies)?;
+    Ok(notes.into_short())
 }

@@ -6,5 +6,5 @@ pub loop-place-preserved : goal.loop-place-preserved
 loop-place-preserved c = record {
   within = omega (arith, c.loop-place.invariant.within, c.loop-place-test.true);
   left = node_left c.args.nodes.now (c.loop-place.place - 1) (record { 0 = 0 }) (omega (arith, c.loop-place.invariant.within, c.loop-place-test.true)) c.loop-place.place (omega (arith, c.loop-place-test.true))
-      c.loop-place.seen.keys c.note.new.seen.keys c.in_ok-note.ensures ∙ c.loop-place.invariant.left;
+      c.loop-place.notes c.note.new.self c.in_ok-note.ensures ∙ c.loop-place.invariant.left;
 }

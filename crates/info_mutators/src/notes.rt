@@ -1,0 +1,121 @@
+ghost use Rattle.std.specs.Prelude.{◌≡◌, ◌∷◌, [], IfOk, OnOk, OnErr};
+ghost use Rattle.std.specs.Option.{option_map};
+ghost use Rattle.pass_core.specs.Orders.{numbers};
+ghost use Rattle.info_mutators.specs.Inside.{NotesNumbers, NotesOther, StaysNoted};
+ghost use Rattle.info_mutators.specs.Kept.{if_short};
+
+use bp_faults::limits::LONGEST_LINE;
+use bp_faults::{NodeId, OutOfMemory};
+use indexmap::IndexSet;
+use std::alloc::Global;
+use std::marker::Model;
+
+/// Nodes in the order in which they are noted, each once, until there are too many. Contracts see the list of their
+/// numbers.
+///
+/// The last bits of a number are its slot, so numbers that stand close together have slots of their own, and no hash is
+/// made of them. The first number that comes to a slot owns it. Where another number owns the slot, a set knows whether
+/// the number is noted.
+#[derive(Drop)]
+pub struct Notes {
+    nodes: Vec<NodeId>,
+    /// For each slot its owner's number plus 1, or 0 where it is free.
+    slots: Vec<u64>,
+    /// The bits of a number that are its slot.
+    mask: usize,
+    others: IndexSet<u32>,
+}
+
+impl Model for Notes {
+    ghost use Rattle.std.specs.Prelude.{List, ℕ};
+    ghost use Rattle.pass_core.specs.Orders.{numbers};
+    ghost use Rattle.info_mutators.specs.Inside.{KnowsNoted};
+
+    ghost Value = { List ℕ };
+
+    ghost view = { λ notes. numbers notes.nodes.items };
+
+    ghost invariant = { λ notes. KnowsNoted notes.mask notes.slots.items notes.others.keys
+        (numbers notes.nodes.items) };
+}
+
+/// How many slots there are for so many nodes: a power of two. There are four for each node or more, so that few nodes
+/// meet in one even where their numbers are far apart, but there are at most 4,096, which take 32 KB.
+fn slots_for(room: usize) -> usize {
+    match room {
+        0 => 0,
+        1..=16 => 64,
+        17..=64 => 256,
+        65..=256 => 1_024,
+        _ => 4_096,
+    }
+}
+
+/// Notes a node in a list and in a set, where the set doesn't have it.
+fn note_other(
+    nodes: &mut Vec<NodeId>,
+    others: &mut IndexSet<u32>,
+    node: NodeId,
+) -> Result<(), OutOfMemory>
+    ensures noted { OnOk result
+        (NotesOther node others.old.keys nodes.old.items others.new.keys nodes.new.items) }
+    ensures err { OnErr result (StaysNoted others.old.keys nodes.old.items others.new.keys nodes.new.items) }
+{
+    if !others.contains(&node.0) {
+        nodes.reserve(1)?;
+        others.insert_full(node.0)?;
+        nodes.push(node)?;
+    }
+    Ok(())
+}
+
+impl Notes {
+    /// Without nodes, but with room for so many, as far as they aren't too many.
+    pub fn with_room(alloc: Global, room: usize) -> Result<Notes, OutOfMemory>
+        ensures { IfOk result (λ notes. notes ≡ []) }
+    {
+        let slots = slots_for(room);
+        Ok(Notes {
+            nodes: Vec::with_capacity(alloc, room.min(LONGEST_LINE + 1))?,
+            slots: vec![in alloc; 0; slots]?,
+            mask: slots.saturating_sub(1),
+            others: IndexSet::new(alloc),
+        })
+    }
+
+    /// Notes a node where it isn't there yet, unless there are too many.
+    pub fn note(&mut self, node: NodeId) -> Result<(), OutOfMemory>
+        ensures { OnOk result (NotesNumbers self.old (node.0 ∷ []) self.new) }
+    {
+        if self.nodes.len() > LONGEST_LINE {
+            return Ok(());
+        }
+        let slot = node.0 as usize & self.mask;
+        if slot >= self.slots.len() {
+            return note_other(&mut self.nodes, &mut self.others, node);
+        }
+        let held = self.slots[slot];
+        let mark = node.0 as u64 + 1;
+        if held == 0 {
+            self.nodes.push(node)?;
+            self.slots[slot] = mark;
+            return Ok(());
+        }
+        if held == mark {
+            return Ok(());
+        }
+        note_other(&mut self.nodes, &mut self.others, node)
+    }
+
+    /// The nodes, where they aren't too many.
+    pub fn into_short(self) -> Option<Vec<NodeId>>
+        ensures { option_map (λ nodes. numbers nodes.items) result ≡ if_short self }
+    {
+        let mut nodes = self.nodes;
+        if nodes.len() > LONGEST_LINE {
+            return None;
+        }
+        nodes.shrink_to_fit();
+        Some(nodes)
+    }
+}
