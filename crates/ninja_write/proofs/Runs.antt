@@ -3,10 +3,11 @@ use Prim.Native.Nat.{zero}
 use Rattle.std.proofs.Common.{◌≡◌, ℕ, suc, ◌<◌, ◌≤◌, Bool, true, false, List, [], ◌∷◌, ◌++◌, length, take, drop, get_or, Some, None, arith, ap, refl, ◌∙◌, append-nil, append_assoc}
 use Rattle.std.proofs.Math.Seq.{take-length, drop-length, drop-cons}
 use Rattle.std.proofs.lemmas.Grind.{common_steps}
+use Rattle.std.proofs.lemmas.Bool.{or_parts}
 use Rattle.std.proofs.lemmas.Bool.Decides.{nat_tests}
 use Rattle.std.proofs.lemmas.List.Sums.{fails_before_first}
 use Rattle.std.proofs.lemmas.List.Quantifiers.{position-Some}
-use Rattle.std.specs.List.{position, position_or_len}
+use Rattle.std.specs.List.{list_any, position, position_or_len}
 use Rattle.ninja_file.specs.declared.escape.Escape.{Escape}
 use Rattle.ninja_file.specs.Escapes.{is_escaped}
 use Rattle.ninja_write.specs.Escaped.{escaped_bytes}
@@ -42,3 +43,11 @@ split_from_position escape bytes at e =
       inside = found.0;
       text = rw append_assoc (escaped-run escape bytes at (omega (arith, found.0)) found.2 ∙ ap (λ more. take at bytes ++ more) (escaped-special escape bytes at found.0 found.1));
     }
+
+-- a text none of whose bytes is escaped is as it was
+pub escaped-unless : (escape : Escape) (bytes : List ℕ) → list_any (is_escaped escape) bytes ≡ false
+    → escaped_bytes escape bytes ≡ bytes
+escaped-unless escape [] none = refl
+escaped-unless escape (b ∷ bytes) none =
+    let parts = or_parts (is_escaped escape b) (list_any (is_escaped escape) bytes) none in
+    rw parts.0 (ap (λ more. b ∷ more) (escaped-unless escape bytes parts.1))

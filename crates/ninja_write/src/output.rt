@@ -1,4 +1,4 @@
-ghost use Rattle.std.specs.Prelude.{◌≡◌, ℕ, ◌≤◌, ◌^◌, List, [], IsUtf8, length, string_bytes, string_len};
+ghost use Rattle.std.specs.Prelude.{◌≡◌, ℕ, ◌≤◌, ◌<◌, ◌^◌, List, [], ◌∷◌, IsUtf8, length, string_bytes, string_len};
 ghost use Rattle.std.specs.List.{flat_map};
 ghost use Rattle.ninja_write.specs.Inside.{Puts};
 
@@ -89,6 +89,18 @@ impl Output {
             return Err(WriteError::TooLarge);
         }
         self.text.push_str(text)?;
+        Ok(())
+    }
+
+    /// Puts a character of one byte behind what is there.
+    pub fn put_char(&mut self, character: char) -> Result<(), WriteError>
+        requires { character < 128 }
+        ensures { Puts (character ∷ []) self.old self.new result }
+    {
+        if self.text.len() == LIMIT {
+            return Err(WriteError::TooLarge);
+        }
+        self.text.push(character)?;
         Ok(())
     }
 

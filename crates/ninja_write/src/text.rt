@@ -27,7 +27,7 @@ impl Written for Piece {
             Piece::Var(name) => {
                 output.put("${")?;
                 output.put(name.as_str())?;
-                output.put("}")
+                output.put_char('}')
             }
         }
     }
@@ -42,7 +42,7 @@ impl Written for Text {
     ghost text = { spaced_path };
 
     fn put(&self, output: &mut Output) -> Result<(), WriteError> {
-        output.put(" ")?;
+        output.put_char(' ')?;
         put_escaped(output, Escape::Path, self.as_str())
     }
 
@@ -56,7 +56,7 @@ fn put_lead(output: &mut Output, value: &str) -> Result<(), WriteError>
     ensures { Puts (lead value.now) output.old output.new result }
 {
     match value.as_bytes() {
-        [b' ', ..] => output.put("$"),
+        [b' ', ..] => output.put_char('$'),
         _ => Ok(()),
     }
 }
@@ -93,7 +93,7 @@ impl Written for (Text, Seq<Piece>) {
         output.put(self.0.as_str())?;
         output.put(" = ")?;
         put_pieces(output, self.1.as_slice())?;
-        output.put("\n")
+        output.put_char('\n')
     }
 
     fn least(&self) -> usize {
@@ -110,7 +110,7 @@ impl Written for (Text, Text) {
         output.put(self.0.as_str())?;
         output.put(" = ")?;
         put_value(output, self.1.as_str())?;
-        output.put("\n")
+        output.put_char('\n')
     }
 
     fn least(&self) -> usize {
@@ -130,7 +130,7 @@ fn put_rule_line(output: &mut Output, rule: &NinjaRule) -> Result<(), WriteError
 {
     output.put("rule ")?;
     output.put(rule.name.as_str())?;
-    output.put("\n")
+    output.put_char('\n')
 }
 
 impl Written for NinjaRule {
@@ -179,7 +179,7 @@ fn put_build_line(output: &mut Output, statement: &Statement) -> Result<(), Writ
     output.put(": ")?;
     output.put(statement.rule.as_str())?;
     put_ins(output, statement)?;
-    output.put("\n")
+    output.put_char('\n')
 }
 
 impl Written for Statement {
@@ -213,7 +213,7 @@ fn put_defaults(output: &mut Output, paths: &[Text]) -> Result<(), WriteError>
     }
     output.put("default")?;
     put_all(output, paths)?;
-    output.put("\n")
+    output.put_char('\n')
 }
 
 // What stands before the statements: the first line and the rules.

@@ -2,7 +2,7 @@ use Rattle.std.proofs.Common.{◌≡◌, ◌++◌, length}
 use denote.Text.{Utf8}
 use denote.Shadow.{shadow}
 use Rattle.ninja_write.specs.Escaped.{escaped_bytes}
-use Rattle.ninja_write.proofs.escaped.put_escaped.Given as goal
+use Rattle.ninja_write.proofs.escaped.put_runs.Given as goal
 
 -- what is there and what is left are what is wanted
 abbrev pub invariant-loop-at : goal.invariant-loop-at
