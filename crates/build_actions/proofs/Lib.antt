@@ -1,5 +1,6 @@
 pub mod Results
 pub mod Gathered
+pub mod Needed
 pub mod Made
 pub mod Differing
 pub mod Outputs

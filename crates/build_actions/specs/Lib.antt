@@ -4,6 +4,7 @@ pub mod Sources
 pub mod Paths
 pub mod Variables
 pub mod Compiles
+pub mod Inside
 pub mod Files
 pub mod Products
 pub mod Acts

@@ -1,9 +1,9 @@
 ghost use Rattle.std.specs.Prelude.{◌≡◌, IfOk, map};
-ghost use Rattle.std.specs.List.{filter};
+ghost use Rattle.std.specs.List.{filter, list_any};
 ghost use Rattle.bp_faults.specs.declared.place.Item.{Item};
 ghost use Rattle.build_actions.specs.Compiles.{language_by, language_of, is_header_kind, is_header, headers_of};
-ghost use Rattle.build_actions.specs.Compiles.{rule_of, compiler_of, variables_in, compile_step, step_of_file};
-ghost use Rattle.build_actions.specs.Compiles.{compile_steps};
+ghost use Rattle.build_actions.specs.Compiles.{rule_of, variables_in, compile_step, step_of_file, compile_steps};
+ghost use Rattle.build_actions.specs.Inside.{is_written_in, needed_variables, needed_compiler};
 
 use crate::gather::{keep_first, one, push_some};
 use crate::path::{directory_of, object_path};
@@ -17,7 +17,7 @@ use ninja_file::Statement;
 use std::alloc::Global;
 
 /// What the compile steps of a node have in common: where their objects stand, the headers that they may
-/// include, and the variables of each language.
+/// include, and the variables of each language in which a file is written.
 #[derive(Debug, Drop)]
 pub struct Compiler {
     pub directory: Text,
@@ -67,21 +67,56 @@ fn headers_of(alloc: Global, files: &[Item]) -> Result<Vec<Text>, OutOfMemory>
     keep_first(alloc, headers.as_slice())
 }
 
-/// What the compile steps of a node have in common.
+fn is_written_in(language: Language, file: &Item) -> bool
+    ensures { result ≡ is_written_in language file.now }
+{
+    match language_of(file) {
+        Some(other) => other == language,
+        None => false,
+    }
+}
+
+fn is_needed(language: Language, files: &[Item]) -> bool
+    ensures { result ≡ list_any (is_written_in language) files.now }
+{
+    for file in files {
+        if is_written_in(language, file) {
+            return true;
+        }
+    }
+    false
+}
+
+// The variables of the steps of a language, where some file is written in it.
+fn needed_variables(
+    alloc: Global,
+    node: &Node<Record<'_>>,
+    files: &[Item],
+    language: Language,
+) -> Result<Seq<(Text, Text)>, OutOfMemory>
+    ensures { IfOk result (λ variables. variables ≡ needed_variables node.now files.now language) }
+{
+    if is_needed(language, files) {
+        return compile_variables(alloc, node, language);
+    }
+    Ok(Seq::new(Vec::new(alloc)))
+}
+
+/// What the compile steps of some files of a node have in common.
 pub fn compiler_of(
     alloc: Global,
     module: &Module,
     node: &Node<Record<'_>>,
     files: &[Item],
 ) -> Result<Compiler, OutOfMemory>
-    ensures { IfOk result (λ compiler. compiler ≡ compiler_of «module».now node.now files.now) }
+    ensures { IfOk result (λ compiler. compiler ≡ needed_compiler «module».now node.now files.now) }
 {
     Ok(Compiler {
         directory: directory_of(alloc, module, node)?,
         headers: Seq::new(headers_of(alloc, files)?),
-        c: compile_variables(alloc, node, Language::C)?,
-        cxx: compile_variables(alloc, node, Language::Cxx)?,
-        assembler: compile_variables(alloc, node, Language::Assembler)?,
+        c: needed_variables(alloc, node, files, Language::C)?,
+        cxx: needed_variables(alloc, node, files, Language::Cxx)?,
+        assembler: needed_variables(alloc, node, files, Language::Assembler)?,
     })
 }
 

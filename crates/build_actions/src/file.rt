@@ -22,12 +22,10 @@ fn take(alloc: Global, made: Arc<Actions>) -> Result<Vec<Statement>, OutOfMemory
     }
 }
 
-fn append(statements: &mut Vec<Statement>, more: Vec<Statement>) -> Result<(), OutOfMemory>
+fn append(statements: &mut Vec<Statement>, mut more: Vec<Statement>) -> Result<(), OutOfMemory>
     ensures { OnOk result (statements.new.items ≡ statements.old.items ++ more.items) }
 {
-    for statement in more {
-        statements.push(statement)?;
-    }
+    statements.append(&mut more)?;
     Ok(())
 }
 
@@ -64,7 +62,7 @@ fn copy_output(alloc: Global, output: &Option<Text>) -> Result<Option<Text>, Out
 fn outputs_of(alloc: Global, made: &[Arc<Actions>]) -> Result<Vec<Text>, OutOfMemory>
     ensures { IfOk result (λ paths. paths.items ≡ outputs_of (map arc_value made.now)) }
 {
-    let mut paths = Vec::new(alloc);
+    let mut paths = Vec::with_capacity(alloc, made.len())?;
     for node in made {
         push_some(&mut paths, copy_output(alloc, &node.output)?)?;
     }

@@ -25,9 +25,7 @@ pub fn push_some<T: Drop>(items: &mut Vec<T>, item: Option<T>) -> Result<(), Out
 pub fn one(alloc: Global, text: Text) -> Result<Seq<Text>, OutOfMemory>
     ensures { IfOk result (λ texts. texts ≡ text ∷ []) }
 {
-    let mut texts = Seq::new(Vec::with_capacity(alloc, 1)?);
-    texts.push(text)?;
-    Ok(texts)
+    Ok(Seq::new(Vec::from_array(alloc, [text])?))
 }
 
 /// Puts texts at the end, without a copy.
@@ -56,8 +54,8 @@ fn keep<'a>(
     Ok(())
 }
 
-/// Of what repeats, the first is kept.
-pub fn keep_first(alloc: Global, texts: &[&str]) -> Result<Vec<Text>, OutOfMemory>
+// Of what repeats, the first is kept, by a set of what was seen.
+fn keep_unseen(alloc: Global, texts: &[&str]) -> Result<Vec<Text>, OutOfMemory>
     ensures { IfOk result (λ kept. kept.items ≡ kept_first (map (λ t. t.now) texts.now)) }
 {
     sets_grow_with_lists();
@@ -67,6 +65,17 @@ pub fn keep_first(alloc: Global, texts: &[&str]) -> Result<Vec<Text>, OutOfMemor
         keep(alloc, &mut seen, &mut kept, text)?;
     }
     Ok(kept)
+}
+
+/// Of what repeats, the first is kept.
+pub fn keep_first(alloc: Global, texts: &[&str]) -> Result<Vec<Text>, OutOfMemory>
+    ensures { IfOk result (λ kept. kept.items ≡ kept_first (map (λ t. t.now) texts.now)) }
+{
+    match texts {
+        [] => Ok(Vec::new(alloc)),
+        [text] => Ok(one(alloc, Text::from_str(alloc, text)?)?.into_vec()),
+        _ => keep_unseen(alloc, texts),
+    }
 }
 
 // The result at a place, shared, where it is wanted and there.

@@ -1,8 +1,9 @@
 ghost use Rattle.std.specs.Prelude.{◌≡◌, IfOk};
 ghost use Rattle.build_actions.specs.Paths.{output_directory, object_path, link_variation, product_of};
 ghost use Rattle.build_actions.specs.Paths.{product_suffix, role_of};
-ghost use Rattle.build_actions.specs.Paths.{output_in, output_of, output_at};
+ghost use Rattle.build_actions.specs.Paths.{output_in, output_path, output_of, output_at};
 
+use crate::line::concat;
 use bp_faults::{NodeId, OutOfMemory, Text};
 use bp_props::{Module, ModuleKind};
 use module_graph::{Axis, Graph, Node, Variation, variant_name};
@@ -53,7 +54,8 @@ pub fn product_of(node: &Node<Record<'_>>) -> Product
     product_by(node.vars.get(Axis::Link))
 }
 
-fn suffix_of(product: Product) -> &'static str
+// The end of the name of what is made. It stands in arrays beside names of modules, so it isn't said to be static.
+fn suffix_of<'a>(product: Product) -> &'a str
     ensures { result.now ≡ product_suffix product }
 {
     match product {
@@ -72,18 +74,15 @@ pub fn directory_of(
     ensures { IfOk result (λ path. path ≡ output_directory «module».now node.now) }
 {
     let variant = variant_name(alloc, &node.vars)?;
-    let variant = variant.as_str();
     let name = module.name.as_str();
-    Ok(Text::new(format!(in alloc; "out/m/{name}/{variant}")?))
+    concat(alloc, &["out/m/", name, "/", variant.as_str()])
 }
 
 /// The object that a source is compiled to.
 pub fn object_path(alloc: Global, directory: &Text, source: &Text) -> Result<Text, OutOfMemory>
     ensures { IfOk result (λ path. path ≡ object_path directory.now source.now) }
 {
-    let directory = directory.as_str();
-    let source = source.as_str();
-    Ok(Text::new(format!(in alloc; "{directory}/obj/{source}.o")?))
+    concat(alloc, &[directory.as_str(), "/obj/", source.as_str(), ".o"])
 }
 
 /// What a node makes in its directory: an archive, a shared object or a program.
@@ -95,10 +94,20 @@ pub fn output_in(
 ) -> Result<Text, OutOfMemory>
     ensures { IfOk result (λ path. path ≡ output_in directory.now «module».now node.now) }
 {
-    let directory = directory.as_str();
     let name = module.name.as_str();
     let suffix = suffix_of(product_of(node));
-    Ok(Text::new(format!(in alloc; "{directory}/bin/{name}{suffix}")?))
+    concat(alloc, &[directory.as_str(), "/bin/", name, suffix])
+}
+
+// What a node makes. Its path is put together at once, without the text of its directory.
+fn output_path(alloc: Global, module: &Module, node: &Node<Record<'_>>) -> Result<Text, OutOfMemory>
+    ensures { IfOk result (λ path. path ≡ output_path «module».now node.now) }
+{
+    let variant = variant_name(alloc, &node.vars)?;
+    let name = module.name.as_str();
+    let suffix = suffix_of(product_of(node));
+    let parts = ["out/m/", name, "/", variant.as_str(), "/bin/", name, suffix];
+    concat(alloc, &parts)
 }
 
 /// The output of a node, where it has one.
@@ -110,10 +119,7 @@ pub fn output_of(
     ensures { IfOk result (λ path. path ≡ output_of «module».now node.now) }
 {
     match role_of(module.kind) {
-        Role::Makes => {
-            let directory = directory_of(alloc, module, node)?;
-            Ok(Some(output_in(alloc, &directory, module, node)?))
-        }
+        Role::Makes => Ok(Some(output_path(alloc, module, node)?)),
         _ => Ok(None),
     }
 }

@@ -85,8 +85,8 @@ fn check_source<'a>(alloc: Global, earlier: &mut NameSet<'a>, item: &'a Item) ->
     check_by(alloc, kind, is_new, item)
 }
 
-/// The sources are of known kinds, and none is compiled twice.
-pub fn check_sources(alloc: Global, items: &[Item]) -> Result<(), Refusal>
+// The sources are of known kinds, and none is compiled twice, by a set of the earlier ones.
+fn check_each(alloc: Global, items: &[Item]) -> Result<(), Refusal>
     ensures { Answers (λ done. done) result (sources_checked [] items.now) }
 {
     sets_grow_with_lists();
@@ -95,4 +95,14 @@ pub fn check_sources(alloc: Global, items: &[Item]) -> Result<(), Refusal>
         check_source(alloc, &mut earlier, item)?;
     }
     Ok(())
+}
+
+/// The sources are of known kinds, and none is compiled twice.
+pub fn check_sources(alloc: Global, items: &[Item]) -> Result<(), Refusal>
+    ensures { Answers (λ done. done) result (sources_checked [] items.now) }
+{
+    match items {
+        [item] => check_by(alloc, source_kind(item.text.as_str()), true, item),
+        _ => check_each(alloc, items),
+    }
 }

@@ -4,7 +4,8 @@ ghost use Rattle.build_actions.specs.Variables.{variable, target_word, target_by
 ghost use Rattle.build_actions.specs.Variables.{cflags_of, include_word, include_line, compile_variables};
 ghost use Rattle.build_actions.specs.Variables.{link_variables};
 
-use crate::line::{add_words, join};
+use crate::gather::add_texts;
+use crate::line::{concat, join, join_texts};
 use crate::sources::Language;
 use bp_faults::{OutOfMemory, Path, Seq, Target, Text};
 use module_graph::{Axis, Node, Variation};
@@ -60,41 +61,47 @@ fn level_word(alloc: Global, level: u32) -> Result<Text, OutOfMemory>
     Ok(Text::new(format!(in alloc; "-DMIN_SDK={level}")?))
 }
 
-fn add_level(alloc: Global, words: &mut Vec<Text>, level: u32) -> Result<(), OutOfMemory>
-    ensures { OnOk result (words.new.items ≡ words.old.items ++ level_words level) }
+fn level_words(alloc: Global, level: u32) -> Result<Vec<Text>, OutOfMemory>
+    ensures { IfOk result (λ words. words.items ≡ level_words level) }
 {
+    let mut words = Vec::new(alloc);
     if level != 10_000 {
         words.push(level_word(alloc, level)?)?;
     }
-    Ok(())
+    Ok(words)
 }
 
-fn add_cflags(alloc: Global, words: &mut Vec<Text>, own: &Record<'_>) -> Result<(), OutOfMemory>
-    ensures { OnOk result (words.new.items ≡ words.old.items ++ own.now.base.cflags.items) }
+fn add_cflags<'a>(words: &mut Vec<&'a str>, own: &'a Record<'_>) -> Result<(), OutOfMemory>
+    ensures { OnOk result (map (λ word. word.now) words.new.items
+        ≡ map (λ word. word.now) words.old.items ++ own.now.base.cflags.items) }
 {
     let (flags, pic) = own.cflags();
-    add_words(alloc, words, flags)?;
+    add_texts(words, flags)?;
     if pic {
-        words.push(Text::from_str(alloc, "-fPIC")?)?;
+        words.push("-fPIC")?;
     }
     Ok(())
 }
 
-fn flags_of(alloc: Global, own: &Record<'_>, language: Language) -> Result<Vec<Text>, OutOfMemory>
-    ensures { IfOk result (λ words. words.items ≡ flags_of own.now language) }
+fn flags_of<'a>(
+    alloc: Global,
+    own: &'a Record<'_>,
+    language: Language,
+) -> Result<Vec<&'a str>, OutOfMemory>
+    ensures { IfOk result (λ words. map (λ word. word.now) words.items ≡ flags_of own.now language) }
 {
     let base = &own.given().base;
     let mut words = Vec::new(alloc);
     match language {
         Language::C => {
-            add_cflags(alloc, &mut words, own)?;
-            add_words(alloc, &mut words, base.conlyflags.items.as_slice())?;
+            add_cflags(&mut words, own)?;
+            add_texts(&mut words, base.conlyflags.items.as_slice())?;
         }
         Language::Cxx => {
-            add_cflags(alloc, &mut words, own)?;
-            add_words(alloc, &mut words, base.cppflags.items.as_slice())?;
+            add_cflags(&mut words, own)?;
+            add_texts(&mut words, base.cppflags.items.as_slice())?;
         }
-        Language::Assembler => add_words(alloc, &mut words, base.asflags.items.as_slice())?,
+        Language::Assembler => add_texts(&mut words, base.asflags.items.as_slice())?,
     }
     Ok(words)
 }
@@ -102,8 +109,9 @@ fn flags_of(alloc: Global, own: &Record<'_>, language: Language) -> Result<Vec<T
 fn cflags_of(alloc: Global, own: &Record<'_>, language: Language) -> Result<Text, OutOfMemory>
     ensures { IfOk result (λ line. line ≡ cflags_of own.now language) }
 {
+    let level = level_words(alloc, own.level())?;
     let mut words = flags_of(alloc, own, language)?;
-    add_level(alloc, &mut words, own.level())?;
+    add_texts(&mut words, level.as_slice())?;
     join(alloc, words.as_slice())
 }
 
@@ -114,13 +122,13 @@ fn include_word(alloc: Global, path: &Path) -> Result<Text, OutOfMemory>
     if path.is_empty() {
         return Text::from_str(alloc, "-I.");
     }
-    Ok(Text::new(format!(in alloc; "-I{path}")?))
+    concat(alloc, &["-I", path])
 }
 
 fn include_words(alloc: Global, paths: &[Path]) -> Result<Vec<Text>, OutOfMemory>
     ensures { IfOk result (λ words. words.items ≡ map include_word paths.now) }
 {
-    let mut words = Vec::new(alloc);
+    let mut words = Vec::with_capacity(alloc, paths.len())?;
     for path in paths {
         words.push(include_word(alloc, path)?)?;
     }
@@ -131,7 +139,7 @@ fn includes_of(alloc: Global, own: &Record<'_>) -> Result<Text, OutOfMemory>
     ensures { IfOk result (λ line. line ≡ include_line own.now) }
 {
     let words = include_words(alloc, own.includes())?;
-    join(alloc, words.as_slice())
+    join_texts(alloc, words.as_slice())
 }
 
 /// The variables of the compile steps of a node in a language.
@@ -162,7 +170,7 @@ pub fn link_variables(
     let mut variables = Seq::new(Vec::with_capacity(alloc, 2)?);
     let target = Text::from_str(alloc, target_of(node))?;
     bind(alloc, &mut variables, "target", target)?;
-    let ldflags = join(alloc, node.payload.given().base.ldflags.items.as_slice())?;
+    let ldflags = join_texts(alloc, node.payload.given().base.ldflags.items.as_slice())?;
     bind(alloc, &mut variables, "ldflags", ldflags)?;
     Ok(variables)
 }

@@ -3,7 +3,8 @@ use Rattle.std.specs.Arc.{arc_value}
 use Rattle.module_graph.specs.declared.graph.Edge.{Edge}
 use Rattle.build_actions.specs.Paths.{product_of, link_variation}
 use Rattle.build_actions.specs.Files.{results_of}
-use Rattle.build_actions.specs.Compiles.{compiler_of, compile_steps, outs_of_steps}
+use Rattle.build_actions.specs.Compiles.{compile_steps, outs_of_steps}
+use Rattle.build_actions.specs.Inside.{needed_compiler}
 use Rattle.build_actions.specs.Products.{is_whole, objects_over, product_step}
 use Rattle.build_actions.proofs.Made.{made_is}
 use Rattle.build_actions.proofs.act.make.Goals as goal
@@ -22,7 +23,7 @@ returns c =
     (λ k. record { statements = c.new.ensures k; objects = c.new-2.ensures k; output = Some out; files = c.new-3.ensures k })
     ∙ made_is c.args.modules.now c.args.graph.now.nodes m x ins c.args.files.items compiler steps objects out
     c.in_ok-product.product c.push.new.self.items
-    (c.in_ok-compiler.ensures ∙ ap (compiler_of m x) c.as_slice-list.ensures.value)
+    (c.in_ok-compiler.ensures ∙ ap (needed_compiler m x) c.as_slice-list.ensures.value)
     (c.in_ok-statements.ensures ∙ ap (compile_steps compiler) c.as_slice-list.ensures.value)
     (c.in_ok-objects.ensures
     ∙ (λ k. objects_over (outs_of_steps (c.as_slice-2.ensures.value k)) (map arc_value (c.as_slice-3.ensures.value k)))

@@ -3,7 +3,7 @@ use Rattle.std.proofs.lemmas.List.{take_more, drop_more, get_or-map, length-map}
 use Rattle.bp_names.specs.Meaning.{knows, Learns, IsSetOf}
 use Rattle.bp_names.specs.Laws.{SetsGrowWithLists}
 use Rattle.build_actions.specs.Kept.{new_one, new_ones, kept_first}
-use Rattle.build_actions.proofs.gather.keep_first.Goals as goal
+use Rattle.build_actions.proofs.gather.keep_unseen.Goals as goal
 
 -- where a text is in memory doesn't matter
 abbrev none : Bor (List ℕ)

@@ -1,7 +1,7 @@
 use Rattle.std.proofs.Common.{◌≡◌, ◌++◌, map, take, drop}
 use Rattle.bp_names.specs.Meaning.{IsSetOf}
 use Rattle.build_actions.specs.Kept.{new_ones, kept_first}
-use Rattle.build_actions.proofs.gather.keep_first.Given as goal
+use Rattle.build_actions.proofs.gather.keep_unseen.Given as goal
 
 -- what is kept so far, and what is new of the rest
 abbrev pub invariant-loop-text : goal.invariant-loop-text

@@ -2,7 +2,7 @@ use Rattle.std.proofs.Common.{◌≡◌, [], map, take, drop}
 use Rattle.bp_faults.specs.declared.place.Item.{Item}
 use Rattle.bp_names.specs.Meaning.{IsSetOf}
 use Rattle.build_actions.specs.Sources.{sources_checked}
-use Rattle.build_actions.proofs.sources.check_sources.Given as goal
+use Rattle.build_actions.proofs.sources.check_each.Given as goal
 
 -- what is left, behind the sources so far, decides as the whole does
 abbrev pub invariant-loop-item : goal.invariant-loop-item

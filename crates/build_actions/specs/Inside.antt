@@ -1,0 +1,39 @@
+-- No public contract speaks of it: what the steps of a node need, of what they could have in common.
+use Rattle.std.specs.Prelude.{List, [], Bool, true, false, if◌then◌else◌}
+use Rattle.std.specs.List.{list_any}
+use Rattle.std.specs.Option.{option_map_or}
+use Rattle.bp_faults.specs.declared.place.Item.{Item}
+use Rattle.module_graph.specs.declared.graph.Node.{Node}
+use Rattle.bp_props.specs.declared.module.Module.{Module}
+use Rattle.bp_props.specs.declared.props.Props.{Props}
+use Rattle.build_actions.specs.declared.compile.Compiler.{Compiler}
+use Rattle.build_actions.specs.declared.sources.Language.{Language}
+use Rattle.build_actions.specs.declared.sources.Language.TheVariants.{C, Cxx, Assembler}
+use Rattle.build_actions.specs.Compiles.{language_of, headers_of}
+use Rattle.build_actions.specs.Paths.{output_directory}
+use Rattle.build_actions.specs.Variables.{Variables, compile_variables}
+
+-- Two languages are one.
+abbrev pub is_language : Language → Language → Bool
+is_language C C = true
+is_language Cxx Cxx = true
+is_language Assembler Assembler = true
+is_language language other = false
+
+-- A file is compiled as that language.
+abbrev pub is_written_in : Language → Item → Bool
+is_written_in language file = option_map_or (is_language language) (language_of file) false
+
+-- The variables of the steps of a language, where some file is written in it, and else none.
+abbrev pub needed_variables : Node Props → List Item → Language → Variables
+needed_variables x files language = if list_any (is_written_in language) files then compile_variables x language else []
+
+-- What the compile steps of some files of a node have in common, without what no step of them needs.
+abbrev pub needed_compiler : Module → Node Props → List Item → Compiler
+needed_compiler m x files = record {
+  directory = output_directory m x;
+  headers = headers_of files;
+  c = needed_variables x files C;
+  cxx = needed_variables x files Cxx;
+  assembler = needed_variables x files Assembler;
+}
