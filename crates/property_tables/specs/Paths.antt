@@ -1,6 +1,6 @@
 -- Path items: which are refused, and what path an item stands for below a directory.
 -- Source: Blueprint package documentation, paths are relative to the module's directory; this project's profile.
-use Rattle.std.specs.Prelude.{ℕ, Bool, false, List, [], ◌∷◌, ◌++◌, ◌||◌, ◌==◌, codes, filter, if◌then◌else◌}
+use Rattle.std.specs.Prelude.{ℕ, Bool, false, List, [], ◌∷◌, ◌++◌, ◌||◌, ◌==◌, codes, filter}
 use Rattle.std.specs.Str.{bytes_eq}
 use Rattle.std.specs.List.{list_any, slice_split, join_with_byte}
 use Rattle.bp_faults.specs.Characters.{is_barred_in_paths}

@@ -37,9 +37,6 @@ impl<const N: usize> PropTable<N> {
         ensures { option_map (λ row. property_of row.now) result ≡ property_named self.now name.now }
     {
         let name = name.as_str();
-        match self.rows.binary_search_by(|row| row.name.cmp(name)) {
-            Ok(place) => Some(&self.rows[place]),
-            Err(_) => None,
-        }
+        self.rows.iter().find(|row| row.name == name)
     }
 }

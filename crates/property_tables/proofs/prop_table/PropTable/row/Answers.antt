@@ -1,22 +1,15 @@
-use Rattle.std.proofs.Common.{rules, sym}
-use Rattle.std.proofs.lemmas.Fn.{always_returns_same}
-use Rattle.std.specs.Ordering.{nat_cmp}
-use Rattle.std.specs.Cmp.Lexicographic.{slice_cmp}
-use Rattle.property_tables.proofs.Search.{searched, missed}
+use Rattle.std.proofs.Common.{rules, tests}
+use Rattle.std.specs.Str.{bytes_eq}
+use Rattle.std.proofs.lemmas.Iterator.{YieldsList-from_slice}
+use Rattle.std.proofs.lemmas.Iterator.Search.{find_from_yields_List}
+use Rattle.property_tables.proofs.Search.{first_row}
 use Rattle.property_tables.proofs.prop_table.PropTable.row.Goals as goal
 
-pub returns-in-Ok : goal.returns-in-Ok
-returns-in-Ok g c =
+-- each row's name is compared with the one that is wanted
+pub returns : goal.returns
+returns g c =
     let rows = c.self.inside.rows.now in
     let name = c.args.name.now in
-    let equal = c.in-Ok.ensures.position (λ row. slice_cmp nat_cmp row.name.now name)
-    (always_returns_same _ _ _ (λ a r g called. (search rules, search rules))) in
-    sym (rw (← c.self.view_is) (searched rows c.self.invariant.1 name c.in-Ok.place _ c.in-Ok.ensures.bound (equal _)))
-
-pub returns-in-Err : goal.returns-in-Err
-returns-in-Err g c =
-    let rows = c.self.inside.rows.now in
-    let name = c.args.name.now in
-    let parted = c.in-Err.ensures.position (λ row. slice_cmp nat_cmp row.name.now name)
-    (always_returns_same _ _ _ (λ a r g called. (search rules, search rules))) in
-    sym (rw (← c.self.view_is) (missed rows c.self.invariant.1 name c.in-Err.field-0 parted))
+    rw (← c.self.view_is) (first_row rows name c.find.result
+    (find_from_yields_List (λ row. bytes_eq row.name.now name) _ _ c.find.result c.find.ensures.ran
+    (YieldsList-from_slice rows cc) (λ x b q k. search (rules, tests))))
