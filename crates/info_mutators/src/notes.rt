@@ -39,15 +39,17 @@ impl Model for Notes {
         (numbers notes.nodes.items) };
 }
 
-/// How many slots there are for so many nodes: a power of two. There are four for each node or more, so that few nodes
-/// meet in one even where their numbers are far apart, but there are at most 4,096, which take 32 KB.
+/// How many slots there are for so many nodes: a power of two, and about one for each node. Of what dependencies hand
+/// on half repeats, as a rule, so that nodes that stand together have slots of their own. There are at most 2,048,
+/// which take 16 KB.
 fn slots_for(room: usize) -> usize {
     match room {
         0 => 0,
-        1..=16 => 64,
-        17..=64 => 256,
-        65..=256 => 1_024,
-        _ => 4_096,
+        1..=16 => 16,
+        17..=64 => 64,
+        65..=256 => 128,
+        257..=1_024 => 512,
+        _ => 2_048,
     }
 }
 
