@@ -14,6 +14,7 @@ use crate::halves::joined;
 use crate::opened::{evaluate_files, evaluate_in, finish};
 use crate::parsed::Parsed;
 use bp_faults::{OutOfMemory, Path};
+use bp_parser::{Def, FileTree};
 use bp_values::{RawModule, Scope, Seed};
 use std::alloc::Global;
 use std::hash::{DefaultHasher, Hasher};
@@ -170,7 +171,7 @@ fn evaluate_branches<R: Threads + Sync>(
     joined(front, back)
 }
 
-/// The seed by which names are found: it is made of the text of all files.
+/// The seed by which names are found: it is made of the text of all files that set a name.
 fn seed_of(files: &[Parsed]) -> Seed {
     let mut hasher = DefaultHasher::new();
     for file in files {
@@ -179,11 +180,19 @@ fn seed_of(files: &[Parsed]) -> Seed {
     Seed { hasher }
 }
 
-/// How many definitions files have in all: they set at most so many names.
-fn definitions(files: &[Parsed]) -> usize {
+/// How many definitions of a file set names.
+fn setting(tree: &FileTree) -> usize {
+    tree.defs
+        .iter()
+        .filter(|def| !matches!(def, Def::Module { .. }))
+        .count()
+}
+
+/// How many definitions of files set names: there are at most so many names.
+fn count_setting(files: &[Parsed]) -> usize {
     let mut count: usize = 0;
     for file in files {
-        count = count.saturating_add(file.tree.defs.len());
+        count = count.saturating_add(setting(&file.tree));
     }
     count
 }
@@ -199,6 +208,6 @@ pub fn evaluate_by<R: Threads + Sync>(
     ensures { Answers (λ modules. map placed_raw modules.items) result (all_evaluated [] (map placed_of files.items)) }
 {
     let seed = seed_of(files.as_slice());
-    let none = Scope::seeded(alloc, seed, definitions(files.as_slice()))?;
+    let none = Scope::seeded(alloc, seed, count_setting(files.as_slice()))?;
     evaluate_below(rt, alloc, none, files, workers)
 }

@@ -11,12 +11,12 @@ use crate::directory::Directory;
 use crate::not_utf8::not_utf8;
 use bp_faults::{OutOfMemory, Path, Text};
 use bp_lexer::tokens;
-use bp_parser::{FileTree, parse};
+use bp_parser::{Def, FileTree, parse};
 use std::alloc::Global;
 use std::hash::{DefaultHasher, Hasher};
 
 /// A file as it is parsed: its directory, by components and as a path, its tree, how many bytes it has, and a number
-/// that is made of them all.
+/// that is made of them all where it sets a name, and else 0.
 #[derive(Drop)]
 pub struct Parsed {
     pub directory: Directory,
@@ -60,6 +60,13 @@ fn tree_of_bytes(alloc: Global, bytes: &[u8], number: u32) -> Result<FileTree, L
     }
 }
 
+/// Whether a file sets a name.
+fn sets_names(tree: &FileTree) -> bool {
+    tree.defs
+        .iter()
+        .any(|def| !matches!(def, Def::Module { .. }))
+}
+
 /// A number that is made of all bytes of a file.
 fn sum_of(bytes: &[u8]) -> u64 {
     let mut hasher = DefaultHasher::new();
@@ -73,12 +80,17 @@ fn parse_file(alloc: Global, file: &(Path, Vec<u8>), number: u32) -> Result<Pars
     ensures { Tells placed_of (SourceFileMeans number (file.now.0, file.now.1.items)) result }
 {
     let tree = tree_of_bytes(alloc, file.1.as_slice(), number)?;
+    let sum = if sets_names(&tree) {
+        sum_of(file.1.as_slice())
+    } else {
+        0
+    };
     Ok(Parsed {
         directory: Directory::of(alloc, &file.0)?,
         dir: dir_of(alloc, &file.0)?,
         tree,
         bytes: file.1.len(),
-        sum: sum_of(file.1.as_slice()),
+        sum,
     })
 }
 

@@ -19,6 +19,15 @@ fn plan_edge(dir: Direction, n: u32, edge: &Edge) -> PlanEdge
     }
 }
 
+/// How many edges a graph has. A count beyond any memory stays where it is.
+fn count_edges<P>(g: &Graph<P>) -> usize {
+    let mut count = 0usize;
+    for node in g.nodes.as_slice() {
+        count = count.saturating_add(node.edges.as_slice().len());
+    }
+    count
+}
+
 /// The edges of a graph by node and place, as a pass in a direction has them.
 pub fn edges_along<P>(
     alloc: Global,
@@ -28,7 +37,7 @@ pub fn edges_along<P>(
     requires { IsNumbered g.now.nodes }
     ensures { IfOk result (λ edges. edges.items ≡ by_number (λ n x. map (directed_edge dir n) x.edges) 0 g.now.nodes) }
 {
-    let mut edges = Vec::new(alloc);
+    let mut edges = Vec::with_capacity(alloc, count_edges(g))?;
     let mut n = 0;
     for node in g.nodes.as_slice() {
         for edge in node.edges.as_slice() {

@@ -1,9 +1,8 @@
 -- A visit of a node whose predecessors are made.
-use Rattle.std.proofs.Common.{◌≡◌, ◌<◌, ℕ, suc, List, [], ◌∷◌, map, length, refl, ap, ◌∙◌, sym, subst, Option, Some, None, Result, IsSome, Vec}
+use Rattle.std.proofs.Common.{◌≡◌, ◌<◌, if◌then◌else◌, ℕ, suc, List, [], ◌∷◌, map, length, refl, ap, ◌∙◌, sym, subst, Option, Some, None, Result, IsSome, Bool, true, false}
 use Rattle.std.specs.List.{AllByRecursion}
 use Rattle.std.specs.declared.sync.Arc.{Arc}
 use Rattle.std.specs.Arc.{arc_value}
-use Rattle.std.specs.Option.{option_map}
 use Rattle.std.proofs.lemmas.List.{length-map}
 use Rattle.bp_faults.specs.declared.fault.Fault.{Fault}
 use Rattle.pass_core.specs.declared.plan.Plan.{Plan}
@@ -32,19 +31,19 @@ module _ {O A : Type 0} (results : ℕ → NodeResult O) (made : List (Option (A
 
 module _ {O A : Type 0} (mean : ℕ → List O → Result O Fault) (plan : Plan) (is_plan : IsPlan plan) (free : HasNoCycle plan.edges)
     (n : ℕ) (lt : n < plan.count) (made : List (Option (Arc O A))) (right : AreRight (node_result mean plan) made) (ready : AllByRecursion (λ m. IsSome (made_at made m)) (predecessors plan.edges n))
-    {Z : Type 0} (r : Option (Vec (Arc O A) Z)) (es : List PlanEdge) (edges_are : es ≡ in_edges plan.edges n)
-    (says : option_map (λ (v : Vec (Arc O A) Z). map arc_value v.items) r ≡ all_of (map (made_at made) (sources es))) where
-  gathered : option_map (λ (v : Vec (Arc O A) Z). map arc_value v.items) r ≡ all_of (map (made_at made) (predecessors plan.edges n))
+    (whole : Bool) (ins : List (Arc O A)) (es : List PlanEdge) (edges_are : es ≡ in_edges plan.edges n)
+    (says : (if whole then Some (map arc_value ins) else None) ≡ all_of (map (made_at made) (sources es))) where
+  gathered : (if whole then Some (map arc_value ins) else None) ≡ all_of (map (made_at made) (predecessors plan.edges n))
   gathered = says ∙ ap (λ (l : List PlanEdge). all_of (map (made_at made) (sources l))) edges_are
 
-  pub not_missing : r ≡ None → ⊥
+  pub not_missing : whole ≡ false → ⊥
   not_missing none =
       let t = ready_outs (node_result mean plan) made right (predecessors plan.edges n) ready in
-      let e : Some t.0 ≡ None = sym t.1 ∙ sym gathered ∙ ap (λ (s : Option (Vec (Arc O A) Z)). option_map (λ (v : Vec (Arc O A) Z). map arc_value v.items) s) none in cc
+      let e : Some t.0 ≡ None = sym t.1 ∙ sym gathered ∙ ap (λ (b : Bool). if b then Some (map arc_value ins) else None) none in cc
 
-  module _ (ins : Vec (Arc O A) Z) (found : r ≡ Some ins) (passed : List (Arc O A)) (slice : passed ≡ ins.items) where
+  module _ (found : whole ≡ true) (passed : List (Arc O A)) (slice : passed ≡ ins) where
     all_passed : all_of (map (made_at made) (predecessors plan.edges n)) ≡ Some (map arc_value passed)
-    all_passed = sym gathered ∙ ap (λ (s : Option (Vec (Arc O A) Z)). option_map (λ (v : Vec (Arc O A) Z). map arc_value v.items) s) found ∙ ap (λ (l : List (Arc O A)). Some (map arc_value l)) (sym slice)
+    all_passed = sym gathered ∙ ap (λ (b : Bool). if b then Some (map arc_value ins) else None) found ∙ ap (λ (l : List (Arc O A)). Some (map arc_value l)) (sym slice)
 
     -- what was passed is what the meaning takes
     pub result_gathered : (node_result mean plan n ≡ result_of_visit (mean n (map arc_value passed))) × (length (map arc_value passed) ≡ length (predecessors plan.edges n))

@@ -77,8 +77,9 @@ fn visit_along<V: Visit>(
         (λ r. IfSome r (λ outs. PassOutcomeMeans (V.meaning v.now) plan.now (Ok (map arc_value outs.items)))) }
 {
     let mut made = empty_places(alloc, plan.count)?;
+    let mut ins = Vec::new(alloc);
     for n in order {
-        match visit_at(alloc, plan, v, starts, *n, &made) {
+        match visit_at(alloc, plan, v, starts, *n, &made, &mut ins) {
             Ok(out) => made[n.0 as usize] = Some(out),
             Err(PassError::At(_, _)) => return Ok(None),
             Err(PassError::OutOfMemory) => return Err(OutOfMemory),

@@ -1,5 +1,4 @@
-ghost use Rattle.std.specs.Prelude.{◌≡◌, ◌<◌, length, map, IfOk, IsSome};
-ghost use Rattle.std.specs.Option.{option_map};
+ghost use Rattle.std.specs.Prelude.{◌≡◌, ◌<◌, if◌then◌else◌, length, map, IfOk, IsSome, None, Some};
 ghost use Rattle.std.specs.List.{AllByRecursion};
 ghost use Rattle.std.specs.Arc.{arc_value};
 ghost use Rattle.pass_core.specs.InEdges.{AreStarts};
@@ -20,27 +19,28 @@ use bp_faults::{NodeId, OutOfMemory};
 use std::alloc::Global;
 use std::sync::Arc;
 
-/// What the sources of some edges made, if all of it is there.
+/// Puts what the sources of some edges made into a list, as far as it is there, and tells whether all of it is. What the
+/// list held before is dropped, and its memory serves again.
 fn gather<O: Drop>(
-    alloc: Global,
     edges: &[PlanEdge],
     made: &[Option<Arc<O>>],
-) -> Result<Option<Vec<Arc<O>>>, OutOfMemory>
+    ins: &mut Vec<Arc<O>>,
+) -> Result<bool, OutOfMemory>
     requires { AllByRecursion (λ (e : PlanEdge). e.from.0 < length made.now) edges.now }
-    ensures { IfOk result (λ r. option_map (λ ins. map arc_value ins.items) r
+    ensures { IfOk result (λ whole. (if whole then Some (map arc_value ins.new.items) else None)
         ≡ all_of (map (made_at made.now) (sources edges.now))) }
 {
-    let mut ins = Vec::with_capacity(alloc, edges.len())?;
+    ins.clear();
     for edge in edges {
         match &made[edge.from.0 as usize] {
             Some(out) => ins.push(Arc::try_clone(out)?)?,
-            None => return Ok(None),
+            None => return Ok(false),
         }
     }
-    Ok(Some(ins))
+    Ok(true)
 }
 
-/// Visits a node whose predecessors are made.
+/// Visits a node whose predecessors are made. The list serves to hand over what they made, whatever it holds.
 pub fn visit_at<V: Visit>(
     alloc: Global,
     plan: &Plan,
@@ -48,6 +48,7 @@ pub fn visit_at<V: Visit>(
     starts: &[u32],
     n: NodeId,
     made: &[Option<Arc<V::Out>>],
+    ins: &mut Vec<Arc<V::Out>>,
 ) -> Result<Arc<V::Out>, PassError>
     requires plan { IsPlan plan.now }
     requires free { HasNoCycle plan.now.edges }
@@ -59,10 +60,10 @@ pub fn visit_at<V: Visit>(
     requires ready { AllByRecursion (λ m. IsSome (made_at made.now m)) (predecessors plan.now.edges n.0) }
     ensures { AnswersVisit n.0 (node_result (V.meaning v.now) plan.now n.0) result }
 {
-    let Some(ins) = gather(alloc, edges_into(plan, starts, n), made)? else {
+    if !gather(edges_into(plan, starts, n), made, ins)? {
         unreachable!()
-    };
-    match v.visit(alloc, n, &ins) {
+    }
+    match v.visit(alloc, n, ins.as_slice()) {
         Ok(out) => Ok(Arc::new(alloc, out)?),
         Err(VisitError::Bad(fault)) => Err(PassError::At(n, fault)),
         Err(VisitError::OutOfMemory) => Err(PassError::OutOfMemory),
@@ -85,8 +86,9 @@ fn run_along<V: Visit>(
     ensures { AnswersPass (V.meaning v.now) plan.now result }
 {
     let mut made = empty_places(alloc, plan.count)?;
+    let mut ins = Vec::new(alloc);
     for n in order {
-        let out = visit_at(alloc, plan, v, starts, *n, &made)?;
+        let out = visit_at(alloc, plan, v, starts, *n, &made, &mut ins)?;
         made[n.0 as usize] = Some(out);
     }
     Ok(unwrapped(alloc, made)?)

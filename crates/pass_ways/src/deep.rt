@@ -1,5 +1,6 @@
 //! An order for one worker: each node stands behind its predecessors, and near the last of them, so that what a pass
-//! makes lies together. Nothing is proved of it: whoever takes the order tests it.
+//! makes lies together. Where all edges lead to greater numbers, or all to lesser ones, it is the order of the numbers;
+//! else a search in depth makes it. Nothing is proved of it: whoever takes the order tests it.
 
 ghost use Rattle.pass_core.specs.InEdges.{AreStarts};
 ghost use Rattle.pass_core.specs.Plans.{IsPlan};
@@ -90,7 +91,7 @@ impl Search {
 }
 
 /// The nodes of a plan, as a search in depth from each node in turn places them.
-pub fn deep_order(alloc: Global, plan: &Plan) -> Result<Vec<NodeId>, OutOfMemory>
+fn searched_order(alloc: Global, plan: &Plan) -> Result<Vec<NodeId>, OutOfMemory>
     requires { IsPlan plan.now }
 {
     let starts = starts_of(alloc, plan)?;
@@ -104,4 +105,36 @@ pub fn deep_order(alloc: Global, plan: &Plan) -> Result<Vec<NodeId>, OutOfMemory
         search.place(plan, &starts, NodeId(n))?;
     }
     Ok(search.order)
+}
+
+/// All nodes, the least number first.
+fn rising_order(alloc: Global, count: u32) -> Result<Vec<NodeId>, OutOfMemory> {
+    let mut order = Vec::with_capacity(alloc, count as usize)?;
+    for n in 0..count {
+        order.push(NodeId(n))?;
+    }
+    Ok(order)
+}
+
+/// All nodes, the greatest number first.
+fn falling_order(alloc: Global, count: u32) -> Result<Vec<NodeId>, OutOfMemory> {
+    let mut order = Vec::with_capacity(alloc, count as usize)?;
+    for n in (0..count).rev() {
+        order.push(NodeId(n))?;
+    }
+    Ok(order)
+}
+
+/// An order of the nodes of a plan.
+pub fn deep_order(alloc: Global, plan: &Plan) -> Result<Vec<NodeId>, OutOfMemory>
+    requires { IsPlan plan.now }
+{
+    let edges = plan.edges.as_slice();
+    if edges.iter().all(|edge| edge.from.0 < edge.to.0) {
+        return rising_order(alloc, plan.count);
+    }
+    if edges.iter().all(|edge| edge.from.0 > edge.to.0) {
+        return falling_order(alloc, plan.count);
+    }
+    searched_order(alloc, plan)
 }

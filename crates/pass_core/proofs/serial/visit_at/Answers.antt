@@ -11,23 +11,23 @@ gather-requires g c =
 pub unreachable-requires : goal.unreachable-requires
 unreachable-requires g c =
     not_missing (g.V.Visit.meaning c.args.v.now) c.args.plan.now c.requires.plan c.requires.free c.args.n.0 c.requires.inside c.args.made.now c.requires.right c.requires.ready
-    c.in_ok-ins.field-0 c.edges_into.result.now c.edges_into.ensures c.in_ok-ins.ensures c.in_default.is
+    c.in_ok-gather.field-0 c.gather.new.ins.items c.edges_into.result.now c.edges_into.ensures c.in_ok-gather.ensures c.if-not-branch.true
 
 pub visit-requires : goal.visit-requires
 visit-requires g c =
     taken_many (g.V.Visit.meaning c.args.v.now) c.args.plan.now c.requires.plan c.requires.free c.args.n.0 c.requires.inside c.args.made.now c.requires.right c.requires.ready
-    c.in_ok-ins.field-0 c.edges_into.result.now c.edges_into.ensures c.in_ok-ins.ensures c.in-Some.ins c.in-Some.is c.deref.result.now c.deref.ensures.value
+    c.in_ok-gather.field-0 c.gather.new.ins.items c.edges_into.result.now c.edges_into.ensures c.in_ok-gather.ensures c.if-not-branch.false c.as_slice.result.now c.as_slice.ensures.value
     (λ k. g.V.Visit.takes c.args.v.now c.args.n.0 k) c.requires.takes
 
-pub returns-in-Ok : goal.returns-in-Ok
-returns-in-Ok g c =
+pub returns-in_ok-new-in-Ok : goal.returns-in_ok-new-in-Ok
+returns-in_ok-new-in-Ok g c =
     result_is (g.V.Visit.meaning c.args.v.now) c.args.plan.now c.requires.plan c.requires.free c.args.n.0 c.requires.inside c.args.made.now c.requires.right c.requires.ready
-    c.in_ok-ins.field-0 c.edges_into.result.now c.edges_into.ensures c.in_ok-ins.ensures c.in-Some.ins c.in-Some.is c.deref.result.now c.deref.ensures.value
+    c.in_ok-gather.field-0 c.gather.new.ins.items c.edges_into.result.now c.edges_into.ensures c.in_ok-gather.ensures c.if-not-branch.false c.as_slice.result.now c.as_slice.ensures.value
     (Ok c.in-Ok.out) c.in-Ok.ensures ∙ ap Done (sym c.in_ok-new-in-Ok.ensures.ok)
 
 pub returns-in-Err-Bad : goal.returns-in-Err-Bad
 returns-in-Err-Bad g c =
     let is = result_is (g.V.Visit.meaning c.args.v.now) c.args.plan.now c.requires.plan c.requires.free c.args.n.0 c.requires.inside c.args.made.now c.requires.right c.requires.ready
-    c.in_ok-ins.field-0 c.edges_into.result.now c.edges_into.ensures c.in_ok-ins.ensures c.in-Some.ins c.in-Some.is c.deref.result.now c.deref.ensures.value
+    c.in_ok-gather.field-0 c.gather.new.ins.items c.edges_into.result.now c.edges_into.ensures c.in_ok-gather.ensures c.if-not-branch.false c.as_slice.result.now c.as_slice.ensures.value
     (Err c.in-Err-Bad.fault) (rw c.in-Err-Bad.field-0-is at c.in-Err-Bad.ensures) in
     (refl, rw c.in-Err-Bad.field-0-is is)
