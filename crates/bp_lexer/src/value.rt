@@ -1,10 +1,22 @@
-ghost use Rattle.std.specs.Prelude.{◌≡◌, IfOk};
+ghost use Rattle.std.specs.Prelude.{◌≡◌, false, IfOk, encode_utf8_all, chars};
 ghost use Rattle.bp_lexer.specs.Meaning.{IsToken, string_of, word_of};
+ghost use Rattle.bp_lexer.specs.Strings.{unescaped_chars};
 
 use crate::escape::unescaped;
 use crate::{Token, TokenKind};
 use bp_faults::{OutOfMemory, Text};
 use std::alloc::Global;
+
+// The string that stands between two quotes. Without a backslash it is the text itself.
+fn quoted_value(alloc: Global, inner: &str) -> Result<Text, OutOfMemory>
+    ensures { IfOk result (λ value. value ≡ encode_utf8_all (unescaped_chars false (chars inner.now))) }
+{
+    if inner.as_bytes().contains(&b'\\') {
+        let text = unescaped(alloc, inner)?;
+        return Ok(Text::compact(alloc, text));
+    }
+    Text::from_str(alloc, inner)
+}
 
 /// The string that a token stands for, where `tokens` gave the token for this text.
 ///
@@ -16,10 +28,7 @@ pub fn value_of(alloc: Global, text: &str, token: &Token) -> Result<Text, OutOfM
     let start = token.start as usize;
     let end = token.end as usize;
     match token.kind {
-        TokenKind::Quoted => {
-            let inner = unescaped(alloc, &text[start + 1..end - 1])?;
-            Ok(Text::compact(alloc, inner))
-        }
+        TokenKind::Quoted => quoted_value(alloc, &text[start + 1..end - 1]),
         TokenKind::Raw => Text::from_str(alloc, &text[start + 1..end - 1]),
         _ => Text::from_str(alloc, &text[start..end]),
     }

@@ -24,10 +24,11 @@ range-requires-in_default c = record {
   end_boundary = after_token _ c.args.text.now c.args.token.now c.utf8.text c.requires;
 }
 
-pub returns-in_ok-inner-in-Quoted : goal.returns-in_ok-inner-in-Quoted
-returns-in_ok-inner-in-Quoted c =
+pub returns-in-Quoted : goal.returns-in-Quoted
+returns-in-Quoted c =
     let same = c.range.ensures.value ∙ inner_is _ c.args.text.now c.args.token.now c.requires in
-    c.compact.ensures ∙ c.in_ok-inner-in-Quoted.ensures ∙ ap (λ l. encode_utf8_all (unescaped_chars false (chars l))) same ∙ ap (λ k. string_of k (word_of c.args.text.now c.args.token.now)) (sym c.in-Quoted.is)
+    let means = ap (λ l. encode_utf8_all (unescaped_chars false (chars l))) same ∙ ap (λ k. string_of k (word_of c.args.text.now c.args.token.now)) (sym c.in-Quoted.is) in
+    subst (λ l. IfOk c.quoted_value.result (λ value. value ≡ l)) means c.quoted_value.ensures
 
 pub returns-in-Raw : goal.returns-in-Raw
 returns-in-Raw c =
