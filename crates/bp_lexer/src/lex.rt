@@ -18,6 +18,12 @@ use crate::{LexError, Token, TokenKind};
 use bp_faults::{Fault, FaultKind, OutOfMemory, Place, Text};
 use std::alloc::{AllocError, Global};
 
+// How many bytes of a text there are to a token and the space behind it, where comments are few.
+const BYTES_A_TOKEN: usize = 4;
+
+// How many tokens a list has room for at first, at most: a long text may be one comment.
+const MOST_ROOM: usize = 4096;
+
 fn is_white(byte: u8) -> bool
     ensures { result ≡ in_class White byte }
 {
@@ -101,7 +107,7 @@ pub fn tokens(alloc: Global, text: &str, file: u32) -> Result<Vec<Token>, LexErr
     ensures { Tells (λ tokens. tokens.items) (LexMeans file text.now) result }
 {
     let bytes = text.as_bytes();
-    let mut tokens = Vec::new(alloc);
+    let mut tokens = Vec::with_capacity(alloc, MOST_ROOM.min(bytes.len() / BYTES_A_TOKEN))?;
     let mut at = 0;
     let mut place = Place {
         file,

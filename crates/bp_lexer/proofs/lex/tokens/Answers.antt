@@ -14,7 +14,7 @@ use Rattle.bp_lexer.proofs.lex.tokens.Goals as goal
 pub loop-at-init : goal.loop-at-init
 loop-at-init c = record {
   within = omega arith;
-  covered = rw c.new-tokens.ensures.items (blank_none c.as_bytes-bytes.result.now 0);
+  covered = rw c.in_ok-tokens.ensures.items (blank_none c.as_bytes-bytes.result.now 0);
   here = sym (place_start c.args.file c.as_bytes-bytes.result.now);
 }
 
