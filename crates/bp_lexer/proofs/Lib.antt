@@ -13,6 +13,7 @@ mod Marks
 mod Cover
 pub mod OneMeaning
 pub mod Boundary
+mod Plain
 pub mod Numbers
 mod Unescape
 pub mod ListedTokens

@@ -21,7 +21,7 @@ last_line_push bs b =
     let taken = take_while-cons keeps b (reverse bs) in
     ap (λ l. reverse (take_while keeps l)) turned ∙ ap reverse taken ∙ turn_cond (b == 10) b (take_while keeps (reverse bs))
 
-same_place : (p q : Place) → p.file ≡ q.file → p.line ≡ q.line → p.col ≡ q.col → p ≡ q
+pub same_place : (p q : Place) → p.file ≡ q.file → p.line ≡ q.line → p.col ≡ q.col → p ≡ q
 same_place p q file line col = λ i. record { file = file i; line = line i; col = col i }
 
 place_cases : (file : ℕ) (text : List ℕ) (i b : ℕ) → count_by (λ x. x == 10) (take (i + 1) text) ≡ count_by (λ x. x == 10) (take i text) + cond (b == 10) 1 0 → last_line (take (i + 1) text) ≡ cond (b == 10) [] (last_line (take i text) ++ b ∷ []) → ((b == 10) ≡ true) ⊎ ((b == 10) ≡ false) → (begins_char b ≡ true) ⊎ (begins_char b ≡ false) → place_at file text (i + 1) ≡ place_after (place_at file text i) b

@@ -1,10 +1,10 @@
 -- What the searches inside the lexer find. No public contract speaks of it.
-use Rattle.std.specs.Prelude.{◌≡◌, ◌+◌, ◌==◌, if◌then◌else◌, ℕ, true, false, List, take, Option, Some, None, Result, Ok}
+use Rattle.std.specs.Prelude.{◌≡◌, ◌+◌, ◌==◌, if◌then◌else◌, ℕ, Bool, true, false, List, take, Option, Some, None, Result, Ok}
 use Rattle.std.specs.Prelude.{Err}
 use Rattle.bp_lexer.specs.declared.flaw.Flaw.{Flaw}
 use Rattle.bp_lexer.specs.declared.flaw.Flaw.TheVariants.{OpenString, BadEscape}
 use Rattle.bp_lexer.specs.declared.token.TokenKind.{TokenKind}
-use Rattle.bp_lexer.specs.declared.token.TokenKind.TheVariants.{Int}
+use Rattle.bp_lexer.specs.declared.token.TokenKind.TheVariants.{Ident, Int, Punct as Mark}
 use Rattle.bp_faults.specs.declared.place.Place.{Place}
 use Rattle.bp_lexer.specs.Classes.{in_line}
 use Rattle.bp_lexer.specs.Places.{begins_char}
@@ -39,3 +39,10 @@ place_after p b =
     if b == 10 then record { file = p.file; line = p.line + 1; col = 1 }
     else (if begins_char b then record { file = p.file; line = p.line; col = p.col + 1 }
     else p)
+
+-- A token of the kind has bytes of ASCII alone, and no end of a line.
+abbrev pub is_plain : TokenKind → Bool
+is_plain Ident = true
+is_plain Int = true
+is_plain (Mark punct) = true
+is_plain kind = false

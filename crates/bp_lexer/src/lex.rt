@@ -1,4 +1,4 @@
-ghost use Rattle.std.specs.Prelude.{◌≡◌, ◌<◌, ◌≤◌, ◌^◌, ◌↔◌, length, drop, take, IfOk, IsTrue, IsCharBoundary};
+ghost use Rattle.std.specs.Prelude.{◌≡◌, ◌+◌, ◌<◌, ◌≤◌, ◌^◌, ◌↔◌, length, drop, take, IfOk, IsTrue, IsCharBoundary};
 ghost use Rattle.std.specs.Prelude.{string_bytes};
 ghost use Rattle.bp_faults.specs.Answers.{Tells};
 ghost use Rattle.bp_lexer.specs.declared.class.Class.TheVariants.{White};
@@ -8,7 +8,7 @@ ghost use Rattle.bp_lexer.specs.Forms.{IsLongest};
 ghost use Rattle.bp_lexer.specs.Faults.{HasFlaw, IsInRange, lex_fault, first_char};
 ghost use Rattle.bp_lexer.specs.Meaning.{LexMeans};
 ghost use Rattle.bp_lexer.specs.Places.{place_at};
-ghost use Rattle.bp_lexer.specs.Search.{FindsToken};
+ghost use Rattle.bp_lexer.specs.Search.{FindsToken, is_plain};
 
 use crate::class::{Class, in_class};
 use crate::flaw::Flaw;
@@ -98,6 +98,34 @@ fn token_at(text: &str, at: usize) -> Result<(TokenKind, usize), Flaw>
     }
 }
 
+fn is_plain(kind: TokenKind) -> bool
+    ensures { result ≡ is_plain kind }
+{
+    matches!(
+        kind,
+        TokenKind::Ident | TokenKind::Int | TokenKind::Punct(_)
+    )
+}
+
+// The place behind the token that begins at a place.
+fn place_behind(bytes: &[u8], at: usize, kind: TokenKind, len: usize, place: Place) -> Place
+    requires within { at ≤ length bytes.now }
+    requires short { length bytes.now ≤ 2 ^ 20 }
+    requires here { place ≡ place_at place.file bytes.now at }
+    requires token { IsLongest (drop at bytes.now) kind len }
+    ensures { result ≡ place_at place.file bytes.now (at + len) }
+{
+    if is_plain(kind) {
+        Place {
+            file: place.file,
+            line: place.line,
+            col: place.col + len as u32,
+        }
+    } else {
+        advance(bytes, at, at + len, place)
+    }
+}
+
 /// The tokens of a text, which has at most 2^20 bytes, comments among them.
 ///
 /// Where none begins, the first fault is that of the language: *unexpected character*,
@@ -128,7 +156,7 @@ pub fn tokens(alloc: Global, text: &str, file: u32) -> Result<Vec<Token>, LexErr
                         end: end as u32,
                         place,
                     })?;
-                    place = advance(bytes, at, end, place);
+                    place = place_behind(bytes, at, kind, len, place);
                     at = end;
                 }
                 Err(flaw) => return Err(LexError::Bad(fault_of(alloc, text, at, place, flaw)?)),

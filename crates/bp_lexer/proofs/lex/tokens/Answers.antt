@@ -32,8 +32,11 @@ loop-at-preserved-then-is_white c = record {
   here = c.place_after-place.ensures ∙ ap (λ (p : Place). place_after p (get_or c.as_bytes-bytes.result.now c.loop-at.at 0)) c.loop-at.invariant.here ∙ sym (place_push c.args.file c.as_bytes-bytes.result.now c.loop-at.at _ (omega arith) refl);
 }
 
-pub advance-place-requires-clause-at : goal.advance-place-requires-clause-at
-advance-place-requires-clause-at c = place_file c.args.file c.as_bytes-bytes.result.now c.loop-at.at c.loop-at.place c.loop-at.invariant.here
+pub place_behind-place-requires-clause-here : goal.place_behind-place-requires-clause-here
+place_behind-place-requires-clause-here c = place_file c.args.file c.as_bytes-bytes.result.now c.loop-at.at c.loop-at.place c.loop-at.invariant.here
+
+pub place_behind-place-requires-clause-token : goal.place_behind-place-requires-clause-token
+place_behind-place-requires-clause-token c = subst (λ t. IsLongest (drop c.loop-at.at t) c.in-Ok.kind c.in-Ok.len) (sym c.as_bytes-bytes.ensures.value) c.in-Ok.ensures.0
 
 -- a token
 pub loop-at-preserved : goal.loop-at-preserved
@@ -52,7 +55,7 @@ loop-at-preserved c =
             number = λ int. rw span (found.1 int);
             place = c.loop-at.invariant.here;
           }));
-      here = place_moved c.args.file bytes at (at + n) c.loop-at.place c.advance-place.result c.loop-at.invariant.here c.advance-place.ensures;
+      here = place_moved c.args.file bytes at (at + n) c.loop-at.place c.place_behind-place.result c.loop-at.invariant.here c.place_behind-place.ensures;
     }
 
 pub fault_of-requires-clause-within : goal.fault_of-requires-clause-within
