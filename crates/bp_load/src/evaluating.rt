@@ -12,9 +12,8 @@ ghost use Rattle.bp_load.specs.Branches.{directories_of, IsTrunk, IsBranch};
 use crate::LoadError;
 use crate::halves::joined;
 use crate::opened::{evaluate_files, evaluate_in, finish};
-use crate::parsed::Parsed;
+use crate::parsed::{Parsed, count_modules};
 use bp_faults::{OutOfMemory, Path};
-use bp_parser::{Def, FileTree};
 use bp_values::{RawModule, Scope, Seed};
 use std::alloc::Global;
 use std::hash::{DefaultHasher, Hasher};
@@ -180,19 +179,16 @@ fn seed_of(files: &[Parsed]) -> Seed {
     Seed { hasher }
 }
 
-/// How many definitions of a file set names.
-fn setting(tree: &FileTree) -> usize {
-    tree.defs
-        .iter()
-        .filter(|def| !matches!(def, Def::Module { .. }))
-        .count()
-}
-
 /// How many definitions of files set names: there are at most so many names.
 fn count_setting(files: &[Parsed]) -> usize {
     let mut count: usize = 0;
     for file in files {
-        count = count.saturating_add(setting(&file.tree));
+        let setting = file
+            .tree
+            .defs
+            .len()
+            .saturating_sub(count_modules(&file.tree));
+        count = count.saturating_add(setting);
     }
     count
 }

@@ -11,7 +11,7 @@ ghost use Rattle.bp_load.specs.Opened.{all_turned, evaluated_in};
 
 use crate::LoadError;
 use crate::directory::Directory;
-use crate::parsed::Parsed;
+use crate::parsed::{Parsed, count_modules};
 use bp_faults::{OutOfMemory, Path};
 use bp_values::{RawModule, Scope, evaluate_from};
 use std::alloc::Global;
@@ -121,6 +121,15 @@ fn evaluate_file(
     })
 }
 
+/// How many modules files define. A count beyond any memory stays where it is.
+fn count_all_modules(files: &[Parsed]) -> usize {
+    let mut count: usize = 0;
+    for file in files {
+        count = count.saturating_add(count_modules(&file.tree));
+    }
+    count
+}
+
 /// Files evaluated one after another. Where no directory above a file is open, it inherits the base.
 pub fn evaluate_files(
     alloc: Global,
@@ -130,11 +139,12 @@ pub fn evaluate_files(
     ensures turn { Answers turn_of result (all_turned (pairs_of base) no_turn (map placed_of files.items)) }
     ensures below { IfOk result (IsBelow (pairs_of base)) }
 {
+    let room = count_all_modules(files.as_slice());
     let mut evaluation = Evaluation {
         opened: Vec::new(alloc),
         base: base.len(),
         scope: base,
-        modules: Vec::new(alloc),
+        modules: Vec::with_capacity(alloc, room)?,
     };
     for file in files {
         evaluation = evaluate_file(alloc, evaluation, file)?;

@@ -60,11 +60,12 @@ fn tree_of_bytes(alloc: Global, bytes: &[u8], number: u32) -> Result<FileTree, L
     }
 }
 
-/// Whether a file sets a name.
-fn sets_names(tree: &FileTree) -> bool {
+/// How many definitions of a file are modules. The others set names.
+pub fn count_modules(tree: &FileTree) -> usize {
     tree.defs
         .iter()
-        .any(|def| !matches!(def, Def::Module { .. }))
+        .filter(|def| matches!(def, Def::Module { .. }))
+        .count()
 }
 
 /// A number that is made of all bytes of a file.
@@ -80,7 +81,7 @@ fn parse_file(alloc: Global, file: &(Path, Vec<u8>), number: u32) -> Result<Pars
     ensures { Tells placed_of (SourceFileMeans number (file.now.0, file.now.1.items)) result }
 {
     let tree = tree_of_bytes(alloc, file.1.as_slice(), number)?;
-    let sum = if sets_names(&tree) {
+    let sum = if count_modules(&tree) < tree.defs.len() {
         sum_of(file.1.as_slice())
     } else {
         0

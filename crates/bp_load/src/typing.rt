@@ -39,7 +39,7 @@ fn put_typed(
 fn type_all(alloc: Global, raws: Vec<(Path, RawModule)>) -> Result<Vec<Module>, LoadError>
     ensures { Answers (λ modules. modules.items) result (all_typed (map placed_raw raws.items)) }
 {
-    let mut modules = Vec::new(alloc);
+    let mut modules = Vec::with_capacity(alloc, raws.len())?;
     for raw in raws {
         put_typed(alloc, &mut modules, &raw.0, &raw.1)?;
     }

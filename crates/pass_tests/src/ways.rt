@@ -218,6 +218,54 @@ fn two_along<R: Threads + Sync>(
     two_passes(rt, alloc, &plan, &way)
 }
 
+/// Node 0 behind node 3, and node 4 behind node 2.
+fn both_ways(alloc: Global) -> Result<Plan, OutOfMemory>
+    ensures plan { IfOk result IsPlan }
+    ensures free { IfOk result (λ plan. HasNoCycle plan.edges) }
+{
+    let falling = PlanEdge {
+        from: NodeId(3),
+        to: NodeId(0),
+    };
+    let rising = PlanEdge {
+        from: NodeId(2),
+        to: NodeId(4),
+    };
+    Ok(Plan {
+        count: 5,
+        edges: Seq::new(Vec::from_array(alloc, [falling, rising])?),
+    })
+}
+
+/// The order in which one worker visits five nodes, a digit for each.
+fn order_alone<R: Threads + Sync>(rt: &R, alloc: Global) -> Result<u64, WayError> {
+    let plan = both_ways(alloc)?;
+    let way = Way::Workers {
+        workers: 1,
+        gate: &OpenGate,
+    };
+    let run = run_by_way(
+        rt,
+        alloc,
+        &way,
+        &[],
+        1,
+        &plan,
+        &NumberUnless { refused: NONE },
+    )?;
+    let mut shown = 0u64;
+    for n in run.order.as_slice() {
+        shown = shown.wrapping_mul(10).wrapping_add(u64::from(n.0));
+    }
+    Ok(shown)
+}
+
+/// One worker visits a node as soon as its predecessors are visited, and these as late as may be.
+#[test]
+fn one_worker_in_depth(rt: HostRuntime) {
+    assert!(rt; matches!(order_alone(&rt, rt.alloc()), Ok(30124)));
+}
+
 #[test]
 fn two_passes_on_workers(rt: HostRuntime) {
     assert!(rt; matches!(two_on_workers(&rt, rt.alloc(), 1), Ok((2, 2, 4))));

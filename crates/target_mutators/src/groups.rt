@@ -17,6 +17,9 @@ pub fn append_groups<'m>(
     ensures appended { IfOk result (λ new. new ≡ with_groups made.entry ids.now) }
     ensures groups { IfOk result (λ new. new.groups ≡ own.now.groups) }
 {
+    if own.given().groups.as_slice().is_empty() {
+        return Ok(made);
+    }
     let mut all = made;
     for id in ids {
         all = append_group(alloc, all, own, *id)?;
