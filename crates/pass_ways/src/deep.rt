@@ -1,6 +1,5 @@
 //! An order for one worker: each node stands behind its predecessors, and near the last of them, so that what a pass
-//! makes lies together. Where all edges lead to greater numbers, or all to lesser ones, it is the order of the numbers;
-//! else a search in depth makes it. Nothing is proved of it: whoever takes the order tests it.
+//! makes lies together. Nothing is proved of it: whoever takes the order tests it.
 
 ghost use Rattle.pass_core.specs.InEdges.{AreStarts};
 ghost use Rattle.pass_core.specs.Plans.{IsPlan};
@@ -72,14 +71,22 @@ impl Search {
         }
     }
 
-    /// Places a node, and before it all that must be.
-    fn place(&mut self, plan: &Plan, starts: &[u32], root: NodeId) -> Result<(), OutOfMemory>
+    /// Whether the predecessors of a node are placed.
+    fn is_ready(&self, plan: &Plan, starts: &[u32], n: NodeId) -> bool
         requires plan { IsPlan plan.now }
         requires starts { AreStarts plan.now starts.now }
     {
-        if self.stage_of(root) == Stage::Unmet {
-            self.todo.push(root)?;
-        }
+        n.0 < plan.count
+            && edges_into(plan, starts, n)
+                .iter()
+                .all(|edge| self.stage_of(edge.from) == Stage::Placed)
+    }
+
+    /// Looks at nodes until none is left on the list.
+    fn look_at_all(&mut self, plan: &Plan, starts: &[u32]) -> Result<(), OutOfMemory>
+        requires plan { IsPlan plan.now }
+        requires starts { AreStarts plan.now starts.now }
+    {
         for _turn in 0..u64::MAX {
             let Some(n) = self.todo.last().copied() else {
                 return Ok(());
@@ -88,10 +95,54 @@ impl Search {
         }
         Ok(())
     }
+
+    /// Places a node, and before it all that must be.
+    fn place(&mut self, plan: &Plan, starts: &[u32], root: NodeId) -> Result<(), OutOfMemory>
+        requires plan { IsPlan plan.now }
+        requires starts { AreStarts plan.now starts.now }
+    {
+        if self.stage_of(root) != Stage::Unmet {
+            return Ok(());
+        }
+        if self.is_ready(plan, starts, root) {
+            self.set_stage(root, Stage::Placed);
+            return Ok(self.order.push(root)?);
+        }
+        self.todo.push(root)?;
+        self.look_at_all(plan, starts)
+    }
+
+    /// Places all nodes, the least number first.
+    fn place_rising(&mut self, plan: &Plan, starts: &[u32]) -> Result<(), OutOfMemory>
+        requires plan { IsPlan plan.now }
+        requires starts { AreStarts plan.now starts.now }
+    {
+        for n in 0..plan.count {
+            self.place(plan, starts, NodeId(n))?;
+        }
+        Ok(())
+    }
+
+    /// Places all nodes, the greatest number first.
+    fn place_falling(&mut self, plan: &Plan, starts: &[u32]) -> Result<(), OutOfMemory>
+        requires plan { IsPlan plan.now }
+        requires starts { AreStarts plan.now starts.now }
+    {
+        for n in (0..plan.count).rev() {
+            self.place(plan, starts, NodeId(n))?;
+        }
+        Ok(())
+    }
+}
+
+/// Whether most edges lead to greater numbers, so that most nodes are ready in the order of their numbers.
+fn rises(edges: &[PlanEdge]) -> bool {
+    let rising = edges.iter().filter(|edge| edge.from.0 < edge.to.0).count();
+    rising >= edges.len() / 2
 }
 
 /// The nodes of a plan, as a search in depth from each node in turn places them.
-fn searched_order(alloc: Global, plan: &Plan) -> Result<Vec<NodeId>, OutOfMemory>
+pub fn deep_order(alloc: Global, plan: &Plan) -> Result<Vec<NodeId>, OutOfMemory>
     requires { IsPlan plan.now }
 {
     let starts = starts_of(alloc, plan)?;
@@ -101,40 +152,10 @@ fn searched_order(alloc: Global, plan: &Plan) -> Result<Vec<NodeId>, OutOfMemory
         todo: Vec::new(alloc),
         order: Vec::with_capacity(alloc, count)?,
     };
-    for n in 0..plan.count {
-        search.place(plan, &starts, NodeId(n))?;
+    if rises(plan.edges.as_slice()) {
+        search.place_rising(plan, &starts)?;
+    } else {
+        search.place_falling(plan, &starts)?;
     }
     Ok(search.order)
-}
-
-/// All nodes, the least number first.
-fn rising_order(alloc: Global, count: u32) -> Result<Vec<NodeId>, OutOfMemory> {
-    let mut order = Vec::with_capacity(alloc, count as usize)?;
-    for n in 0..count {
-        order.push(NodeId(n))?;
-    }
-    Ok(order)
-}
-
-/// All nodes, the greatest number first.
-fn falling_order(alloc: Global, count: u32) -> Result<Vec<NodeId>, OutOfMemory> {
-    let mut order = Vec::with_capacity(alloc, count as usize)?;
-    for n in (0..count).rev() {
-        order.push(NodeId(n))?;
-    }
-    Ok(order)
-}
-
-/// An order of the nodes of a plan.
-pub fn deep_order(alloc: Global, plan: &Plan) -> Result<Vec<NodeId>, OutOfMemory>
-    requires { IsPlan plan.now }
-{
-    let edges = plan.edges.as_slice();
-    if edges.iter().all(|edge| edge.from.0 < edge.to.0) {
-        return rising_order(alloc, plan.count);
-    }
-    if edges.iter().all(|edge| edge.from.0 > edge.to.0) {
-        return falling_order(alloc, plan.count);
-    }
-    searched_order(alloc, plan)
 }
