@@ -1,5 +1,5 @@
 -- The way over a text: white space and tokens.
-use Rattle.std.proofs.Common.{◌≡◌, ℕ, ◌+◌, ◌<◌, true, List, [], ◌∷◌, ◌++◌, get_or, length, drop, subst, ap, ◌∙◌, false, ⊎_elim, arith}
+use Rattle.std.proofs.Common.{◌≡◌, ℕ, zero, suc, add-zero, sym, ◌+◌, ◌<◌, true, List, [], ◌∷◌, ◌++◌, get_or, length, drop, subst, ap, ◌∙◌, false, ⊎_elim, arith}
 use Rattle.std.proofs.lemmas.Bool.{cases_lt}
 use Rattle.bp_faults.specs.declared.fault.Fault.{Fault}
 use Rattle.bp_faults.specs.declared.place.Place.{Place}
@@ -20,6 +20,12 @@ blank_more text i j blank white = (
 pub covers_white : (file : ℕ) (text : List ℕ) (i j : ℕ) (ts : List Token) → Covers file text i j ts → is_white (get_or text j 0) ≡ true → Covers file text i (j + 1) ts
 covers_white file text i j [] covers white = blank_more text i j covers white
 covers_white file text i j (t ∷ ts) covers white = (covers.0, covers.1, covers_white file text t.end j ts covers.2 white)
+
+pub covers_run : (file : ℕ) (text : List ℕ) (i j n : ℕ) (ts : List Token) → Covers file text i j ts → ((k : ℕ) → k < n → is_white (get_or text (j + k) 0) ≡ true) → Covers file text i (j + n) ts
+covers_run file text i j zero ts covers white = subst (λ k. Covers file text i k ts) (sym (add-zero j)) covers
+covers_run file text i j (suc n) ts covers white =
+    let next : j + n + 1 ≡ j + suc n = omega arith in
+    subst (λ k. Covers file text i k ts) next (covers_white file text i (j + n) ts (covers_run file text i j n ts covers (λ k low. white k (omega arith))) (white n (omega arith)))
 
 pub blank_none : (text : List ℕ) (i : ℕ) → IsBlank text i i
 blank_none text i = (omega arith, λ k low high. absurd (omega arith))

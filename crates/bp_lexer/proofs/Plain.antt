@@ -1,19 +1,21 @@
--- The place behind a token whose bytes are of ASCII and end no line.
+-- The place behind bytes that are of ASCII and end no line: those of a token, or a run of spaces.
 use Rattle.std.proofs.Common.{◌≡◌, ℕ, zero, suc, Bool, ◌+◌, ◌<◌, ◌≤◌, true, List, [], ◌∷◌, length, get_or, take, drop, sym, refl, ap, ◌∙◌, arith, ⊎_elim, length-take-le, get_or-drop, get_or-take, add-zero}
 use Rattle.std.specs.Prelude.{◌==◌, ◌&&◌, not, nat_lt, nat_le}
-use Rattle.std.specs.List.{list_all}
-use Rattle.std.proofs.lemmas.Bool.{and_parts, and_from, or_left, cases_Bool, cond-true, cond-false, not-true, false≢true}
+use Rattle.std.specs.List.{list_all, prefix_len}
+use Rattle.std.proofs.lemmas.Bool.{eqb-true, and_parts, and_from, or_left, cases_Bool, cond-true, cond-false, not-true, false≢true}
 use Rattle.std.proofs.lemmas.Bool.Decides.{nat_tests}
 use Rattle.std.proofs.lemmas.List.Folds.{list_all_at}
+use Rattle.std.proofs.lemmas.List.Sums.{prefix_len_passes}
 use Rattle.bp_faults.specs.declared.place.Place.{Place}
+use Rattle.bp_lexer.specs.declared.class.Class.TheVariants.{Space}
 use Rattle.bp_lexer.specs.declared.token.Punct.{Punct}
 use Rattle.bp_lexer.specs.declared.token.Punct.TheVariants.{OpenBrace, CloseBrace, OpenBracket, CloseBracket, OpenParen, CloseParen, Colon, Comma, Equal, PlusEqual, Plus}
 use Rattle.bp_lexer.specs.declared.token.TokenKind.{TokenKind}
 use Rattle.bp_lexer.specs.declared.token.TokenKind.TheVariants.{Ident, Int, Quoted, Raw, Punct as Mark, LineComment, BlockComment}
-use Rattle.bp_lexer.specs.Classes.{is_letter, is_word, is_digit}
+use Rattle.bp_lexer.specs.Classes.{is_letter, is_word, is_digit, in_class}
 use Rattle.bp_lexer.specs.Forms.{IsForm, IsLongest, punct_text}
 use Rattle.bp_lexer.specs.Places.{begins_char, place_at}
-use Rattle.bp_lexer.specs.Search.{is_plain, place_after}
+use Rattle.bp_lexer.specs.Search.{is_plain, place_after, place_along}
 use Rattle.bp_lexer.proofs.TokenKinds.{int_parts}
 use Rattle.bp_lexer.proofs.Boundary.{form_span}
 use Rattle.bp_lexer.proofs.Places.{place_push, same_place}
@@ -68,31 +70,33 @@ passes_at p bs i within all =
     (λ fails. absurd (false≢true (sym (list_all_at p bs i 0 within fails) ∙ all)))
     (cases_Bool (p (get_or bs i 0)))
 
--- the place n columns further on
-abbrev pub along : Place → ℕ → Place
-along p n = record { file = p.file; line = p.line; col = p.col + n }
-
-step_along : (p : Place) (b : ℕ) → is_inline b ≡ true → place_after p b ≡ along p 1
+step_along : (p : Place) (b : ℕ) → is_inline b ≡ true → place_after p b ≡ place_along p 1
 step_along p b inline =
     let parts = and_parts (nat_lt b 128) (not (b == 10)) inline in
     cond-false (b == 10) _ _ (not-true (b == 10) parts.1) ∙ cond-true (begins_char b) _ _ (or_left (nat_lt b 128) (nat_le 192 b) parts.0)
 
 -- a byte that is so moves the place by a column
-pub place_along : (file : ℕ) (text : List ℕ) (i n : ℕ) → i + n ≤ length text → ((k : ℕ) → k < n → is_inline (get_or text (i + k) 0) ≡ true) → place_at file text (i + n) ≡ along (place_at file text i) n
-place_along file text i zero within inline = ap (place_at file text) (add-zero i) ∙ same_place (place_at file text i) (along (place_at file text i) 0) refl refl (sym (add-zero (place_at file text i).col))
-place_along file text i (suc n) within inline =
+pub place_at-along : (file : ℕ) (text : List ℕ) (i n : ℕ) → i + n ≤ length text → ((k : ℕ) → k < n → is_inline (get_or text (i + k) 0) ≡ true) → place_at file text (i + n) ≡ place_along (place_at file text i) n
+place_at-along file text i zero within inline = ap (place_at file text) (add-zero i) ∙ same_place (place_at file text i) (place_along (place_at file text i) 0) refl refl (sym (add-zero (place_at file text i).col))
+place_at-along file text i (suc n) within inline =
     let next : i + suc n ≡ i + n + 1 = omega arith in
-    let here = place_along file text i n (omega arith) (λ k low. inline k (omega arith)) in
+    let here = place_at-along file text i n (omega arith) (λ k low. inline k (omega arith)) in
     let p = place_at file text i in
-    ap (place_at file text) next ∙ place_push file text (i + n) (get_or text (i + n) 0) (omega arith) refl ∙ step_along (place_at file text (i + n)) (get_or text (i + n) 0) (inline n (omega arith)) ∙ ap (λ q. along q 1) here ∙ same_place (along (along p n) 1) (along p (suc n)) refl refl (omega arith)
+    ap (place_at file text) next ∙ place_push file text (i + n) (get_or text (i + n) 0) (omega arith) refl ∙ step_along (place_at file text (i + n)) (get_or text (i + n) 0) (inline n (omega arith)) ∙ ap (λ q. place_along q 1) here ∙ same_place (place_along (place_along p n) 1) (place_along p (suc n)) refl refl (omega arith)
 
 -- behind such a token
-pub place_behind : (file : ℕ) (text : List ℕ) (at n : ℕ) (k : TokenKind) → at ≤ length text → IsLongest (drop at text) k n → is_plain k ≡ true → place_at file text (at + n) ≡ along (place_at file text at) n
+pub place_behind : (file : ℕ) (text : List ℕ) (at n : ℕ) (k : TokenKind) → at ≤ length text → IsLongest (drop at text) k n → is_plain k ≡ true → place_at file text (at + n) ≡ place_along (place_at file text at) n
 place_behind file text at n k inside longest plain =
     let rest = drop at text in
     let span = form_span text at n k inside longest in
     let len = length-take-le n rest longest.within in
     let all = form_inline k (take n rest) plain longest.form in
-    place_along file text at n span.1 (λ i low.
+    place_at-along file text at n span.1 (λ i low.
     let byte : get_or (take n rest) i 0 ≡ get_or text (at + i) 0 = get_or-take n rest i 0 low ∙ get_or-drop at text i 0 in
     ap is_inline (sym byte) ∙ passes_at is_inline (take n rest) i (omega arith) all)
+
+-- a run of spaces
+pub space_at : (bytes : List ℕ) (at n k : ℕ) → n ≡ prefix_len (in_class Space) (drop at bytes) → k < n → get_or bytes (at + k) 0 ≡ 32
+space_at bytes at n k run low =
+    let passes = prefix_len_passes (in_class Space) (drop at bytes) k 0 (omega arith) in
+    sym (get_or-drop at bytes k 0) ∙ eqb-true (get_or (drop at bytes) k 0) 32 passes

@@ -2,7 +2,7 @@
 use Rattle.std.specs.Prelude.{ℕ, Bool, not, ◌||◌, ◌==◌}
 use Rattle.std.specs.Char.{is_ascii_alphabetic, is_ascii_alphanumeric, is_ascii_digit}
 use Rattle.bp_lexer.specs.declared.class.Class.{Class}
-use Rattle.bp_lexer.specs.declared.class.Class.TheVariants.{White, Letter, Word, Digit, Line, Raw}
+use Rattle.bp_lexer.specs.declared.class.Class.TheVariants.{White, Space, Letter, Word, Digit, Line, Raw}
 
 -- White space: space, tab, CR and LF.
 abbrev pub is_white : ℕ → Bool
@@ -31,6 +31,7 @@ in_raw b = not (b == 96)
 -- The classes by their names.
 abbrev pub in_class : Class → ℕ → Bool
 in_class White b = is_white b
+in_class Space b = b == 32
 in_class Letter b = is_letter b
 in_class Word b = is_word b
 in_class Digit b = is_digit b

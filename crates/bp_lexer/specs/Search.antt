@@ -1,6 +1,6 @@
 -- What the searches inside the lexer find. No public contract speaks of it.
-use Rattle.std.specs.Prelude.{◌≡◌, ◌+◌, ◌==◌, if◌then◌else◌, ℕ, Bool, true, false, List, take, Option, Some, None, Result, Ok}
-use Rattle.std.specs.Prelude.{Err}
+use Rattle.std.specs.Prelude.{◌≡◌, ◌+◌, ◌==◌, if◌then◌else◌, ℕ, Bool, true, false, List, take}
+use Rattle.std.specs.Prelude.{Option, Some, None, Result, Ok, Err}
 use Rattle.bp_lexer.specs.declared.flaw.Flaw.{Flaw}
 use Rattle.bp_lexer.specs.declared.flaw.Flaw.TheVariants.{OpenString, BadEscape}
 use Rattle.bp_lexer.specs.declared.token.TokenKind.{TokenKind}
@@ -39,6 +39,10 @@ place_after p b =
     if b == 10 then record { file = p.file; line = p.line + 1; col = 1 }
     else (if begins_char b then record { file = p.file; line = p.line; col = p.col + 1 }
     else p)
+
+-- The place that many columns further on.
+abbrev pub place_along : Place → ℕ → Place
+place_along p n = record { file = p.file; line = p.line; col = p.col + n }
 
 -- A token of the kind has bytes of ASCII alone, and no end of a line.
 abbrev pub is_plain : TokenKind → Bool

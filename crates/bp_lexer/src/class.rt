@@ -6,6 +6,7 @@ ghost use Rattle.bp_lexer.specs.Classes.{in_class};
 #[derive(Clone, Copy)]
 pub enum Class {
     White,
+    Space,
     Letter,
     Word,
     Digit,
@@ -18,6 +19,7 @@ pub fn in_class(class: Class, byte: u8) -> bool
 {
     match class {
         Class::White => matches!(byte, b' ' | b'\t' | b'\r' | b'\n'),
+        Class::Space => byte == b' ',
         Class::Letter => byte.is_ascii_alphabetic() || byte == b'_',
         Class::Word => byte.is_ascii_alphanumeric() || byte == b'_',
         Class::Digit => byte.is_ascii_digit(),

@@ -10,10 +10,10 @@ ghost use Rattle.bp_lexer.specs.Meaning.{LexMeans};
 ghost use Rattle.bp_lexer.specs.Places.{place_at};
 ghost use Rattle.bp_lexer.specs.Search.{FindsToken, is_plain};
 
-use crate::class::{Class, in_class};
+use crate::class::{Class, in_class, run_len};
 use crate::flaw::Flaw;
 use crate::form::longest_form;
-use crate::place::{advance, place_after};
+use crate::place::{advance, place_after, place_along};
 use crate::{LexError, Token, TokenKind};
 use bp_faults::{Fault, FaultKind, OutOfMemory, Place, Text};
 use std::alloc::{AllocError, Global};
@@ -27,7 +27,7 @@ const MOST_ROOM: usize = 4096;
 fn is_white(byte: u8) -> bool
     ensures { result ≡ in_class White byte }
 {
-    in_class(Class::White, byte)
+    byte <= b' ' && in_class(Class::White, byte)
 }
 
 fn char_at(alloc: Global, text: &str, at: usize) -> Result<String, AllocError>
@@ -116,11 +116,7 @@ fn place_behind(bytes: &[u8], at: usize, kind: TokenKind, len: usize, place: Pla
     ensures { result ≡ place_at place.file bytes.now (at + len) }
 {
     if is_plain(kind) {
-        Place {
-            file: place.file,
-            line: place.line,
-            col: place.col + len as u32,
-        }
+        place_along(place, len)
     } else {
         advance(bytes, at, at + len, place)
     }
@@ -143,8 +139,13 @@ pub fn tokens(alloc: Global, text: &str, file: u32) -> Result<Vec<Token>, LexErr
         col: 1,
     };
     while at < bytes.len() {
-        if is_white(bytes[at]) {
-            place = place_after(place, bytes[at]);
+        let byte = bytes[at];
+        if byte == b' ' {
+            let run = run_len(bytes, at, Class::Space);
+            place = place_along(place, run);
+            at += run;
+        } else if is_white(byte) {
+            place = place_after(place, byte);
             at += 1;
         } else {
             match token_at(text, at) {

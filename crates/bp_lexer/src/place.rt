@@ -1,6 +1,6 @@
-ghost use Rattle.std.specs.Prelude.{◌≡◌, ◌<◌, ◌≤◌, ◌^◌, length};
+ghost use Rattle.std.specs.Prelude.{◌≡◌, ◌+◌, ◌<◌, ◌≤◌, ◌^◌, length};
 ghost use Rattle.bp_lexer.specs.Places.{place_at};
-ghost use Rattle.bp_lexer.specs.Search.{place_after};
+ghost use Rattle.bp_lexer.specs.Search.{place_after, place_along};
 
 use bp_faults::Place;
 
@@ -24,6 +24,18 @@ pub fn place_after(place: Place, byte: u8) -> Place
         }
     } else {
         place
+    }
+}
+
+/// The place so many columns further on.
+pub fn place_along(place: Place, count: usize) -> Place
+    requires { place.col + count < 2 ^ 32 }
+    ensures { result ≡ place_along place count }
+{
+    Place {
+        file: place.file,
+        line: place.line,
+        col: place.col + count as u32,
     }
 }
 

@@ -1,13 +1,15 @@
-use Rattle.std.proofs.Common.{arith, ap, sym, refl, subst, get_or, length, take, drop, length-drop, IsUtf8, IsCharBoundary, ◌∙◌, ◌+◌, ◌-◌, ◌≡◌}
+use Rattle.std.proofs.Common.{ℕ, ◌<◌, arith, ap, sym, refl, subst, get_or, length, take, drop, length-drop, IsUtf8, IsCharBoundary, ◌∙◌, ◌+◌, ◌-◌, ◌≡◌}
 use Rattle.bp_faults.specs.declared.place.Place.{Place}
 use Rattle.bp_lexer.specs.declared.token.TokenKind.TheVariants.{Int}
 use Rattle.bp_lexer.specs.Places.{place_at}
-use Rattle.bp_lexer.specs.Search.{place_after}
+use Rattle.bp_lexer.specs.Search.{place_after, place_along}
 use Rattle.bp_lexer.specs.Forms.{IsLongest}
 use Rattle.bp_lexer.specs.Faults.{IsInRange}
 use Rattle.bp_lexer.specs.Meaning.{Covers}
 use Rattle.bp_lexer.proofs.Places.{place_push, place_small, place_start, place_file, place_moved}
-use Rattle.bp_lexer.proofs.Cover.{covers_white, covers_token, blank_none, first_fault}
+use Rattle.bp_lexer.specs.Classes.{is_white}
+use Rattle.bp_lexer.proofs.Plain.{is_inline, place_at-along, space_at}
+use Rattle.bp_lexer.proofs.Cover.{covers_white, covers_run, covers_token, blank_none, first_fault}
 use Rattle.bp_lexer.proofs.Boundary.{covers_boundary}
 use Rattle.bp_lexer.proofs.lex.tokens.Goals as goal
 
@@ -24,7 +26,23 @@ place_after-place-requires-clause-line c = omega (arith, place_small c.args.file
 pub place_after-place-requires-clause-col : goal.place_after-place-requires-clause-col
 place_after-place-requires-clause-col c = omega (arith, place_small c.args.file c.as_bytes-bytes.result.now c.loop-at.at, ap (λ (p : Place). p.col) c.loop-at.invariant.here, ap length c.as_bytes-bytes.ensures.value)
 
--- a white byte
+pub place_along-place-requires : goal.place_along-place-requires
+place_along-place-requires c = omega (arith, place_small c.args.file c.as_bytes-bytes.result.now c.loop-at.at, ap (λ (p : Place). p.col) c.loop-at.invariant.here, c.run_len-run.ensures.within, ap length c.as_bytes-bytes.ensures.value)
+
+-- a run of spaces
+pub loop-at-preserved-then-byte-eq32 : goal.loop-at-preserved-then-byte-eq32
+loop-at-preserved-then-byte-eq32 c =
+    let bytes = c.as_bytes-bytes.result.now in
+    let at = c.loop-at.at in
+    let run = c.run_len-run.result in
+    let space : (k : ℕ) → k < run → get_or bytes (at + k) 0 ≡ 32 = λ k low. space_at bytes at run k c.run_len-run.ensures.run low in
+    record {
+      within = c.run_len-run.ensures.within;
+      covered = covers_run c.args.file bytes 0 at run c.loop-at.tokens.items c.loop-at.invariant.covered (λ k low. ap is_white (space k low));
+      here = c.place_along-place.ensures ∙ ap (λ (p : Place). place_along p run) c.loop-at.invariant.here ∙ sym (place_at-along c.args.file bytes at run c.run_len-run.ensures.within (λ k low. ap is_inline (space k low)));
+    }
+
+-- another white byte
 pub loop-at-preserved-then-is_white : goal.loop-at-preserved-then-is_white
 loop-at-preserved-then-is_white c = record {
   within = omega arith;
