@@ -139,7 +139,7 @@ closed_once ok rest n m a b =
     (λ behind. absurd (no_body_past ok rest m n b behind a.1))
     apart) (cases_order n m)
 
-escape_in_line : (b : ℕ) → is_escape b ≡ true → in_line b ≡ true
+pub escape_in_line : (b : ℕ) → is_escape b ≡ true → in_line b ≡ true
 escape_in_line b h =
     ⊎_elim
     (λ e. let same : b ≡ 10 = eqb-true b 10 e in absurd (false≢true (rw same at h)))

@@ -4,7 +4,7 @@ use Rattle.std.specs.Prelude.{Option, Some, None, Result, Ok, Err}
 use Rattle.bp_lexer.specs.declared.flaw.Flaw.{Flaw}
 use Rattle.bp_lexer.specs.declared.flaw.Flaw.TheVariants.{OpenString, BadEscape}
 use Rattle.bp_lexer.specs.declared.token.TokenKind.{TokenKind}
-use Rattle.bp_lexer.specs.declared.token.TokenKind.TheVariants.{Ident, Int, Punct as Mark}
+use Rattle.bp_lexer.specs.declared.token.TokenKind.TheVariants.{Ident, Int, Raw, Punct as Mark, BlockComment}
 use Rattle.bp_faults.specs.declared.place.Place.{Place}
 use Rattle.bp_lexer.specs.Classes.{in_line}
 use Rattle.bp_lexer.specs.Places.{begins_char}
@@ -50,3 +50,9 @@ is_plain Ident = true
 is_plain Int = true
 is_plain (Mark punct) = true
 is_plain kind = false
+
+-- A token of the kind may hold the end of a line.
+abbrev pub has_line_end : TokenKind → Bool
+has_line_end Raw = true
+has_line_end BlockComment = true
+has_line_end kind = false

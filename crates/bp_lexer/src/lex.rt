@@ -8,12 +8,12 @@ ghost use Rattle.bp_lexer.specs.Forms.{IsLongest};
 ghost use Rattle.bp_lexer.specs.Faults.{HasFlaw, IsInRange, lex_fault, first_char};
 ghost use Rattle.bp_lexer.specs.Meaning.{LexMeans};
 ghost use Rattle.bp_lexer.specs.Places.{place_at};
-ghost use Rattle.bp_lexer.specs.Search.{FindsToken, is_plain};
+ghost use Rattle.bp_lexer.specs.Search.{FindsToken, is_plain, has_line_end};
 
 use crate::class::{Class, in_class, run_len};
 use crate::flaw::Flaw;
 use crate::form::longest_form;
-use crate::place::{advance, place_after, place_along};
+use crate::place::{advance, char_count, place_after, place_along};
 use crate::{LexError, Token, TokenKind};
 use bp_faults::{Fault, FaultKind, OutOfMemory, Place, Text};
 use std::alloc::{AllocError, Global};
@@ -107,6 +107,12 @@ fn is_plain(kind: TokenKind) -> bool
     )
 }
 
+fn has_line_end(kind: TokenKind) -> bool
+    ensures { result ≡ has_line_end kind }
+{
+    matches!(kind, TokenKind::Raw | TokenKind::BlockComment)
+}
+
 // The place behind the token that begins at a place.
 fn place_behind(bytes: &[u8], at: usize, kind: TokenKind, len: usize, place: Place) -> Place
     requires within { at ≤ length bytes.now }
@@ -117,8 +123,10 @@ fn place_behind(bytes: &[u8], at: usize, kind: TokenKind, len: usize, place: Pla
 {
     if is_plain(kind) {
         place_along(place, len)
-    } else {
+    } else if has_line_end(kind) {
         advance(bytes, at, at + len, place)
+    } else {
+        place_along(place, char_count(&bytes[at..at + len]))
     }
 }
 

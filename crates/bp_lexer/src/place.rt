@@ -1,8 +1,28 @@
 ghost use Rattle.std.specs.Prelude.{◌≡◌, ◌+◌, ◌<◌, ◌≤◌, ◌^◌, length};
-ghost use Rattle.bp_lexer.specs.Places.{place_at};
+ghost use Rattle.std.specs.List.{count_by};
+ghost use Rattle.bp_lexer.specs.Places.{begins_char, place_at};
 ghost use Rattle.bp_lexer.specs.Search.{place_after, place_along};
 
 use bp_faults::Place;
+
+fn begins_char(byte: u8) -> bool
+    ensures { result ≡ begins_char byte }
+{
+    byte < 128 || byte >= 192
+}
+
+/// How many of the bytes begin a character.
+pub fn char_count(bytes: &[u8]) -> usize
+    ensures { result ≡ count_by begins_char bytes.now }
+{
+    let mut count = 0;
+    for byte in bytes {
+        if begins_char(*byte) {
+            count += 1;
+        }
+    }
+    count
+}
 
 /// The place behind a byte.
 pub fn place_after(place: Place, byte: u8) -> Place
@@ -16,7 +36,7 @@ pub fn place_after(place: Place, byte: u8) -> Place
             line: place.line + 1,
             col: 1,
         }
-    } else if byte < 128 || byte >= 192 {
+    } else if begins_char(byte) {
         Place {
             file: place.file,
             line: place.line,
