@@ -1,313 +1,254 @@
--- How names are found by keys, before and after an index learns one.
-use Rattle.std.proofs.Common.{◌≡◌, ◌∙◌, ℕ, Bool, true, false, cond, List, [], ◌∷◌, ◌++◌, map, refl, ap, sym, subst}
-use Rattle.std.proofs.Common.{arith, Option, Some, None, Bor, true≢false}
-use Rattle.std.specs.Prelude.{if◌then◌else◌, Result, Ok, Err, OnOk, OnErr}
-use Rattle.std.specs.declared.cmp.Ordering.{Ordering}
-use Rattle.std.specs.declared.cmp.Ordering.TheVariants.{Less, Equal, Greater}
-use Rattle.std.specs.Ordering.{nat_cmp, is_eq, match_ordering}
-use Rattle.std.specs.BTreeMap.{insert_entry, is_at}
-use Rattle.std.specs.Map.{lookup}
-use Rattle.std.specs.Option.{option_or, option_map}
+-- How names are found by slots, before and after an index gets one name more.
+use Rattle.std.proofs.Common.{◌≡◌, ◌≢◌, ◌∙◌, ◌<◌, ◌≤◌, ◌+◌, ◌-◌, ℕ, zero, suc, Bool, true, false, cond, List, [], ◌∷◌, ◌++◌}
+use Rattle.std.proofs.Common.{length, nat_eq, bit_and, slice_get, set, replicate, refl, ap, sym, arith}
+use Rattle.std.proofs.Common.{Option, Some, None, true≢false}
+use Rattle.std.specs.Prelude.{if◌then◌else◌}
+use Rattle.std.specs.Option.{option_or}
 use Rattle.std.specs.Str.{bytes_eq}
-use Rattle.std.proofs.lemmas.Bool.Decides.{nat_tests}
+use Rattle.std.proofs.lemmas.Bool.{eqb-true, eqb-false}
 use Rattle.std.proofs.lemmas.Cmp.{nat_list_eq_equiv}
 use Rattle.bp_faults.proofs.Lists.{same_bytes}
 use Rattle.bp_names.specs.Meaning.{number_of, number_for, LearnsNumber}
-use Rattle.name_index.specs.Keys.{key_of, owner_of, all_names, number_by, FindsByKey}
+use Rattle.name_index.specs.Keys.{key_of}
+use Rattle.name_index.specs.Slots.{is_free, by_owner, number_by, FindsBySlots}
 
 abbrev Named : Type 0
 Named = List ℕ × ℕ
-
-abbrev Owner : Type 0
-Owner = ℕ × Named
-
-abbrev Kept : Type 0
-Kept = Bor (List ℕ) × ℕ
-
-abbrev Entry : Type 0
-Entry = ℕ × Kept
-
--- a name as contracts see it
-abbrev named : Kept → Named
-named kept = (kept.0.now, kept.1)
-
-abbrev pub owners_in : List Entry → List Owner
-owners_in es = map (λ (e : Entry). (e.0, (e.1.0.now, e.1.1))) es
-
--- what is kept behind a key
-abbrev kept_at : List Entry → ℕ → Option Kept
-kept_at es key = lookup (is_at (nat_cmp key)) es
-
-owner_here : (key : ℕ) (es : List Entry) → owner_of (owners_in es) key ≡ option_map named (kept_at es key)
-owner_here key [] = refl
-owner_here key (e ∷ es) = by (is_eq (nat_cmp key e.0)) (owner_here key es)
-  where
-    by : (here : Bool) → owner_of (owners_in es) key ≡ option_map named (kept_at es key)
-        → cond here (Some (named e.1)) (owner_of (owners_in es) key)
-        ≡ option_map named (cond here (Some e.1) (kept_at es key))
-    by true rest = refl
-    by false rest = rest
-
--- the owner of a name's key, by what was read there
-owner_by : (es : List Entry) (name : List ℕ) (key : ℕ) (kept : Option Kept) → key ≡ key_of name → kept ≡ kept_at es key
-    → owner_of (owners_in es) (key_of name) ≡ option_map named kept
-owner_by es name key kept is read =
-    ap (owner_of (owners_in es)) (sym is) ∙ owner_here key es ∙ ap (option_map named) (sym read)
-
--- what is put behind a key
-owners_placed : (es : List Entry) (key : ℕ) (v : Kept)
-    → owners_in (insert_entry nat_cmp es key v) ≡ insert_entry nat_cmp (owners_in es) key (named v)
-owners_placed [] key v = refl
-owners_placed (e ∷ es) key v = by (nat_cmp key e.0) (owners_placed es key v)
-  where
-    by : (o : Ordering)
-        → owners_in (insert_entry nat_cmp es key v) ≡ insert_entry nat_cmp (owners_in es) key (named v)
-        → owners_in (match_ordering o ((key, v) ∷ e ∷ es) ((e.0, v) ∷ es) (e ∷ insert_entry nat_cmp es key v))
-        ≡ match_ordering o ((key, named v) ∷ owners_in (e ∷ es)) ((e.0, named v) ∷ owners_in es)
-        ((e.0, named e.1) ∷ insert_entry nat_cmp (owners_in es) key (named v))
-    by Less rest = refl
-    by Equal rest = refl
-    by Greater rest = ap (λ owners. (e.0, named e.1) ∷ owners) rest
-
-same_key : (x y : ℕ) → is_eq (nat_cmp x y) ≡ true → x ≡ y
-same_key x y is = grind (arith, nat_tests)
-
-own_key : (x : ℕ) → is_eq (nat_cmp x x) ≡ true
-own_key x = grind (arith, nat_tests)
 
 or_none : (o : Option ℕ) → option_or o None ≡ o
 or_none None = refl
 or_none (Some n) = refl
 
--- a name that had no number, before all others
-written : (old : List Named) (name : List ℕ) (number : ℕ) (query : List ℕ) → number_of old name ≡ None
-    → number_of ((name, number) ∷ old) query ≡ option_or (number_of old query) (number_for name number query)
-written old name number query none =
-    ap (λ b. if b then Some number else number_of old query) (nat_list_eq_equiv.symm query name)
-    ∙ by (bytes_eq name query) refl
-  where
-    by : (same : Bool) → bytes_eq name query ≡ same
-        → (if same then Some number else number_of old query)
-        ≡ option_or (number_of old query) (if same then Some number else None)
-    by true is = ap (λ o. option_or o (Some number)) (sym (ap (number_of old) (sym (same_bytes name query is)) ∙ none))
-    by false is = sym (or_none (number_of old query))
+none_of_first : (a b : Option ℕ) → option_or a b ≡ None → a ≡ None
+none_of_first None b is = refl
+none_of_first (Some n) b is = cc
 
--- of two lists the first counts
-number_of-append : (xs ys : List Named) (name : List ℕ)
-    → number_of (xs ++ ys) name ≡ option_or (number_of xs name) (number_of ys name)
-number_of-append [] ys name = refl
-number_of-append (x ∷ xs) ys name = by (bytes_eq name x.0) (number_of-append xs ys name)
+-- a slot that is written, and the others
+get_set_here : (xs : List ℕ) (i v : ℕ) → is_free (slice_get xs i) ≡ true → slice_get (set xs i v) i ≡ Some v
+get_set_here [] i v e = cc
+get_set_here (y ∷ ys) zero v e = refl
+get_set_here (y ∷ ys) (suc i) v e = get_set_here ys i v e
+
+get_set_there : (xs : List ℕ) (i j v : ℕ) → j ≢ i → slice_get (set xs i v) j ≡ slice_get xs j
+get_set_there [] i j v ne = refl
+get_set_there (y ∷ ys) zero zero v ne = absurd (ne refl)
+get_set_there (y ∷ ys) zero (suc j) v ne = refl
+get_set_there (y ∷ ys) (suc i) zero v ne = refl
+get_set_there (y ∷ ys) (suc i) (suc j) v ne = get_set_there ys i j v (λ e. ne (ap suc e))
+
+pub free_inside : (xs : List ℕ) (i : ℕ) → is_free (slice_get xs i) ≡ true → i < length xs
+free_inside [] i e = cc
+free_inside (y ∷ ys) zero e = omega arith
+free_inside (y ∷ ys) (suc i) e = let lt = free_inside ys i e in omega (arith, lt)
+
+-- a list with one item more
+get_last : (xs : List Named) (x : Named) → slice_get (xs ++ x ∷ []) (length xs) ≡ Some x
+get_last [] x = refl
+get_last (y ∷ ys) x = get_last ys x
+
+get_before : (xs : List Named) (x : Named) (i : ℕ) → i < length xs → slice_get (xs ++ x ∷ []) i ≡ slice_get xs i
+get_before [] x i lt = absurd (omega (arith, lt))
+get_before (y ∷ ys) x zero lt = refl
+get_before (y ∷ ys) x (suc i) lt = get_before ys x i (omega (arith, lt))
+
+one_longer : (xs : List Named) (x : Named) → length (xs ++ x ∷ []) ≡ length xs + 1
+one_longer [] x = refl
+one_longer (y ∷ ys) x = let e = one_longer ys x in omega (arith, e)
+
+-- a name has the number of before, or else the one behind all others
+pub name_behind : (names : List Named) (name : List ℕ) (number : ℕ)
+    → LearnsNumber names name number (names ++ (name, number) ∷ [])
+name_behind [] name number query = ap (λ b. if b then Some number else None) (nat_list_eq_equiv.symm query name)
+name_behind (x ∷ xs) name number query = by (bytes_eq query x.0) (name_behind xs name number query)
   where
-    by : (here : Bool) → number_of (xs ++ ys) name ≡ option_or (number_of xs name) (number_of ys name)
-        → (if here then Some x.1 else number_of (xs ++ ys) name)
-        ≡ option_or (if here then Some x.1 else number_of xs name) (number_of ys name)
+    by : (here : Bool)
+        → number_of (xs ++ (name, number) ∷ []) query ≡ option_or (number_of xs query) (number_for name number query)
+        → (if here then Some x.1 else number_of (xs ++ (name, number) ∷ []) query)
+        ≡ option_or (if here then Some x.1 else number_of xs query) (number_for name number query)
     by true rest = refl
     by false rest = rest
 
-none_behind : (here : Bool) (n : ℕ) (rest : Option ℕ) → (if here then Some n else rest) ≡ None → rest ≡ None
-none_behind true n rest is = cc
-none_behind false n rest is = is
+-- what a free slot tells of a name
+free_none : (o : Option ℕ) (names others : List Named) (name : List ℕ) → is_free o ≡ true
+    → number_by o names others name ≡ None
+free_none None names others name e = cc
+free_none (Some mark) names others name e =
+    ap (λ b. cond b None (by_owner (slice_get names (mark - 1)) others name)) e
 
-none_of_parts : (a b : Option ℕ) → option_or a b ≡ None → b ≡ None
-none_of_parts None b is = is
-none_of_parts (Some n) b is = cc
+-- what an owned slot tells of a name
+pub owned_slot : (o : Option ℕ) (mark : ℕ) (names others : List Named) (name : List ℕ) → o ≡ Some mark → mark ≢ 0
+    → by_owner (slice_get names (mark - 1)) others name ≡ number_by o names others name
+owned_slot o mark names others name is taken =
+    ap (λ b. cond b None (by_owner (slice_get names (mark - 1)) others name)) (sym (by (nat_eq mark 0) refl))
+    ∙ ap (λ p. number_by p names others name) (sym is)
+  where
+    by : (b : Bool) → nat_eq mark 0 ≡ b → b ≡ false
+    by true e = absurd (taken (eqb-true mark 0 e))
+    by false e = refl
 
-module _ (others : List Named) (key : ℕ) (name : List ℕ) (number : ℕ) (query : List ℕ) where
-  -- in the owners that come with one more, a name has the number of before, or else its own
-  abbrev Puts : List Owner → List Owner → Type 0
-  Puts owners new = number_of (all_names new others) query
-      ≡ option_or (number_of (all_names owners others) query) (number_for name number query)
+-- what a slot tells of a name where there is one name more
+more_names : (o : Option ℕ) (names others : List Named) (x : Named) (name : List ℕ)
+    → ((mark : ℕ) → o ≡ Some mark → mark ≤ length names)
+    → number_by o (names ++ x ∷ []) others name ≡ number_by o names others name
+more_names None names others x name owned = refl
+more_names (Some mark) names others x name owned = by (nat_eq mark 0) refl
+  where
+    by : (free : Bool) → nat_eq mark 0 ≡ free
+        → cond free None (by_owner (slice_get (names ++ x ∷ []) (mark - 1)) others name)
+        ≡ cond free None (by_owner (slice_get names (mark - 1)) others name)
+    by true e = refl
+    by false e =
+        let taken = eqb-false mark 0 e in
+        let inside = owned mark refl in
+        ap (λ p. by_owner p others name) (get_before names x (mark - 1) (omega (arith, taken, inside)))
 
-  abbrev put : List Owner → List Owner
-  put owners = insert_entry nat_cmp owners key (name, number)
+-- what a slot that isn't free tells of a name after the others have learnt one
+more_others : (o : Option ℕ) (names others new : List Named) (name : List ℕ) (number : ℕ) (query : List ℕ)
+    → is_free o ≡ false → LearnsNumber others name number new
+    → number_by o names new query ≡ option_or (number_by o names others query) (number_for name number query)
+more_others None names others new name number query e learns = learns query
+more_others (Some mark) names others new name number query e learns =
+    ap (λ b. cond b None (by_owner (slice_get names (mark - 1)) new query)) e
+    ∙ by (slice_get names (mark - 1))
+    ∙ ap (λ b. option_or (cond b None (by_owner (slice_get names (mark - 1)) others query))
+    (number_for name number query)) (sym e)
+  where
+    by_name : (own : ℕ) (same : Bool) → (if same then Some own else number_of new query)
+        ≡ option_or (if same then Some own else number_of others query) (number_for name number query)
+    by_name own true = refl
+    by_name own false = learns query
 
-  owner_put : (owners : List Owner) → owner_of owners key ≡ None → number_of (all_names owners others) name ≡ None
-      → Puts owners (put owners)
-  owner_put [] free none = written others name number query none
-  owner_put (o ∷ owners) free none =
-      by (nat_cmp key o.0) free (λ behind. owner_put owners behind
-      (none_behind (bytes_eq name o.1.0) o.1.1 (number_of (all_names owners others) name) none))
-    where
-      by_name : (here : Bool) → Puts owners (put owners)
-          → (if here then Some o.1.1 else number_of (all_names (put owners) others) query)
-          ≡ option_or (if here then Some o.1.1 else number_of (all_names owners others) query)
-          (number_for name number query)
-      by_name true rest = refl
-      by_name false rest = rest
+    by : (o : Option Named) → by_owner o new query
+        ≡ option_or (by_owner o others query) (number_for name number query)
+    by None = learns query
+    by (Some owner) = by_name owner.1 (bytes_eq query owner.0)
 
-      by : (r : Ordering) → cond (is_eq r) (Some o.1) (owner_of owners key) ≡ None
-          → (owner_of owners key ≡ None → Puts owners (put owners))
-          → Puts (o ∷ owners) (match_ordering r ((key, (name, number)) ∷ o ∷ owners) ((o.0, (name, number)) ∷ owners)
-          (o ∷ put owners))
-      by Less behind rest = written (all_names (o ∷ owners) others) name number query none
-      by Equal behind rest = cc
-      by Greater behind rest = by_name (bytes_eq query o.1.0) (rest behind)
-
--- where a key has no owner, the names that have it have no number
-none_found : (owners : List Owner) (others : List Named) (name : List ℕ) → FindsByKey owners others
-    → owner_of owners (key_of name) ≡ None → number_of (all_names owners others) name ≡ None
-none_found owners others name finds free = finds name ∙ ap (λ o. number_by o others name) free
-
-not_for : (name : List ℕ) (number : ℕ) (query : List ℕ) → is_eq (nat_cmp (key_of name) (key_of query)) ≡ false
+-- a name with another key has no part in the number of this one
+not_for : (mask : ℕ) (name query : List ℕ) (number : ℕ) → bit_and (key_of query) mask ≢ bit_and (key_of name) mask
     → number_for name number query ≡ None
-not_for name number query apart = by (bytes_eq name query) refl
+not_for mask name query number ne = by (bytes_eq name query) refl
   where
     by : (same : Bool) → bytes_eq name query ≡ same → (if same then Some number else None) ≡ None
-    by true is =
-        absurd (true≢false (sym (own_key (key_of name))
-        ∙ ap (λ q. is_eq (nat_cmp (key_of name) (key_of q))) (same_bytes name query is) ∙ apart))
+    by true is = absurd (ne (ap (λ n. bit_and (key_of n) mask) (sym (same_bytes name query is))))
     by false is = refl
 
--- each name is found by its key after a key has got an owner
-finds_owner : (owners new : List Owner) (others : List Named) (name : List ℕ) (number : ℕ) → FindsByKey owners others
-    → owner_of owners (key_of name) ≡ None → new ≡ insert_entry nat_cmp owners (key_of name) (name, number)
-    → ((key : ℕ) → owner_of new key
-    ≡ cond (is_at (nat_cmp (key_of name)) key) (Some (name, number)) (owner_of owners key))
-    → FindsByKey new others
-finds_owner owners new others name number finds free is put query =
-    ap (λ os. number_of (all_names os others) query) is
-    ∙ owner_put others (key_of name) name number query owners free (none_found owners others name finds free)
-    ∙ by (is_eq (nat_cmp (key_of name) (key_of query))) refl
-    ∙ ap (λ o. number_by o others query) (sym (put (key_of query)))
+-- slots of which all are free know no names
+pub none_known : (mask count : ℕ) → FindsBySlots mask (replicate count 0) [] []
+none_known mask count = record {
+  found = λ name. by name (slice_get (replicate count 0) (bit_and (key_of name) mask));
+  within = λ name e. refl;
+  owned = λ slot mark e. zeroed count slot mark e;
+}
   where
-    owned : List Named
-    owned = map (λ (o : Owner). o.1) owners
+    by_free : (name : List ℕ) (free : Bool) → None ≡ cond free None (number_of [] name)
+    by_free name true = refl
+    by_free name false = refl
 
-    by : (same : Bool) → is_eq (nat_cmp (key_of name) (key_of query)) ≡ same
-        → option_or (number_of (all_names owners others) query) (number_for name number query)
-        ≡ number_by (cond same (Some (name, number)) (owner_of owners (key_of query))) others query
-    by true same =
-        let keys = same_key (key_of name) (key_of query) same in
-        let none = none_found owners others query finds (ap (owner_of owners) (sym keys) ∙ free) in
-        let parts = sym (number_of-append owned others query) ∙ none in
-        let none_other = none_of_parts (number_of owned query) (number_of others query) parts in
-        ap (λ o. option_or o (number_for name number query)) none
-        ∙ ap (λ b. if b then Some number else None) (nat_list_eq_equiv.symm name query)
-        ∙ ap (λ o. if bytes_eq query name then Some number else o) (sym none_other)
-    by false apart =
-        ap (option_or (number_of (all_names owners others) query)) (not_for name number query apart)
-        ∙ or_none (number_of (all_names owners others) query) ∙ finds query
+    by : (name : List ℕ) (o : Option ℕ) → None ≡ number_by o [] [] name
+    by name None = refl
+    by name (Some mark) = by_free name (nat_eq mark 0)
 
--- the others learn a name, and so does the index
-others_more : (owners : List Owner) (others new : List Named) (name : List ℕ) (number : ℕ)
-    → LearnsNumber others name number new → LearnsNumber (all_names owners others) name number (all_names owners new)
-others_more owners others new name number learns query =
-    number_of-append owned new query ∙ ap (option_or (number_of owned query)) (learns query)
-    ∙ sym (or_or (number_of owned query))
-    ∙ ap (λ o. option_or o (number_for name number query)) (sym (number_of-append owned others query))
-  where
-    owned : List Named
-    owned = map (λ (o : Owner). o.1) owners
+    zeroed : (count slot mark : ℕ) → slice_get (replicate count 0) slot ≡ Some mark → mark ≤ 0
+    zeroed zero slot mark e = cc
+    zeroed (suc count) zero mark e = let z : 0 ≡ mark = cc in omega (arith, z)
+    zeroed (suc count) (suc slot) mark e = zeroed count slot mark e
 
-    or_or : (a : Option ℕ) → option_or (option_or a (number_of others query)) (number_for name number query)
-        ≡ option_or a (option_or (number_of others query) (number_for name number query))
-    or_or None = refl
-    or_or (Some n) = refl
+module _ (mask : ℕ) (marks : List ℕ) (names others : List Named) (finds : FindsBySlots mask marks names others)
+    (name : List ℕ) (number : ℕ) where
+  abbrev slot : ℕ
+  slot = bit_and (key_of name) mask
 
--- each name is found by its key after the others have learnt one whose key has another owner
-finds_other : (owners : List Owner) (others new : List Named) (name : List ℕ) (number : ℕ) (owner : Named)
-    → FindsByKey owners others → owner_of owners (key_of name) ≡ Some owner → LearnsNumber others name number new
-    → FindsByKey owners new
-finds_other owners others new name number owner finds owned learns query =
-    others_more owners others new name number learns query
-    ∙ ap (λ o. option_or o (number_for name number query)) (finds query) ∙ by (owner_of owners (key_of query)) refl
-  where
-    by_name : (o : Named) (same : Bool)
-        → option_or (if same then Some o.1 else number_of others query) (number_for name number query)
-        ≡ (if same then Some o.1 else number_of new query)
-    by_name o true = refl
-    by_name o false = sym (learns query)
+  abbrev all : List Named
+  all = names ++ (name, number) ∷ []
 
-    by : (o : Option Named) → owner_of owners (key_of query) ≡ o
-        → option_or (number_by o others query) (number_for name number query) ≡ number_by o new query
-    by None free = by_same (bytes_eq name query) refl
-      where
-        by_same : (same : Bool) → bytes_eq name query ≡ same → (if same then Some number else None) ≡ None
-        by_same true is =
-            let clash : Some owner ≡ None =
-            sym owned ∙ ap (λ q. owner_of owners (key_of q)) (same_bytes name query is) ∙ free in
-            cc
-        by_same false is = refl
-    by (Some o) is = by_name o (bytes_eq query o.0)
+  owned_longer : (mark : ℕ) → mark ≤ length names → mark ≤ length all
+  owned_longer mark le = let e = one_longer names (name, number) in omega (arith, le, e)
 
--- what is kept behind each key after one more is
-owner_after : (es new : List Entry) (key k : ℕ) (v : Kept)
-    → kept_at new k ≡ cond (is_at (nat_cmp key) k) (Some v) (kept_at es k)
-    → owner_of (owners_in new) k ≡ cond (is_at (nat_cmp key) k) (Some (named v)) (owner_of (owners_in es) k)
-owner_after es new key k v more = owner_here k new ∙ ap (option_map named) more ∙ by (is_at (nat_cmp key) k)
-  where
-    by : (here : Bool) → option_map named (cond here (Some v) (kept_at es k))
-        ≡ cond here (Some (named v)) (owner_of (owners_in es) k)
-    by true = refl
-    by false = sym (owner_here k es)
+  none_before : (query : List ℕ) → number_of all query ≡ None → number_of names query ≡ None
+  none_before query none =
+      none_of_first (number_of names query) (number_for name number query)
+      (sym (name_behind names name number query) ∙ none)
 
--- a name that has a number keeps it
-pub number_stays : (names : List Named) (name : List ℕ) (number had : ℕ) → number_of names name ≡ Some had
-    → LearnsNumber names name number names
-number_stays names name number had is query = by (bytes_eq name query) refl
-  where
-    given : (o : Option ℕ) → Some had ≡ o → o ≡ option_or o (Some number)
-    given None none = cc
-    given (Some n) some = refl
+  -- the name gets a free slot
+  pub finds_placed : (mark : ℕ) → is_free (slice_get marks slot) ≡ true → mark ≡ length names + 1
+      → FindsBySlots mask (set marks slot mark) all others
+  finds_placed mark free behind = record {
+    found = λ query. by query (nat_eq (bit_and (key_of query) mask) slot) refl;
+    within = λ query none. finds.within query (none_before query none);
+    owned = λ s m e. owned_by s m e (nat_eq s slot) refl;
+  }
+    where
+      owned_by : (s m : ℕ) → slice_get (set marks slot mark) s ≡ Some m → (b : Bool) → nat_eq s slot ≡ b → m ≤ length all
+      owned_by s m e true is =
+          let here : slice_get (set marks slot mark) s ≡ Some mark =
+          ap (slice_get (set marks slot mark)) (eqb-true s slot is) ∙ get_set_here marks slot mark free in
+          let both : Some mark ≡ Some m = sym here ∙ e in
+          let same : mark ≡ m = cc in
+          let longer = one_longer names (name, number) in
+          omega (arith, same, behind, longer)
+      owned_by s m e false is =
+          owned_longer m (finds.owned s m (sym (get_set_there marks slot s mark (eqb-false s slot is)) ∙ e))
 
-    by : (same : Bool) → bytes_eq name query ≡ same
-        → number_of names query ≡ option_or (number_of names query) (if same then Some number else None)
-    by true same = given (number_of names query) (sym is ∙ ap (number_of names) (same_bytes name query same))
-    by false same = sym (or_none (number_of names query))
+      own : (query : List ℕ) → number_of names query ≡ None
+          → number_for name number query ≡ number_by (Some mark) all others query
+      own query none =
+          ap (λ b. if b then Some number else None) (nat_list_eq_equiv.symm name query)
+          ∙ ap (λ o. if bytes_eq query name then Some number else o) (sym (finds.within query none))
+          ∙ ap (λ o. by_owner o others query) (sym (get_last names (name, number)))
+          ∙ ap (λ i. by_owner (slice_get all i) others query) (omega (arith, behind))
+          ∙ ap (λ b. cond b None (by_owner (slice_get all (mark - 1)) others query)) (sym (taken (nat_eq mark 0) refl))
+        where
+          taken : (b : Bool) → nat_eq mark 0 ≡ b → b ≡ false
+          taken true is = let e = eqb-true mark 0 is in absurd (omega (arith, e, behind))
+          taken false is = refl
 
--- what an index says of a name by what is read at the name's key
-module _ (es : List Entry) (others : List Named) (name : List ℕ) (key : ℕ)
-    (finds : FindsByKey (owners_in es) others) (is : key ≡ key_of name) where
-  -- where nothing is kept there, the name has no number
-  pub none_read : None ≡ kept_at es key → number_of (all_names (owners_in es) others) name ≡ None
-  none_read read = none_found (owners_in es) others name finds (owner_by es name key None is read)
+      by : (query : List ℕ) (b : Bool) → nat_eq (bit_and (key_of query) mask) slot ≡ b
+          → number_of all query ≡ number_by (slice_get (set marks slot mark) (bit_and (key_of query) mask)) all others query
+      by query true is =
+          let same = eqb-true (bit_and (key_of query) mask) slot is in
+          let was_free = ap (λ s. is_free (slice_get marks s)) same ∙ free in
+          let none = finds.found query
+          ∙ free_none (slice_get marks (bit_and (key_of query) mask)) names others query was_free in
+          name_behind names name number query
+          ∙ ap (λ o. option_or o (number_for name number query)) none
+          ∙ own query none
+          ∙ ap (λ o. number_by o all others query)
+          (sym (ap (slice_get (set marks slot mark)) same ∙ get_set_here marks slot mark free))
+      by query false is =
+          let ne = eqb-false (bit_and (key_of query) mask) slot is in
+          name_behind names name number query
+          ∙ ap (option_or (number_of names query)) (not_for mask name query number ne)
+          ∙ or_none (number_of names query)
+          ∙ finds.found query
+          ∙ sym (more_names (slice_get marks (bit_and (key_of query) mask)) names others (name, number) query
+          (finds.owned (bit_and (key_of query) mask)))
+          ∙ ap (λ o. number_by o all others query) (sym (get_set_there marks slot (bit_and (key_of query) mask) mark ne))
 
-  -- the owner has its number, and another name the number that it has among the others
-  pub owner_read : (kept : Kept) (same : Bool) → Some kept ≡ kept_at es key → bytes_eq name kept.0.now ≡ same
-      → number_of (all_names (owners_in es) others) name ≡ (if same then Some kept.1 else number_of others name)
-  owner_read kept same read compared =
-      finds name ∙ ap (λ o. number_by o others name) (owner_by es name key (Some kept) is read)
-      ∙ ap (λ b. if b then Some kept.1 else number_of others name) compared
-
-  -- each name is found by its key after the others were to learn this one, whether memory sufficed or not
-  pub finds_learnt : {E : Type 0} (new : List Named) (number : ℕ) (kept : Kept) (r : Result (Option ℕ) E)
-      → Some kept ≡ kept_at es key → OnOk r (LearnsNumber others name number new) → OnErr r (new ≡ others)
-      → FindsByKey (owners_in es) new
-  finds_learnt new number kept (Ok had) read learns same =
-      finds_other (owners_in es) others new name number (named kept) finds (owner_by es name key (Some kept) is read)
-      learns
-  finds_learnt new number kept (Err e) read learns same = subst (FindsByKey (owners_in es)) (sym same) finds
-
--- the index has learnt what the others have
-pub learns_learnt : {E : Type 0} (owners : List Owner) (others new : List Named) (name : List ℕ) (number : ℕ)
-    (r : Result (Option ℕ) E) → OnOk r (LearnsNumber others name number new)
-    → OnOk r (LearnsNumber (all_names owners others) name number (all_names owners new))
-learns_learnt owners others new name number (Ok had) learns = others_more owners others new name number learns
-learns_learnt owners others new name number (Err e) learns = learns
-
--- a name gets a key for its own
-module _ (es new : List Entry) (others : List Named) (name : Bor (List ℕ)) (number key : ℕ)
-    (finds : FindsByKey (owners_in es) others) (is : key ≡ key_of name.now) (read : None ≡ kept_at es key)
-    (placed : new ≡ insert_entry nat_cmp es key (name, number)) where
-  free : owner_of (owners_in es) (key_of name.now) ≡ None
-  free = owner_by es name.now key None is read
-
-  owners_new : owners_in new ≡ insert_entry nat_cmp (owners_in es) (key_of name.now) (name.now, number)
-  owners_new =
-      ap owners_in placed ∙ owners_placed es key (name, number)
-      ∙ ap (λ k. insert_entry nat_cmp (owners_in es) k (name.now, number)) is
-
-  -- each name is found by its key
-  pub finds_put : ((k : ℕ) → kept_at new k ≡ cond (is_at (nat_cmp key) k) (Some (name, number)) (kept_at es k))
-      → FindsByKey (owners_in new) others
-  finds_put more =
-      finds_owner (owners_in es) (owners_in new) others name.now number finds free owners_new
-      (λ k. owner_after es new key k (name, number) (more k)
-      ∙ ap (λ j. cond (is_at (nat_cmp j) k) (Some (name.now, number)) (owner_of (owners_in es) k)) is)
-
-  -- the index has learnt the name
-  pub learns_put : LearnsNumber (all_names (owners_in es) others) name.now number (all_names (owners_in new) others)
-  learns_put query =
-      ap (λ os. number_of (all_names os others) query) owners_new
-      ∙ owner_put others (key_of name.now) name.now number query (owners_in es) free
-      (none_found (owners_in es) others name.now finds free)
+  -- its slot isn't free, and the others learn it
+  pub finds_learnt : (new : List Named) → is_free (slice_get marks slot) ≡ false → LearnsNumber others name number new
+      → FindsBySlots mask marks all new
+  finds_learnt new taken learns = record {
+    found = λ query. name_behind names name number query
+        ∙ ap (λ o. option_or o (number_for name number query)) (finds.found query)
+        ∙ by query (is_free (slice_get marks (bit_and (key_of query) mask))) refl
+        ∙ sym (more_names (slice_get marks (bit_and (key_of query) mask)) names new (name, number) query
+        (finds.owned (bit_and (key_of query) mask)));
+    within = λ query none. learns query
+        ∙ ap (λ o. option_or o (number_for name number query)) (finds.within query (none_before query none))
+        ∙ ap (λ o. option_or o (number_for name number query)) (sym (none_before query none))
+        ∙ sym (name_behind names name number query) ∙ none;
+    owned = λ s m e. owned_longer m (finds.owned s m e);
+  }
+    where
+      by : (query : List ℕ) (b : Bool) → is_free (slice_get marks (bit_and (key_of query) mask)) ≡ b
+          → option_or (number_by (slice_get marks (bit_and (key_of query) mask)) names others query)
+          (number_for name number query)
+          ≡ number_by (slice_get marks (bit_and (key_of query) mask)) names new query
+      by query true free =
+          let o = slice_get marks (bit_and (key_of query) mask) in
+          ap (λ p. option_or p (number_for name number query)) (free_none o names others query free)
+          ∙ not_for mask name query number
+          (λ same. true≢false (sym free ∙ ap (λ s. is_free (slice_get marks s)) same ∙ taken))
+          ∙ sym (free_none o names new query free)
+      by query false is =
+          sym (more_others (slice_get marks (bit_and (key_of query) mask)) names others new name number query is learns)

@@ -1,30 +1,35 @@
-ghost use Rattle.std.specs.Prelude.{◌≡◌, [], IfOk, OnOk, OnErr, IsSome};
+ghost use Rattle.std.specs.Prelude.{◌≡◌, ◌∷◌, ◌++◌, [], IfOk, OnOk, OnErr, IsSome};
 ghost use Rattle.bp_names.specs.Meaning.{number_of, LearnsNumber};
+ghost use Rattle.name_index.specs.Keys.{key_of};
 
 use crate::key::key_of;
+use crate::slots::Slots;
 use bp_faults::OutOfMemory;
 use bp_names::NameTable;
 use std::alloc::Global;
-use std::collections::BTreeMap;
 use std::marker::Model;
 
-/// An index of names: the owner of each key with its number, and a table of the names that own none. Contracts see it
-/// as the list of the names with their numbers, in an order of its own.
+/// How many slots an index has at first.
+const FIRST_SLOTS: usize = 64;
+
+/// An index of names: all names with their numbers, and slots by which they are found. Contracts see it as the list of
+/// the names with their numbers.
 #[derive(Debug, Drop)]
 pub struct NameIndex<'a> {
-    owners: BTreeMap<u64, (&'a str, u32)>,
-    others: NameTable<'a>,
+    alloc: Global,
+    names: Vec<(&'a str, u32)>,
+    slots: Slots<'a>,
 }
 
 impl<'a> Model for NameIndex<'a> {
-    ghost use Rattle.std.specs.Prelude.{List, ℕ, map};
-    ghost use Rattle.name_index.specs.Keys.{all_names, FindsByKey};
+    ghost use Rattle.std.specs.Prelude.{List, ℕ};
+    ghost use Rattle.name_index.specs.Slots.{names_of, FindsBySlots};
 
     ghost Value = { List (List ℕ × ℕ) };
 
-    ghost view = { λ t. all_names (map (λ e. (e.0, (e.1.0.now, e.1.1))) t.owners.entries) t.others };
+    ghost view = { λ t. names_of t.names.items };
 
-    ghost invariant = { λ t. FindsByKey (map (λ e. (e.0, (e.1.0.now, e.1.1))) t.owners.entries) t.others };
+    ghost invariant = { λ t. FindsBySlots t.slots.mask t.slots.marks.items (names_of t.names.items) t.slots.others };
 }
 
 impl<'a> NameIndex<'a> {
@@ -33,9 +38,47 @@ impl<'a> NameIndex<'a> {
         ensures { result ≡ [] }
     {
         NameIndex {
-            owners: BTreeMap::new(alloc),
-            others: NameTable::new(alloc),
+            alloc,
+            names: Vec::new(alloc),
+            slots: Slots {
+                marks: Vec::new(alloc),
+                mask: 0,
+                others: NameTable::new(alloc),
+            },
         }
+    }
+
+    /// There are at least four slots for each name and one more.
+    fn make_room(&mut self) -> Result<(), OutOfMemory>
+        ensures { self.new ≡ self.old }
+    {
+        let slots = self.slots.marks.len();
+        if self.names.len() >= slots / 4 {
+            let more = slots.saturating_mul(4).max(FIRST_SLOTS);
+            self.slots = Slots::of(self.alloc, more, &self.names)?;
+        }
+        Ok(())
+    }
+
+    /// Adds a name.
+    fn add(&mut self, key: u64, name: &'a str, number: u32) -> Result<(), OutOfMemory>
+        requires { key ≡ key_of name.now }
+        ensures added { OnOk result (self.new ≡ self.old ++ (name.now, number) ∷ []) }
+        ensures err { OnErr result (self.new ≡ self.old) }
+    {
+        self.make_room()?;
+        self.names.reserve(1)?;
+        self.slots.place(key, self.names.len(), name, number)?;
+        self.names.push((name, number))?;
+        Ok(())
+    }
+
+    /// The number of a name with a key.
+    fn number_by(&self, key: u64, name: &str) -> Option<u32>
+        requires { key ≡ key_of name.now }
+        ensures { result ≡ number_of self.now name.now }
+    {
+        self.slots.number_of(&self.names, key, name)
     }
 
     /// Gives a name a number, unless it has one. The number that it had.
@@ -46,34 +89,17 @@ impl<'a> NameIndex<'a> {
         ensures err { OnErr result (self.new ≡ self.old) }
     {
         let key = key_of(name);
-        match self.owners.get(&key).copied() {
-            None => {
-                self.owners.insert(key, (name, number))?;
-                Ok(None)
-            }
-            Some((owner, had)) => {
-                if name == owner {
-                    Ok(Some(had))
-                } else {
-                    self.others.learn(name, number)
-                }
-            }
+        let had = self.number_by(key, name);
+        if had.is_none() {
+            self.add(key, name, number)?;
         }
+        Ok(had)
     }
 
     /// The number of a name.
     pub fn number_of(&self, name: &str) -> Option<u32>
         ensures { result ≡ number_of self.now name.now }
     {
-        match self.owners.get(&key_of(name)) {
-            None => None,
-            Some((owner, number)) => {
-                if name == *owner {
-                    Some(*number)
-                } else {
-                    self.others.number_of(name)
-                }
-            }
-        }
+        self.number_by(key_of(name), name)
     }
 }
