@@ -7,7 +7,7 @@ use ninja_file::Statement;
 const LEAST: usize = 1 << 14;
 
 /// How many bytes most paths and variables take at most, with what stands between them.
-const USUAL: usize = 48;
+const USUAL: usize = 64;
 
 /// Statements one after another, with the weights of their groups and of all. A text that begins with theirs makes
 /// room for some bytes.

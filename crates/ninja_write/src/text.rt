@@ -246,6 +246,9 @@ fn check_size(f: &NinjaFile) -> Result<(), WriteError>
     Ok(())
 }
 
+// How many bytes most statements take at most.
+const USUAL: usize = 256;
+
 /// The text of a file. Any file has one; Ninja reads back only that of a well-formed file as it was meant.
 pub fn write(alloc: Global, f: &NinjaFile) -> Result<Vec<u8>, WriteError>
     ensures text { IfOk result (λ text. text.items ≡ text_of f.now) }
@@ -255,6 +258,7 @@ pub fn write(alloc: Global, f: &NinjaFile) -> Result<Vec<u8>, WriteError>
 {
     check_size(f)?;
     let mut output = Output::new(alloc);
+    output.make_room(f.statements.as_slice().len().saturating_mul(USUAL));
     put_file(&mut output, f)?;
     Ok(output.into_bytes())
 }
