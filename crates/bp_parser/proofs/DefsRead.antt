@@ -1,6 +1,7 @@
 -- What the functions that read definitions and files owe, on lists.
-use Rattle.std.proofs.Common.{◌≡◌, ℕ, zero, suc, ◌+◌, ◌<◌, length, drop, get_or, arith, length-drop, List, [], ◌∷◌, ◌++◌, map, true, not, Some, None, sym, refl, ap, ◌∙◌, subst}
-use Rattle.std.proofs.lemmas.Bool.{cond-false}
+use Rattle.std.proofs.Common.{◌≡◌, ℕ, zero, suc, ◌+◌, ◌<◌, length, drop, get_or, arith, length-drop, List, [], ◌∷◌, ◌++◌, map, true, false, not, Some, None, sym, refl, ap, ◌∙◌, subst}
+use Rattle.std.specs.List.{list_any}
+use Rattle.std.proofs.lemmas.Bool.{cond-true, cond-false, or_parts}
 use Rattle.std.proofs.lemmas.List.{length-map}
 use Rattle.std.proofs.lemmas.List.Elements.{All-filter}
 use Rattle.bp_faults.specs.declared.place.Place.{Place}
@@ -89,6 +90,13 @@ word_value f d (v ∷ ws) (suc k) w rest is = word_value f d ws k w rest is
 
 pub kept_tokens : ListsHaveTokens → (text : List ℕ) (ts : List Token) → AreTokensOf text ts → AreTokens text (without_comments ts)
 kept_tokens have text ts list = All-filter (λ t. not (is_comment t.kind)) (λ t. IsToken t.place.file text t) ts (have list.0 text ts list.1)
+
+-- where no token is a comment, each is a word
+pub without_comments-none : (ts : List Token) → list_any (λ t. is_comment t.kind) ts ≡ false → ts ≡ without_comments ts
+without_comments-none [] none = refl
+without_comments-none (t ∷ ts) none =
+    let parts = or_parts (is_comment t.kind) (list_any (λ u. is_comment u.kind) ts) none in
+    ap (λ l. t ∷ l) (without_comments-none ts parts.1) ∙ sym (cond-true (not (is_comment t.kind)) _ _ (ap not parts.0))
 
 -- the meaning of a file
 

@@ -13,7 +13,7 @@ use crate::def::def_at;
 use crate::flaw::Flaw;
 use crate::stop::Stop;
 use crate::tree::{Def, FileTree};
-use crate::words::{without_comments, word_at};
+use crate::words::{kept_words, word_at, words_among};
 use bp_faults::{Fault, FaultKind, OutOfMemory, Place, Text};
 use bp_lexer::laws::lists_have_tokens;
 use bp_lexer::{Token, place_of_end};
@@ -99,18 +99,14 @@ pub fn parse(alloc: Global, text: &str, tokens: &[Token]) -> Result<FileTree, Pa
     ensures { Tells tree_view (ParseMeans text.now tokens.now) result }
 {
     lists_have_tokens();
-    let words = without_comments(alloc, tokens)?;
-    match defs(alloc, text, words.as_slice()) {
+    let kept = kept_words(alloc, tokens)?;
+    let words = words_among(tokens, &kept);
+    match defs(alloc, text, words) {
         Ok(defs) => Ok(FileTree {
-            file: file_of(text, words.as_slice()),
+            file: file_of(text, words),
             defs,
         }),
-        Err(Stop::Bad(flaw)) => Err(ParseError::Bad(fault_of(
-            alloc,
-            text,
-            words.as_slice(),
-            flaw,
-        )?)),
+        Err(Stop::Bad(flaw)) => Err(ParseError::Bad(fault_of(alloc, text, words, flaw)?)),
         Err(Stop::OutOfMemory) => Err(ParseError::OutOfMemory),
     }
 }

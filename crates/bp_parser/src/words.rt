@@ -1,5 +1,6 @@
 ghost use Rattle.std.specs.Prelude.{◌≡◌, ℕ, ◌+◌, ◌<◌, ◌≤◌, List, not, length, drop, IfOk, IfErr, OnOk, IfSome, IfNone};
-ghost use Rattle.std.specs.Prelude.{IsTrue, IsFalse, filter};
+ghost use Rattle.std.specs.Prelude.{IsTrue, IsFalse, MatchOption, filter};
+ghost use Rattle.std.specs.List.{list_any};
 ghost use Rattle.bp_lexer.specs.declared.token.TokenKind.TheVariants.{Ident};
 ghost use Rattle.bp_parser.specs.Words.{all_words, is_comment, without_comments};
 ghost use Rattle.bp_parser.specs.Machine.{StartsNot};
@@ -17,8 +18,8 @@ fn is_comment(kind: TokenKind) -> bool
     matches!(kind, TokenKind::LineComment | TokenKind::BlockComment)
 }
 
-/// The words of a file: its tokens that are no comments.
-pub fn without_comments(alloc: Global, tokens: &[Token]) -> Result<Vec<Token>, OutOfMemory>
+// The words of a file: its tokens that are no comments.
+fn without_comments(alloc: Global, tokens: &[Token]) -> Result<Vec<Token>, OutOfMemory>
     ensures { IfOk result (λ words. words.items ≡ without_comments tokens.now) }
 {
     let mut words = Vec::with_capacity(alloc, tokens.len())?;
@@ -28,6 +29,35 @@ pub fn without_comments(alloc: Global, tokens: &[Token]) -> Result<Vec<Token>, O
         }
     }
     Ok(words)
+}
+
+fn has_comment(tokens: &[Token]) -> bool
+    ensures { result ≡ list_any (λ t. is_comment t.kind) tokens.now }
+{
+    tokens.iter().any(|token| is_comment(token.kind))
+}
+
+/// The words of a file that has comments. Without a comment its tokens are its words.
+pub fn kept_words(alloc: Global, tokens: &[Token]) -> Result<Option<Vec<Token>>, OutOfMemory>
+    ensures { IfOk result (λ kept. MatchOption kept (tokens.now ≡ without_comments tokens.now)
+        (λ words. words.items ≡ without_comments tokens.now)) }
+{
+    if !has_comment(tokens) {
+        return Ok(None);
+    }
+    Ok(Some(without_comments(alloc, tokens)?))
+}
+
+/// The words of a file as a slice: what was kept of its tokens, or all of them.
+pub fn words_among<'a>(tokens: &'a [Token], kept: &'a Option<Vec<Token>>) -> &'a [Token]
+    requires { MatchOption kept.now (tokens.now ≡ without_comments tokens.now)
+        (λ words. words.items ≡ without_comments tokens.now) }
+    ensures { result.now ≡ without_comments tokens.now }
+{
+    match kept {
+        Some(words) => words.as_slice(),
+        None => tokens,
+    }
 }
 
 /// The word at a place.
