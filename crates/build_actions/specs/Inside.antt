@@ -1,16 +1,19 @@
--- No public contract speaks of it: what the steps of a node need, of what they could have in common.
-use Rattle.std.specs.Prelude.{List, [], Bool, true, false, if◌then◌else◌}
+-- No public contract speaks of it: what the steps of a node need, of what they could have in common, and steps by their
+-- parts.
+use Rattle.std.specs.Prelude.{ℕ, List, [], ◌∷◌, Bool, true, false, if◌then◌else◌, codes}
 use Rattle.std.specs.List.{list_any}
 use Rattle.std.specs.Option.{option_map_or}
 use Rattle.bp_faults.specs.declared.place.Item.{Item}
 use Rattle.module_graph.specs.declared.graph.Node.{Node}
 use Rattle.bp_props.specs.declared.module.Module.{Module}
 use Rattle.bp_props.specs.declared.props.Props.{Props}
+use Rattle.ninja_file.specs.declared.file.Statement.{Statement}
 use Rattle.build_actions.specs.declared.compile.Compiler.{Compiler}
 use Rattle.build_actions.specs.declared.sources.Language.{Language}
 use Rattle.build_actions.specs.declared.sources.Language.TheVariants.{C, Cxx, Assembler}
-use Rattle.build_actions.specs.Compiles.{language_of, headers_of}
-use Rattle.build_actions.specs.Paths.{output_directory}
+use Rattle.build_actions.specs.Compiles.{language_of, headers_of, rule_of}
+use Rattle.build_actions.specs.File.{all_path}
+use Rattle.build_actions.specs.Paths.{output_directory, object_path}
 use Rattle.build_actions.specs.Variables.{Variables, compile_variables}
 
 -- Two languages are one.
@@ -37,3 +40,19 @@ needed_compiler m x files = record {
   cxx = needed_variables x files Cxx;
   assembler = needed_variables x files Assembler;
 }
+
+-- A step that compiles a source, with these headers and variables.
+abbrev pub step_with : List ℕ → List ℕ → Language → List (List ℕ) → Variables → Statement
+step_with directory source language headers vars = record {
+  outs = object_path directory source ∷ [];
+  rule = rule_of language;
+  ins = source ∷ [];
+  implicit = headers;
+  order_only = [];
+  vars = vars;
+}
+
+-- Outputs have one name.
+abbrev pub step_of_all : List (List ℕ) → Statement
+step_of_all outputs =
+    record { outs = all_path ∷ []; rule = codes "phony"; ins = outputs; implicit = []; order_only = []; vars = [] }

@@ -2,7 +2,8 @@ ghost use Rattle.std.specs.Prelude.{◌≡◌, ◌++◌, IfOk, OnOk, map};
 ghost use Rattle.std.specs.Arc.{arc_value};
 ghost use Rattle.std.specs.List.{flat_map};
 ghost use Rattle.build_actions.specs.declared.actions.Actions.{Actions};
-ghost use Rattle.build_actions.specs.File.{outputs_of, all_step, all_statements, file_of_actions};
+ghost use Rattle.build_actions.specs.File.{outputs_of, all_statements, file_of_actions};
+ghost use Rattle.build_actions.specs.Inside.{step_of_all};
 
 use crate::Actions;
 use crate::gather::{one, push_some};
@@ -12,13 +13,26 @@ use ninja_file::{NinjaFile, Statement};
 use std::alloc::Global;
 use std::sync::Arc;
 
-// The statements of a node are taken over. They are copied only where something else holds them too.
-fn take(alloc: Global, made: Arc<Actions>) -> Result<Vec<Statement>, OutOfMemory>
-    ensures { IfOk result (λ statements. statements.items ≡ (arc_value made).statements) }
+fn copy_output(alloc: Global, output: &Option<Text>) -> Result<Option<Text>, OutOfMemory>
+    ensures { IfOk result (λ copy. copy ≡ output.now) }
+{
+    match output {
+        Some(path) => Ok(Some(path.copy(alloc)?)),
+        None => Ok(None),
+    }
+}
+
+// The statements of a node and what it makes are taken over. They are copied only where something else holds them too.
+fn take(alloc: Global, made: Arc<Actions>) -> Result<(Vec<Statement>, Option<Text>), OutOfMemory>
+    ensures statements { IfOk result (λ taken. taken.0.items ≡ (arc_value made).statements) }
+    ensures output { IfOk result (λ taken. taken.1 ≡ (arc_value made).output) }
 {
     match Arc::try_unwrap(made) {
-        Ok(actions) => Ok(actions.statements.into_vec()),
-        Err(shared) => copy_all(alloc, shared.statements.as_slice()),
+        Ok(actions) => Ok((actions.statements.into_vec(), actions.output)),
+        Err(shared) => {
+            let statements = copy_all(alloc, shared.statements.as_slice())?;
+            Ok((statements, copy_output(alloc, &shared.output)?))
+        }
     }
 }
 
@@ -38,44 +52,33 @@ fn count_all(made: &[Arc<Actions>]) -> usize {
     count
 }
 
-fn join_all(alloc: Global, made: Vec<Arc<Actions>>) -> Result<Vec<Statement>, OutOfMemory>
-    ensures { IfOk result (λ statements. statements.items
+// The statements of the nodes, with room for one more, and what the nodes make, in node order.
+fn join_all(
+    alloc: Global,
+    made: Vec<Arc<Actions>>,
+) -> Result<(Vec<Statement>, Vec<Text>), OutOfMemory>
+    ensures statements { IfOk result (λ joined. joined.0.items
         ≡ flat_map (λ (node : Actions). node.statements) (map arc_value made.items)) }
+    ensures outputs { IfOk result (λ joined. joined.1.items ≡ outputs_of (map arc_value made.items)) }
 {
     let mut statements = Vec::with_capacity(alloc, count_all(made.as_slice()).saturating_add(1))?;
+    let mut outputs = Vec::with_capacity(alloc, made.len())?;
     for node in made {
-        append(&mut statements, take(alloc, node)?)?;
+        let (more, output) = take(alloc, node)?;
+        append(&mut statements, more)?;
+        push_some(&mut outputs, output)?;
     }
-    Ok(statements)
+    Ok((statements, outputs))
 }
 
-fn copy_output(alloc: Global, output: &Option<Text>) -> Result<Option<Text>, OutOfMemory>
-    ensures { IfOk result (λ copy. copy ≡ output.now) }
-{
-    match output {
-        Some(path) => Ok(Some(path.copy(alloc)?)),
-        None => Ok(None),
-    }
-}
-
-// What the nodes make, in node order.
-fn outputs_of(alloc: Global, made: &[Arc<Actions>]) -> Result<Vec<Text>, OutOfMemory>
-    ensures { IfOk result (λ paths. paths.items ≡ outputs_of (map arc_value made.now)) }
-{
-    let mut paths = Vec::with_capacity(alloc, made.len())?;
-    for node in made {
-        push_some(&mut paths, copy_output(alloc, &node.output)?)?;
-    }
-    Ok(paths)
-}
-
-fn all_step(alloc: Global, made: &[Arc<Actions>]) -> Result<Statement, OutOfMemory>
-    ensures { IfOk result (λ statement. statement ≡ all_step (map arc_value made.now)) }
+// All outputs have one name.
+fn all_step(alloc: Global, outputs: Vec<Text>) -> Result<Statement, OutOfMemory>
+    ensures { IfOk result (λ statement. statement ≡ step_of_all outputs.items) }
 {
     Ok(Statement {
         outs: one(alloc, Text::from_str(alloc, "out/all")?)?,
         rule: Text::from_str(alloc, "phony")?,
-        ins: Seq::new(outputs_of(alloc, made)?),
+        ins: Seq::new(outputs),
         implicit: Seq::new(Vec::new(alloc)),
         order_only: Seq::new(Vec::new(alloc)),
         vars: Seq::new(Vec::new(alloc)),
@@ -85,9 +88,8 @@ fn all_step(alloc: Global, made: &[Arc<Actions>]) -> Result<Statement, OutOfMemo
 fn all_statements(alloc: Global, made: Vec<Arc<Actions>>) -> Result<Vec<Statement>, OutOfMemory>
     ensures { IfOk result (λ statements. statements.items ≡ all_statements (map arc_value made.items)) }
 {
-    let all = all_step(alloc, made.as_slice())?;
-    let mut statements = join_all(alloc, made)?;
-    statements.push(all)?;
+    let (mut statements, outputs) = join_all(alloc, made)?;
+    statements.push(all_step(alloc, outputs)?)?;
     Ok(statements)
 }
 
