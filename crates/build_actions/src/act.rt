@@ -44,10 +44,10 @@ fn make(
 {
     let list = files.as_slice();
     let compiler = compiler_of(alloc, module, node, list)?;
-    let mut statements = compile_all(alloc, &compiler, list)?;
+    let output = output_in(alloc, &compiler.directory, module, node)?;
+    let mut statements = compile_all(alloc, compiler, list)?;
     let whole = whole_of(alloc, node.edges.as_slice(), ins)?;
     let objects = objects_over(alloc, statements.as_slice(), whole.as_slice())?;
-    let output = output_in(alloc, &compiler.directory, module, node)?;
     let product = product_step(alloc, modules, graph, node, &output, objects.as_slice())?;
     statements.push(product)?;
     Ok(Actions {

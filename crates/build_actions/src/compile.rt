@@ -1,9 +1,9 @@
-ghost use Rattle.std.specs.Prelude.{◌≡◌, IfOk, map};
+ghost use Rattle.std.specs.Prelude.{◌≡◌, ◌++◌, IfOk, OnOk, map};
 ghost use Rattle.std.specs.List.{filter, list_any};
 ghost use Rattle.bp_faults.specs.declared.place.Item.{Item};
 ghost use Rattle.build_actions.specs.Compiles.{language_by, language_of, is_header_kind, is_header, headers_of};
 ghost use Rattle.build_actions.specs.Compiles.{rule_of, variables_in, compile_step, step_of_file, compile_steps};
-ghost use Rattle.build_actions.specs.Inside.{is_written_in, needed_variables, needed_compiler};
+ghost use Rattle.build_actions.specs.Inside.{is_written_in, needed_variables, needed_compiler, step_with};
 
 use crate::gather::{keep_first, one, push_some};
 use crate::path::{directory_of, object_path};
@@ -140,6 +140,17 @@ impl Compiler {
             Language::Assembler => self.assembler.as_slice(),
         }
     }
+
+    // The directory, the headers and the variables of a language, taken over.
+    fn into_parts(self, language: Language) -> (Text, Seq<Text>, Seq<(Text, Text)>)
+        ensures { result ≡ (self.directory, self.headers, variables_in self language) }
+    {
+        match language {
+            Language::C => (self.directory, self.headers, self.c),
+            Language::Cxx => (self.directory, self.headers, self.cxx),
+            Language::Assembler => (self.directory, self.headers, self.assembler),
+        }
+    }
 }
 
 /// Copies variables.
@@ -156,6 +167,27 @@ pub fn copy_variables(
     Ok(Seq::new(copies))
 }
 
+// A step that takes over its headers and its variables.
+fn step_with(
+    alloc: Global,
+    directory: &Text,
+    source: &Text,
+    language: Language,
+    headers: Seq<Text>,
+    vars: Seq<(Text, Text)>,
+) -> Result<Statement, OutOfMemory>
+    ensures { IfOk result (λ statement. statement ≡ step_with directory.now source.now language headers vars) }
+{
+    Ok(Statement {
+        outs: one(alloc, object_path(alloc, directory, source)?)?,
+        rule: Text::from_str(alloc, rule_of(language))?,
+        ins: one(alloc, source.copy(alloc)?)?,
+        implicit: headers,
+        order_only: Seq::new(Vec::new(alloc)),
+        vars,
+    })
+}
+
 fn compile(
     alloc: Global,
     compiler: &Compiler,
@@ -164,14 +196,9 @@ fn compile(
 ) -> Result<Statement, OutOfMemory>
     ensures { IfOk result (λ statement. statement ≡ compile_step compiler.now source.now language) }
 {
-    Ok(Statement {
-        outs: one(alloc, object_path(alloc, &compiler.directory, source)?)?,
-        rule: Text::from_str(alloc, rule_of(language))?,
-        ins: one(alloc, source.copy(alloc)?)?,
-        implicit: Seq::new(copy_all(alloc, compiler.headers.as_slice())?),
-        order_only: Seq::new(Vec::new(alloc)),
-        vars: copy_variables(alloc, compiler.variables_in(language))?,
-    })
+    let headers = Seq::new(copy_all(alloc, compiler.headers.as_slice())?);
+    let vars = copy_variables(alloc, compiler.variables_in(language))?;
+    step_with(alloc, &compiler.directory, source, language, headers, vars)
 }
 
 // The compile step of a file, where it isn't a header.
@@ -188,17 +215,50 @@ fn compile_file(
     }
 }
 
-/// The compile steps of some files: one for each that isn't a header. There is room for one statement more.
-pub fn compile_all(
+// The same of the last file, whose step takes over what the steps before it copied.
+fn compile_last(
+    alloc: Global,
+    compiler: Compiler,
+    file: &Item,
+) -> Result<Option<Statement>, OutOfMemory>
+    ensures { IfOk result (λ statement. statement ≡ step_of_file compiler file.now) }
+{
+    let Some(language) = language_of(file) else {
+        return Ok(None);
+    };
+    let (directory, headers, vars) = compiler.into_parts(language);
+    let step = step_with(alloc, &directory, &file.text, language, headers, vars)?;
+    Ok(Some(step))
+}
+
+// Puts the compile steps of some files behind others.
+fn add_steps(
     alloc: Global,
     compiler: &Compiler,
     files: &[Item],
+    statements: &mut Vec<Statement>,
+) -> Result<(), OutOfMemory>
+    ensures { OnOk result (statements.new.items ≡ statements.old.items ++ compile_steps compiler.now files.now) }
+{
+    for file in files {
+        push_some(statements, compile_file(alloc, compiler, file)?)?;
+    }
+    Ok(())
+}
+
+/// The compile steps of some files: one for each that isn't a header. There is room for one statement more.
+pub fn compile_all(
+    alloc: Global,
+    compiler: Compiler,
+    files: &[Item],
 ) -> Result<Vec<Statement>, OutOfMemory>
-    ensures { IfOk result (λ statements. statements.items ≡ compile_steps compiler.now files.now) }
+    ensures { IfOk result (λ statements. statements.items ≡ compile_steps compiler files.now) }
 {
     let mut statements = Vec::with_capacity(alloc, files.len().saturating_add(1))?;
-    for file in files {
-        push_some(&mut statements, compile_file(alloc, compiler, file)?)?;
-    }
+    let Some((last, others)) = files.split_last() else {
+        return Ok(statements);
+    };
+    add_steps(alloc, &compiler, others, &mut statements)?;
+    push_some(&mut statements, compile_last(alloc, compiler, last)?)?;
     Ok(statements)
 }
