@@ -8,6 +8,7 @@ use crate::Actions;
 use bp_faults::{OutOfMemory, Seq, Text};
 use bp_names::NameSet;
 use bp_names::laws::sets_grow_with_lists;
+use smallvec::SmallVec;
 use std::alloc::Global;
 use std::sync::Arc;
 
@@ -28,10 +29,14 @@ pub fn one(alloc: Global, text: Text) -> Result<Seq<Text>, OutOfMemory>
     Ok(Seq::new(Vec::from_array(alloc, [text])?))
 }
 
+/// Texts that are seen through references. A few take no memory.
+pub type Views<'a> = SmallVec<&'a str, 4>;
+
 /// Puts texts at the end, without a copy.
-pub fn add_texts<'a>(list: &mut Vec<&'a str>, texts: &'a [Text]) -> Result<(), OutOfMemory>
+pub fn add_texts<'a>(list: &mut Views<'a>, texts: &'a [Text]) -> Result<(), OutOfMemory>
     ensures { OnOk result (map (λ t. t.now) list.new.items ≡ map (λ t. t.now) list.old.items ++ texts.now) }
 {
+    list.reserve(texts.len())?;
     for text in texts {
         list.push(text.as_str())?;
     }

@@ -2,7 +2,7 @@ ghost use Rattle.std.specs.Prelude.{◌≡◌, ◌++◌, IfOk, OnOk, codes, map}
 ghost use Rattle.std.specs.List.{flat_map};
 ghost use Rattle.build_actions.specs.Variables.{word_line};
 
-use crate::gather::add_texts;
+use crate::gather::{Views, add_texts};
 use bp_faults::{OutOfMemory, Text};
 use std::alloc::Global;
 
@@ -55,7 +55,7 @@ pub fn join(alloc: Global, words: &[&str]) -> Result<Text, OutOfMemory>
 pub fn join_texts(alloc: Global, words: &[Text]) -> Result<Text, OutOfMemory>
     ensures { IfOk result (λ line. line ≡ word_line words.now) }
 {
-    let mut all = Vec::with_capacity(alloc, words.len())?;
+    let mut all = Views::new(alloc);
     add_texts(&mut all, words)?;
     join(alloc, all.as_slice())
 }

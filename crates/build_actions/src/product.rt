@@ -9,7 +9,7 @@ ghost use Rattle.build_actions.specs.Products.{archive_step, link_ins, link_step
 ghost use Rattle.build_actions.specs.Paths.{product_of, link_variation};
 
 use crate::Actions;
-use crate::gather::{add_texts, keep_first, one, push_result, push_some};
+use crate::gather::{Views, add_texts, keep_first, one, push_result, push_some};
 use crate::path::{Product, output_at, product_of};
 use crate::variables::link_variables;
 use bp_faults::{NodeId, OutOfMemory, Seq, Text, copy_all};
@@ -49,7 +49,7 @@ pub fn whole_of(
 }
 
 // Puts what some steps make at the end.
-fn add_outs<'a>(list: &mut Vec<&'a str>, steps: &'a [Statement]) -> Result<(), OutOfMemory>
+fn add_outs<'a>(list: &mut Views<'a>, steps: &'a [Statement]) -> Result<(), OutOfMemory>
     ensures { OnOk result (map (λ t. t.now) list.new.items
         ≡ map (λ t. t.now) list.old.items ++ outs_of_steps steps.now) }
 {
@@ -59,7 +59,7 @@ fn add_outs<'a>(list: &mut Vec<&'a str>, steps: &'a [Statement]) -> Result<(), O
     Ok(())
 }
 
-fn add_objects<'a>(list: &mut Vec<&'a str>, whole: &'a [Arc<Actions>]) -> Result<(), OutOfMemory>
+fn add_objects<'a>(list: &mut Views<'a>, whole: &'a [Arc<Actions>]) -> Result<(), OutOfMemory>
     ensures { OnOk result (map (λ t. t.now) list.new.items
         ≡ map (λ t. t.now) list.old.items
         ++ flat_map (λ (made : Actions). made.objects) (map arc_value whole.now)) }
@@ -79,7 +79,7 @@ pub fn objects_over(
     ensures { IfOk result (λ objects. objects.items
         ≡ objects_over (outs_of_steps steps.now) (map arc_value whole.now)) }
 {
-    let mut objects = Vec::new(alloc);
+    let mut objects = Views::new(alloc);
     add_outs(&mut objects, steps)?;
     add_objects(&mut objects, whole)?;
     keep_first(alloc, objects.as_slice())
@@ -141,7 +141,7 @@ fn data_outputs(
     ensures { IfOk result (λ paths. paths.items ≡ data_outputs modules.now graph.now.nodes edges.now) }
 {
     let outputs = listed_data(alloc, modules, graph, edges)?;
-    let mut paths = Vec::new(alloc);
+    let mut paths = Views::new(alloc);
     add_texts(&mut paths, outputs.as_slice())?;
     keep_first(alloc, paths.as_slice())
 }

@@ -1,10 +1,10 @@
 ghost use Rattle.std.specs.Prelude.{◌≡◌, ◌++◌, IfOk, OnOk, codes, map};
 ghost use Rattle.std.specs.Fmt.{decimal};
 ghost use Rattle.build_actions.specs.Variables.{variable, target_word, target_by, node_target, level_words, flags_of};
-ghost use Rattle.build_actions.specs.Variables.{cflags_of, include_word, include_line, compile_variables};
+ghost use Rattle.build_actions.specs.Variables.{cflags_of, word_line, include_word, include_line, compile_variables};
 ghost use Rattle.build_actions.specs.Variables.{link_variables};
 
-use crate::gather::add_texts;
+use crate::gather::{Views, add_texts};
 use crate::line::{concat, join, join_texts};
 use crate::sources::Language;
 use bp_faults::{OutOfMemory, Path, Seq, Target, Text};
@@ -71,7 +71,7 @@ fn level_words(alloc: Global, level: u32) -> Result<Vec<Text>, OutOfMemory>
     Ok(words)
 }
 
-fn add_cflags<'a>(words: &mut Vec<&'a str>, own: &'a Record<'_>) -> Result<(), OutOfMemory>
+fn add_cflags<'a>(words: &mut Views<'a>, own: &'a Record<'_>) -> Result<(), OutOfMemory>
     ensures { OnOk result (map (λ word. word.now) words.new.items
         ≡ map (λ word. word.now) words.old.items ++ own.now.base.cflags.items) }
 {
@@ -83,36 +83,48 @@ fn add_cflags<'a>(words: &mut Vec<&'a str>, own: &'a Record<'_>) -> Result<(), O
     Ok(())
 }
 
-fn flags_of<'a>(
+fn add_flags<'a>(
+    words: &mut Views<'a>,
+    own: &'a Record<'_>,
+    language: Language,
+) -> Result<(), OutOfMemory>
+    ensures { OnOk result (map (λ word. word.now) words.new.items
+        ≡ map (λ word. word.now) words.old.items ++ flags_of own.now language) }
+{
+    let base = &own.given().base;
+    match language {
+        Language::C => {
+            add_cflags(words, own)?;
+            add_texts(words, base.conlyflags.items.as_slice())
+        }
+        Language::Cxx => {
+            add_cflags(words, own)?;
+            add_texts(words, base.cppflags.items.as_slice())
+        }
+        Language::Assembler => add_texts(words, base.asflags.items.as_slice()),
+    }
+}
+
+// The flags of a language and other words, in a row.
+fn flag_line<'a>(
     alloc: Global,
     own: &'a Record<'_>,
     language: Language,
-) -> Result<Vec<&'a str>, OutOfMemory>
-    ensures { IfOk result (λ words. map (λ word. word.now) words.items ≡ flags_of own.now language) }
+    others: &'a [Text],
+) -> Result<Text, OutOfMemory>
+    ensures { IfOk result (λ line. line ≡ word_line (flags_of own.now language ++ others.now)) }
 {
-    let base = &own.given().base;
-    let mut words = Vec::new(alloc);
-    match language {
-        Language::C => {
-            add_cflags(&mut words, own)?;
-            add_texts(&mut words, base.conlyflags.items.as_slice())?;
-        }
-        Language::Cxx => {
-            add_cflags(&mut words, own)?;
-            add_texts(&mut words, base.cppflags.items.as_slice())?;
-        }
-        Language::Assembler => add_texts(&mut words, base.asflags.items.as_slice())?,
-    }
-    Ok(words)
+    let mut words = Views::new(alloc);
+    add_flags(&mut words, own, language)?;
+    add_texts(&mut words, others)?;
+    join(alloc, words.as_slice())
 }
 
 fn cflags_of(alloc: Global, own: &Record<'_>, language: Language) -> Result<Text, OutOfMemory>
     ensures { IfOk result (λ line. line ≡ cflags_of own.now language) }
 {
     let level = level_words(alloc, own.level())?;
-    let mut words = flags_of(alloc, own, language)?;
-    add_texts(&mut words, level.as_slice())?;
-    join(alloc, words.as_slice())
+    flag_line(alloc, own, language, level.as_slice())
 }
 
 fn include_word(alloc: Global, path: &Path) -> Result<Text, OutOfMemory>
@@ -142,6 +154,17 @@ fn includes_of(alloc: Global, own: &Record<'_>) -> Result<Text, OutOfMemory>
     join_texts(alloc, words.as_slice())
 }
 
+// How many variables some values take.
+fn count_filled(values: &[&str]) -> usize {
+    let mut count = 0usize;
+    for value in values {
+        if !value.is_empty() {
+            count = count.saturating_add(1);
+        }
+    }
+    count
+}
+
 /// The variables of the compile steps of a node in a language.
 pub fn compile_variables(
     alloc: Global,
@@ -150,12 +173,13 @@ pub fn compile_variables(
 ) -> Result<Seq<(Text, Text)>, OutOfMemory>
     ensures { IfOk result (λ variables. variables ≡ compile_variables node.now language) }
 {
-    let mut variables = Seq::new(Vec::with_capacity(alloc, 3)?);
     let target = Text::from_str(alloc, target_of(node))?;
-    bind(alloc, &mut variables, "target", target)?;
     let cflags = cflags_of(alloc, &node.payload, language)?;
-    bind(alloc, &mut variables, "cflags", cflags)?;
     let includes = includes_of(alloc, &node.payload)?;
+    let count = count_filled(&[target.as_str(), cflags.as_str(), includes.as_str()]);
+    let mut variables = Seq::new(Vec::with_capacity(alloc, count)?);
+    bind(alloc, &mut variables, "target", target)?;
+    bind(alloc, &mut variables, "cflags", cflags)?;
     bind(alloc, &mut variables, "includes", includes)?;
     Ok(variables)
 }
@@ -167,10 +191,11 @@ pub fn link_variables(
 ) -> Result<Seq<(Text, Text)>, OutOfMemory>
     ensures { IfOk result (λ variables. variables ≡ link_variables node.now) }
 {
-    let mut variables = Seq::new(Vec::with_capacity(alloc, 2)?);
     let target = Text::from_str(alloc, target_of(node))?;
-    bind(alloc, &mut variables, "target", target)?;
     let ldflags = join_texts(alloc, node.payload.given().base.ldflags.items.as_slice())?;
+    let count = count_filled(&[target.as_str(), ldflags.as_str()]);
+    let mut variables = Seq::new(Vec::with_capacity(alloc, count)?);
+    bind(alloc, &mut variables, "target", target)?;
     bind(alloc, &mut variables, "ldflags", ldflags)?;
     Ok(variables)
 }
