@@ -1,8 +1,7 @@
--- Lists that calls answer.
-use Rattle.std.proofs.Common.{◌≡◌, ◌∙◌, List, Result, Ok, Err}
-use Rattle.std.specs.Global.{Vec}
+-- What calls answer.
+use Rattle.std.proofs.Common.{◌≡◌, ◌∙◌, Result, Ok, Err}
 use Rattle.std.specs.Prelude.{IfOk}
 
-pub if_ok_list : {X E : Type 0} (r : Result (Vec X) E) (xs ys : List X) → xs ≡ ys → IfOk r (λ v. v.items ≡ xs) → IfOk r (λ v. v.items ≡ ys)
-if_ok_list (Ok v) xs ys is h = h ∙ is
-if_ok_list (Err e) xs ys is h = tt
+pub if_ok_same : {T E : Type 0} (r : Result T E) (x y : T) → x ≡ y → IfOk r (λ v. v ≡ x) → IfOk r (λ v. v ≡ y)
+if_ok_same (Ok v) x y is h = h ∙ is
+if_ok_same (Err e) x y is h = tt

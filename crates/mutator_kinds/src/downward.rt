@@ -1,5 +1,6 @@
-ghost use Rattle.std.specs.Prelude.{◌≡◌, ◌≤◌, IfOk, [], length, map, None};
+ghost use Rattle.std.specs.Prelude.{◌≡◌, ◌≤◌, IfOk, [], length, None};
 ghost use Rattle.pass_core.specs.Orders.{IsLegal, numbers};
+ghost use Rattle.pass_core.specs.Plans.{IsPlan};
 ghost use Rattle.module_graph.specs.declared.direction.Direction.TheVariants.{TopDown};
 ghost use Rattle.module_graph.specs.Graphs.{IsNumbered, IsValid};
 ghost use Rattle.module_graph.specs.Planned.{plan_of};
@@ -18,9 +19,9 @@ use bp_ports::Gate;
 use module_graph::laws::valid_plans_have_no_cycle;
 use module_graph::{Direction, EdgeKind, Graph, plan};
 use mutator_rules::laws::predecessors_are_arrivals;
-use mutator_rules::{KindError, TopDown, arrivals_of};
+use mutator_rules::{Arriving, KindError, TopDown, arrivals_of, kinds_of};
 use pass_core::laws::outs_are_many;
-use pass_core::{PassError, Visit, VisitError};
+use pass_core::{PassError, Plan, Visit, VisitError};
 use pass_ways::{Way, WayError, WayRun, run_by_way};
 use std::alloc::Global;
 use std::sync::Arc;
@@ -30,45 +31,26 @@ use variant_graphs::laws::{
 };
 use variant_graphs::{StepError, renew};
 
-/// The kinds of some arriving edges.
-fn kinds_of(alloc: Global, arriving: &[(NodeId, EdgeKind)]) -> Result<Seq<EdgeKind>, OutOfMemory>
-    ensures { IfOk result (λ kinds. kinds ≡ map (λ a. a.1) arriving.now) }
-{
-    let mut kinds = Vec::with_capacity(alloc, arriving.len())?;
-    for arrival in arriving {
-        kinds.push(arrival.1)?;
-    }
-    Ok(Seq::new(kinds))
-}
-
-/// The kinds of each of some lists of arriving edges.
-fn kinds_of_each(
+/// The kinds of the edges that lead to each node. The plan is that from the top down.
+fn kinds_by_node<P>(
     alloc: Global,
-    arrivals: Vec<Seq<(NodeId, EdgeKind)>>,
-) -> Result<Vec<Seq<EdgeKind>>, OutOfMemory>
-    ensures { IfOk result (λ lists. lists.items ≡ map (map (λ a. a.1)) arrivals.items) }
+    g: &Graph<P>,
+    plan: &Plan,
+) -> Result<Arriving<EdgeKind>, OutOfMemory>
+    requires numbered { IsNumbered g.now.nodes }
+    requires planned { plan.now ≡ plan_of TopDown g.now.nodes }
+    requires is_plan { IsPlan plan.now }
+    ensures { IfOk result (λ lists. lists ≡ all_kinds g.now.nodes) }
 {
-    let mut lists = Vec::with_capacity(alloc, arrivals.len())?;
-    for arriving in arrivals {
-        lists.push(kinds_of(alloc, arriving.as_slice())?)?;
-    }
-    Ok(lists)
-}
-
-/// The kinds of the edges that lead to each node.
-fn kinds_by_node<P>(alloc: Global, g: &Graph<P>) -> Result<Vec<Seq<EdgeKind>>, OutOfMemory>
-    requires { IsNumbered g.now.nodes }
-    ensures { IfOk result (λ lists. lists.items ≡ all_kinds g.now.nodes) }
-{
-    let arrivals = arrivals_of(alloc, g)?;
-    kinds_of_each(alloc, arrivals)
+    let arrivals = arrivals_of(alloc, g, plan)?;
+    kinds_of(alloc, arrivals)
 }
 
 /// Makes the payload of each node from those of the nodes whose edges lead to it.
 struct TopDownVisit<'a, 'b, 'c, P, M> {
     graph: &'a Graph<P>,
     rule: &'b M,
-    kinds: &'c [Seq<EdgeKind>],
+    kinds: &'c Arriving<EdgeKind>,
 }
 
 impl<'a, 'b, 'c, P, M> Drop for TopDownVisit<'a, 'b, 'c, P, M> {
@@ -90,7 +72,7 @@ impl<'a, 'b, 'c, P: Drop, M: TopDown<P>> Visit for TopDownVisit<'a, 'b, 'c, P, M
         × (v.kinds.now ≡ all_kinds v.graph.now.nodes) × (count ≡ length (kinds_into v.graph.now.nodes n)) };
 
     fn visit(&self, alloc: Global, n: NodeId, ins: &[Arc<P>]) -> Result<P, VisitError> {
-        let kinds = self.kinds[n.0 as usize].as_slice();
+        let kinds = self.kinds.at(n);
         self.rule.visit(alloc, self.graph, n, kinds, ins)
     }
 }
@@ -120,7 +102,7 @@ where
     valid_plans_have_no_cycle::<P>();
     predecessors_are_arrivals::<P>();
     let plan = plan(alloc, g, Direction::TopDown)?;
-    let kinds = kinds_by_node(alloc, g)?;
+    let kinds = kinds_by_node(alloc, g, &plan)?;
     let v = TopDownVisit {
         graph: g,
         rule,

@@ -1,16 +1,29 @@
--- How lists of arrivals grow. No public contract speaks of it.
-use Rattle.std.specs.Prelude.{◌≡◌, ◌<◌, ◌++◌, ℕ, List, [], length, slice_index_or}
-use Rattle.std.specs.List.{AllByRecursion}
-use Rattle.bp_faults.specs.declared.ids.NodeId.{NodeId}
-use Rattle.module_graph.specs.declared.graph.Edge.{Edge}
-use Rattle.module_graph.specs.declared.graph.EdgeKind.{EdgeKind}
-use Rattle.mutator_rules.specs.Arrivals.{from_node}
+-- How the edges that lead to each node are laid into one list. No public contract speaks of it.
+use Rattle.std.specs.Prelude.{◌≡◌, ◌<◌, ◌≤◌, ◌+◌, ◌-◌, ◌^◌, ℕ, List, length, map, slice_index, slice_index_or, slice_range}
+use Rattle.std.specs.List.{range_with_len}
+use Rattle.module_graph.specs.declared.graph.Node.{Node}
+use Rattle.mutator_rules.specs.Arrivals.{arrivals}
 
--- Each edge leads to a number below the count.
-abbrev pub LeadBelow : ℕ → List Edge → Type 0
-LeadBelow count es = AllByRecursion (λ (e : Edge). e.to.0 < count) es
+-- The lists into which places cut some items: each begins at a place and ends at the next.
+abbrev pub cut : {A : Type 0} → List ℕ → List A → List (List A)
+cut starts items =
+    map (λ n. slice_range items (slice_index starts n) (slice_index starts (n + 1)))
+    (range_with_len 0 (length starts - 1))
 
--- Each new list has behind what the old one has the edges of a node that lead to the list's number.
-abbrev pub AreAdded : ℕ → List Edge → List (List (NodeId × EdgeKind)) → List (List (NodeId × EdgeKind)) → Type 0
-AreAdded from es old new =
-    (t : ℕ) → t < length old → slice_index_or new t [] ≡ slice_index_or old t [] ++ from_node t from es
+-- Each place is no further than the next, which is within so many items.
+pub record AreCuts (starts : List ℕ) (count : ℕ) : Type 0 where
+  pub rise : (n : ℕ) → n + 1 < length starts → slice_index starts n ≤ slice_index starts (n + 1)
+  pub within : (n : ℕ) → n + 1 < length starts → slice_index starts (n + 1) ≤ count
+
+-- The lists of the numbers below a count stand among some items, each from its own place on.
+abbrev pub StandFrom : {A : Type 0} → ℕ → (ℕ → ℕ) → (ℕ → List A) → List A → Type 0
+StandFrom {A} count begins lists items =
+    (t j : ℕ) (d : A) → t < count → j < length (lists t)
+    → slice_index_or items (begins t + j) d ≡ slice_index_or (lists t) j d
+
+-- From its own place on, each node has room for the edges that lead to it, before the place of any later node and
+-- within so many items.
+pub record HaveRoom {P : Type 0} (begins : ℕ → ℕ) (nodes : List (Node P)) (count : ℕ) : Type 0 where
+  pub apart : (t u : ℕ) → t < u → u < length nodes → begins t + length (arrivals nodes t) ≤ begins u
+  pub within : (t : ℕ) → t < length nodes → begins t + length (arrivals nodes t) ≤ count
+  pub few : count < 2 ^ 32

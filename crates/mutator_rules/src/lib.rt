@@ -15,7 +15,7 @@ mod split;
 mod top_down;
 mod transition;
 
-pub use arriving::arrivals_of;
+pub use arriving::{Arriving, arrivals_of, kinds_of};
 pub use bottom_up::BottomUp;
 pub use config::Config;
 pub use error::KindError;

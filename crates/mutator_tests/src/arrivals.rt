@@ -1,16 +1,17 @@
-ghost use Rattle.std.specs.Prelude.{IfOk};
+ghost use Rattle.std.specs.Prelude.{◌≡◌, IfOk, length};
 ghost use Rattle.module_graph.specs.Graphs.{IsNumbered};
 
 use bp_faults::{ModuleId, NodeId, OutOfMemory, Payload, Place, Seq, Text};
-use module_graph::{Edge, EdgeKind, Graph, Node, Variation, Variations};
+use module_graph::{Direction, Edge, EdgeKind, Graph, Node, Variation, Variations, plan};
 use mutator_rules::laws::{arrivals_come_from_nodes, predecessors_are_arrivals};
-use mutator_rules::{Request, Wanted, arrivals_of};
+use mutator_rules::{Request, Wanted, arrivals_of, kinds_of};
 use std::alloc::Global;
 use std::test::Fail;
 
 /// A graph of two nodes, of which the second depends on the first.
 fn two_nodes(alloc: Global) -> Result<Graph<()>, OutOfMemory>
-    ensures { IfOk result (λ g. IsNumbered g.nodes) }
+    ensures numbered { IfOk result (λ g. IsNumbered g.nodes) }
+    ensures two { IfOk result (λ g. length g.nodes ≡ 2) }
 {
     let mut edges = Vec::new(alloc);
     edges.push(Edge {
@@ -45,19 +46,19 @@ fn has_arrivals(list: &[(NodeId, EdgeKind)], count: usize) -> bool {
     same
 }
 
-/// How many nodes of the graph have arrivals, and whether they are those of its one edge.
-fn arrivals(alloc: Global) -> Result<(usize, bool), OutOfMemory> {
-    let lists = arrivals_of(alloc, &two_nodes(alloc)?)?;
-    let mut same = true;
-    for (list, count) in lists.iter().zip([1, 0]) {
-        same &= has_arrivals(list.as_slice(), count);
-    }
-    Ok((lists.len(), same))
+/// Whether the arrivals of the graph are those of its one edge.
+fn arrivals(alloc: Global) -> Result<bool, OutOfMemory> {
+    let g = two_nodes(alloc)?;
+    let plan = plan(alloc, &g, Direction::TopDown)?;
+    let lists = arrivals_of(alloc, &g, &plan)?;
+    let same = has_arrivals(lists.at(NodeId(0)), 1) && has_arrivals(lists.at(NodeId(1)), 0);
+    let kinds = kinds_of(alloc, lists)?;
+    Ok(same && kinds.at(NodeId(0)).len() == 1 && kinds.at(NodeId(1)).is_empty())
 }
 
 #[test]
 fn arrivals_along_an_edge(rt: HostRuntime) -> Result<(), Fail> {
-    assert_eq!(rt; arrivals(rt.alloc())?, (2, true));
+    assert!(rt; arrivals(rt.alloc())?);
     predecessors_are_arrivals::<()>();
     arrivals_come_from_nodes::<()>();
     Ok(())

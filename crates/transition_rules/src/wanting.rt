@@ -9,8 +9,8 @@ ghost use Rattle.transition_rules.specs.Wants.{variations_meant};
 use crate::spelled::insert_spelled;
 use bp_faults::{NodeId, OutOfMemory, Seq};
 use module_graph::{EdgeKind, Graph, Variation};
-use mutator_rules::Transition;
 use mutator_rules::laws::arrivals_come_from_nodes;
+use mutator_rules::{Arriving, Transition};
 use pass_core::{Visit, VisitError};
 use std::alloc::Global;
 use std::sync::Arc;
@@ -93,7 +93,7 @@ fn others_wanted<P, M: Transition<P>>(
 pub struct WantsVisit<'a, 'b, 'c, P, M> {
     pub graph: &'a Graph<P>,
     pub rule: &'b M,
-    pub arriving: &'c [Seq<(NodeId, EdgeKind)>],
+    pub arriving: &'c Arriving<(NodeId, EdgeKind)>,
 }
 
 impl<'a, 'b, 'c, P, M> Drop for WantsVisit<'a, 'b, 'c, P, M> {
@@ -122,7 +122,7 @@ impl<'a, 'b, 'c, P, M: Transition<P>> Visit for WantsVisit<'a, 'b, 'c, P, M> {
     ) -> Result<Seq<Variation>, VisitError> {
         arrivals_come_from_nodes::<P>();
         let mut own = self.rule.split(alloc, self.graph, n)?;
-        let arriving = self.arriving[n.0 as usize].as_slice();
+        let arriving = self.arriving.at(n);
         let others = others_wanted(alloc, self.rule, self.graph, n, arriving, ins, &own)?;
         own.extend_from_slice(&others)?;
         Ok(Seq::new(own))

@@ -50,7 +50,7 @@ where
     valid_plans_have_no_cycle::<P>();
     predecessors_are_arrivals::<P>();
     let plan = plan(alloc, g, Direction::TopDown)?;
-    let arriving = arrivals_of(alloc, g)?;
+    let arriving = arrivals_of(alloc, g, &plan)?;
     let v = WantsVisit {
         graph: g,
         rule,

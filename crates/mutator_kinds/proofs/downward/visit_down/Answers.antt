@@ -19,7 +19,7 @@ run_by_way-requires-clause-takes g c = λ κs outlives n lt.
     let exact = c.in_ok-plan.ensures.exact in
     let inside : n < length nodes = subst (λ (p : Plan). n < p.count) exact lt in (
       record { may_run = c.requires.may; inside = inside },
-      c.deref.ensures.value ∙ c.in_ok-kinds.ensures,
+      c.in_ok-kinds.ensures,
       ap (λ (p : Plan). length (predecessors p.edges n)) exact ∙ ap length (c.predecessors_are_arrivals.ensures nodes n inside)
           ∙ length-map (arrivals nodes n) (λ a. a.0.0) ∙ sym (length-map (arrivals nodes n) (λ a. a.1)),
     )

@@ -1,35 +1,47 @@
-use Rattle.std.proofs.Common.{◌≡◌, ◌<◌, ◌++◌, ap, length, arith, ◌∙◌, sym, get_or, take, List, []}
-use Rattle.std.proofs.lemmas.List.{take_all}
-use Rattle.std.proofs.lemmas.List.FromFn.{fill_by_all}
-use Rattle.bp_faults.specs.declared.ids.NodeId.{NodeId}
-use Rattle.module_graph.specs.declared.graph.EdgeKind.{EdgeKind}
-use Rattle.mutator_rules.specs.Arrivals.{from_node, arrivals}
-use Rattle.mutator_rules.proofs.Arrived.{arrivals_more}
+use Rattle.std.proofs.Common.{◌≡◌, ◌∙◌, ◌++◌, ap, subst, sym, length, arith, List, ℕ}
+use Rattle.std.specs.Prelude.{slice_index}
+use Rattle.mutator_rules.specs.Arrivals.{arrivals}
+use Rattle.mutator_rules.specs.Inside.{HaveRoom, StandFrom}
+use Rattle.mutator_rules.proofs.Placed.{cut_all, cuts_of, room_of}
 use Rattle.mutator_rules.proofs.arriving.arrivals_of.Goals as goal
 
-pub loop-n-preserved : goal.loop-n-preserved
-loop-n-preserved g c =
+pub fill-requires-clause-room : goal.fill-requires-clause-room
+fill-requires-clause-room g c =
     let nodes = c.args.g.now.nodes in
-    let n = c.loop-n.n in
-    let node = c.node-item.result in
-    let count = ap length c.as_slice-node-items.ensures in
-    let lt : c.loop-n.n < length c.args.g.now.nodes = omega arith in
-    let is : node ≡ get_or nodes n node = c.node-item.is ∙ ap (λ l. get_or l n node) c.as_slice-node-items.ensures in
-    let many = c.loop-n.invariant.many in
-    record {
-      many = c.in_ok-add_arrivals.ensures.many ∙ many;
-      each = λ t within.
-          c.in_ok-add_arrivals.ensures.each t (omega arith)
-          ∙ ap (λ (l : List (NodeId × EdgeKind)). l ++ from_node t n c.as_slice-in-loop-n.result.now)
-          (c.loop-n.invariant.each t within)
-          ∙ ap (λ es. arrivals (take n nodes) t ++ from_node t n es) c.as_slice-in-loop-n.ensures
-          ∙ sym (arrivals_more c.one_more_item.ensures nodes n t node lt is);
-    }
+    let starts = c.in_ok-starts.starts.items in
+    let next : c.extend_from_slice.new.self.items ≡ c.in_ok-starts.starts.items =
+    c.in_ok-extend_from_slice.ensures.items ∙ ap (λ (l : List ℕ). l ++ c.deref.result.now) c.new-next.ensures.items
+    ∙ c.deref.ensures.value in
+    let edges = ap length c.as_slice-count.ensures in
+    let made = c.in_ok-items.ensures.len in
+    let ok = c.in_ok-items.items.ok.0 in
+    let same : length c.in_ok-items.items.items ≡ length c.args.plan.now.edges = omega arith in
+    subst (λ l. HaveRoom (slice_index l) nodes (length c.in_ok-items.items.items)) (sym next)
+    (room_of nodes c.args.plan.now starts c.predecessors_are_arrivals.ensures c.requires.planned
+    c.in_ok-starts.ensures c.requires.is_plan.few
+    (length c.in_ok-items.items.items) same)
+
+pub invariant_of-result : goal.invariant_of-result
+invariant_of-result g c =
+    let edges = ap length c.as_slice-count.ensures in
+    let made = c.in_ok-items.ensures.len in
+    let ok = c.in_ok-items.items.ok.0 in
+    let same : length c.in_ok-items.items.items ≡ length c.args.plan.now.edges = omega arith in
+    cuts_of c.args.plan.now c.in_ok-starts.starts.items (length c.fill.new.items.items) c.in_ok-starts.ensures
+    (c.fill.ensures.many ∙ same)
 
 pub returns : goal.returns
 returns g c =
     let nodes = c.args.g.now.nodes in
-    let count = ap length c.as_slice-node-items.ensures in
-    let whole = take_all c.loop-n.n nodes (omega arith) in
-    fill_by_all (arrivals nodes) c.loop-n.lists.items (length nodes) [] c.loop-n.invariant.many
-    (λ t within. c.loop-n.invariant.each t within ∙ ap (λ l. arrivals l t) whole)
+    let starts = c.in_ok-starts.starts.items in
+    let items = c.fill.new.items.items in
+    let next : c.extend_from_slice.new.self.items ≡ c.in_ok-starts.starts.items =
+    c.in_ok-extend_from_slice.ensures.items ∙ ap (λ (l : List ℕ). l ++ c.deref.result.now) c.new-next.ensures.items
+    ∙ c.deref.ensures.value in
+    let edges = ap length c.as_slice-count.ensures in
+    let made = c.in_ok-items.ensures.len in
+    let ok = c.in_ok-items.items.ok.0 in
+    let same : length c.in_ok-items.items.items ≡ length c.args.plan.now.edges = omega arith in
+    cut_all nodes c.args.plan.now starts c.predecessors_are_arrivals.ensures c.requires.planned
+    c.in_ok-starts.ensures items (c.fill.ensures.many ∙ same)
+    (subst (λ l. StandFrom (length nodes) (slice_index l) (arrivals nodes) items) next c.fill.ensures.each)
