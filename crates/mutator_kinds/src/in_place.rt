@@ -21,15 +21,26 @@ pub fn has_one_each<P>(outs: &[Arc<Split<P>>]) -> bool
 }
 
 /// Gives a node the payload of the first variant, if there is one, and along an axis its variation.
-fn put_first<P: Drop>(node: &mut Node<P>, axis: Option<Axis>, variants: Vec<(Variation, P)>)
+fn put_first<P: Drop>(node: &mut Node<P>, axis: Option<Axis>, mut variants: Vec<(Variation, P)>)
     ensures { node.new ≡ with_first axis node.old variants.items }
 {
-    if let Some(variant) = variants.into_iter().next() {
-        if let Some(axis) = axis {
-            node.vars.set(axis, variant.0);
-        }
-        node.payload = variant.1;
+    if variants.is_empty() {
+        return;
     }
+    let variant = variants.swap_remove(0);
+    if let Some(axis) = axis {
+        node.vars.set(axis, variant.0);
+    }
+    node.payload = variant.1;
+}
+
+/// How many edges results ask for. A count beyond any memory stays where it is.
+fn count_asked<P>(outs: &[Arc<Split<P>>]) -> usize {
+    let mut count = 0usize;
+    for out in outs {
+        count = count.saturating_add(out.requests.as_slice().len());
+    }
+    count
 }
 
 /// Gives the nodes the first variants of their results, and takes what these ask for.
@@ -51,7 +62,7 @@ fn put_each<P: Payload + Drop>(
     for out in outs {
         let split = split_of(alloc, out)?;
         put_first(&mut nodes[n], axis, split.variants.into_vec());
-        ask(NodeId(n as u32), split.requests.into_vec(), asked)?;
+        ask(NodeId(n as u32), split.requests, asked)?;
         n += 1;
     }
     Ok(())
@@ -70,7 +81,7 @@ pub fn change_in_place<P: Payload + Drop>(
     ensures asked { IfOk result (λ made. made.1.items ≡ asked_of (map arc_value outs.items)) }
 {
     let mut nodes = g.nodes.into_vec();
-    let mut asked = Vec::new(alloc);
+    let mut asked = Vec::with_capacity(alloc, count_asked(&outs))?;
     put_each(alloc, &mut nodes, axis, outs, &mut asked)?;
     let graph = Graph {
         nodes: Seq::new(nodes),

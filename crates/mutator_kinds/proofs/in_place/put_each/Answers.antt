@@ -43,7 +43,7 @@ loop-out-preserved g c =
           ∙ firsts_step c.args.axis arc_value c.args.nodes.now.items c.loop-out.nodes.items c.loop-out.yielded
           c.loop-out.n c.in-Some.out made was lt c.loop-out.invariant.0 at c.in_ok-split.ensures,
       asked_step arc_value c.one_more_item.ensures c.loop-out.asked.items c.ask.new.asked.items c.loop-out.yielded
-          (record { 0 = c.loop-out.n }) c.in-Some.out made c.into_vec-in-loop-out.result.items c.loop-out.invariant.1 at c.in_ok-split.ensures
-          c.into_vec-in-loop-out.ensures c.in_ok-ask.ensures,
+          (record { 0 = c.loop-out.n }) c.in-Some.out made made.requests c.loop-out.invariant.1 at c.in_ok-split.ensures
+          refl c.in_ok-ask.ensures,
       omega arith,
     )
