@@ -1,4 +1,5 @@
-ghost use Rattle.std.specs.Prelude.{◌≡◌, ◌∷◌, [], IfOk, OnOk, OnErr};
+ghost use Rattle.std.specs.Prelude.{◌≡◌, true, nat_eq, ◌∷◌, [], IfOk, OnOk, OnErr, slice_get};
+ghost use Rattle.std.specs.List.{list_any};
 ghost use Rattle.std.specs.Option.{option_map};
 ghost use Rattle.pass_core.specs.Orders.{numbers};
 ghost use Rattle.info_mutators.specs.Inside.{NotesNumbers, NotesOther, StaysNoted};
@@ -53,6 +54,12 @@ fn slots_for(room: usize) -> usize {
     }
 }
 
+fn held_at(slots: &[u64], slot: usize) -> Option<u64>
+    ensures { result ≡ slice_get slots.now slot }
+{
+    slots.get(slot).copied()
+}
+
 /// Notes a node in a list and in a set, where the set doesn't have it.
 fn note_other(
     nodes: &mut Vec<NodeId>,
@@ -85,8 +92,29 @@ impl Notes {
         })
     }
 
-    /// Notes a node where it isn't there yet, unless there are too many.
+    /// Whether a node owns its slot, so that it is there.
+    fn owns_slot(&self, node: NodeId) -> bool
+        ensures { result ≡ true → list_any (nat_eq node.0) self.now ≡ true }
+    {
+        match held_at(&self.slots, node.0 as usize & self.mask) {
+            Some(held) => held == node.0 as u64 + 1,
+            None => false,
+        }
+    }
+
+    /// Notes a node where it isn't there yet, unless there are too many. Of the nodes that come again most own their
+    /// slots.
     pub fn note(&mut self, node: NodeId) -> Result<(), OutOfMemory>
+        ensures { OnOk result (NotesNumbers self.old (node.0 ∷ []) self.new) }
+    {
+        if self.owns_slot(node) {
+            return Ok(());
+        }
+        self.note_in_slot(node)
+    }
+
+    /// Notes a node in its slot where that is free, and else in the set of others.
+    fn note_in_slot(&mut self, node: NodeId) -> Result<(), OutOfMemory>
         ensures { OnOk result (NotesNumbers self.old (node.0 ∷ []) self.new) }
     {
         if self.nodes.len() > LONGEST_LINE {
