@@ -9,3 +9,4 @@ pub mod Lasting
 pub mod OneOutcome
 pub mod SomeOutcome
 pub mod Keeping
+pub mod LeftAlone

@@ -7,6 +7,7 @@
 
 mod asking;
 mod downward;
+mod idle;
 mod in_place;
 pub mod laws;
 mod limits;
@@ -17,5 +18,6 @@ mod splitting;
 mod upward;
 
 pub use downward::{run_top_down, run_top_down_by};
+pub use idle::run_idle_by;
 pub use pass_graph::PassGraph;
 pub use upward::{run_bottom_up, run_bottom_up_by};

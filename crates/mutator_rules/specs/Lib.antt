@@ -2,6 +2,7 @@ pub mod Arrivals
 pub mod Conditions
 pub mod Configs
 pub mod Errors
+pub mod Idle
 pub mod Inside
 pub mod Laws
 pub mod Meaning
