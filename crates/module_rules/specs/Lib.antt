@@ -2,6 +2,7 @@ pub mod Asking
 pub mod Flags
 pub mod Found
 pub mod Groups
+pub mod Idle
 pub mod Laws
 pub mod Lent
 pub mod Results

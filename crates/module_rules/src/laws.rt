@@ -2,6 +2,7 @@
 
 ghost use Rattle.module_rules.specs.Laws.{UnsplitResultsDiffer, AskersDoNotSplit, RenewalsDoNotSplit};
 ghost use Rattle.module_rules.specs.Laws.{SplitResultsDiffer};
+ghost use Rattle.module_rules.specs.Idle.{LeavesAllByEach};
 
 /// A result of a rule without an axis has one variant, so its variations differ.
 pub fn unsplit_results_differ()
@@ -21,4 +22,9 @@ pub fn renewals_do_not_split()
 /// The variations differ of what a rule answers that splits, where those that it makes of each node do.
 pub fn split_results_differ()
     ensures { SplitResultsDiffer }
+{}
+
+/// A rule that leaves each node as it is leaves all of a graph.
+pub fn leaves_all_by_each()
+    ensures { LeavesAllByEach }
 {}
