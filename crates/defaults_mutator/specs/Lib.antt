@@ -1,3 +1,4 @@
 pub mod Asked
+pub mod Idle
 pub mod Inside
 pub mod Merged

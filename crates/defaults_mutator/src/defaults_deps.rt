@@ -1,12 +1,15 @@
-ghost use Rattle.std.specs.Prelude.{◌≡◌, None, IfOk, length};
+ghost use Rattle.std.specs.Prelude.{◌≡◌, None, IfOk, IsTrue, length};
 ghost use Rattle.defaults_mutator.specs.Asked.{defaults_asked};
 ghost use Rattle.module_rules.specs.Rules.{asks};
 ghost use Rattle.module_rules.specs.Shaped.{asks_shaped};
-ghost use Rattle.mutator_rules.specs.Conditions.{places_in};
+ghost use Rattle.mutator_rules.specs.Conditions.{MayRun, places_in};
+ghost use Rattle.mutator_rules.specs.Idle.{LeavesAll};
 
+use crate::leaving::name_no_defaults;
 use bp_faults::{NodeId, OutOfMemory, Payload, Seq};
 use bp_props::Module;
 use module_graph::{EdgeKind, Graph, Node};
+use module_rules::laws::leaves_all_by_each;
 use module_rules::{NO_VARIATIONS, Record, Seen, ask, one_variant};
 use mutator_rules::{Axis, BottomUp, Config, Request, Split};
 use pass_core::VisitError;
@@ -36,6 +39,15 @@ impl<'a> DefaultsDeps<'a> {
         ensures { result ≡ mods.now }
     {
         DefaultsDeps { mods }
+    }
+
+    /// Whether the rule leaves every node of a graph as it is: no node names defaults.
+    pub fn leaves_all(&self, g: &Graph<Record<'a>>) -> bool
+        requires { MayRun (places_in (length self.now)) g.now.nodes }
+        ensures { IsTrue result → LeavesAll (asks defaults_asked self.now) g.now.nodes }
+    {
+        leaves_all_by_each();
+        name_no_defaults(g.nodes.as_slice())
     }
 }
 

@@ -1,14 +1,17 @@
-ghost use Rattle.std.specs.Prelude.{◌≡◌, None, IfOk, length, map};
+ghost use Rattle.std.specs.Prelude.{◌≡◌, None, IfOk, IsTrue, length, map};
 ghost use Rattle.std.specs.Arc.{arc_value};
 ghost use Rattle.defaults_mutator.specs.Merged.{over_defaults, defaults_merged};
 ghost use Rattle.module_rules.specs.Rules.{renews};
 ghost use Rattle.module_rules.specs.Shaped.{renews_shaped};
-ghost use Rattle.mutator_rules.specs.Conditions.{places_in};
+ghost use Rattle.mutator_rules.specs.Conditions.{MayRun, places_in};
+ghost use Rattle.mutator_rules.specs.Idle.{LeavesAll};
 
 use crate::following::followed;
+use crate::leaving::have_no_edges;
 use bp_faults::{NodeId, OutOfMemory, Payload, Seq};
 use bp_props::{Module, ModuleKind, Props};
 use module_graph::{Graph, Node};
+use module_rules::laws::leaves_all_by_each;
 use module_rules::{Record, Seen, one_variant};
 use mutator_rules::{Axis, BottomUp, Config, Split};
 use pass_core::VisitError;
@@ -37,6 +40,15 @@ impl<'a> DefaultsMerge<'a> {
         ensures { result ≡ mods.now }
     {
         DefaultsMerge { mods }
+    }
+
+    /// Whether the rule leaves every node of a graph as it is: it does where no node has edges, and says no else.
+    pub fn leaves_all(&self, g: &Graph<Record<'a>>) -> bool
+        requires { MayRun (places_in (length self.now)) g.now.nodes }
+        ensures { IsTrue result → LeavesAll (renews defaults_merged self.now) g.now.nodes }
+    {
+        leaves_all_by_each();
+        have_no_edges(g.nodes.as_slice())
     }
 }
 

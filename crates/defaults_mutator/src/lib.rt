@@ -8,6 +8,7 @@
 mod defaults_deps;
 mod defaults_merge;
 mod following;
+mod leaving;
 
 pub use defaults_deps::DefaultsDeps;
 pub use defaults_merge::DefaultsMerge;

@@ -1,0 +1,11 @@
+use Rattle.std.proofs.Common.{rules, tests}
+use Rattle.std.proofs.lemmas.Iterator.{YieldsList-from_slice}
+use Rattle.std.proofs.lemmas.Iterator.Search.{all_from_yields_List}
+use Rattle.defaults_mutator.specs.Idle.{names_no_defaults}
+use Rattle.defaults_mutator.proofs.leaving.name_no_defaults.Goals as goal
+
+-- each node is tested
+pub returns : goal.returns
+returns c =
+    all_from_yields_List names_no_defaults _ _ c.all.result c.all.ensures.ran
+    (YieldsList-from_slice c.args.nodes.now cc) (λ x b q k. search (rules, tests))
