@@ -1,2 +1,3 @@
 mod KindNamed
 mod Differing
+mod Idle

@@ -1,4 +1,5 @@
 pub mod Deps
+pub mod Idle
 pub mod Inside
 pub mod Laws
 pub mod Links

@@ -7,6 +7,7 @@
 
 mod deps_ask;
 pub mod laws;
+mod leaving;
 mod link_split;
 mod names;
 mod per_source;

@@ -1,15 +1,18 @@
-ghost use Rattle.std.specs.Prelude.{◌≡◌, map, None, IfOk, length, option_copied};
+ghost use Rattle.std.specs.Prelude.{◌≡◌, map, None, IfOk, IsTrue, length, option_copied};
 ghost use Rattle.linkage_mutator.specs.Plugins.{kind_named, link_of_host, plugin_request, is_shared, plugins_asked};
 ghost use Rattle.linkage_mutator.specs.Inside.{kind_at};
 ghost use Rattle.linkage_mutator.specs.Plugins.{IsNameTable, IsNameTableIfSome};
 ghost use Rattle.module_rules.specs.Rules.{asks};
 ghost use Rattle.module_rules.specs.Shaped.{asks_shaped};
-ghost use Rattle.mutator_rules.specs.Conditions.{places_in};
+ghost use Rattle.mutator_rules.specs.Conditions.{MayRun, places_in};
+ghost use Rattle.mutator_rules.specs.Idle.{LeavesAll};
 
+use crate::leaving::are_no_plugins;
 use crate::wanting::own_with;
 use bp_faults::{Item, NodeId, OutOfMemory, Payload, Seq, Text};
 use bp_props::{Module, ModuleKind};
 use module_graph::{EdgeKind, Graph, Node, Variation, Variations};
+use module_rules::laws::leaves_all_by_each;
 use module_rules::{Record, Seen, one_variant, request};
 use mutator_rules::{Axis, BottomUp, Config, Request, Split};
 use name_index::NameIndex;
@@ -59,6 +62,15 @@ impl<'a, 't> PluginsAsk<'a, 't> {
             mods,
             names: Some(names),
         }
+    }
+
+    /// Whether the rule leaves every node of a graph as it is: no node is a plugin.
+    pub fn leaves_all(&self, g: &Graph<Record<'a>>) -> bool
+        requires { MayRun (places_in (length self.now)) g.now.nodes }
+        ensures { IsTrue result → LeavesAll (asks (plugins_asked self.now) self.now) g.now.nodes }
+    {
+        leaves_all_by_each();
+        are_no_plugins(g.nodes.as_slice())
     }
 }
 
