@@ -17,6 +17,7 @@ mod passes;
 mod ran;
 mod records;
 mod replayed;
+mod running;
 mod shown;
 mod sizes;
 mod steps;

@@ -1,4 +1,4 @@
-ghost use Rattle.std.specs.Prelude.{◌≡◌, ◌<◌, ◌+◌, ◌↔◌, ℕ, length, IfOk, None, Some};
+ghost use Rattle.std.specs.Prelude.{◌≡◌, ◌<◌, ◌+◌, ◌↔◌, ℕ, length, IfOk, IsTrue, None, Some};
 ghost use Rattle.module_graph.specs.declared.direction.Direction.TheVariants.{BottomUp as Upwards};
 ghost use Rattle.module_graph.specs.declared.variations.Axis.TheVariants.{Target, Image, Link};
 ghost use Rattle.module_graph.specs.declared.variations.Axis.TheVariants.{PerSource as SourceAxis};
@@ -8,17 +8,20 @@ ghost use Rattle.mutator_rules.specs.Conditions.{places_in};
 ghost use Rattle.mutator_kinds.specs.BottomUp.{BottomUpMeans, IsFreeFor, DifferFor};
 ghost use Rattle.variant_graphs.specs.Splitting.{HasFreeAxis, StayFree};
 ghost use Rattle.bp_pipeline.specs.Inside.{IsUsable, AreFreeAt};
+ghost use Rattle.bp_pipeline.specs.Idle.{IsIdleRule};
 ghost use Rattle.bp_pipeline.specs.Limits.{ComesTo};
 ghost use Rattle.bp_pipeline.specs.Passes.{AskMeans, MakeMeans, pass_at};
 ghost use Rattle.bp_pipeline.specs.Runs.{MayStep, TellsPass, TellsStep};
 ghost use Rattle.bp_pipeline.specs.Mutators.{passes};
-ghost use Rattle.bp_pipeline.specs.declared.passes.Pass.TheVariants.{AskPlugins, SplitTargets, SplitImages, SplitLinks};
+ghost use Rattle.bp_pipeline.specs.declared.passes.Pass.TheVariants.{AskDefaults, MergeDefaults, AskPlugins};
+ghost use Rattle.bp_pipeline.specs.declared.passes.Pass.TheVariants.{SplitTargets, SplitImages, SplitLinks};
 ghost use Rattle.bp_pipeline.specs.declared.passes.Pass.TheVariants.{SplitSources, SplitSanitized, MarkSanitized};
 ghost use Rattle.bp_pipeline.specs.declared.passes.Pass.TheVariants.{HandLevels};
 
 use crate::journal::note;
 use crate::limits::refusal_of;
 use crate::passes::{Pass, pass_at};
+use crate::running::run_by;
 use crate::workshop::Workshop;
 use bp_faults::{NodeId, Payload, Refusal};
 use bp_ports::Gate;
@@ -30,7 +33,7 @@ use linkage_mutator::laws::{link_variants_differ, source_variants_differ};
 use linkage_mutator::{DepsAsk, LinkSplit, PerSource, PluginsAsk, module_names};
 use module_graph::Graph;
 use module_rules::Record;
-use mutator_kinds::{PassGraph, run_bottom_up_by, run_top_down_by};
+use mutator_kinds::{PassGraph, run_top_down_by};
 use mutator_rules::{BottomUp, Split};
 use pass_core::laws::outs_are_many;
 use reverse_deps::apply;
@@ -40,7 +43,7 @@ use target_mutators::laws::{image_variants_differ, target_variants_differ};
 use target_mutators::{ArchSplit, ImageSplit};
 use transition_rules::{run_mutate_by, run_wants_by};
 
-/// A pass of a rule from the bottom up.
+/// A pass of a rule from the bottom up. Where it is idle, the rule leaves every node as it is.
 fn run_rule<R, P, M, G>(
     rt: &R,
     alloc: Global,
@@ -49,6 +52,7 @@ fn run_rule<R, P, M, G>(
     pass: u32,
     graph: Graph<P>,
     rule: &M,
+    idle: bool,
 ) -> Result<PassGraph<P>, Refusal>
 where
     R: Threads + Sync,
@@ -59,13 +63,23 @@ where
     requires free { IsFreeFor (M.splits_along rule.now) graph.nodes }
     requires differ { DifferFor (M.meaning rule.now) graph.nodes (M.splits_along rule.now) }
     requires accepts { (m : ℕ) → M.accepts rule.now m ↔ places_in (length shop.now.mods.now) m }
+    requires alone { IsTrue idle → IsIdleRule (M.splits_along rule.now) (M.meaning rule.now) graph.nodes }
     ensures tells { TellsPass shop.now.way (λ made. (made.graph.nodes, made.asked))
         (ComesTo shop.now.mods.now (BottomUpMeans (M.meaning rule.now) graph.nodes (M.splits_along rule.now)))
         (plan_of Upwards graph.nodes) pass journal.old.items journal.new.items result }
     ensures usable { IfOk result (λ made. IsUsable (length shop.now.mods.now) made.graph.nodes) }
     ensures free { IfOk result (λ made. StayFree (M.splits_along rule.now) graph.nodes made.graph.nodes) }
 {
-    match run_bottom_up_by(rt, alloc, &shop.way, journal.as_slice(), pass, graph, rule) {
+    match run_by(
+        rt,
+        alloc,
+        &shop.way,
+        journal.as_slice(),
+        pass,
+        graph,
+        rule,
+        idle,
+    ) {
         Ok(made) => {
             note(journal, pass, made.order.as_slice())?;
             Ok(made)
@@ -83,6 +97,7 @@ fn ask<R, P, M, G>(
     pass: u32,
     graph: Graph<P>,
     rule: &M,
+    idle: bool,
 ) -> Result<Graph<P>, Refusal>
 where
     R: Threads + Sync,
@@ -92,6 +107,7 @@ where
     requires may { MayStep shop.now journal.old.items graph.nodes }
     requires along { M.splits_along rule.now ≡ None }
     requires accepts { (m : ℕ) → M.accepts rule.now m ↔ places_in (length shop.now.mods.now) m }
+    requires alone { IsTrue idle → IsIdleRule (M.splits_along rule.now) (M.meaning rule.now) graph.nodes }
     ensures tells { TellsPass shop.now.way (λ g. g.nodes)
         (AskMeans shop.now.mods.now (M.meaning rule.now) graph.nodes)
         (plan_of Upwards graph.nodes) pass journal.old.items journal.new.items result }
@@ -100,7 +116,7 @@ where
 {
     // A law: so each asking node is a node.
     outs_are_many::<Split<P>>();
-    let made = run_rule(rt, alloc, shop, journal, pass, graph, rule)?;
+    let made = run_rule(rt, alloc, shop, journal, pass, graph, rule, idle)?;
     apply(alloc, shop.mods, made.graph, made.asked.as_slice())
 }
 
@@ -113,6 +129,7 @@ fn make<R, P, M, G>(
     pass: u32,
     graph: Graph<P>,
     rule: &M,
+    idle: bool,
 ) -> Result<Graph<P>, Refusal>
 where
     R: Threads + Sync,
@@ -123,14 +140,51 @@ where
     requires free { IsFreeFor (M.splits_along rule.now) graph.nodes }
     requires differ { DifferFor (M.meaning rule.now) graph.nodes (M.splits_along rule.now) }
     requires accepts { (m : ℕ) → M.accepts rule.now m ↔ places_in (length shop.now.mods.now) m }
+    requires alone { IsTrue idle → IsIdleRule (M.splits_along rule.now) (M.meaning rule.now) graph.nodes }
     ensures tells { TellsPass shop.now.way (λ g. g.nodes)
         (MakeMeans shop.now.mods.now (M.splits_along rule.now) (M.meaning rule.now) graph.nodes)
         (plan_of Upwards graph.nodes) pass journal.old.items journal.new.items result }
     ensures usable { IfOk result (λ g. IsUsable (length shop.now.mods.now) g.nodes) }
     ensures free { IfOk result (λ g. StayFree (M.splits_along rule.now) graph.nodes g.nodes) }
 {
-    let made = run_rule(rt, alloc, shop, journal, pass, graph, rule)?;
+    let made = run_rule(rt, alloc, shop, journal, pass, graph, rule, idle)?;
     Ok(made.graph)
+}
+
+fn ask_defaults<'m, R: Threads + Sync, G: Gate + Sync>(
+    rt: &R,
+    alloc: Global,
+    shop: &Workshop<'m, G>,
+    journal: &mut Vec<(u32, NodeId)>,
+    pass: u32,
+    graph: Graph<Record<'m>>,
+) -> Result<Graph<Record<'m>>, Refusal>
+    requires may { MayStep shop.now journal.old.items graph.nodes }
+    ensures tells { TellsStep shop.now AskDefaults pass graph.entry.nodes journal.old.items journal.new.items result }
+    ensures usable { IfOk result (λ g. IsUsable (length shop.now.mods.now) g.nodes) }
+    ensures free { IfOk result (λ g. StayFree None graph.entry.nodes g.nodes) }
+{
+    let rule = DefaultsDeps::new(shop.mods, shop.config);
+    let idle = rule.leaves_all(&graph);
+    ask(rt, alloc, shop, journal, pass, graph, &rule, idle)
+}
+
+fn merge_defaults<'m, R: Threads + Sync, G: Gate + Sync>(
+    rt: &R,
+    alloc: Global,
+    shop: &Workshop<'m, G>,
+    journal: &mut Vec<(u32, NodeId)>,
+    pass: u32,
+    graph: Graph<Record<'m>>,
+) -> Result<Graph<Record<'m>>, Refusal>
+    requires may { MayStep shop.now journal.old.items graph.nodes }
+    ensures tells { TellsStep shop.now MergeDefaults pass graph.entry.nodes journal.old.items journal.new.items result }
+    ensures usable { IfOk result (λ g. IsUsable (length shop.now.mods.now) g.nodes) }
+    ensures free { IfOk result (λ g. StayFree None graph.entry.nodes g.nodes) }
+{
+    let rule = DefaultsMerge::new(shop.mods, shop.config);
+    let idle = rule.leaves_all(&graph);
+    make(rt, alloc, shop, journal, pass, graph, &rule, idle)
 }
 
 /// Whether a module is a plugin of others, so that a table of all names is worth its time.
@@ -154,11 +208,12 @@ fn ask_plugins<'m, R: Threads + Sync, G: Gate + Sync>(
 {
     if !has_plugins(shop.mods) {
         let rule = PluginsAsk::new(shop.mods, shop.config);
-        return ask(rt, alloc, shop, journal, pass, graph, &rule);
+        let idle = rule.leaves_all(&graph);
+        return ask(rt, alloc, shop, journal, pass, graph, &rule, idle);
     }
     let names = module_names(alloc, shop.mods)?;
     let rule = PluginsAsk::with_names(shop.mods, shop.config, &names);
-    ask(rt, alloc, shop, journal, pass, graph, &rule)
+    ask(rt, alloc, shop, journal, pass, graph, &rule, false)
 }
 
 fn split_targets<'m, R: Threads + Sync, G: Gate + Sync>(
@@ -177,7 +232,7 @@ fn split_targets<'m, R: Threads + Sync, G: Gate + Sync>(
 {
     target_variants_differ();
     let rule = ArchSplit::new(shop.mods, shop.config);
-    make(rt, alloc, shop, journal, pass, graph, &rule)
+    make(rt, alloc, shop, journal, pass, graph, &rule, false)
 }
 
 fn split_images<'m, R: Threads + Sync, G: Gate + Sync>(
@@ -196,7 +251,7 @@ fn split_images<'m, R: Threads + Sync, G: Gate + Sync>(
 {
     image_variants_differ();
     let rule = ImageSplit::new(shop.mods, shop.config);
-    make(rt, alloc, shop, journal, pass, graph, &rule)
+    make(rt, alloc, shop, journal, pass, graph, &rule, false)
 }
 
 fn split_links<'m, R: Threads + Sync, G: Gate + Sync>(
@@ -215,7 +270,7 @@ fn split_links<'m, R: Threads + Sync, G: Gate + Sync>(
 {
     link_variants_differ();
     let rule = LinkSplit::new(shop.mods, shop.config);
-    make(rt, alloc, shop, journal, pass, graph, &rule)
+    make(rt, alloc, shop, journal, pass, graph, &rule, false)
 }
 
 fn split_sources<'m, R: Threads + Sync, G: Gate + Sync>(
@@ -234,7 +289,7 @@ fn split_sources<'m, R: Threads + Sync, G: Gate + Sync>(
 {
     source_variants_differ();
     let rule = PerSource::new(shop.mods, shop.config);
-    make(rt, alloc, shop, journal, pass, graph, &rule)
+    make(rt, alloc, shop, journal, pass, graph, &rule, false)
 }
 
 /// The first pass of a mutator with transitions: each node gets the variants that are wanted of it.
@@ -331,24 +386,8 @@ pub fn step<'m, R: Threads + Sync, G: Gate + Sync>(
     let (mods, c) = (shop.mods, shop.config);
     let pass = number + 1;
     match pass_at(number) {
-        Pass::AskDefaults => ask(
-            rt,
-            alloc,
-            shop,
-            journal,
-            pass,
-            graph,
-            &DefaultsDeps::new(mods, c),
-        ),
-        Pass::MergeDefaults => make(
-            rt,
-            alloc,
-            shop,
-            journal,
-            pass,
-            graph,
-            &DefaultsMerge::new(mods, c),
-        ),
+        Pass::AskDefaults => ask_defaults(rt, alloc, shop, journal, pass, graph),
+        Pass::MergeDefaults => merge_defaults(rt, alloc, shop, journal, pass, graph),
         Pass::SplitTargets => split_targets(rt, alloc, shop, journal, pass, graph),
         Pass::SplitImages => split_images(rt, alloc, shop, journal, pass, graph),
         Pass::SplitLinks => split_links(rt, alloc, shop, journal, pass, graph),
@@ -360,12 +399,22 @@ pub fn step<'m, R: Threads + Sync, G: Gate + Sync>(
             pass,
             graph,
             &DepsAsk::new(mods, c),
+            false,
         ),
         Pass::AskPlugins => ask_plugins(rt, alloc, shop, journal, pass, graph),
         Pass::SplitSources => split_sources(rt, alloc, shop, journal, pass, graph),
         Pass::SplitSanitized => split_sanitized(rt, alloc, shop, journal, pass, graph),
         Pass::MarkSanitized => mark_sanitized(rt, alloc, shop, journal, pass, graph),
         Pass::HandLevels => hand_levels(rt, alloc, shop, journal, pass, graph),
-        Pass::GatherInfo => make(rt, alloc, shop, journal, pass, graph, &Info::new(mods, c)),
+        Pass::GatherInfo => make(
+            rt,
+            alloc,
+            shop,
+            journal,
+            pass,
+            graph,
+            &Info::new(mods, c),
+            false,
+        ),
     }
 }

@@ -1,4 +1,4 @@
-use Rattle.std.proofs.Common.{List, subst}
+use Rattle.std.proofs.Common.{List, length, refl, subst, sym}
 use Rattle.bp_props.specs.declared.module.Module.{Module}
 use Rattle.bp_props.specs.declared.props.Props.{Props}
 use Rattle.module_graph.specs.declared.direction.Direction.TheVariants.{BottomUp}
@@ -6,10 +6,20 @@ use Rattle.module_graph.specs.declared.graph.Graph.{Graph}
 use Rattle.module_graph.specs.declared.graph.Node.{Node}
 use Rattle.module_graph.specs.Planned.{plan_of}
 use Rattle.module_rules.specs.Rules.{asks}
+use Rattle.mutator_rules.specs.Conditions.{MayRun, places_in}
 use Rattle.linkage_mutator.specs.Plugins.{plugins_asked}
 use Rattle.bp_pipeline.specs.Passes.{AskMeans}
 use Rattle.bp_pipeline.specs.Runs.{TellsPass}
 use Rattle.bp_pipeline.proofs.steps.ask_plugins.Goals as goal
+
+pub leaves_all-idle-requires : goal.leaves_all-idle-requires
+leaves_all-idle-requires g c =
+    subst (λ (ms : List Module). MayRun (places_in (length ms)) c.args.graph.nodes) (sym c.new-rule.ensures)
+    c.requires.may.usable.may
+
+pub ask-requires-clause-alone : goal.ask-requires-clause-alone
+ask-requires-clause-alone g c =
+    λ κs outlives idle. record { unsplit = refl; alone = c.leaves_all-idle.ensures idle }
 
 pub returns-clause-tells : goal.returns-clause-tells
 returns-clause-tells g c =

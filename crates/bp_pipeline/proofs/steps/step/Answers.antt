@@ -8,12 +8,12 @@ use Rattle.bp_pipeline.proofs.steps.step.Goals as goal
 pub returns-in-AskDefaults-clause-free : goal.returns-in-AskDefaults-clause-free
 returns-in-AskDefaults-clause-free g c =
     next_free c.args.number AskDefaults (sym c.pass_at.ensures ∙ c.in-AskDefaults.is) c.args.graph.nodes
-    c.requires.free c.ask.result c.ask.ensures.free
+    c.requires.free c.ask_defaults.result c.ask_defaults.ensures.free
 
 pub returns-in-MergeDefaults-clause-free : goal.returns-in-MergeDefaults-clause-free
 returns-in-MergeDefaults-clause-free g c =
     next_free c.args.number MergeDefaults (sym c.pass_at.ensures ∙ c.in-MergeDefaults.is) c.args.graph.nodes
-    c.requires.free c.make.result c.make.ensures.free
+    c.requires.free c.merge_defaults.result c.merge_defaults.ensures.free
 
 pub returns-in-SplitTargets-clause-free : goal.returns-in-SplitTargets-clause-free
 returns-in-SplitTargets-clause-free g c =
@@ -33,7 +33,7 @@ returns-in-SplitLinks-clause-free g c =
 pub returns-in-AskDependencies-clause-free : goal.returns-in-AskDependencies-clause-free
 returns-in-AskDependencies-clause-free g c =
     next_free c.args.number AskDependencies (sym c.pass_at.ensures ∙ c.in-AskDependencies.is) c.args.graph.nodes
-    c.requires.free c.ask-in-AskDependencies.result c.ask-in-AskDependencies.ensures.free
+    c.requires.free c.ask.result c.ask.ensures.free
 
 pub returns-in-AskPlugins-clause-free : goal.returns-in-AskPlugins-clause-free
 returns-in-AskPlugins-clause-free g c =
@@ -63,4 +63,4 @@ returns-in-HandLevels-clause-free g c =
 pub returns-in-GatherInfo-clause-free : goal.returns-in-GatherInfo-clause-free
 returns-in-GatherInfo-clause-free g c =
     next_free c.args.number GatherInfo (sym c.pass_at.ensures ∙ c.in-GatherInfo.is) c.args.graph.nodes
-    c.requires.free c.make-in-GatherInfo.result c.make-in-GatherInfo.ensures.free
+    c.requires.free c.make.result c.make.ensures.free
