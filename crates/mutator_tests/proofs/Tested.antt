@@ -1,6 +1,7 @@
 -- The graphs of the tests.
-use Rattle.std.proofs.Common.{◌≡◌, ◌≢◌, ◌∙◌, ◌+◌, ◌<◌, ◌≤◌, ◌^◌, ◌++◌, ℕ, zero, suc, List, [], ◌∷◌, length, map, get_or, take, refl, ap, sym, subst, arith, zero-add, Result, Ok, Err}
+use Rattle.std.proofs.Common.{◌≡◌, ◌≢◌, ◌∙◌, ◌+◌, ◌<◌, ◌≤◌, ◌^◌, ◌++◌, ℕ, zero, suc, List, [], ◌∷◌, length, map, get_or, take, refl, ap, sym, subst, arith, zero-add, Option, Result, Ok, Err}
 use Rattle.std.specs.List.{AllByRecursion, AllPairs, range_with_len}
+use Rattle.std.specs.Option.{option_map_or}
 use Rattle.std.proofs.lemmas.List.{length-append, length-map}
 use Rattle.std.proofs.lemmas.List.FromFn.{length-map-range_with_len, get_or-map-range_with_len, map-range_with_len_more}
 use Rattle.bp_faults.specs.declared.fault.Fault.{Fault}
@@ -14,8 +15,9 @@ use Rattle.module_graph.specs.declared.variation.Variation.TheVariants.{Empty, P
 use Rattle.module_graph.specs.Graphs.{outward, edges_of, IsNumbered}
 use Rattle.module_graph.specs.Laws.{OneMoreNode}
 use Rattle.mutator_rules.specs.declared.split.Split.{Split}
+use Rattle.mutator_rules.specs.Idle.{LeavesAll}
 use Rattle.mutator_kinds.specs.BottomUp.{ResultsDiffer}
-use Rattle.mutator_tests.specs.Kinds.{OwnModules, numbered_variant, split_into, split_at, number_at}
+use Rattle.mutator_tests.specs.Kinds.{OwnModules, numbered_variant, split_into, split_at, staying, number_at}
 
 pub own_pushed : (k : ℕ) (xs : List (Node NodeId)) (x : Node NodeId) → OwnModules k xs → x.«module».0 ≡ k + length xs → OwnModules k (xs ++ x ∷ [])
 own_pushed k [] x h is = (is ∙ omega arith, tt)
@@ -98,3 +100,12 @@ number_is (y ∷ ys) (suc n) x lt is = number_is ys n x (omega arith) is
 pub one_more_variant : (old new : List (Variation × NodeId)) (i : ℕ) → old ≡ map numbered_variant (range_with_len 0 i) → new ≡ old ++ numbered_variant i ∷ [] → new ≡ map numbered_variant (range_with_len 0 (i + 1))
 one_more_variant old new i was grown =
     grown ∙ ap (λ l. l ++ numbered_variant i ∷ []) was ∙ sym (map-range_with_len_more numbered_variant 0 i i (zero-add i))
+
+abbrev stays_by : Option (Node NodeId) → Result (Split NodeId) Fault
+stays_by o = Ok (record {
+  variants = (Empty, record { 0 = option_map_or (λ (x : Node NodeId). x.payload.0) o 0 }) ∷ [];
+  requests = [];
+})
+
+pub nodes_stay : (nodes : List (Node NodeId)) → LeavesAll (λ nodes n (ins : List (Split NodeId)). staying nodes n) nodes
+nodes_stay nodes n ins x is = ap stays_by is

@@ -60,6 +60,10 @@ lib_request n = record {
 abbrev pub asking : ℕ → Result (Split NodeId) Fault
 asking n = Ok (record { variants = (Empty, record { 0 = n }) ∷ []; requests = lib_request n ∷ lib_request n ∷ [] })
 
+-- One variant with the number that the node holds, and nothing is asked.
+abbrev pub staying : List (Node NodeId) → ℕ → Result (Split NodeId) Fault
+staying nodes n = Ok (record { variants = (Empty, record { 0 = number_at nodes n }) ∷ []; requests = [] })
+
 -- Whether an edge is of kind Whole.
 abbrev pub is_whole_kind : EdgeKind → Bool
 is_whole_kind Whole = true
@@ -95,3 +99,9 @@ split_shaped nodes n made is = sym (ap (λ r. (made_or made r).requests) is)
 pub asking_shaped : (n : ℕ) (made : Split NodeId) → asking n ≡ Ok made → HasShape None made
 unfolding made_or
 asking_shaped n made is = subst (λ (s : Split NodeId). HasShape None s) (ap (made_or made) is) refl
+
+-- A result of the rule that leaves nodes as they are has one variant.
+pub staying_shaped : (nodes : List (Node NodeId)) (n : ℕ) (made : Split NodeId) → staying nodes n ≡ Ok made
+    → HasShape None made
+unfolding made_or
+staying_shaped nodes n made is = subst (λ (s : Split NodeId). HasShape None s) (ap (made_or made) is) refl

@@ -1,5 +1,5 @@
 //! Small rules over small graphs, and the limits.
-ghost use Rattle.std.specs.Prelude.{◌≡◌, ◌<◌, length, map, IfOk, OnOk, IsTrue, Ok, Some, None, ⊤};
+ghost use Rattle.std.specs.Prelude.{◌≡◌, ◌<◌, ◌≤◌, length, map, IfOk, OnOk, IsTrue, Ok, Some, None, ⊤};
 ghost use Rattle.std.specs.List.{AllByRecursion, range_with_len};
 ghost use Rattle.module_graph.specs.declared.graph.Edge.{Edge as AnEdge};
 ghost use Rattle.module_graph.specs.Graphs.{IsNumbered, IsValid};
@@ -11,14 +11,16 @@ use bp_ports::OpenGate;
 use module_graph::laws::one_more_node;
 use module_graph::{Axis, Edge, EdgeKind, Graph, Node, Variation, Variations, check_cycle};
 use mutator_kinds::laws::{one_bottom_up_outcome, one_top_down_outcome};
-use mutator_kinds::{PassGraph, run_bottom_up, run_top_down};
+use mutator_kinds::{PassGraph, run_bottom_up, run_idle_by, run_top_down};
 use mutator_rules::{BottomUp, KindError, Request, Split, TopDown, Wanted};
 use pass_core::{PassError, VisitError};
+use pass_ways::Way;
 use std::alloc::Global;
 use std::process::Abort;
 use std::sync::Arc;
 use std::test::Fail;
 use std::thread::Threads;
+use variant_graphs::StepError;
 
 /// The number that a node holds.
 fn number_of(g: &Graph<NodeId>, n: NodeId) -> u32
@@ -126,6 +128,41 @@ impl BottomUp<NodeId> for Asks {
     }
 
     ghost shaped = { λ _ _ n _ made is. asking_shaped n made is };
+}
+
+/// Each node stays as it is.
+#[derive(Drop)]
+struct Stays;
+
+impl BottomUp<NodeId> for Stays {
+    ghost use Rattle.mutator_tests.specs.Kinds.{staying, staying_shaped};
+
+    ghost splits_along = { λ _. None };
+
+    ghost meaning = { λ _ nodes n _. staying nodes n };
+
+    ghost accepts = { λ _ _. ⊤ };
+
+    fn axis(&self) -> Option<Axis> {
+        None
+    }
+
+    fn visit(
+        &self,
+        alloc: Global,
+        g: &Graph<NodeId>,
+        n: NodeId,
+        _ins: &[Arc<Split<NodeId>>],
+    ) -> Result<Split<NodeId>, VisitError> {
+        let mut variants = Vec::new(alloc);
+        variants.push((Variation::Empty, NodeId(number_of(g, n))))?;
+        Ok(Split {
+            variants: Seq::new(variants),
+            requests: Seq::new(Vec::new(alloc)),
+        })
+    }
+
+    ghost shaped = { λ _ nodes n _ made is. staying_shaped nodes n made is };
 }
 
 fn is_whole(kind: EdgeKind) -> bool
@@ -422,6 +459,44 @@ fn asked_by_two<R: Threads + Sync>(rt: &R, alloc: Global) -> Result<(bool, bool)
 fn requests_by_node(rt: HostRuntime) -> Result<(), Fail> {
     assert_eq!(rt; asked_by_two(&rt, rt.alloc())?, (true, true));
     Ok(())
+}
+
+/// Whether nodes are these, in this order.
+fn are_nodes(order: &[NodeId], wanted: &[u32]) -> bool {
+    let mut same = order.len() == wanted.len();
+    for (node, want) in order.iter().zip(wanted) {
+        same &= node.0 == *want;
+    }
+    same
+}
+
+/// Whether two nodes that are left as they are stay and ask nothing, and then whether they were visited in order.
+fn left_by_two<R: Threads + Sync>(
+    rt: &R,
+    alloc: Global,
+    workers: u32,
+) -> Result<(bool, bool), StepError>
+    requires { (1 ≤ workers) × (workers ≤ 64) }
+{
+    let g = graph(alloc, &[(7, &[(EdgeKind::Static, 1)]), (8, &[])])?;
+    let Ok(()) = check_valid(alloc, &g) else {
+        return Ok((false, false));
+    };
+    let way = Way::Workers {
+        workers,
+        gate: &OpenGate,
+    };
+    let made = run_idle_by(rt, alloc, &way, &[], 1, g, &Stays)?;
+    Ok((
+        hold(made.graph.nodes.as_slice(), &[7, 8]) && made.asked.as_slice().is_empty(),
+        are_nodes(made.order.as_slice(), &[1, 0]),
+    ))
+}
+
+#[test]
+fn nodes_left_as_they_are(rt: HostRuntime) {
+    assert!(rt; matches!(left_by_two(&rt, rt.alloc(), 1), Ok((true, true))));
+    assert!(rt; matches!(left_by_two(&rt, rt.alloc(), 2), Ok((true, true))));
 }
 
 const HANDED: [Row<'static>; 5] = [
