@@ -12,15 +12,24 @@ use Rattle.pass_core.specs.declared.plan.Plan.{Plan}
 use Rattle.pass_core.specs.declared.plan.PlanEdge.{PlanEdge}
 use Rattle.pass_core.specs.Plans.{in_edges, predecessors}
 use Rattle.pass_core.specs.InEdges.{edges_below, AreStarts}
-use Rattle.pass_core.proofs.InEdgesPlaced.{below_hit, below_miss, below_rises, below_le_length}
 use Rattle.module_graph.specs.declared.direction.Direction.TheVariants.{TopDown}
 use Rattle.module_graph.specs.declared.graph.EdgeKind.{EdgeKind}
 use Rattle.module_graph.specs.declared.graph.EdgeKind.TheVariants.{Static}
 use Rattle.module_graph.specs.declared.graph.Node.{Node}
 use Rattle.module_graph.specs.Planned.{plan_of}
 use Rattle.mutator_rules.specs.Arrivals.{arrivals, all_arrivals}
-use Rattle.mutator_rules.specs.Inside.{AreCuts, HaveRoom, StandFrom, cut}
+use Rattle.mutator_rules.specs.Inside.{AreCuts, HaveRoom, StandFrom, pieces}
 use Rattle.mutator_rules.specs.Laws.{PredecessorsAreArrivals}
+
+below_hit : (e : PlanEdge) (es : List PlanEdge) (n : ℕ) → e.to.0 < n → edges_below (e ∷ es) n ≡ edges_below es n + 1
+below_hit e es n lt = grind (arith, nat_tests)
+
+below_miss : (e : PlanEdge) (es : List PlanEdge) (n : ℕ) → n ≤ e.to.0 → edges_below (e ∷ es) n ≡ edges_below es n
+below_miss e es n le = grind (arith, nat_tests)
+
+within_all : (es : List PlanEdge) (n : ℕ) → edges_below es n ≤ length es
+within_all [] n = omega arith
+within_all (e ∷ es) n = let rest = within_all es n in grind (arith, nat_tests)
 
 below_le : (es : List PlanEdge) (a b : ℕ) → a ≤ b → edges_below es a ≤ edges_below es b
 below_le [] a b le = omega arith
@@ -51,12 +60,12 @@ cuts_of plan starts count st same = record {
       let many = st.many in
       let from = st.begins n (omega arith) in
       let to = st.begins (n + 1) (omega arith) in
-      let rises = below_rises plan.edges n in
+      let rises = below_le plan.edges n (n + 1) (omega arith) in
       omega arith;
   within = λ n lt.
       let many = st.many in
       let to = st.begins (n + 1) (omega arith) in
-      let inside = below_le_length plan.edges (n + 1) in
+      let inside = within_all plan.edges (n + 1) in
       omega arith;
 }
 
@@ -95,7 +104,7 @@ module _ {P : Type 0} (nodes : List (Node P)) (plan : Plan) (starts : List ℕ) 
         let many = count_is in
         let end = ended t lt in
         let from = st.begins (t + 1) (omega arith) in
-        let inside = below_le_length plan.edges (t + 1) in
+        let inside = within_all plan.edges (t + 1) in
         omega arith;
     few = omega arith;
   }
@@ -115,7 +124,7 @@ module _ {P : Type 0} (nodes : List (Node P)) (plan : Plan) (starts : List ℕ) 
         let b = slice_index starts (t + 1) in
         let end = ended t lt in
         let to = st.begins (t + 1) (omega arith) in
-        let inside = below_le_length plan.edges (t + 1) in
+        let inside = within_all plan.edges (t + 1) in
         let rest = length-drop (slice_index starts t) items in
         let size : length (cut_at t) ≡ slice_index starts (t + 1) - slice_index starts t =
         length-take-le (slice_index starts (t + 1) - slice_index starts t) (drop (slice_index starts t) items)
@@ -127,11 +136,11 @@ module _ {P : Type 0} (nodes : List (Node P)) (plan : Plan) (starts : List ℕ) 
         ∙ get_or-drop (slice_index starts t) items i none
         ∙ stand t i none lt (omega arith))
 
-    pub cut_all : cut starts items ≡ all_arrivals nodes
+    pub cut_all : pieces starts items ≡ all_arrivals nodes
     cut_all =
         let many = many_starts in
         let size : length starts - 1 ≡ length nodes = omega arith in
-        fill_by_all (arrivals nodes) (cut starts items) (length nodes) [] (length-map-range_with_len cut_at 0
+        fill_by_all (arrivals nodes) (pieces starts items) (length nodes) [] (length-map-range_with_len cut_at 0
         (length starts - 1) ∙ size)
         (λ k lk. get_or-map-range_with_len cut_at 0 (length starts - 1) k k [] (omega arith) (zero-add k) ∙ cut_is k lk)
 
@@ -151,18 +160,18 @@ module _ {A B : Type 0} (f : A → B) (items : List A) where
       ∙ ap (λ (ls : List (List B)). map f (slice_range items (slice_index starts n) (slice_index starts
       (n + 1))) ∷ ls) (cut_each starts numbers)
 
-  pub cut_map : (starts : List ℕ) → cut starts (map f items) ≡ map (map f) (cut starts items)
+  pub cut_map : (starts : List ℕ) → pieces starts (map f items) ≡ map (map f) (pieces starts items)
   cut_map starts = cut_each starts (range_with_len 0 (length starts - 1))
 
 -- how many lists are cut, and each of them
 module _ {A : Type 0} (starts : List ℕ) (items : List A) where
-  pub cut_many : length (cut starts items) ≡ length starts - 1
+  pub cut_many : length (pieces starts items) ≡ length starts - 1
   cut_many =
       length-map-range_with_len (λ n. slice_range items (slice_index starts n) (slice_index starts (n + 1))) 0
       (length starts - 1)
 
   pub cut_read : (n : ℕ) → n < length starts - 1
-      → get_or (cut starts items) n [] ≡ slice_range items (slice_index starts n) (slice_index starts (n + 1))
+      → get_or (pieces starts items) n [] ≡ slice_range items (slice_index starts n) (slice_index starts (n + 1))
   cut_read n lt =
       get_or-map-range_with_len (λ n. slice_range items (slice_index starts n) (slice_index starts (n + 1))) 0
       (length starts - 1)

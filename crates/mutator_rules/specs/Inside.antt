@@ -5,8 +5,8 @@ use Rattle.module_graph.specs.declared.graph.Node.{Node}
 use Rattle.mutator_rules.specs.Arrivals.{arrivals}
 
 -- The lists into which places cut some items: each begins at a place and ends at the next.
-abbrev pub cut : {A : Type 0} → List ℕ → List A → List (List A)
-cut starts items =
+abbrev pub pieces : {A : Type 0} → List ℕ → List A → List (List A)
+pieces starts items =
     map (λ n. slice_range items (slice_index starts n) (slice_index starts (n + 1)))
     (range_with_len 0 (length starts - 1))
 

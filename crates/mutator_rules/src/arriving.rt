@@ -4,7 +4,7 @@ ghost use Rattle.module_graph.specs.Graphs.{IsNumbered};
 ghost use Rattle.module_graph.specs.Planned.{plan_of};
 ghost use Rattle.pass_core.specs.Plans.{IsPlan};
 ghost use Rattle.mutator_rules.specs.Arrivals.{all_arrivals, arrivals};
-ghost use Rattle.mutator_rules.specs.Inside.{AreCuts, HaveRoom, StandFrom, cut};
+ghost use Rattle.mutator_rules.specs.Inside.{AreCuts, HaveRoom, StandFrom, pieces};
 
 use crate::laws::predecessors_are_arrivals;
 use bp_faults::{NodeId, OutOfMemory};
@@ -25,7 +25,7 @@ pub struct Arriving<T> {
 impl<T> Model for Arriving<T> {
     ghost Value = { List (List T) };
 
-    ghost view = { λ a. cut a.starts.items a.items.items };
+    ghost view = { λ a. pieces a.starts.items a.items.items };
 
     ghost invariant = { λ a. AreCuts a.starts.items (length a.items.items) };
 }
