@@ -27,7 +27,7 @@ pub returns-in_err-put_typed : goal.returns-in_err-put_typed
 returns-in_err-put_typed c =
     let raws = c.args.raws.items in
     let i = length c.loop-raw.yielded in
-    let refused = err_from_is_err_and c.from_residual.result c.from_residual.ensures.1 in
+    let refused = err_from_is_err_and c.from_residual-in_err-put_typed.result c.from_residual-in_err-put_typed.ensures.1 in
     let road = YieldsList-from_vec {s = c.into_iter-raw-iterator.result} raws c.into_iter-raw-iterator.ensures.into_iter_gives.0 (c.into_iter-raw-iterator.ensures.into_iter_gives.1 ∙ c.args.raws.ok.0) in
     let turn = YieldsList-turn road c.loop-raw.yielded c.loop-raw.raw-iterator c.loop-raw.yielded_by c.next.result c.next.new.self c.in-Some.raw c.in-Some.is c.next.ensures.steps in
     rw (refused.1, refused.2)
