@@ -19,8 +19,8 @@ use bp_faults::{NodeId, OutOfMemory};
 use std::alloc::Global;
 use std::sync::Arc;
 
-/// Puts what the sources of some edges made into a list, as far as it is there, and tells whether all of it is. What the
-/// list held before is dropped, and its memory serves again.
+/// Puts what the sources of some edges made into a list, as far as it is there, and tells whether all of it is. What
+/// the list held before is dropped, and its memory serves again.
 fn gather<O: Drop>(
     edges: &[PlanEdge],
     made: &[Option<Arc<O>>],
