@@ -1,20 +1,24 @@
 -- What is answered where all requests are resolved and the edges are counted.
-use Rattle.std.proofs.Common.{◌≡◌, ◌<◌, List, Ok, Result, length, map, ap, sym, ◌∙◌, subst}
+use Rattle.std.proofs.Common.{◌≡◌, ◌<◌, ◌≤◌, List, [], Option, Ok, Err, Result, length, map, ap, refl, sym, ◌∙◌, subst}
+use Rattle.std.specs.Option.{option_map_or}
+use Rattle.std.proofs.lemmas.Option.{slice_get_past}
 use Rattle.std.specs.List.{AllByRecursion}
 use Rattle.bp_faults.specs.declared.fault.Fault.{Fault}
 use Rattle.bp_faults.specs.declared.ids.NodeId.{NodeId}
+use Rattle.bp_faults.specs.declared.limits.TheConstants.{MOST_EDGES}
 use Rattle.bp_faults.specs.Phases.{GoesOn}
 use Rattle.bp_props.specs.declared.module.Module.{Module}
 use Rattle.module_graph.specs.declared.graph.Node.{Node}
-use Rattle.module_graph.specs.Graphs.{edges_of, IsValid}
+use Rattle.module_graph.specs.declared.graph.Edge.{Edge}
+use Rattle.module_graph.specs.Graphs.{all_edges, edges_of, IsValid}
 use Rattle.module_graph.specs.Walks.{NoneReturns}
 use Rattle.mutator_rules.specs.Conditions.{MayRun, places_in}
 use Rattle.mutator_rules.specs.declared.request.Request.{Request}
-use Rattle.reverse_deps.specs.Applied.{AskInside, edges_counted, found_for, AcyclicMeans, CountedMeans, ApplyMeans}
+use Rattle.reverse_deps.specs.Applied.{AskInside, too_many, edges_counted, found_for, AcyclicMeans, CountedMeans, ApplyMeans}
 use Rattle.reverse_deps.specs.Linked.{without_edges, links, linked_nodes}
 use Rattle.reverse_deps.specs.Resolved.{resolved_node}
 use Rattle.reverse_deps.proofs.Each.{all_made, as_many}
-use Rattle.reverse_deps.proofs.Gained.{bare_linked}
+use Rattle.reverse_deps.proofs.Gained.{bare_linked, no_links}
 use Rattle.reverse_deps.proofs.Inside.{LinksInside, links_inside, node_inside}
 use Rattle.reverse_deps.proofs.Made.{may_linked, valid_linked}
 
@@ -50,3 +54,14 @@ module _ {P : Type 0} (mods : List Module) (nodes : List (Node P)) (asked : List
         means_made =
             subst (λ (r : Result (List NodeId) Fault). GoesOn r (λ found. CountedMeans mods (linked_nodes nodes (links asked found))) (Ok made)) (sym found_is)
             (subst (λ (r : Result (Unit {0}) Fault). GoesOn r (AcyclicMeans mods (linked_nodes nodes (links asked found))) (Ok made)) (sym as_linked) (made_is, linked_acyclic))
+
+-- where nothing is asked, a valid graph with few edges stays as it is
+few_counted : {P : Type 0} (nodes : List (Node P)) → length (all_edges nodes) ≤ MOST_EDGES
+    → edges_counted nodes ≡ Ok tt
+few_counted nodes few =
+    ap (λ (o : Option Edge). option_map_or (λ (e : Edge). Err (too_many e)) o (Ok tt)) (slice_get_past (all_edges nodes) MOST_EDGES few)
+
+pub nothing_asked : {P : Type 0} (mods : List Module) (nodes : List (Node P)) → IsValid nodes
+    → length (all_edges nodes) ≤ MOST_EDGES → ApplyMeans mods nodes [] (Ok nodes)
+nothing_asked mods nodes valid few =
+    means_made mods nodes [] [] refl tt nodes (sym (no_links nodes)) (few_counted nodes few) valid.acyclic

@@ -1,6 +1,7 @@
 -- What holds of all requests.
-use Rattle.std.specs.Prelude.{◌≡◌, ◌<◌, ℕ, List, Option, Some, None, Ok, length, map, slice_get, slice_index_or}
+use Rattle.std.specs.Prelude.{◌≡◌, ◌<◌, ◌≤◌, ℕ, List, [], Option, Some, None, Ok, length, map, slice_get, slice_index_or}
 use Rattle.bp_faults.specs.declared.ids.NodeId.{NodeId}
+use Rattle.bp_faults.specs.declared.limits.TheConstants.{MOST_EDGES}
 use Rattle.bp_faults.specs.Phases.{HasOutcome, IsOnce}
 use Rattle.bp_props.specs.declared.module.Module.{Module}
 use Rattle.module_graph.specs.declared.graph.Node.{Node}
@@ -9,7 +10,7 @@ use Rattle.module_graph.specs.declared.variation.Variation.TheVariants.{Empty}
 use Rattle.module_graph.specs.declared.variations.Axis.{Axis}
 use Rattle.module_graph.specs.declared.variations.Axis.TheVariants.{Target, Image, Link}
 use Rattle.module_graph.specs.Axes.{axis_index}
-use Rattle.module_graph.specs.Graphs.{IsValid, NameNodes}
+use Rattle.module_graph.specs.Graphs.{IsValid, NameNodes, all_edges}
 use Rattle.mutator_rules.specs.declared.request.Request.{Request}
 use Rattle.mutator_rules.specs.declared.request.Wanted.{Wanted}
 use Rattle.mutator_rules.specs.Conditions.{MayRun, places_in}
@@ -71,3 +72,9 @@ module _ (P : Type 0) where
       (mods : List Module) (nodes : List (Node P)) (asked : List (NodeId × Request)) (new : List (Node P))
       → IsValid nodes → MayRun (places_in (length mods)) nodes → AskInside (length nodes) asked
       → ApplyMeans mods nodes asked (Ok new) → IsFitStill (length mods) nodes new
+
+  -- Where nothing is asked, a valid graph within the limit on edges stays as it is.
+  abbrev pub NothingAskedKeeps : Type 0
+  NothingAskedKeeps =
+      (mods : List Module) (nodes : List (Node P)) → IsValid nodes → length (all_edges nodes) ≤ MOST_EDGES
+      → ApplyMeans mods nodes [] (Ok nodes)

@@ -1,6 +1,7 @@
 //! What holds of all requests: each law is the contract of a function that does nothing.
 
 ghost use Rattle.reverse_deps.specs.Laws.{OneOutcome, SomeOutcome, AppliedKeeps, NodesForAreLeast};
+ghost use Rattle.reverse_deps.specs.Laws.{NothingAskedKeeps};
 
 use module_graph::laws::{at_most_one_cycle_meaning, one_cycle_meaning, same_means_equal};
 
@@ -29,3 +30,8 @@ pub fn nodes_for_are_least<P>()
 {
     same_means_equal();
 }
+
+/// Where nothing is asked, a valid graph within the limit on edges stays as it is.
+pub fn nothing_asked_keeps<P>()
+    ensures { NothingAskedKeeps P }
+{}
