@@ -11,3 +11,7 @@ pub mod Kept
 pub mod Begun
 pub mod Assembled
 pub mod Telling
+pub mod Counted
+pub mod OwnResults
+pub mod SplitsOfOne
+pub mod IdleVisits

@@ -1,18 +1,23 @@
--- What holds of every split, of every graph with new payloads, and of the limits.
-use Rattle.std.specs.Prelude.{◌≡◌, ◌≢◌, ◌⊎◌, ℕ, List, Contains, Option, length, map}
+-- What holds of every split, of every graph with new payloads, of passes that make what is there, and of the limits.
+use Rattle.std.specs.Prelude.{◌≡◌, ◌≢◌, ◌<◌, ◌⊎◌, ℕ, List, [], ◌∷◌, Contains, Option, Some, length, map, slice_get}
+use Rattle.std.specs.Prelude.{Result, Ok}
 use Rattle.std.specs.List.{AllByRecursion}
+use Rattle.bp_faults.specs.declared.fault.Fault.{Fault}
 use Rattle.bp_faults.specs.declared.ids.ModuleId.{ModuleId}
 use Rattle.bp_faults.specs.declared.place.Place.{Place}
+use Rattle.pass_core.specs.Outcomes.{PassOutcomeMeans}
 use Rattle.module_graph.specs.declared.direction.Direction.{Direction}
+use Rattle.module_graph.specs.declared.graph.Edge.{Edge}
 use Rattle.module_graph.specs.declared.graph.Node.{Node}
+use Rattle.module_graph.specs.declared.variation.Variation.TheVariants.{Empty}
 use Rattle.module_graph.specs.declared.variations.Axis.{Axis}
-use Rattle.module_graph.specs.Graphs.{IsNumbered, IsValid}
+use Rattle.module_graph.specs.Graphs.{IsNumbered, IsValid, NameNodes}
 use Rattle.module_graph.specs.Planned.{plan_of}
 use Rattle.mutator_rules.specs.Conditions.{MayRun, places_in}
 use Rattle.variant_graphs.specs.Limits.{IsWithinLimits, IsFirstNodeBeyond, IsFirstEdgeBeyond}
 use Rattle.variant_graphs.specs.Payloads.{with_payloads}
 use Rattle.variant_graphs.specs.Splits.{IsSplitting}
-use Rattle.variant_graphs.specs.Splitting.{Splitting, split_nodes, HasFreeAxis, StayFree}
+use Rattle.variant_graphs.specs.Splitting.{Splitting, split_nodes, variants_at, HasFreeAxis, StayFree}
 
 -- A graph whose nodes and edges are numbered, and whose nodes are of modules of old nodes: a rule that may be run over
 -- the old nodes may be run over it.
@@ -45,6 +50,27 @@ module _ (P B : Type 0) where
   OtherAxesStayFree =
       (s : Splitting P B) (nodes : List (Node P)) (axis : Axis) → axis ≢ s.axis → HasFreeAxis axis nodes
       → HasFreeAxis axis (split_nodes s nodes)
+
+  -- A split in which each node has one variant, with the variation that is empty and the node's own payload, keeps the
+  -- graph, where each edge leads to the one variant of its target.
+  abbrev pub SplitsOfOneKeep : Type 0
+  SplitsOfOneKeep =
+      (s : Splitting P B) (nodes : List (Node P)) → NameNodes nodes → HasFreeAxis s.axis nodes
+      → length s.variants ≡ length nodes
+      → ((n : ℕ) (x : Node P) → slice_get nodes n ≡ Some x
+      → (b : B) × (variants_at s n ≡ b ∷ []) × (s.variation b ≡ Empty) × (s.payload x b ≡ x.payload))
+      → ((n : ℕ) (e : Edge) → n < length nodes → e.to.0 < length nodes → s.lead n Empty e ≡ Some 0)
+      → split_nodes s nodes ≡ nodes
+
+module _ (P O : Type 0) where
+  -- Where each node's meaning, over what some nodes have, is what the node itself has, a pass makes that of each node.
+  abbrev pub IdlePassesMake : Type 0
+  IdlePassesMake =
+      (dir : Direction) (nodes : List (Node P)) (mean : ℕ → List O → Result O Fault) (own : Node P → O)
+      → IsNumbered nodes → IsValid nodes
+      → ((n : ℕ) (ins : List O) (x : Node P) → slice_get nodes n ≡ Some x
+      → AllByRecursion (Contains (map own nodes)) ins → mean n ins ≡ Ok (own x))
+      → PassOutcomeMeans mean (plan_of dir nodes) (Ok (map own nodes))
 
 module _ (P : Type 0) where
   -- New payloads change neither the number of nodes nor the plans of a graph.

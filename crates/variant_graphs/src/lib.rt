@@ -1,4 +1,4 @@
-//! Graphs of variants: what every mutator shares that splits the nodes of a graph.
+//! Graphs of variants: what every mutator shares that splits the nodes of a graph or keeps it.
 //!
 //! A graph and the variants of its nodes flow in; the graph of the variants flows out, or what is first beyond its
 //! limits. It is measured by `split_nodes` of `specs/Splitting.antt`, which says which variants there are and where
@@ -7,7 +7,9 @@
 
 mod assembly;
 mod error;
+mod idle;
 pub mod laws;
+mod limit_check;
 mod limits;
 mod numbering;
 mod payloads;
@@ -16,6 +18,8 @@ mod splitter;
 
 pub use assembly::split_graph;
 pub use error::StepError;
+pub use idle::visit_idle;
+pub use limit_check::check_limits;
 pub use payloads::{renew, value_of};
 pub use places::{holds, place_in};
 pub use splitter::Splitter;
