@@ -22,15 +22,15 @@ use Rattle.mutator_rules.specs.declared.error.KindError.TheVariants.{At, Nodes, 
 use Rattle.mutator_rules.specs.declared.request.Request.{Request}
 use Rattle.mutator_rules.specs.declared.split.Split.{Split}
 use Rattle.mutator_rules.specs.Outcomes.{AnswersKind}
-use Rattle.variant_graphs.specs.Limits.{IsWithinLimits, IsFirstNodeBeyond, IsFirstEdgeBeyond}
+use Rattle.variant_graphs.specs.Limits.{AnswersLimits, IsWithinLimits, IsFirstNodeBeyond, IsFirstEdgeBeyond}
 use Rattle.variant_graphs.specs.Payloads.{with_payload, with_payloads}
 use Rattle.variant_graphs.specs.Splitting.{Splitting, splitting, variants_at, variant_node, first_of, led_edge}
 use Rattle.mutator_kinds.specs.BottomUp.{chosen, rule_along, variants_of, first_payload, first_payloads, new_nodes, ResultsMean}
-use Rattle.mutator_kinds.specs.Inside.{AnswersLimits, HaveOneEach, has_one_variant, with_first, with_firsts}
+use Rattle.mutator_kinds.specs.Inside.{HaveOneEach, has_one_variant, with_first, with_firsts}
 use Rattle.mutator_kinds.proofs.Firsts.{length-with_firsts}
 use Rattle.mutator_kinds.proofs.Fit.{chosen_within, chosen_none}
 
-chosen_of_one : (v : Variation) (ws : List Variation) → length ws ≡ 1 → chosen v ws ≡ Some 0
+pub chosen_of_one : (v : Variation) (ws : List Variation) → length ws ≡ 1 → chosen v ws ≡ Some 0
 chosen_of_one v ws one = by (chosen v ws) refl
   where
     by : (o : Option ℕ) → chosen v ws ≡ o → chosen v ws ≡ Some 0

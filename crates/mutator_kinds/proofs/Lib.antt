@@ -1,4 +1,3 @@
-pub mod Counted
 pub mod Firsts
 pub mod Arriving
 pub mod Fit
@@ -10,3 +9,4 @@ pub mod OneOutcome
 pub mod SomeOutcome
 pub mod Keeping
 pub mod LeftAlone
+pub mod IdleEnds

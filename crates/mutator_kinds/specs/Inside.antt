@@ -1,32 +1,21 @@
 -- What bodies use on the way to a new graph. No public contract speaks of it.
 use Rattle.std.specs.Prelude.{◌≡◌, ◌≢◌, Bool, true, List, [], ◌∷◌, map, length, nat_eq, slice_set}
-use Rattle.std.specs.Prelude.{Option, Some, None, Result, Ok, Err, ⊤}
+use Rattle.std.specs.Prelude.{Option, Some, None, ⊤}
 use Rattle.std.specs.List.{AllByRecursion, AllPairs, list_all, range_with_len}
 use Rattle.module_graph.specs.declared.graph.EdgeKind.{EdgeKind}
 use Rattle.module_graph.specs.declared.graph.Node.{Node}
 use Rattle.module_graph.specs.declared.variation.Variation.{Variation}
 use Rattle.module_graph.specs.declared.variations.Axis.{Axis}
 use Rattle.module_graph.specs.Axes.{axis_index}
-use Rattle.mutator_rules.specs.declared.error.KindError.{KindError}
-use Rattle.mutator_rules.specs.declared.error.KindError.TheVariants.{At, Nodes, Edges, OutOfMemory}
 use Rattle.mutator_rules.specs.declared.split.Split.{Split}
 use Rattle.mutator_rules.specs.Arrivals.{kinds_into}
 use Rattle.mutator_rules.specs.Shapes.{HasShape}
-use Rattle.variant_graphs.specs.Limits.{IsWithinLimits, IsFirstNodeBeyond, IsFirstEdgeBeyond}
 use Rattle.variant_graphs.specs.Payloads.{with_payload}
 
 module _ {P : Type 0} where
   -- The kinds of the edges that lead to each node, by node number.
   abbrev pub all_kinds : List (Node P) → List (List EdgeKind)
   all_kinds nodes = map (kinds_into nodes) (range_with_len 0 (length nodes))
-
-  -- A graph is within the limits, or what is first beyond them.
-  abbrev pub AnswersLimits : List (Node P) → Result Unit KindError → Type 0
-  AnswersLimits nodes (Ok done) = IsWithinLimits nodes
-  AnswersLimits nodes (Err (At n fault)) = ⊥
-  AnswersLimits nodes (Err (Nodes m)) = IsFirstNodeBeyond nodes m
-  AnswersLimits nodes (Err (Edges p)) = IsFirstEdgeBeyond nodes p
-  AnswersLimits nodes (Err OutOfMemory) = ⊥
 
   -- A node with the payload of the first of some variants, and with its variation where there is an axis.
   abbrev pub with_first : Option Axis → Node P → List (Variation × P) → Node P

@@ -3,4 +3,3 @@ pub mod BottomUp
 pub mod Answers
 pub mod Inside
 pub mod Laws
-pub mod Idle

@@ -8,9 +8,9 @@
 mod asking;
 mod downward;
 mod idle;
+mod idle_down;
 mod in_place;
 pub mod laws;
-mod limits;
 mod owned;
 mod pass_graph;
 mod results;
@@ -19,5 +19,6 @@ mod upward;
 
 pub use downward::{run_top_down, run_top_down_by};
 pub use idle::run_idle_by;
+pub use idle_down::run_top_down_idle_by;
 pub use pass_graph::PassGraph;
 pub use upward::{run_bottom_up, run_bottom_up_by};

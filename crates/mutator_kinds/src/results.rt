@@ -6,7 +6,6 @@ ghost use Rattle.mutator_kinds.specs.BottomUp.{ResultsMean};
 ghost use Rattle.mutator_kinds.specs.Inside.{AreFit, HaveOneEach};
 
 use crate::in_place::{change_in_place, has_one_each};
-use crate::limits::check_limits;
 use crate::owned::variants_of;
 use crate::splitting::SplitVariants;
 use bp_faults::{NodeId, Payload};
@@ -14,7 +13,7 @@ use module_graph::{Axis, Graph};
 use mutator_rules::{KindError, Request, Split};
 use std::alloc::Global;
 use std::sync::Arc;
-use variant_graphs::split_graph;
+use variant_graphs::{check_limits, split_graph};
 
 /// The graph with its nodes changed in place, if it is within the limits, and what the results ask for.
 fn graph_in_place<P: Payload + Drop>(
