@@ -3,14 +3,10 @@ use Rattle.std.proofs.Common.{◌≡◌, subst, sym, map, List, [], ◌∷◌, �
 use Rattle.std.specs.List.{AllByRecursion}
 use Rattle.std.specs.Prelude.{Contains}
 use Rattle.std.specs.Result.{IsErr, IsErrAnd}
-use Rattle.bp_faults.specs.declared.fault.Fault.{Fault}
 use Rattle.bp_faults.specs.declared.ids.ModuleId.{ModuleId}
-use Rattle.bp_faults.specs.declared.ids.NodeId.{NodeId}
 use Rattle.bp_faults.proofs.Lists.{all_contained, all_map}
-use Rattle.pass_core.specs.declared.plan.Plan.{Plan}
 use Rattle.module_graph.specs.declared.graph.Node.{Node}
 use Rattle.mutator_rules.specs.Conditions.{MayRun}
-use Rattle.mutator_rules.specs.Outcomes.{KindOutcome}
 use Rattle.variant_graphs.specs.Laws.{HasModulesOf}
 
 -- an error that is handed on says what it said

@@ -12,3 +12,4 @@ pub mod Steps
 pub mod OneTransition
 pub mod SomeOutcome
 pub mod Keeping
+pub mod LeftAlone

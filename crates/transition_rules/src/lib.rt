@@ -5,6 +5,7 @@
 //! two steps are those of a pipeline.
 #![tactic(auto)]
 
+mod idle;
 pub mod laws;
 mod mutate_pass;
 mod spelled;
@@ -13,6 +14,7 @@ mod variants;
 mod wanting;
 mod wants_pass;
 
+pub use idle::{run_mutate_idle_by, run_wants_idle_by};
 pub use mutate_pass::{MutatedGraph, run_mutate_by};
 pub use transition_pass::{TransitionGraph, run_transition};
 pub use wants_pass::{WantedGraph, run_wants_by};
