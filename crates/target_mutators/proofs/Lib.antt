@@ -1,2 +1,3 @@
 pub mod Differ
 pub mod Appended
+mod Idle

@@ -1,51 +1,27 @@
-ghost use Rattle.std.specs.Prelude.{◌≡◌, ◌++◌, ◌∷◌, [], Some, IfOk, OnOk, cond, length};
+ghost use Rattle.std.specs.Prelude.{◌≡◌, ◌++◌, ◌∷◌, [], Some, IfOk, IsTrue, OnOk, cond, length};
+ghost use Rattle.std.specs.List.{list_all};
 ghost use Rattle.module_graph.specs.declared.variation.Variation.TheVariants.{Empty};
 ghost use Rattle.module_graph.specs.declared.variations.Axis.TheVariants.{Image};
 ghost use Rattle.module_rules.specs.Rules.{splits};
 ghost use Rattle.module_rules.specs.Shaped.{splits_shaped};
-ghost use Rattle.mutator_rules.specs.Conditions.{places_in};
-ghost use Rattle.target_mutators.specs.Images.{is_for_device, is_in_vendor, is_in_recovery, is_in_system};
-ghost use Rattle.target_mutators.specs.Images.{image_variant, device_images, images_of, image_variants};
+ghost use Rattle.mutator_rules.specs.Conditions.{MayRun, places_in};
+ghost use Rattle.mutator_rules.specs.Idle.{LeavesAll};
+ghost use Rattle.target_mutators.specs.Idle.{is_in_system_alone};
+ghost use Rattle.target_mutators.specs.Images.{image_variant, device_images, image_variants};
 
-use crate::arch_split::is_of_class;
 use crate::groups::with_groups;
-use crate::targets::Class;
+use crate::images::{is_for_device, is_in_recovery, is_in_system, is_in_vendor};
+use crate::leaving::are_in_system_alone;
 use bp_faults::{NodeId, OutOfMemory, Payload, Seq};
 use bp_props::{GroupId, Module};
 use module_graph::{Graph, Node, Variation};
-use module_rules::{Record, Seen, add_if_enabled, is_true_or};
+use module_rules::laws::leaves_all_by_each;
+use module_rules::{Record, Seen, add_if_enabled};
 use mutator_rules::{Axis, BottomUp, Config, Split};
 use pass_core::VisitError;
 use std::alloc::Global;
 use std::marker::Model;
 use std::sync::Arc;
-
-fn is_for_device(target: Variation) -> bool
-    ensures { result ≡ is_for_device target }
-{
-    match target {
-        Variation::Target(target) => is_of_class(Class::Device, target),
-        _ => false,
-    }
-}
-
-fn is_in_vendor(own: &Record<'_>) -> bool
-    ensures { result ≡ is_in_vendor own.now }
-{
-    is_true_or(false, &own.given().vendor) || is_true_or(false, &own.given().vendor_available)
-}
-
-fn is_in_recovery(own: &Record<'_>) -> bool
-    ensures { result ≡ is_in_recovery own.now }
-{
-    is_true_or(false, &own.given().recovery) || is_true_or(false, &own.given().recovery_available)
-}
-
-fn is_in_system(own: &Record<'_>) -> bool
-    ensures { result ≡ is_in_system own.now }
-{
-    !(is_true_or(false, &own.given().vendor) || is_true_or(false, &own.given().recovery))
-}
 
 /// Adds the module as it is.
 fn add_own<'m>(
@@ -155,6 +131,16 @@ impl<'a> ImageSplit<'a> {
         ensures { result ≡ mods.now }
     {
         ImageSplit { mods }
+    }
+
+    /// Whether the rule leaves every node of a graph as it is: each that is for a device is in the system's image alone.
+    pub fn leaves_all(&self, g: &Graph<Record<'a>>) -> bool
+        requires { MayRun (places_in (length self.now)) g.now.nodes }
+        ensures alone { IsTrue result → LeavesAll (splits image_variants self.now) g.now.nodes }
+        ensures exact { result ≡ list_all is_in_system_alone g.now.nodes }
+    {
+        leaves_all_by_each();
+        are_in_system_alone(g.nodes.as_slice())
     }
 }
 

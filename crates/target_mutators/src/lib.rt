@@ -8,7 +8,9 @@
 mod arch_split;
 mod groups;
 mod image_split;
+mod images;
 pub mod laws;
+mod leaving;
 mod targets;
 
 pub use arch_split::ArchSplit;
