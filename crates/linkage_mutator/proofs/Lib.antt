@@ -1,3 +1,4 @@
 mod KindNamed
 mod Differing
 mod Idle
+mod BuiltOnce

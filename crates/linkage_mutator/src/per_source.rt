@@ -1,15 +1,20 @@
-ghost use Rattle.std.specs.Prelude.{◌≡◌, ◌∷◌, [], Some, IfOk, length};
+ghost use Rattle.std.specs.Prelude.{◌≡◌, ◌∷◌, [], Some, IfOk, IsTrue, length};
+ghost use Rattle.std.specs.List.{list_all};
+ghost use Rattle.linkage_mutator.specs.Idle.{is_built_once};
 ghost use Rattle.linkage_mutator.specs.Sources.{with_sources, variant_of_source, each_source, is_split};
 ghost use Rattle.linkage_mutator.specs.Sources.{source_variants};
 ghost use Rattle.module_graph.specs.declared.variations.Axis.TheVariants.{PerSource as SourceAxis};
 ghost use Rattle.module_graph.specs.Numbered.{by_number};
 ghost use Rattle.module_rules.specs.Rules.{splits};
 ghost use Rattle.module_rules.specs.Shaped.{splits_shaped};
-ghost use Rattle.mutator_rules.specs.Conditions.{places_in};
+ghost use Rattle.mutator_rules.specs.Conditions.{MayRun, places_in};
+ghost use Rattle.mutator_rules.specs.Idle.{LeavesAll};
 
+use crate::leaving::are_built_once;
 use bp_faults::{NodeId, OutOfMemory, Payload, Seq};
 use bp_props::{Given, Module, ModuleKind, Props, Source};
 use module_graph::{Graph, Node, Variation};
+use module_rules::laws::leaves_all_by_each;
 use module_rules::{Record, Seen, is_true_or};
 use mutator_rules::{Axis, BottomUp, Config, Split};
 use pass_core::VisitError;
@@ -38,6 +43,16 @@ impl<'a> PerSource<'a> {
         ensures { result ≡ mods.now }
     {
         PerSource { mods }
+    }
+
+    /// Whether the rule leaves every node of a graph as it is: no node is to be built for each of its sources.
+    pub fn leaves_all(&self, g: &Graph<Record<'a>>) -> bool
+        requires { MayRun (places_in (length self.now)) g.now.nodes }
+        ensures alone { IsTrue result → LeavesAll (splits source_variants self.now) g.now.nodes }
+        ensures exact { result ≡ list_all is_built_once g.now.nodes }
+    {
+        leaves_all_by_each();
+        are_built_once(g.nodes.as_slice())
     }
 }
 

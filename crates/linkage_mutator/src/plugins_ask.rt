@@ -1,4 +1,6 @@
 ghost use Rattle.std.specs.Prelude.{◌≡◌, map, None, IfOk, IsTrue, length, option_copied};
+ghost use Rattle.std.specs.List.{list_all};
+ghost use Rattle.linkage_mutator.specs.Idle.{is_no_plugin};
 ghost use Rattle.linkage_mutator.specs.Plugins.{kind_named, link_of_host, plugin_request, is_shared, plugins_asked};
 ghost use Rattle.linkage_mutator.specs.Inside.{kind_at};
 ghost use Rattle.linkage_mutator.specs.Plugins.{IsNameTable, IsNameTableIfSome};
@@ -67,7 +69,8 @@ impl<'a, 't> PluginsAsk<'a, 't> {
     /// Whether the rule leaves every node of a graph as it is: no node is a plugin.
     pub fn leaves_all(&self, g: &Graph<Record<'a>>) -> bool
         requires { MayRun (places_in (length self.now)) g.now.nodes }
-        ensures { IsTrue result → LeavesAll (asks (plugins_asked self.now) self.now) g.now.nodes }
+        ensures alone { IsTrue result → LeavesAll (asks (plugins_asked self.now) self.now) g.now.nodes }
+        ensures exact { result ≡ list_all is_no_plugin g.now.nodes }
     {
         leaves_all_by_each();
         are_no_plugins(g.nodes.as_slice())

@@ -6,8 +6,8 @@ use Rattle.linkage_mutator.specs.Idle.{is_no_plugin}
 use Rattle.linkage_mutator.proofs.Idle.{leave_plugins}
 use Rattle.linkage_mutator.proofs.plugins_ask.PluginsAsk.leaves_all.Goals as goal
 
-pub returns : goal.returns
-returns c =
+pub returns-clause-alone : goal.returns-clause-alone
+returns-clause-alone c =
     λ is.
     let nodes = c.args.g.now.nodes in
     c.leaves_all_by_each.ensures (λ m x ins. Ok (one_variant x.payload (plugins_asked c.args.self.now m x))) c.args.self.now nodes
