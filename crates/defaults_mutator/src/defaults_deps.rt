@@ -1,5 +1,7 @@
 ghost use Rattle.std.specs.Prelude.{◌≡◌, None, IfOk, IsTrue, length};
+ghost use Rattle.std.specs.List.{list_all};
 ghost use Rattle.defaults_mutator.specs.Asked.{defaults_asked};
+ghost use Rattle.defaults_mutator.specs.Idle.{names_no_defaults};
 ghost use Rattle.module_rules.specs.Rules.{asks};
 ghost use Rattle.module_rules.specs.Shaped.{asks_shaped};
 ghost use Rattle.mutator_rules.specs.Conditions.{MayRun, places_in};
@@ -44,7 +46,8 @@ impl<'a> DefaultsDeps<'a> {
     /// Whether the rule leaves every node of a graph as it is: no node names defaults.
     pub fn leaves_all(&self, g: &Graph<Record<'a>>) -> bool
         requires { MayRun (places_in (length self.now)) g.now.nodes }
-        ensures { IsTrue result → LeavesAll (asks defaults_asked self.now) g.now.nodes }
+        ensures alone { IsTrue result → LeavesAll (asks defaults_asked self.now) g.now.nodes }
+        ensures exact { result ≡ list_all names_no_defaults g.now.nodes }
     {
         leaves_all_by_each();
         name_no_defaults(g.nodes.as_slice())

@@ -1,5 +1,7 @@
 ghost use Rattle.std.specs.Prelude.{◌≡◌, None, IfOk, IsTrue, length, map};
 ghost use Rattle.std.specs.Arc.{arc_value};
+ghost use Rattle.std.specs.List.{list_all};
+ghost use Rattle.defaults_mutator.specs.Idle.{has_no_edges};
 ghost use Rattle.defaults_mutator.specs.Merged.{over_defaults, defaults_merged};
 ghost use Rattle.module_rules.specs.Rules.{renews};
 ghost use Rattle.module_rules.specs.Shaped.{renews_shaped};
@@ -45,7 +47,8 @@ impl<'a> DefaultsMerge<'a> {
     /// Whether the rule leaves every node of a graph as it is: it does where no node has edges, and says no else.
     pub fn leaves_all(&self, g: &Graph<Record<'a>>) -> bool
         requires { MayRun (places_in (length self.now)) g.now.nodes }
-        ensures { IsTrue result → LeavesAll (renews defaults_merged self.now) g.now.nodes }
+        ensures alone { IsTrue result → LeavesAll (renews defaults_merged self.now) g.now.nodes }
+        ensures exact { result ≡ list_all has_no_edges g.now.nodes }
     {
         leaves_all_by_each();
         have_no_edges(g.nodes.as_slice())

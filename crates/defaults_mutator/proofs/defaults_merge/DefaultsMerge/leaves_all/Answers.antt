@@ -6,8 +6,8 @@ use Rattle.defaults_mutator.specs.Idle.{has_no_edges}
 use Rattle.defaults_mutator.proofs.Idle.{leave_merged}
 use Rattle.defaults_mutator.proofs.defaults_merge.DefaultsMerge.leaves_all.Goals as goal
 
-pub returns : goal.returns
-returns c =
+pub returns-clause-alone : goal.returns-clause-alone
+returns-clause-alone c =
     λ is.
     let nodes = c.args.g.now.nodes in
     c.leaves_all_by_each.ensures (λ m x ins. Ok (one_variant (defaults_merged m x ins) [])) c.args.self.now nodes
