@@ -1,4 +1,5 @@
 pub mod Dependencies
+pub mod Idle
 pub mod Info
 pub mod Inside
 pub mod Kept

@@ -6,10 +6,12 @@
 //! `specs/SdkLevel.antt` and by `sanitize_meant` of `specs/Sanitize.antt`.
 #![tactic(auto)]
 
+mod asan;
 mod dependency;
 mod exports;
 mod info;
 pub mod laws;
+mod leaving;
 mod nodes;
 mod notes;
 mod paths;

@@ -1,15 +1,20 @@
-ghost use Rattle.std.specs.Prelude.{◌≡◌, ◌&&◌, IfOk, OnOk, map, length};
+ghost use Rattle.std.specs.Prelude.{◌≡◌, ◌&&◌, IfOk, IsTrue, OnOk, map, length};
 ghost use Rattle.std.specs.Arc.{arc_value};
+ghost use Rattle.std.specs.List.{list_all};
 ghost use Rattle.info_mutators.specs.Dependencies.{is_archived};
 ghost use Rattle.mutator_rules.specs.Conditions.{places_in};
-ghost use Rattle.info_mutators.specs.Sanitize.{is_never, is_on, is_asan, asan_or, outgoing_of, incoming_of};
+ghost use Rattle.mutator_rules.specs.Idle.{KeepsPayloads, WantsNothing};
+ghost use Rattle.info_mutators.specs.Idle.{is_off, is_unsanitized};
+ghost use Rattle.info_mutators.specs.Sanitize.{outgoing_of, incoming_of};
 ghost use Rattle.info_mutators.specs.Sanitize.{with_flag_if, has_sanitized, with_sanitizer, sanitize_meant};
 
+use crate::asan::{asan_or, is_asan, is_never};
 use crate::dependency::is_archived;
+use crate::leaving::{are_off, are_unsanitized};
 use bp_faults::{NodeId, OutOfMemory, Payload, Text};
 use bp_props::{Listed, Module, Props};
 use module_graph::{Axis, Edge, EdgeKind, Graph, Variation};
-use module_rules::{Record, Seen, is_true_or};
+use module_rules::{Record, Seen};
 use mutator_rules::{Config, Transition};
 use pass_core::VisitError;
 use std::alloc::Global;
@@ -18,30 +23,6 @@ use std::sync::Arc;
 
 /// What the compiler and the linker are told.
 const FLAG: &str = "-fsanitize=address";
-
-fn is_never(own: &Record<'_>) -> bool
-    ensures { result ≡ is_never own.now }
-{
-    is_true_or(false, &own.given().never)
-}
-
-fn is_on(own: &Record<'_>) -> bool
-    ensures { result ≡ is_on own.now }
-{
-    is_true_or(false, &own.given().address) && !is_never(own)
-}
-
-fn is_asan(variation: Variation) -> bool
-    ensures { result ≡ is_asan variation }
-{
-    matches!(variation, Variation::Asan)
-}
-
-fn asan_or(other: Variation, own: &Record<'_>) -> Variation
-    ensures { result ≡ asan_or other own.now }
-{
-    if is_on(own) { Variation::Asan } else { other }
-}
 
 fn add_flag_if(alloc: Global, list: &mut Listed<Text>, needed: bool) -> Result<(), OutOfMemory>
     ensures { OnOk result (list.new ≡ with_flag_if needed list.old) }
@@ -112,6 +93,22 @@ impl<'a> Sanitize<'a> {
         ensures { result ≡ mods.now }
     {
         Sanitize { mods }
+    }
+
+    /// Whether nothing is wanted of any node of a graph but the variation that is empty: no module is on.
+    pub fn wants_nothing(&self, g: &Graph<Record<'a>>) -> bool
+        ensures nothing { IsTrue result → WantsNothing sanitize_meant g.now.nodes }
+        ensures exact { result ≡ list_all is_off g.now.nodes }
+    {
+        are_off(g.nodes.as_slice())
+    }
+
+    /// Whether the records of all nodes of a graph are kept: no node has code of the sanitizer in it.
+    pub fn keeps_payloads(&self, g: &Graph<Record<'a>>) -> bool
+        ensures keeps { IsTrue result → KeepsPayloads (sanitize_meant.mutate g.now.nodes) g.now.nodes }
+        ensures exact { result ≡ list_all is_unsanitized g.now.nodes }
+    {
+        are_unsanitized(g.nodes.as_slice())
     }
 }
 

@@ -1,9 +1,14 @@
-ghost use Rattle.std.specs.Prelude.{◌≡◌, Some, map, length, if◌then◌else◌};
+ghost use Rattle.std.specs.Prelude.{◌≡◌, IsTrue, Some, map, length, if◌then◌else◌};
 ghost use Rattle.std.specs.Arc.{arc_value};
+ghost use Rattle.std.specs.List.{list_all};
+ghost use Rattle.mutator_rules.specs.Arrivals.{kinds_into};
 ghost use Rattle.mutator_rules.specs.Conditions.{places_in};
+ghost use Rattle.mutator_rules.specs.Idle.{KeepsPayloads};
+ghost use Rattle.info_mutators.specs.Idle.{has_no_level};
 ghost use Rattle.info_mutators.specs.SdkLevel.{is_level_handed, lesser, least, handed_levels, own_level_or};
 ghost use Rattle.info_mutators.specs.SdkLevel.{level_meant};
 
+use crate::leaving::{NO_LEVEL, have_no_level};
 use bp_faults::NodeId;
 use bp_props::{Given, Module};
 use module_graph::{EdgeKind, Graph};
@@ -13,9 +18,6 @@ use pass_core::VisitError;
 use std::alloc::Global;
 use std::marker::Model;
 use std::sync::Arc;
-
-/// The level of a node that no level is handed to.
-const NO_LEVEL: u32 = 10_000;
 
 fn is_level_handed(kind: EdgeKind) -> bool
     ensures { result ≡ is_level_handed kind }
@@ -85,6 +87,15 @@ impl<'a> SdkLevel<'a> {
         ensures { result ≡ mods.now }
     {
         SdkLevel { mods }
+    }
+
+    /// Whether the records of all nodes of a graph are kept: no node sets a level, and none has one.
+    pub fn keeps_payloads(&self, g: &Graph<Record<'a>>) -> bool
+        ensures keeps { IsTrue result → KeepsPayloads
+            (λ n ins. level_meant g.now.nodes n (kinds_into g.now.nodes n) ins) g.now.nodes }
+        ensures exact { result ≡ list_all has_no_level g.now.nodes }
+    {
+        have_no_level(g.nodes.as_slice())
     }
 }
 
