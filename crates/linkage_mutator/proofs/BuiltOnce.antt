@@ -1,5 +1,5 @@
 -- Nodes that the rule `per_src` leaves as they are.
-use Rattle.std.proofs.Common.{◌≡◌, ◌∙◌, ap, refl, Bool, true, false, not, List, [], ◌∷◌, Option, Result, Ok}
+use Rattle.std.proofs.Common.{◌≡◌, ap, refl, Bool, true, false, not, List, [], ◌∷◌, Option, Result, Ok}
 use Rattle.std.specs.List.{AllByRecursion, list_all}
 use Rattle.std.proofs.lemmas.Bool.{and_parts}
 use Rattle.bp_faults.specs.declared.fault.Fault.{Fault}

@@ -133,7 +133,7 @@ impl<'a> ImageSplit<'a> {
         ImageSplit { mods }
     }
 
-    /// Whether the rule leaves every node of a graph as it is: each that is for a device is in the system's image alone.
+    /// Whether the rule leaves every node of a graph as it is: each for a device is in the system's own image alone.
     pub fn leaves_all(&self, g: &Graph<Record<'a>>) -> bool
         requires { MayRun (places_in (length self.now)) g.now.nodes }
         ensures alone { IsTrue result → LeavesAll (splits image_variants self.now) g.now.nodes }
