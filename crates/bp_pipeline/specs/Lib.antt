@@ -8,7 +8,6 @@ pub mod Endings
 pub mod Generated
 pub mod Replays
 pub mod Shown
-pub mod Idle
 pub mod Inside
 pub mod Ready
 pub mod Runs

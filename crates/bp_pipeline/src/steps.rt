@@ -5,10 +5,10 @@ ghost use Rattle.module_graph.specs.declared.variations.Axis.TheVariants.{PerSou
 ghost use Rattle.module_graph.specs.declared.variations.Axis.TheVariants.{Sanitize as SanitizeAxis};
 ghost use Rattle.module_graph.specs.Planned.{plan_of};
 ghost use Rattle.mutator_rules.specs.Conditions.{places_in};
+ghost use Rattle.mutator_rules.specs.Idle.{LeavesAll};
 ghost use Rattle.mutator_kinds.specs.BottomUp.{BottomUpMeans, IsFreeFor, DifferFor};
 ghost use Rattle.variant_graphs.specs.Splitting.{HasFreeAxis, StayFree};
 ghost use Rattle.bp_pipeline.specs.Inside.{IsUsable, AreFreeAt};
-ghost use Rattle.bp_pipeline.specs.Idle.{IsIdleRule};
 ghost use Rattle.bp_pipeline.specs.Limits.{ComesTo};
 ghost use Rattle.bp_pipeline.specs.Passes.{AskMeans, MakeMeans, pass_at};
 ghost use Rattle.bp_pipeline.specs.Runs.{MayStep, TellsPass, TellsStep};
@@ -21,7 +21,7 @@ ghost use Rattle.bp_pipeline.specs.declared.passes.Pass.TheVariants.{HandLevels}
 use crate::journal::note;
 use crate::limits::refusal_of;
 use crate::passes::{Pass, pass_at};
-use crate::running::run_by;
+use crate::running::{run_by, run_down, run_mutate, run_wants};
 use crate::workshop::Workshop;
 use bp_faults::{NodeId, Payload, Refusal};
 use bp_ports::Gate;
@@ -33,7 +33,7 @@ use linkage_mutator::laws::{link_variants_differ, source_variants_differ};
 use linkage_mutator::{DepsAsk, LinkSplit, PerSource, PluginsAsk, module_names};
 use module_graph::Graph;
 use module_rules::Record;
-use mutator_kinds::{PassGraph, run_top_down_by};
+use mutator_kinds::PassGraph;
 use mutator_rules::{BottomUp, Split};
 use pass_core::laws::outs_are_many;
 use reverse_deps::apply;
@@ -41,7 +41,6 @@ use std::alloc::Global;
 use std::thread::Threads;
 use target_mutators::laws::{image_variants_differ, target_variants_differ};
 use target_mutators::{ArchSplit, ImageSplit};
-use transition_rules::{run_mutate_by, run_wants_by};
 
 /// A pass of a rule from the bottom up. Where it is idle, the rule leaves every node as it is.
 fn run_rule<R, P, M, G>(
@@ -63,7 +62,7 @@ where
     requires free { IsFreeFor (M.splits_along rule.now) graph.nodes }
     requires differ { DifferFor (M.meaning rule.now) graph.nodes (M.splits_along rule.now) }
     requires accepts { (m : ℕ) → M.accepts rule.now m ↔ places_in (length shop.now.mods.now) m }
-    requires alone { IsTrue idle → IsIdleRule (M.splits_along rule.now) (M.meaning rule.now) graph.nodes }
+    requires alone { IsTrue idle → LeavesAll (M.meaning rule.now) graph.nodes }
     ensures tells { TellsPass shop.now.way (λ made. (made.graph.nodes, made.asked))
         (ComesTo shop.now.mods.now (BottomUpMeans (M.meaning rule.now) graph.nodes (M.splits_along rule.now)))
         (plan_of Upwards graph.nodes) pass journal.old.items journal.new.items result }
@@ -107,7 +106,7 @@ where
     requires may { MayStep shop.now journal.old.items graph.nodes }
     requires along { M.splits_along rule.now ≡ None }
     requires accepts { (m : ℕ) → M.accepts rule.now m ↔ places_in (length shop.now.mods.now) m }
-    requires alone { IsTrue idle → IsIdleRule (M.splits_along rule.now) (M.meaning rule.now) graph.nodes }
+    requires alone { IsTrue idle → LeavesAll (M.meaning rule.now) graph.nodes }
     ensures tells { TellsPass shop.now.way (λ g. g.nodes)
         (AskMeans shop.now.mods.now (M.meaning rule.now) graph.nodes)
         (plan_of Upwards graph.nodes) pass journal.old.items journal.new.items result }
@@ -140,7 +139,7 @@ where
     requires free { IsFreeFor (M.splits_along rule.now) graph.nodes }
     requires differ { DifferFor (M.meaning rule.now) graph.nodes (M.splits_along rule.now) }
     requires accepts { (m : ℕ) → M.accepts rule.now m ↔ places_in (length shop.now.mods.now) m }
-    requires alone { IsTrue idle → IsIdleRule (M.splits_along rule.now) (M.meaning rule.now) graph.nodes }
+    requires alone { IsTrue idle → LeavesAll (M.meaning rule.now) graph.nodes }
     ensures tells { TellsPass shop.now.way (λ g. g.nodes)
         (MakeMeans shop.now.mods.now (M.splits_along rule.now) (M.meaning rule.now) graph.nodes)
         (plan_of Upwards graph.nodes) pass journal.old.items journal.new.items result }
@@ -251,7 +250,8 @@ fn split_images<'m, R: Threads + Sync, G: Gate + Sync>(
 {
     image_variants_differ();
     let rule = ImageSplit::new(shop.mods, shop.config);
-    make(rt, alloc, shop, journal, pass, graph, &rule, false)
+    let idle = rule.leaves_all(&graph);
+    make(rt, alloc, shop, journal, pass, graph, &rule, idle)
 }
 
 fn split_links<'m, R: Threads + Sync, G: Gate + Sync>(
@@ -289,7 +289,8 @@ fn split_sources<'m, R: Threads + Sync, G: Gate + Sync>(
 {
     source_variants_differ();
     let rule = PerSource::new(shop.mods, shop.config);
-    make(rt, alloc, shop, journal, pass, graph, &rule, false)
+    let idle = rule.leaves_all(&graph);
+    make(rt, alloc, shop, journal, pass, graph, &rule, idle)
 }
 
 /// The first pass of a mutator with transitions: each node gets the variants that are wanted of it.
@@ -310,7 +311,17 @@ fn split_sanitized<'m, R: Threads + Sync, G: Gate + Sync>(
 {
     own_variations_differ();
     let rule = Sanitize::new(shop.mods, shop.config);
-    match run_wants_by(rt, alloc, &shop.way, journal.as_slice(), pass, graph, &rule) {
+    let idle = rule.wants_nothing(&graph);
+    match run_wants(
+        rt,
+        alloc,
+        &shop.way,
+        journal.as_slice(),
+        pass,
+        graph,
+        &rule,
+        idle,
+    ) {
         Ok(made) => {
             note(journal, pass, made.order.as_slice())?;
             Ok(made.graph)
@@ -334,7 +345,17 @@ fn mark_sanitized<'m, R: Threads + Sync, G: Gate + Sync>(
     ensures free { IfOk result (λ g. StayFree None graph.entry.nodes g.nodes) }
 {
     let rule = Sanitize::new(shop.mods, shop.config);
-    match run_mutate_by(rt, alloc, &shop.way, journal.as_slice(), pass, graph, &rule) {
+    let idle = rule.keeps_payloads(&graph);
+    match run_mutate(
+        rt,
+        alloc,
+        &shop.way,
+        journal.as_slice(),
+        pass,
+        graph,
+        &rule,
+        idle,
+    ) {
         Ok(made) => {
             note(journal, pass, made.order.as_slice())?;
             Ok(made.graph)
@@ -357,7 +378,17 @@ fn hand_levels<'m, R: Threads + Sync, G: Gate + Sync>(
     ensures free { IfOk result (λ g. StayFree None graph.entry.nodes g.nodes) }
 {
     let rule = SdkLevel::new(shop.mods, shop.config);
-    match run_top_down_by(rt, alloc, &shop.way, journal.as_slice(), pass, graph, &rule) {
+    let idle = rule.keeps_payloads(&graph);
+    match run_down(
+        rt,
+        alloc,
+        &shop.way,
+        journal.as_slice(),
+        pass,
+        graph,
+        &rule,
+        idle,
+    ) {
         Ok(made) => {
             note(journal, pass, made.order.as_slice())?;
             Ok(made.graph)

@@ -1,4 +1,4 @@
-use Rattle.std.proofs.Common.{List, length, refl, subst, sym}
+use Rattle.std.proofs.Common.{List, length, subst, sym}
 use Rattle.bp_props.specs.declared.module.Module.{Module}
 use Rattle.bp_props.specs.declared.props.Props.{Props}
 use Rattle.module_graph.specs.declared.direction.Direction.TheVariants.{BottomUp}
@@ -18,8 +18,7 @@ leaves_all-idle-requires g c =
     c.requires.may.usable.may
 
 pub ask-requires-clause-alone : goal.ask-requires-clause-alone
-ask-requires-clause-alone g c =
-    λ κs outlives idle. record { unsplit = refl; alone = c.leaves_all-idle.ensures idle }
+ask-requires-clause-alone g c = λ κs outlives idle. c.leaves_all-idle.ensures.alone idle
 
 pub returns-clause-tells : goal.returns-clause-tells
 returns-clause-tells g c =
