@@ -5,6 +5,7 @@ use Rattle.std.proofs.Common.{Result, Ok, Err, refl, ap, sym, subst, arith}
 use Rattle.std.specs.Prelude.{slice_get, IfOk}
 use Rattle.std.specs.List.{AllByRecursion}
 use Rattle.bp_faults.specs.declared.ids.NodeId.{NodeId}
+use Rattle.bp_faults.specs.declared.limits.TheConstants.{MOST_EDGES}
 use Rattle.bp_faults.specs.declared.refusal.Refusal.{Refusal}
 use Rattle.bp_faults.proofs.Lists.{all_map}
 use Rattle.bp_props.specs.declared.module.Module.{Module}
@@ -17,6 +18,7 @@ use Rattle.module_graph.specs.declared.variation.Variation.{Variation}
 use Rattle.module_graph.specs.declared.variations.Axis.{Axis}
 use Rattle.module_graph.specs.declared.variations.Axis.TheVariants.{Target, Image, Link, PerSource, Sanitize}
 use Rattle.module_graph.specs.Axes.{axis_index}
+use Rattle.module_graph.specs.Graphs.{all_edges}
 use Rattle.module_graph.specs.Numbered.{by_number}
 use Rattle.module_graph.specs.Planned.{plan_of}
 use Rattle.mutator_rules.specs.declared.request.Request.{Request}
@@ -88,6 +90,23 @@ module _ {P : Type 0} (many : OutsAreMany (Split P)) (mods : List Module) (answe
       by (FaultAt n fault) means is = absurd (cc)
       by (NodesBeyond m) means is = absurd (cc)
       by (EdgesBeyond at) means is = absurd (cc)
+
+-- a graph that a pass comes to is within the limit on edges
+pub few_asked : {P : Type 0} (mods : List Module) (answer : AnswerOver P) (nodes : List (Node P)) (made : Asked P)
+    → ComesTo mods (BottomUpMeans answer nodes None) (Ok made) → length (all_edges made.0) ≤ MOST_EDGES
+few_asked {P} mods answer nodes made (outcome, means, is) = by outcome means is
+  where
+    few : (other : Asked P) → BottomUpMeans answer nodes None (Made other) → length (all_edges other.0) ≤ MOST_EDGES
+    few other (outs, splits, results) =
+        subst (λ (xs : List (Node P)). length (all_edges xs) ≤ MOST_EDGES) (sym results.1) results.0.few_edges
+
+    by : (outcome : KindOutcome (Asked P)) → BottomUpMeans answer nodes None outcome
+        → graph_or_fault mods outcome ≡ Ok made → length (all_edges made.0) ≤ MOST_EDGES
+    by (Made other) means is = let same : other ≡ made = cc in
+        subst (λ (m : Asked P). length (all_edges m.0) ≤ MOST_EDGES) same (few other means)
+    by (FaultAt n fault) means is = absurd (cc)
+    by (NodesBeyond m) means is = absurd (cc)
+    by (EdgesBeyond at) means is = absurd (cc)
 
 -- nodes that are the same but for their edges have the same free axes
 bare_free : {P : Type 0} (axis : Axis) (xs ys : List (Node P)) → map without_edges xs ≡ map without_edges ys → HasFreeAxis axis ys

@@ -6,6 +6,7 @@
 #![tactic(auto)]
 
 mod actions;
+mod asking;
 mod course;
 mod first;
 mod generated;

@@ -18,6 +18,7 @@ ghost use Rattle.bp_pipeline.specs.declared.passes.Pass.TheVariants.{SplitTarget
 ghost use Rattle.bp_pipeline.specs.declared.passes.Pass.TheVariants.{SplitSources, SplitSanitized, MarkSanitized};
 ghost use Rattle.bp_pipeline.specs.declared.passes.Pass.TheVariants.{HandLevels};
 
+use crate::asking::with_asked;
 use crate::journal::note;
 use crate::limits::refusal_of;
 use crate::passes::{Pass, pass_at};
@@ -36,7 +37,6 @@ use module_rules::Record;
 use mutator_kinds::PassGraph;
 use mutator_rules::{BottomUp, Split};
 use pass_core::laws::outs_are_many;
-use reverse_deps::apply;
 use std::alloc::Global;
 use std::thread::Threads;
 use target_mutators::laws::{image_variants_differ, target_variants_differ};
@@ -116,7 +116,7 @@ where
     // A law: so each asking node is a node.
     outs_are_many::<Split<P>>();
     let made = run_rule(rt, alloc, shop, journal, pass, graph, rule, idle)?;
-    apply(alloc, shop.mods, made.graph, made.asked.as_slice())
+    with_asked(alloc, shop.mods, made.graph, made.asked.as_slice())
 }
 
 /// A mutator that asks nothing.

@@ -15,7 +15,7 @@ use Rattle.reverse_deps.specs.Applied.{ApplyMeans, AskInside}
 use Rattle.bp_pipeline.specs.Limits.{ComesTo}
 use Rattle.bp_pipeline.specs.Passes.{AnswerOver}
 use Rattle.bp_pipeline.specs.Runs.{TellsPass}
-use Rattle.bp_pipeline.proofs.Keeping.{asked_inside, applied_free}
+use Rattle.bp_pipeline.proofs.Keeping.{asked_inside, applied_free, few_asked}
 use Rattle.bp_pipeline.proofs.Passing.{first_refuses, next_tells}
 use Rattle.bp_pipeline.proofs.steps.ask.Goals as goal
 
@@ -43,8 +43,8 @@ returns-in_err-made-clause-tells g c =
     c.run_rule.new.journal.items c.in_err-made.field-0.0 c.from_residual.result c.from_residual.ensures.1
     here
 
-pub apply-requires-clause-asking : goal.apply-requires-clause-asking
-apply-requires-clause-asking g c =
+pub with_asked-requires-clause-asking : goal.with_asked-requires-clause-asking
+with_asked-requires-clause-asking g c =
     let mods = c.args.shop.now.mods.now in
     let answer = g.M.BottomUp.meaning c.args.rule.now in
     let made = c.in_ok-made.made in
@@ -53,6 +53,15 @@ apply-requires-clause-asking g c =
     c.requires.along c.in_ok-made.ensures.tells.1 in
     subst (AskInside (length made.graph.nodes)) (sym c.as_slice.ensures)
     (asked_inside c.outs_are_many.ensures mods answer c.args.graph.nodes (made.graph.nodes, made.asked) here)
+
+pub with_asked-requires-clause-edges : goal.with_asked-requires-clause-edges
+with_asked-requires-clause-edges g c =
+    let mods = c.args.shop.now.mods.now in
+    let answer = g.M.BottomUp.meaning c.args.rule.now in
+    let made = c.in_ok-made.made in
+    few_asked mods answer c.args.graph.nodes (made.graph.nodes, made.asked)
+    (subst (λ along. First mods answer c.args.graph.nodes along (Ok (made.graph.nodes, made.asked)))
+    c.requires.along c.in_ok-made.ensures.tells.1)
 
 pub returns-clause-tells : goal.returns-clause-tells
 returns-clause-tells g c =
@@ -66,11 +75,11 @@ returns-clause-tells g c =
     next_tells c.args.shop.now.way (plan_of BottomUp nodes) c.args.pass c.args.journal.now.items
     {T = PassGraph _} {U = Graph _} {A = Asked _} (λ made. (made.graph.nodes, made.asked)) (λ g. g.nodes)
     (First mods answer nodes None) (λ made. ApplyMeans mods made.0 made.1)
-    c.run_rule.new.journal.items made (c.in_ok-made.ensures.tells.0, here) c.apply.result
-    (subst (λ asked. Tells {T = Graph _} (λ g. g.nodes) (ApplyMeans mods made.graph.nodes asked) c.apply.result)
-    c.as_slice.ensures c.apply.ensures.means)
+    c.run_rule.new.journal.items made (c.in_ok-made.ensures.tells.0, here) c.with_asked.result
+    (subst (λ asked. Tells {T = Graph _} (λ g. g.nodes) (ApplyMeans mods made.graph.nodes asked) c.with_asked.result)
+    c.as_slice.ensures c.with_asked.ensures.means)
 
 pub returns-clause-free : goal.returns-clause-free
 returns-clause-free g c =
     applied_free (g.M.BottomUp.splits_along c.args.rule.now) c.args.graph.nodes c.in_ok-made.made.graph.nodes
-    c.requires.along c.in_ok-made.ensures.free c.apply.result c.apply.ensures.bare
+    c.requires.along c.in_ok-made.ensures.free c.with_asked.result c.with_asked.ensures.bare
