@@ -9,10 +9,10 @@ use Rattle.mutator_rules.specs.Outcomes.{KindOutcome}
 use Rattle.pass_ways.specs.declared.error.WayError.{WayError}
 use Rattle.pass_ways.specs.declared.error.WayError.TheVariants.{At as AtNode, Refused as RefusedPass, OutOfMemory as Want}
 use Rattle.pass_ways.specs.declared.way.Way.{Way}
+use Rattle.pass_ways.specs.Idle.{AnswersIdle}
 use Rattle.pass_ways.specs.Ways.{Follows, RefusesPass, Runs}
 use Rattle.variant_graphs.specs.declared.error.StepError.{StepError}
 use Rattle.variant_graphs.specs.declared.error.StepError.TheVariants.{Kind}
-use Rattle.variant_graphs.specs.Idle.{AnswersIdle}
 use Rattle.variant_graphs.specs.Steps.{AnswersStep, FollowedMeans, step_error}
 
 module _ {T W : Type 0} (order_of : T → List NodeId) (way : Way W) (plan : Plan) (pass : ℕ)

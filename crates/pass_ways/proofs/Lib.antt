@@ -5,3 +5,4 @@ pub mod Said
 pub mod Refused
 pub mod Told
 pub mod Numbered
+pub mod Refusing

@@ -1,4 +1,5 @@
--- What is taken of the lines for a pass, and what a pass without workers answers. No public contract speaks of it.
+-- What is taken of the lines for a pass, what refuses one, and what a pass without workers answers. No public contract
+-- speaks of it.
 use Rattle.std.specs.Prelude.{◌≡◌, ◌≤◌, ◌⊎◌, ℕ, List, [], ◌∷◌, length, map, drop, Result, Some, Ok, Err, ⊤}
 use Rattle.std.specs.Arc.{arc_value}
 use Rattle.bp_faults.specs.declared.fault.Fault.{Fault}
@@ -32,3 +33,9 @@ module _ {O : Type 0} where
   AnswersAlone mean plan (Err (At n fault)) = PassOutcomeMeans mean plan (Err (n.0, fault))
   AnswersAlone mean plan (Err (Refused fault)) = ⊥
   AnswersAlone mean plan (Err OutOfMemory) = ⊤
+
+-- An error is a refusal with this fault, or that memory ran out.
+abbrev pub RefusesWith : Fault → WayError → Type 0
+RefusesWith fault (At n other) = ⊥
+RefusesWith fault (Refused other) = other ≡ fault
+RefusesWith fault OutOfMemory = ⊤

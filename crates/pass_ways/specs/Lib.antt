@@ -1,5 +1,6 @@
 pub mod Visits
 pub mod OrderFiles
 pub mod Ways
+pub mod Idle
 pub mod Inside
 pub mod Laws

@@ -1,7 +1,7 @@
 ghost use Rattle.std.specs.Prelude.{◌≡◌, ◌≤◌, ◌<◌, suc, length, drop, IfOk};
 ghost use Rattle.pass_core.specs.Outcomes.{TakesPlan};
 ghost use Rattle.pass_core.specs.Plans.{IsPlan, HasNoCycle};
-ghost use Rattle.pass_ways.specs.Inside.{IsTaken};
+ghost use Rattle.pass_ways.specs.Inside.{IsTaken, RefusesWith};
 ghost use Rattle.pass_ways.specs.OrderFiles.{IsRefused, Say, stopped_at};
 ghost use Rattle.pass_ways.specs.Ways.{AnswersBy};
 
@@ -13,7 +13,7 @@ use pass_core::{OrderError, Plan, Visit, run_order};
 use std::alloc::Global;
 
 /// The nodes that the first lines name of a pass, as many as are wanted.
-fn nodes_of(
+pub fn nodes_of(
     alloc: Global,
     lines: &[OrderLine],
     pass: u32,
@@ -35,30 +35,30 @@ fn nodes_of(
 }
 
 /// The lines from an index on.
-fn lines_from(lines: &[OrderLine], index: usize) -> &[OrderLine]
+pub fn lines_from(lines: &[OrderLine], index: usize) -> &[OrderLine]
     requires { index ≤ length lines.now }
     ensures { result.now ≡ drop index lines.now }
 {
     &lines[index..]
 }
 
-/// The fault at a line that isn't legal, or behind the last.
-fn fault_at(alloc: Global, lines: &OrderLines<'_>, index: usize) -> Result<Fault, OutOfMemory>
+/// The refusal at a line that isn't legal, or behind the last.
+pub fn refusal_at(alloc: Global, lines: &OrderLines<'_>, index: usize) -> WayError
     requires inside { index ≤ length lines.now.lines.now }
     requires few { length lines.now.lines.now < 4294967295 }
-    ensures { IfOk result (λ fault. fault ≡ stopped_at lines.now.file (suc index) (drop index lines.now.lines.now)) }
+    ensures { RefusesWith (stopped_at lines.now.file (suc index) (drop index lines.now.lines.now)) result }
 {
     let at = Place {
         file: lines.file,
         line: index as u32 + 1,
         col: 1,
     };
-    match lines.lines.get(index) {
-        Some(line) => {
-            let text = line.text.copy(alloc)?;
-            Ok(Fault::on(alloc, FaultKind::NotReady, at, text))
-        }
-        None => Ok(Fault::at(alloc, FaultKind::OrderEnds, at)),
+    let Some(line) = lines.lines.get(index) else {
+        return WayError::Refused(Fault::at(alloc, FaultKind::OrderEnds, at));
+    };
+    match line.text.copy(alloc) {
+        Ok(text) => WayError::Refused(Fault::on(alloc, FaultKind::NotReady, at, text)),
+        Err(OutOfMemory) => WayError::OutOfMemory,
     }
 }
 
@@ -87,14 +87,8 @@ pub fn run_along<V: Visit>(
             order: Seq::new(order),
         }),
         Err(OrderError::At(n, fault)) => Err(WayError::At(n, fault)),
-        Err(OrderError::NotReady(place)) => {
-            let fault = fault_at(alloc, lines, made + place as usize)?;
-            Err(WayError::Refused(fault))
-        }
-        Err(OrderError::Ends(place)) => {
-            let fault = fault_at(alloc, lines, made + place as usize)?;
-            Err(WayError::Refused(fault))
-        }
+        Err(OrderError::NotReady(place)) => Err(refusal_at(alloc, lines, made + place as usize)),
+        Err(OrderError::Ends(place)) => Err(refusal_at(alloc, lines, made + place as usize)),
         Err(OrderError::OutOfMemory) => Err(WayError::OutOfMemory),
     }
 }

@@ -14,4 +14,3 @@ pub mod Telling
 pub mod Counted
 pub mod OwnResults
 pub mod SplitsOfOne
-pub mod IdleVisits

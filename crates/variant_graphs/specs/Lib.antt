@@ -3,6 +3,5 @@ pub mod Splitting
 pub mod Limits
 pub mod Splits
 pub mod Steps
-pub mod Idle
 pub mod Laws
 pub mod Inside

@@ -1,36 +1,15 @@
-ghost use Rattle.std.specs.Prelude.{Ok, ⊤};
 ghost use Rattle.module_graph.specs.Graphs.{IsNumbered, IsValid};
 ghost use Rattle.module_graph.specs.Planned.{plan_of};
+ghost use Rattle.pass_ways.specs.Idle.{AnswersIdle};
 ghost use Rattle.pass_ways.specs.Ways.{Follows, IsPassWay};
-ghost use Rattle.variant_graphs.specs.Idle.{AnswersIdle};
 
-use crate::laws::idle_passes_make;
 use bp_faults::{NodeId, Seq};
 use bp_ports::Gate;
 use module_graph::laws::valid_plans_have_no_cycle;
 use module_graph::{Direction, Graph, plan};
-use pass_core::laws::at_most_one_outcome;
-use pass_core::{Visit, VisitError};
-use pass_ways::{Way, WayError, run_by_way};
+use pass_ways::{Way, WayError, order_by_way};
 use std::alloc::Global;
-use std::sync::Arc;
 use std::thread::Threads;
-
-/// Makes nothing of a node.
-#[derive(Drop)]
-struct IdleVisit;
-
-impl Visit for IdleVisit {
-    type Out = ();
-
-    ghost meaning = { λ _ _ _. Ok tt };
-
-    ghost takes = { λ _ _ _. ⊤ };
-
-    fn visit(&self, _alloc: Global, _n: NodeId, _ins: &[Arc<()>]) -> Result<(), VisitError> {
-        Ok(())
-    }
-}
 
 /// Visits each node in a direction, in some way, and makes nothing: the order of the visits.
 ///
@@ -54,9 +33,6 @@ where
     ensures { AnswersIdle way.now (plan_of dir g.now.nodes) pass before.now result }
 {
     valid_plans_have_no_cycle::<P>();
-    idle_passes_make::<P, ()>();
-    at_most_one_outcome::<()>();
     let plan = plan(alloc, g, dir)?;
-    let run = run_by_way(rt, alloc, way, before, pass, &plan, &IdleVisit)?;
-    Ok(run.order)
+    order_by_way(rt, alloc, way, before, pass, &plan)
 }

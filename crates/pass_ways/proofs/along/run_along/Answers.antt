@@ -1,5 +1,8 @@
-use Rattle.std.proofs.Common.{◌≤◌, ◌∙◌, arith, length, subst, sym}
+use Rattle.std.proofs.Common.{◌≤◌, ◌∙◌, arith, length, refl, subst, sym, Err}
 use Rattle.pass_core.specs.Orders.{IsLegal, numbers}
+use Rattle.pass_ways.specs.OrderFiles.{IsRefused, Say}
+use Rattle.pass_ways.specs.Ways.{AnswersBy}
+use Rattle.pass_ways.proofs.Refusing.{by_refusal}
 use Rattle.pass_ways.proofs.Said.{say_few}
 use Rattle.pass_ways.proofs.Refused.{made_along, taken_is, inside_at, few_numbers, refused_at, refused_short}
 use Rattle.pass_ways.proofs.along.run_along.Goals as goal
@@ -19,8 +22,8 @@ returns-in-Err-At g c =
     let at = rw c.in-Err-At.field-0-is at c.in-Err-At.ensures in
     (at.1, (c.deref.result.now, made_along c.args.lines.now.lines.now c.args.before.now c.requires.follows c.args.pass c.args.plan.now c.in_ok-order.order.items taken c.deref.result.now c.deref.ensures.value at.0))
 
-pub fault_at-requires-clause-inside : goal.fault_at-requires-clause-inside
-fault_at-requires-clause-inside g c =
+pub refusal_at-requires-clause-inside : goal.refusal_at-requires-clause-inside
+refusal_at-requires-clause-inside g c =
     let taken = taken_is c.args.lines.now.lines.now _ _ _ _ _ c.lines_from.ensures c.in_ok-order.ensures in
     let at = rw c.in-Err-NotReady.field-0-is at c.in-Err-NotReady.ensures in
     let many = few_numbers c.args.lines.now.lines.now c.args.before.now c.requires.follows c.args.pass c.args.plan.now c.in_ok-order.order.items taken c.deref.result.now c.deref.ensures.value in
@@ -31,10 +34,11 @@ pub returns-in-Err-NotReady : goal.returns-in-Err-NotReady
 returns-in-Err-NotReady g c =
     let taken = taken_is c.args.lines.now.lines.now _ _ _ _ _ c.lines_from.ensures c.in_ok-order.ensures in
     let at = rw c.in-Err-NotReady.field-0-is at c.in-Err-NotReady.ensures in
-    refused_at c.args.lines.now.lines.now c.args.before.now c.requires.follows c.args.pass c.args.plan.now c.in_ok-order.order.items taken c.args.lines.now.file c.in_ok-fault-in-Err-NotReady.fault c.in-Err-NotReady.place (rw c.deref.ensures.value at at) c.in_ok-fault-in-Err-NotReady.ensures
+    by_refusal (λ e. AnswersBy (Say c.args.lines.now.lines.now) (IsRefused c.args.lines.now.lines.now c.args.lines.now.file) (g.V.Visit.meaning c.args.v.now) c.args.plan.now c.args.pass c.args.before.now (Err e)) _ _ c.refusal_at.ensures
+    (refused_at c.args.lines.now.lines.now c.args.before.now c.requires.follows c.args.pass c.args.plan.now c.in_ok-order.order.items taken c.args.lines.now.file _ c.in-Err-NotReady.place (rw c.deref.ensures.value at at) refl) tt
 
-pub fault_at-requires-in-Err-Ends-clause-inside : goal.fault_at-requires-in-Err-Ends-clause-inside
-fault_at-requires-in-Err-Ends-clause-inside g c =
+pub refusal_at-requires-in-Err-Ends-clause-inside : goal.refusal_at-requires-in-Err-Ends-clause-inside
+refusal_at-requires-in-Err-Ends-clause-inside g c =
     let taken = taken_is c.args.lines.now.lines.now _ _ _ _ _ c.lines_from.ensures c.in_ok-order.ensures in
     let at = rw c.in-Err-Ends.field-0-is at c.in-Err-Ends.ensures in
     let many = few_numbers c.args.lines.now.lines.now c.args.before.now c.requires.follows c.args.pass c.args.plan.now c.in_ok-order.order.items taken c.deref.result.now c.deref.ensures.value in
@@ -45,4 +49,5 @@ pub returns-in-Err-Ends : goal.returns-in-Err-Ends
 returns-in-Err-Ends g c =
     let taken = taken_is c.args.lines.now.lines.now _ _ _ _ _ c.lines_from.ensures c.in_ok-order.ensures in
     let at = rw c.in-Err-Ends.field-0-is at c.in-Err-Ends.ensures in
-    refused_short c.args.lines.now.lines.now c.args.before.now c.requires.follows c.args.pass c.args.plan.now c.in_ok-order.order.items taken c.args.lines.now.file c.in_ok-fault-in-Err-Ends.fault c.in-Err-Ends.place (rw c.deref.ensures.value at at) c.in_ok-fault-in-Err-Ends.ensures
+    by_refusal (λ e. AnswersBy (Say c.args.lines.now.lines.now) (IsRefused c.args.lines.now.lines.now c.args.lines.now.file) (g.V.Visit.meaning c.args.v.now) c.args.plan.now c.args.pass c.args.before.now (Err e)) _ _ c.refusal_at-in-Err-Ends.ensures
+    (refused_short c.args.lines.now.lines.now c.args.before.now c.requires.follows c.args.pass c.args.plan.now c.in_ok-order.order.items taken c.args.lines.now.file _ c.in-Err-Ends.place (rw c.deref.ensures.value at at) refl) tt

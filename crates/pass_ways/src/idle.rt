@@ -1,0 +1,152 @@
+//! Visits that make nothing of their nodes. They come to the order in which they were made.
+
+ghost use Rattle.std.specs.Prelude.{IfOk, Ok, ⊤, ◌≤◌, ◌<◌, length};
+ghost use Rattle.pass_core.specs.Orders.{IsLegal, numbers};
+ghost use Rattle.pass_core.specs.Plans.{IsPlan, HasNoCycle};
+ghost use Rattle.pass_ways.specs.Idle.{AnswersIdle, AnswersIdleBy};
+ghost use Rattle.pass_ways.specs.OrderFiles.{IsRefused, Say};
+ghost use Rattle.pass_ways.specs.Ways.{Follows, IsPassWay};
+
+use crate::along::{lines_from, nodes_of, refusal_at};
+use crate::deep::deep_order;
+use crate::error::WayError;
+use crate::way::{OrderLines, Way};
+use bp_faults::{NodeId, OutOfMemory, Seq};
+use bp_ports::Gate;
+use pass_core::laws::{results_meet_their_equation, serial_order_is_legal};
+use pass_core::{
+    OrderError, PassError, Plan, Visit, VisitError, check_order, serial_order, starts_of,
+};
+use std::alloc::Global;
+use std::sync::Arc;
+use std::thread::Threads;
+use visit_workers::visit_all;
+
+/// Makes nothing of a node.
+#[derive(Drop)]
+struct IdleVisit;
+
+impl Visit for IdleVisit {
+    type Out = ();
+
+    ghost meaning = { λ _ _ _. Ok tt };
+
+    ghost takes = { λ _ _ _. ⊤ };
+
+    fn visit(&self, _alloc: Global, _n: NodeId, _ins: &[Arc<()>]) -> Result<(), VisitError> {
+        Ok(())
+    }
+}
+
+/// The order for one worker: a search in depth makes it, and the serial order stands in for one that isn't legal.
+fn legal_order(alloc: Global, plan: &Plan) -> Result<Vec<NodeId>, OutOfMemory>
+    requires plan { IsPlan plan.now }
+    requires free { HasNoCycle plan.now.edges }
+    ensures { IfOk result (λ order. IsLegal plan.now (numbers order.items)) }
+{
+    serial_order_is_legal();
+    let order = deep_order(alloc, plan)?;
+    let starts = starts_of(alloc, plan)?;
+    match check_order(alloc, plan, &starts, &order) {
+        Ok(()) => Ok(order),
+        Err(OrderError::OutOfMemory) => Err(OutOfMemory),
+        Err(_) => serial_order(alloc, plan),
+    }
+}
+
+/// Visits the nodes one after another on the caller's thread: for each the gate is entered, and nothing else is done.
+fn order_alone<G: Gate>(
+    alloc: Global,
+    gate: &G,
+    pass: u32,
+    plan: &Plan,
+) -> Result<Seq<NodeId>, OutOfMemory>
+    requires plan { IsPlan plan.now }
+    requires free { HasNoCycle plan.now.edges }
+    ensures { IfOk result (λ order. IsLegal plan.now (numbers order)) }
+{
+    let order = legal_order(alloc, plan)?;
+    for n in &order {
+        gate.enter(pass, *n);
+    }
+    Ok(Seq::new(order))
+}
+
+/// Visits the nodes on workers, each behind the gate.
+fn order_on_workers<R: Threads + Sync, G: Gate + Sync>(
+    rt: &R,
+    alloc: Global,
+    gate: &G,
+    workers: u32,
+    pass: u32,
+    plan: &Plan,
+) -> Result<Seq<NodeId>, OutOfMemory>
+    requires plan { IsPlan plan.now }
+    requires free { HasNoCycle plan.now.edges }
+    requires workers { (1 ≤ workers) × (workers ≤ 64) }
+    ensures { IfOk result (λ order. IsLegal plan.now (numbers order)) }
+{
+    results_meet_their_equation::<()>();
+    match visit_all(rt, alloc, pass, plan, &IdleVisit, workers, gate) {
+        Ok(run) => {
+            let (_outs, order) = run.into_parts();
+            Ok(Seq::new(order))
+        }
+        Err(PassError::At(_, _)) => unreachable!(),
+        Err(PassError::OutOfMemory) => Err(OutOfMemory),
+    }
+}
+
+/// The order in which the lines behind the visits before a pass name its nodes.
+fn order_along(
+    alloc: Global,
+    lines: &OrderLines<'_>,
+    before: &[(u32, NodeId)],
+    pass: u32,
+    plan: &Plan,
+) -> Result<Seq<NodeId>, WayError>
+    requires plan { IsPlan plan.now }
+    requires few { length lines.now.lines.now < 4294967295 }
+    requires follows { Say lines.now.lines.now before.now }
+    ensures { AnswersIdleBy (Say lines.now.lines.now) (IsRefused lines.now.lines.now lines.now.file)
+        plan.now pass before.now result }
+{
+    let made = before.len();
+    let order = nodes_of(alloc, lines_from(lines.lines, made), pass, plan.count)?;
+    let starts = starts_of(alloc, plan)?;
+    match check_order(alloc, plan, &starts, &order) {
+        Ok(()) => Ok(Seq::new(order)),
+        Err(OrderError::NotReady(place)) => Err(refusal_at(alloc, lines, made + place as usize)),
+        Err(OrderError::Ends(place)) => Err(refusal_at(alloc, lines, made + place as usize)),
+        Err(OrderError::At(_, _)) => unreachable!(),
+        Err(OrderError::OutOfMemory) => Err(WayError::OutOfMemory),
+    }
+}
+
+/// Visits each node of a plan after its predecessors, in some way, and makes nothing of the nodes: the order of the
+/// visits.
+///
+/// `before` holds the visits of the passes before this one. One worker makes no box for a node, and a pass along lines
+/// none either.
+pub fn order_by_way<R: Threads + Sync, G: Gate + Sync>(
+    rt: &R,
+    alloc: Global,
+    way: &Way<'_, G>,
+    before: &[(u32, NodeId)],
+    pass: u32,
+    plan: &Plan,
+) -> Result<Seq<NodeId>, WayError>
+    requires plan { IsPlan plan.now }
+    requires free { HasNoCycle plan.now.edges }
+    requires way { IsPassWay way.now }
+    requires follows { Follows way.now before.now }
+    ensures { AnswersIdle way.now plan.now pass before.now result }
+{
+    match way {
+        Way::Workers { workers: 1, gate } => Ok(order_alone(alloc, *gate, pass, plan)?),
+        Way::Workers { workers, gate } => {
+            Ok(order_on_workers(rt, alloc, *gate, *workers, pass, plan)?)
+        }
+        Way::Lines(lines) => order_along(alloc, lines, before, pass, plan),
+    }
+}
