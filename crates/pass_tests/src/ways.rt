@@ -11,7 +11,7 @@ use pass_ways::laws::{
     legal_orders_are_whole, lines_say_one_order, one_refusal, parts_are_short,
     refused_have_no_order,
 };
-use pass_ways::{OrderLine, OrderLines, Way, WayError, run_by_way};
+use pass_ways::{OrderLine, OrderLines, Way, WayError, order_by_way, run_by_way};
 use std::alloc::Global;
 use std::process::Abort;
 use std::sync::Arc;
@@ -264,6 +264,32 @@ fn order_alone<R: Threads + Sync>(rt: &R, alloc: Global) -> Result<u64, WayError
 #[test]
 fn one_worker_in_depth(rt: HostRuntime) {
     assert!(rt; matches!(order_alone(&rt, rt.alloc()), Ok(30124)));
+}
+
+/// How many nodes workers visit of five, of which they make nothing, and how often they enter the gate.
+fn nothing_on_workers<R: Threads + Sync>(
+    rt: &R,
+    alloc: Global,
+    workers: u32,
+) -> Result<(usize, u32), WayError>
+    requires { (1 ≤ workers) × (workers ≤ 64) }
+{
+    let plan = both_ways(alloc)?;
+    let gate = CountingGate {
+        entered: AtomicU32::new(0),
+    };
+    let way = Way::Workers {
+        workers,
+        gate: &gate,
+    };
+    let order = order_by_way(rt, alloc, &way, &[], 1, &plan)?;
+    Ok((order.as_slice().len(), gate.entered.load(Ordering::SeqCst)))
+}
+
+#[test]
+fn nothing_of_five_nodes(rt: HostRuntime) {
+    assert!(rt; matches!(nothing_on_workers(&rt, rt.alloc(), 1), Ok((5, 5))));
+    assert!(rt; matches!(nothing_on_workers(&rt, rt.alloc(), 2), Ok((5, 5))));
 }
 
 #[test]
