@@ -2,8 +2,10 @@
 """Runs a command of `rt` and prints what each crate cost: `tools/gate_costs.py rt ci`. It is no part of the gate.
 
 It looks at the processes below the command twice a second, and prints the table of docs/CONTRIBUTING.md, in minutes of
-processor time: the proof of each crate, the proof of its tests, and its must-fail edits. What runs for less than half a
-second between two looks is missed, so the sums are a little low. It ends with the status of the command.
+processor time: the proof of each crate, the proof of its tests, the check that comes before its must-fail edits, and
+these edits. Where it is interrupted (Ctrl-C) it interrupts the command, and prints what was used up to then. What runs
+for less than half a second between two looks is missed, so the sums are a little low. It ends with the status of the
+command.
 """
 import collections
 import os
@@ -13,7 +15,7 @@ import sys
 import time
 
 TICKS = os.sysconf("SC_CLK_TCK")
-KINDS = ["proof", "tests", "edits"]
+KINDS = ["proof", "tests", "before edits", "edits"]
 
 
 def read(path):
@@ -65,24 +67,47 @@ def kind_of(number):
     return crate, "tests" if b"--test" in words else "proof"
 
 
+def look(top, used, kinds):
+    """Notes what the processes below one have used."""
+    found = processes()
+    for number in below(top, found):
+        if number in found:
+            key = (number, found[number][1])
+            used[key] = found[number][2]
+            if kinds.get(key) is None:
+                kinds[key] = kind_of(number)
+
+
+def watch(command, used, kinds):
+    """Looks until the command ends. An interruption reaches the command too, by the terminal."""
+    try:
+        while command.poll() is None:
+            look(command.pid, used, kinds)
+            time.sleep(0.5)
+    except KeyboardInterrupt:
+        command.wait()
+
+
+def sums_of(used, kinds):
+    """The ticks of each crate and kind. Of the checks of a crate's edits the one that began first comes before them."""
+    table, begun = collections.Counter(), set()
+    for key, ticks in sorted(used.items(), key=lambda item: item[0][1]):
+        crate, kind = kinds[key] or ("all else", "proof")
+        if kind == "edits" and crate not in begun:
+            begun.add(crate)
+            kind = "before edits"
+        table[crate, kind] += ticks
+    return table
+
+
 def main():
     command = subprocess.Popen(sys.argv[1:])
     began = time.monotonic()
     used, kinds = {}, {}
-    while command.poll() is None:
-        found = processes()
-        for number in below(command.pid, found):
-            if number in found:
-                key = (number, found[number][1])
-                used[key] = found[number][2]
-                if kinds.get(key) is None:
-                    kinds[key] = kind_of(number)
-        time.sleep(0.5)
-    table = collections.Counter()
-    for key, ticks in used.items():
-        table[kinds[key] or ("all else", "proof")] += ticks
+    watch(command, used, kinds)
+    table = sums_of(used, kinds)
     minutes = (time.monotonic() - began) / 60
-    print("\n| Crate | Proof | Its tests | Edits | In all |\n|---|---|---|---|---|")
+    print("\n| Crate | Proof | Its tests | Before edits | Edits | In all |\n|---|---|---|---|---|---|")
     for crate in sorted({crate for crate, _ in table}):
         row = [table[crate, kind] / TICKS / 60 for kind in KINDS]
         print(f"| {crate} | " + " | ".join(f"{it:.1f}" for it in row + [sum(row)]) + " |")
