@@ -1,5 +1,6 @@
 ghost use Rattle.std.specs.Prelude.{◌≡◌, IfOk, IsTrue, None, Some};
-ghost use Rattle.module_graph.specs.declared.direction.Direction.TheVariants.{BottomUp as Upwards, TopDown as Downwards};
+ghost use Rattle.module_graph.specs.declared.direction.Direction.TheVariants.{BottomUp as Upwards};
+ghost use Rattle.module_graph.specs.declared.direction.Direction.TheVariants.{TopDown as Downwards};
 ghost use Rattle.module_graph.specs.Graphs.{IsValid};
 ghost use Rattle.module_graph.specs.Planned.{plan_of};
 ghost use Rattle.mutator_rules.specs.Conditions.{MayRun};
