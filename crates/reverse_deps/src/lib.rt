@@ -10,6 +10,7 @@ mod directory;
 mod labels;
 pub mod laws;
 mod linking;
+mod places;
 mod resolving;
 
 pub use applied::apply;

@@ -20,6 +20,6 @@ loop-n-preserved g c =
       many = length-set c.loop-n.lists.items node.«module».0 c.push.new.self ∙ many;
       each = λ m within.
           one_more_node c.one_more_item.ensures nodes c.loop-n.lists.items n node lt is has_list m c.push.new.self
-          (c.in_ok-push.ensures.ok ∙ ap (λ l. l ++ record { 0 = n } ∷ []) (get_or_read c.loop-n.lists.items _ _ has_list c.index_mut.ensures.value []))
+          (c.in_ok-push.ensures ∙ ap (λ l. l ++ record { 0 = n } ∷ []) (get_or_read c.loop-n.lists.items _ _ has_list c.index_mut.ensures.value []))
           (c.loop-n.invariant.each m within);
     }
