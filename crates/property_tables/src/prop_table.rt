@@ -1,3 +1,6 @@
+ghost use Rattle.std.specs.Prelude.{◌≡◌};
+ghost use Rattle.std.specs.Str.{bytes_eq};
+
 use crate::Row;
 use bp_faults::Text;
 use std::marker::Model;
@@ -19,6 +22,13 @@ impl<const N: usize> Model for PropTable<N> {
     ghost invariant = { λ t. (length t.rows.now ≡ N) × IsTrue (names_ascend (map property_of t.rows.now)) };
 }
 
+/// Whether a row's name is that one. Few names of one length begin alike, so that most are told apart by one byte.
+fn is_name(own: &str, name: &str) -> bool
+    ensures { result ≡ bytes_eq own.now name.now }
+{
+    own.len() == name.len() && own.as_bytes().first() == name.as_bytes().first() && own == name
+}
+
 impl<const N: usize> PropTable<N> {
     ghost use Rattle.std.specs.Prelude.{◌≡◌, map, IsTrue, option_map, length};
     ghost use Rattle.property_tables.specs.Tables.{property_of, names_ascend, property_named};
@@ -37,6 +47,6 @@ impl<const N: usize> PropTable<N> {
         ensures { option_map (λ row. property_of row.now) result ≡ property_named self.now name.now }
     {
         let name = name.as_str();
-        self.rows.iter().find(|row| row.name == name)
+        self.rows.iter().find(|row| is_name(row.name, name))
     }
 }
