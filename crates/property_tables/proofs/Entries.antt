@@ -1,7 +1,7 @@
 -- One more entry of a map that a loop goes through.
 use Rattle.std.proofs.Common.{◌≡◌, ℕ, ◌+◌, ◌<◌, List, length, get_or, map, drop, ap, ◌∙◌, Result, Ok, Err}
 use Rattle.bp_faults.specs.declared.fault.Fault.{Fault}
-use Rattle.bp_faults.specs.Answers.{Answers, Refuses, then_do}
+use Rattle.bp_faults.specs.Answers.{Leaves, Refuses, then_do}
 use Rattle.bp_faults.specs.declared.refusal.Refusal.{Refusal}
 use Rattle.bp_faults.specs.declared.refusal.Refusal.TheVariants.{Bad, OutOfMemory}
 use Rattle.bp_values.specs.declared.value.Entry.{Entry}
@@ -40,6 +40,6 @@ module _ {A : Type 0} (step : A → Field → Result A Fault) (es : List Entry) 
   entry_refused whole OutOfMemory before refused = tt
 
 -- a refusal that is handed on
-pub handed_on : {A : Type 0} (result : Result A Refusal) (refusal : Refusal) (meant : Result A Fault)
-    → result ≡ Err refusal → Refuses refusal meant → Answers (λ a. a) result meant
-handed_on result refusal meant is refused = rw is refused
+pub handed_on : {V : Type 0} (new : V) (result : Result Unit Refusal) (refusal : Refusal) (meant : Result V Fault)
+    → result ≡ Err refusal → Refuses refusal meant → Leaves (λ v. v) new result meant
+handed_on new result refusal meant is refused = rw is refused

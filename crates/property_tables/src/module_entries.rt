@@ -161,19 +161,19 @@ fn module_entry(
     add_entry(alloc, dir, row, props, entry)
 }
 
-/// The record of a module's entries.
-pub(crate) fn props_of(
+/// Puts the entries of a module into its record.
+pub(crate) fn put_entries(
     alloc: Global,
     dir: &Path,
     kind: ModuleKind,
     entries: &[Entry],
-) -> Result<Props, LoadError>
-    ensures { Answers (λ props. props) result
-        (each_entry (module_entry_as dir.now kind) props_empty (fields_then (map field_of entries.now) no_field)) }
+    props: &mut Props,
+) -> Result<(), LoadError>
+    ensures { Leaves (λ props. props) props.new result
+        (each_entry (module_entry_as dir.now kind) props.old (fields_then (map field_of entries.now) no_field)) }
 {
-    let mut props = Props::empty(alloc);
     'entries: for entry in entries {
-        module_entry(alloc, dir, kind, &mut props, entry)?;
+        module_entry(alloc, dir, kind, props, entry)?;
     }
-    Ok(props)
+    Ok(())
 }

@@ -22,11 +22,11 @@ impl<const N: usize> Model for PropTable<N> {
     ghost invariant = { λ t. (length t.rows.now ≡ N) × IsTrue (names_ascend (map property_of t.rows.now)) };
 }
 
-/// Whether a row's name is that one. Few names of one length begin alike, so that most are told apart by one byte.
-fn is_name(own: &str, name: &str) -> bool
+/// Whether two names of one length are the same. Few of these begin alike, so that most are told apart by one byte.
+fn is_same(own: &str, name: &str) -> bool
     ensures { result ≡ bytes_eq own.now name.now }
 {
-    own.len() == name.len() && own.as_bytes().first() == name.as_bytes().first() && own == name
+    own.as_bytes().first() == name.as_bytes().first() && own == name
 }
 
 impl<const N: usize> PropTable<N> {
@@ -47,6 +47,6 @@ impl<const N: usize> PropTable<N> {
         ensures { option_map (λ row. property_of row.now) result ≡ property_named self.now name.now }
     {
         let name = name.as_str();
-        self.rows.iter().find(|row| is_name(row.name, name))
+        self.rows.iter().find(|row| row.name.len() == name.len() && is_same(row.name, name))
     }
 }

@@ -6,11 +6,11 @@ ghost use Rattle.property_tables.specs.Names.{name_in};
 ghost use Rattle.property_tables.specs.Meaning.{module_typed, typed_module as typed_as};
 
 use crate::LoadError;
-use crate::module_entries::props_of;
+use crate::module_entries::put_entries;
 use crate::module_name::is_module_name;
 use crate::module_type::{is_dropped, kind_of};
 use bp_faults::{Fault, FaultKind, OutOfMemory, Path, Place, Text};
-use bp_props::{Given, Module, ModuleKind};
+use bp_props::{Given, Module, ModuleKind, Props};
 use bp_values::RawModule;
 use std::alloc::Global;
 
@@ -45,15 +45,17 @@ fn typed_as_kind(
 ) -> Result<Option<Module>, LoadError>
     ensures { Answers (λ typed. typed) result (module_typed (raw_of raw.now) dir.now kind) }
 {
-    let props = props_of(alloc, dir, kind, raw.entries.as_slice())?;
-    let name = name_of(alloc, raw, &props.name)?;
-    Ok(Some(Module {
-        name,
+    // The record is large, so it is filled where it stands.
+    let mut module = Module {
+        name: Text::new(String::new(alloc)),
         kind,
         dir: dir.copy(alloc)?,
         at: raw.at,
-        props,
-    }))
+        props: Props::empty(alloc),
+    };
+    put_entries(alloc, dir, kind, raw.entries.as_slice(), &mut module.props)?;
+    module.name = name_of(alloc, raw, &module.props.name)?;
+    Ok(Some(module))
 }
 
 /// A module with its record, or nothing for a `package` or a `license`.

@@ -1,9 +1,8 @@
 use Rattle.std.proofs.Common.{rules, ◌≡◌, map, Err}
 use Rattle.bp_values.specs.Values.{field_of, fields_then, no_field}
-use Rattle.bp_props.specs.Records.{props_empty}
 use Rattle.property_tables.specs.Entries.{each_entry, module_entry}
 use Rattle.property_tables.proofs.Entries.{entry_put, entry_refused, handed_on}
-use Rattle.property_tables.proofs.module_entries.props_of.Goals as goal
+use Rattle.property_tables.proofs.module_entries.put_entries.Goals as goal
 
 pub entries-preserved : goal.entries-preserved
 entries-preserved c =
@@ -14,9 +13,9 @@ entries-preserved c =
 pub returns-in_err-module_entry : goal.returns-in_err-module_entry
 returns-in_err-module_entry c =
     let is : c.from_residual.result ≡ Err c.in_err-module_entry.field-0.0 = search rules in
-    handed_on c.from_residual.result c.in_err-module_entry.field-0.0 _ is
+    handed_on c.module_entry.new.props c.from_residual.result c.in_err-module_entry.field-0.0 _ is
     (entry_refused (module_entry c.args.dir.now c.args.kind) c.args.entries.now c.entries.entry-index
     c.entry-item.result c.entries.props c.entries-test.true c.entry-item.is
-    (each_entry (module_entry c.args.dir.now c.args.kind) props_empty
+    (each_entry (module_entry c.args.dir.now c.args.kind) c.args.props.now
     (fields_then (map field_of c.args.entries.now) no_field)) c.in_err-module_entry.field-0.0
     c.entries.invariant c.in_err-module_entry.ensures)
