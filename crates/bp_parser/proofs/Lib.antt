@@ -13,3 +13,4 @@ mod Distinct
 mod SomeMeaning
 mod Integers
 mod Fresh
+mod KnownNames

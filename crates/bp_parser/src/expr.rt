@@ -11,12 +11,12 @@ ghost use Rattle.bp_parser.specs.Reading.{AreTokens, HasMark, sum_of};
 
 use crate::atom::atom;
 use crate::flaw::Flaw;
+use crate::known_names::KnownNames;
 use crate::stop::Stop;
 use crate::tree::{EntryExpr, Expr, MapExpr};
 use crate::words::{after_part, expect, is_mark, name_at, word_at};
 use bp_faults::{OutOfMemory, Place, Text};
 use bp_lexer::{Punct, Token};
-use bp_names::NameSet;
 use std::alloc::Global;
 
 /// How many brackets may be open.
@@ -204,7 +204,7 @@ pub fn map_at(
         (λ x. ReadsOn (entries [] ∷ []) [] (all_words text.now words.now) depth (at + 1) x.1) }
     ensures stops { IfErr result (StopsWith (entries [] ∷ []) (all_words text.now words.now) (at + 1) depth) }
 {
-    let mut known = NameSet::new(alloc);
+    let mut known = KnownNames::new(alloc);
     let mut entries = Vec::new(alloc);
     let mut next = at + 1;
     'reading: while !is_mark(words, next, Punct::CloseBrace) {

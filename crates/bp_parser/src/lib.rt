@@ -10,6 +10,7 @@ mod def;
 mod expr;
 mod file;
 mod flaw;
+mod known_names;
 pub mod laws;
 mod stop;
 mod tree;
