@@ -5,8 +5,8 @@ ghost use Rattle.build_actions.specs.Compiles.{language_by, language_of, is_head
 ghost use Rattle.build_actions.specs.Compiles.{rule_of, variables_in, compile_step, step_of_file, compile_steps};
 ghost use Rattle.build_actions.specs.Inside.{is_written_in, needed_variables, needed_compiler, step_with};
 
-use crate::gather::{keep_first, one, push_some};
-use crate::path::{directory_of, object_path};
+use crate::gather::{Views, keep_first, one, push_some};
+use crate::path::{Directory, directory_of, object_path};
 use crate::sources::{Language, SourceKind, source_kind};
 use crate::variables::compile_variables;
 use bp_faults::{Item, OutOfMemory, Seq, Text, copy_all};
@@ -19,8 +19,8 @@ use std::alloc::Global;
 /// What the compile steps of a node have in common: where their objects stand, the headers that they may
 /// include, and the variables of each language in which a file is written.
 #[derive(Debug, Drop)]
-pub struct Compiler {
-    pub directory: Text,
+pub struct Compiler<'a> {
+    pub directory: Directory<'a>,
     pub headers: Seq<Text>,
     pub c: Seq<(Text, Text)>,
     pub cxx: Seq<(Text, Text)>,
@@ -46,11 +46,11 @@ fn is_header(file: &Item) -> bool
     }
 }
 
-fn listed_headers<'a>(alloc: Global, files: &'a [Item]) -> Result<Vec<&'a str>, OutOfMemory>
+fn listed_headers<'a>(alloc: Global, files: &'a [Item]) -> Result<Views<'a>, OutOfMemory>
     ensures { IfOk result (λ headers. map (λ t. t.now) headers.items
         ≡ map (λ (file : Item). file.text) (filter is_header files.now)) }
 {
-    let mut headers = Vec::new(alloc);
+    let mut headers = Views::new(alloc);
     for file in files {
         if is_header(file) {
             headers.push(file.text.as_str())?;
@@ -103,12 +103,12 @@ fn needed_variables(
 }
 
 /// What the compile steps of some files of a node have in common.
-pub fn compiler_of(
+pub fn compiler_of<'a>(
     alloc: Global,
-    module: &Module,
+    module: &'a Module,
     node: &Node<Record<'_>>,
     files: &[Item],
-) -> Result<Compiler, OutOfMemory>
+) -> Result<Compiler<'a>, OutOfMemory>
     ensures { IfOk result (λ compiler. compiler ≡ needed_compiler «module».now node.now files.now) }
 {
     Ok(Compiler {
@@ -130,7 +130,7 @@ fn rule_of(language: Language) -> &'static str
     }
 }
 
-impl Compiler {
+impl<'a> Compiler<'a> {
     fn variables_in(&self, language: Language) -> &[(Text, Text)]
         ensures { result.now ≡ variables_in self.now language }
     {
@@ -142,8 +142,8 @@ impl Compiler {
     }
 
     // The directory, the headers and the variables of a language, taken over.
-    fn into_parts(self, language: Language) -> (Text, Seq<Text>, Seq<(Text, Text)>)
-        ensures { result ≡ (self.directory, self.headers, variables_in self language) }
+    fn into_parts(self, language: Language) -> (Directory<'a>, Seq<Text>, Seq<(Text, Text)>)
+        ensures { result ≡ (self.entry.directory, self.entry.headers, variables_in self.entry language) }
     {
         match language {
             Language::C => (self.directory, self.headers, self.c),
@@ -170,7 +170,7 @@ pub fn copy_variables(
 // A step that takes over its headers and its variables.
 fn step_with(
     alloc: Global,
-    directory: &Text,
+    directory: &Directory<'_>,
     source: &Text,
     language: Language,
     headers: Seq<Text>,
@@ -190,7 +190,7 @@ fn step_with(
 
 fn compile(
     alloc: Global,
-    compiler: &Compiler,
+    compiler: &Compiler<'_>,
     source: &Text,
     language: Language,
 ) -> Result<Statement, OutOfMemory>
@@ -204,7 +204,7 @@ fn compile(
 // The compile step of a file, where it isn't a header.
 fn compile_file(
     alloc: Global,
-    compiler: &Compiler,
+    compiler: &Compiler<'_>,
     file: &Item,
 ) -> Result<Option<Statement>, OutOfMemory>
     ensures { IfOk result (λ statement. statement ≡ step_of_file compiler.now file.now) }
@@ -218,10 +218,10 @@ fn compile_file(
 // The same of the last file, whose step takes over what the steps before it copied.
 fn compile_last(
     alloc: Global,
-    compiler: Compiler,
+    compiler: Compiler<'_>,
     file: &Item,
 ) -> Result<Option<Statement>, OutOfMemory>
-    ensures { IfOk result (λ statement. statement ≡ step_of_file compiler file.now) }
+    ensures { IfOk result (λ statement. statement ≡ step_of_file compiler.entry file.now) }
 {
     let Some(language) = language_of(file) else {
         return Ok(None);
@@ -234,7 +234,7 @@ fn compile_last(
 // Puts the compile steps of some files behind others.
 fn add_steps(
     alloc: Global,
-    compiler: &Compiler,
+    compiler: &Compiler<'_>,
     files: &[Item],
     statements: &mut Vec<Statement>,
 ) -> Result<(), OutOfMemory>
@@ -249,10 +249,10 @@ fn add_steps(
 /// The compile steps of some files: one for each that isn't a header. There is room for one statement more.
 pub fn compile_all(
     alloc: Global,
-    compiler: Compiler,
+    compiler: Compiler<'_>,
     files: &[Item],
 ) -> Result<Vec<Statement>, OutOfMemory>
-    ensures { IfOk result (λ statements. statements.items ≡ compile_steps compiler files.now) }
+    ensures { IfOk result (λ statements. statements.items ≡ compile_steps compiler.entry files.now) }
 {
     let mut statements = Vec::with_capacity(alloc, files.len().saturating_add(1))?;
     let Some((last, others)) = files.split_last() else {

@@ -9,6 +9,7 @@ use bp_props::{Module, ModuleKind};
 use module_graph::{Axis, Graph, Node, Variation, variant_name};
 use module_rules::Record;
 use std::alloc::Global;
+use std::marker::Model;
 
 /// What a module is to the build: it makes something, it gives files, or neither.
 #[derive(Clone, Copy, Debug, PartialEq, Eq)]
@@ -65,49 +66,73 @@ fn suffix_of<'a>(product: Product) -> &'a str
     }
 }
 
+/// The directory of the outputs of a node, by the parts of its path, so that a longer path is put together at once.
+/// Contracts see it as its path.
+#[derive(Debug, Drop)]
+pub struct Directory<'a> {
+    name: &'a Text,
+    variant: Text,
+}
+
+impl<'a> Model for Directory<'a> {
+    ghost use Rattle.std.specs.Prelude.{List, ℕ, ◌++◌, codes};
+
+    ghost Value = { List ℕ };
+
+    ghost view = { λ directory. codes "out/m/" ++ (directory.name.now ++ (codes "/" ++ directory.variant)) };
+}
+
 /// Where the outputs of a node stand.
-pub fn directory_of(
+pub fn directory_of<'a>(
     alloc: Global,
-    module: &Module,
+    module: &'a Module,
     node: &Node<Record<'_>>,
-) -> Result<Text, OutOfMemory>
-    ensures { IfOk result (λ path. path ≡ output_directory «module».now node.now) }
+) -> Result<Directory<'a>, OutOfMemory>
+    ensures { IfOk result (λ directory. directory ≡ output_directory «module».now node.now) }
 {
-    let variant = variant_name(alloc, &node.vars)?;
-    let name = module.name.as_str();
-    concat(alloc, &["out/m/", name, "/", variant.as_str()])
+    Ok(Directory {
+        name: &module.name,
+        variant: variant_name(alloc, &node.vars)?,
+    })
 }
 
 /// The object that a source is compiled to.
-pub fn object_path(alloc: Global, directory: &Text, source: &Text) -> Result<Text, OutOfMemory>
+pub fn object_path<'a>(
+    alloc: Global,
+    directory: &'a Directory<'a>,
+    source: &'a Text,
+) -> Result<Text, OutOfMemory>
     ensures { IfOk result (λ path. path ≡ object_path directory.now source.now) }
 {
-    concat(alloc, &[directory.as_str(), "/obj/", source.as_str(), ".o"])
+    let name = directory.name.as_str();
+    let variant = directory.variant.as_str();
+    let parts = ["out/m/", name, "/", variant, "/obj/", source.as_str(), ".o"];
+    concat(alloc, &parts)
 }
 
 /// What a node makes in its directory: an archive, a shared object or a program.
-pub fn output_in(
+pub fn output_in<'a>(
     alloc: Global,
-    directory: &Text,
-    module: &Module,
+    directory: &'a Directory<'a>,
+    module: &'a Module,
     node: &Node<Record<'_>>,
 ) -> Result<Text, OutOfMemory>
     ensures { IfOk result (λ path. path ≡ output_in directory.now «module».now node.now) }
 {
-    let name = module.name.as_str();
+    let name = directory.name.as_str();
+    let variant = directory.variant.as_str();
+    let program = module.name.as_str();
     let suffix = suffix_of(product_of(node));
-    concat(alloc, &[directory.as_str(), "/bin/", name, suffix])
+    let parts = ["out/m/", name, "/", variant, "/bin/", program, suffix];
+    concat(alloc, &parts)
 }
 
-// What a node makes. Its path is put together at once, without the text of its directory.
+// What a node makes.
 fn output_path(alloc: Global, module: &Module, node: &Node<Record<'_>>) -> Result<Text, OutOfMemory>
     ensures { IfOk result (λ path. path ≡ output_path «module».now node.now) }
 {
-    let variant = variant_name(alloc, &node.vars)?;
-    let name = module.name.as_str();
-    let suffix = suffix_of(product_of(node));
-    let parts = ["out/m/", name, "/", variant.as_str(), "/bin/", name, suffix];
-    concat(alloc, &parts)
+    let directory = directory_of(alloc, module, node)?;
+    output_in(alloc, &directory, module, node)
 }
 
 /// The output of a node, where it has one.

@@ -159,6 +159,17 @@ fn archive(alloc: Global, output: &Text, objects: &[Text]) -> Result<Statement, 
     })
 }
 
+// Copies objects to a list with room for some texts behind them.
+fn copy_with_room(alloc: Global, objects: &[Text], room: usize) -> Result<Vec<Text>, OutOfMemory>
+    ensures { IfOk result (λ copies. copies.items ≡ objects.now) }
+{
+    let mut copies = Vec::with_capacity(alloc, objects.len().saturating_add(room))?;
+    for object in objects {
+        copies.push(object.copy(alloc)?)?;
+    }
+    Ok(copies)
+}
+
 // What is linked: objects, and behind them the outputs of the link line and of the shared libraries.
 fn link_ins(
     alloc: Global,
@@ -169,10 +180,10 @@ fn link_ins(
 ) -> Result<Vec<Text>, OutOfMemory>
     ensures { IfOk result (λ ins. ins.items ≡ link_ins modules.now graph.now.nodes node.now objects.now) }
 {
-    let mut ins = copy_all(alloc, objects)?;
     let line = node.payload.line();
-    add_outputs(alloc, modules, graph, line, &mut ins)?;
     let slibs = node.payload.slibs();
+    let mut ins = copy_with_room(alloc, objects, line.len().saturating_add(slibs.len()))?;
+    add_outputs(alloc, modules, graph, line, &mut ins)?;
     add_outputs(alloc, modules, graph, slibs, &mut ins)?;
     Ok(ins)
 }

@@ -1,11 +1,12 @@
 ghost use Rattle.std.specs.Prelude.{◌≡◌, ◌++◌, IfOk, OnOk, codes, map};
 ghost use Rattle.std.specs.Fmt.{decimal};
-ghost use Rattle.build_actions.specs.Variables.{variable, target_word, target_by, node_target, level_words, flags_of};
+ghost use Rattle.std.specs.List.{flat_map};
+ghost use Rattle.build_actions.specs.Variables.{variable, target_word, target_by, node_target, flags_of};
 ghost use Rattle.build_actions.specs.Variables.{cflags_of, word_line, include_word, include_line, compile_variables};
 ghost use Rattle.build_actions.specs.Variables.{link_variables};
 
 use crate::gather::{Views, add_texts};
-use crate::line::{concat, join, join_texts};
+use crate::line::{join, join_texts};
 use crate::sources::Language;
 use bp_faults::{OutOfMemory, Path, Seq, Target, Text};
 use module_graph::{Axis, Node, Variation};
@@ -61,16 +62,6 @@ fn level_word(alloc: Global, level: u32) -> Result<Text, OutOfMemory>
     Ok(Text::new(format!(in alloc; "-DMIN_SDK={level}")?))
 }
 
-fn level_words(alloc: Global, level: u32) -> Result<Vec<Text>, OutOfMemory>
-    ensures { IfOk result (λ words. words.items ≡ level_words level) }
-{
-    let mut words = Vec::new(alloc);
-    if level != 10_000 {
-        words.push(level_word(alloc, level)?)?;
-    }
-    Ok(words)
-}
-
 fn add_cflags<'a>(words: &mut Views<'a>, own: &'a Record<'_>) -> Result<(), OutOfMemory>
     ensures { OnOk result (map (λ word. word.now) words.new.items
         ≡ map (λ word. word.now) words.old.items ++ own.now.base.cflags.items) }
@@ -120,38 +111,78 @@ fn flag_line<'a>(
     join(alloc, words.as_slice())
 }
 
+// The flags of a language in a row, and behind them the word of the level, where one is asked for.
 fn cflags_of(alloc: Global, own: &Record<'_>, language: Language) -> Result<Text, OutOfMemory>
     ensures { IfOk result (λ line. line ≡ cflags_of own.now language) }
 {
-    let level = level_words(alloc, own.level())?;
-    flag_line(alloc, own, language, level.as_slice())
+    let level = own.level();
+    if level != 10_000 {
+        let word = level_word(alloc, level)?;
+        return flag_line(alloc, own, language, &[word]);
+    }
+    flag_line(alloc, own, language, &[])
 }
 
-fn include_word(alloc: Global, path: &Path) -> Result<Text, OutOfMemory>
-    ensures { IfOk result (λ word. word ≡ include_word path.now) }
+// An include directory as the compiler is told it: the root directory is `.`.
+fn include_path(path: &Path) -> &str
+    ensures { codes "-I" ++ result.now ≡ include_word path.now }
 {
     let path = path.as_str();
     if path.is_empty() {
-        return Text::from_str(alloc, "-I.");
+        return ".";
     }
-    concat(alloc, &["-I", path])
+    path
 }
 
-fn include_words(alloc: Global, paths: &[Path]) -> Result<Vec<Text>, OutOfMemory>
-    ensures { IfOk result (λ words. words.items ≡ map include_word paths.now) }
-{
-    let mut words = Vec::with_capacity(alloc, paths.len())?;
+// How many bytes the words of include directories take, each with a space. A count beyond any memory stays where it is.
+fn count_includes(paths: &[Path]) -> usize {
+    let mut count = 0usize;
     for path in paths {
-        words.push(include_word(alloc, path)?)?;
+        count = count
+            .saturating_add(include_path(path).len())
+            .saturating_add(3);
     }
-    Ok(words)
+    count
+}
+
+// Puts the word of an include directory behind a line.
+fn add_include(line: &mut Text, path: &Path) -> Result<(), OutOfMemory>
+    ensures { OnOk result (line.new ≡ line.old ++ include_word path.now) }
+{
+    line.push_str("-I")?;
+    line.push_str(include_path(path))?;
+    Ok(())
+}
+
+// Puts the words of include directories behind a line, each after a space.
+fn add_includes(line: &mut Text, paths: &[Path]) -> Result<(), OutOfMemory>
+    ensures { OnOk result (line.new ≡ line.old ++ flat_map (λ path. codes " " ++ include_word path) paths.now) }
+{
+    for path in paths {
+        line.push_str(" ")?;
+        add_include(line, path)?;
+    }
+    Ok(())
+}
+
+// The words of include directories in a row, one space between each two. Their memory is taken at once.
+#[tactic(auto, using(crate::proofs::Gathered::spaced_includes))]
+fn join_includes(alloc: Global, paths: &[Path]) -> Result<Text, OutOfMemory>
+    ensures { IfOk result (λ line. line ≡ word_line (map include_word paths.now)) }
+{
+    let Some((first, others)) = paths.split_first() else {
+        return Ok(Text::new(String::new(alloc)));
+    };
+    let mut line = Text::with_room(alloc, count_includes(paths).saturating_sub(1))?;
+    add_include(&mut line, first)?;
+    add_includes(&mut line, others)?;
+    Ok(line)
 }
 
 fn includes_of(alloc: Global, own: &Record<'_>) -> Result<Text, OutOfMemory>
     ensures { IfOk result (λ line. line ≡ include_line own.now) }
 {
-    let words = include_words(alloc, own.includes())?;
-    join_texts(alloc, words.as_slice())
+    join_includes(alloc, own.includes())
 }
 
 // How many variables some values take.
