@@ -1,12 +1,12 @@
 -- Nodes and their numbers: of what repeats, the same is kept.
-use Rattle.std.proofs.Common.{◌≡◌, ◌<◌, ◌≤◌, ◌++◌, ◌||◌, ℕ, List, [], ◌∷◌, Bool, true, false, cond, length, map, reverse, get_or, take, ◌+◌, nat_eq, nat_le, Option, option_map, Vec, Global, Some, None, refl, sym, ap, subst, ◌∙◌}
+use Rattle.std.proofs.Common.{◌≡◌, ◌<◌, ◌≤◌, ◌++◌, ◌||◌, ℕ, List, [], ◌∷◌, Bool, true, false, cond, length, map, reverse, get_or, take, drop, ◌+◌, nat_eq, nat_le, Option, option_map, Vec, Global, Some, None, refl, sym, ap, subst, ◌∙◌}
 use Rattle.std.proofs.lemmas.List.{length-map}
 use Rattle.std.proofs.lemmas.Bool.{eqb-true}
 use Rattle.bp_faults.proofs.Lists.{same_bytes}
 use Rattle.bp_faults.specs.declared.limits.TheConstants.{LONGEST_LINE}
 use Rattle.std.specs.Borrow.{Bor}
 use Rattle.std.specs.List.{list_any, flat_map}
-use Rattle.std.proofs.lemmas.List.{map-append, reverse-append, length-reverse, take_more}
+use Rattle.std.proofs.lemmas.List.{map-append, reverse-append, length-reverse, take_more, take-append-drop}
 use Rattle.std.proofs.lemmas.List.Sums.{fold-append}
 use Rattle.indexmap.specs.IndexSet.{insert_key, insert_all}
 use Rattle.bp_faults.specs.declared.ids.NodeId.{NodeId}
@@ -17,7 +17,8 @@ use Rattle.pass_core.specs.Orders.{numbers}
 use Rattle.std.specs.Str.{bytes_eq}
 use Rattle.bp_props.specs.declared.props.Props.{Props}
 use Rattle.info_mutators.specs.Dependencies.{Dependency}
-use Rattle.info_mutators.proofs.Noted.{last_kept, first_kept, some_short, none_short, both_long, short_then, short_reversed, short_behind}
+use Rattle.info_mutators.proofs.Noted.{last_kept, first_kept, some_short, none_short, both_long, short_then, short_reversed, short_behind, front_stays}
+use Rattle.info_mutators.proofs.Slots.{same_number}
 
 pub map-reverse : {A B : Type 0} (f : A → B) (xs : List A) → map f (reverse xs) ≡ reverse (map f xs)
 map-reverse f [] = refl
@@ -165,3 +166,14 @@ module _ (nodes : List NodeId) (i : ℕ) (d : NodeId) (within : i < length nodes
       short_then nat_eq after (insert_key nat_eq keys (get_or nodes i d).0) (reverse (numbers (take i nodes))) e
       ∙ ap (λ zs. if_short (insert_all nat_eq keys zs)) (
       sym (reverse-append (numbers (take i nodes)) ((get_or nodes i d).0 ∷ [])) ∙ ap reverse (sym numbers_more) ∙ ap (λ k. reverse (numbers (take k nodes))) (sym next))
+
+-- the tail of a list that is the front of a set needn't be noted
+pub tail_there : (nodes : List NodeId) (keys : List ℕ) (p r : ℕ) → reverse (numbers (drop p nodes)) ≡ take r keys
+    → insert_all nat_eq keys (reverse (numbers (take p nodes))) ≡ insert_all nat_eq keys (reverse (numbers nodes))
+tail_there nodes keys p r same =
+    ap (λ ks. insert_all nat_eq ks (reverse (numbers (take p nodes)))) (sym (front_stays nat_eq same_number keys r))
+    ∙ sym (fold-append (insert_key nat_eq) keys (take r keys) (reverse (numbers (take p nodes))))
+    ∙ ap (λ ys. insert_all nat_eq keys (ys ++ reverse (numbers (take p nodes)))) (sym same)
+    ∙ ap (insert_all nat_eq keys) (
+    sym (reverse-append (numbers (take p nodes)) (numbers (drop p nodes))) ∙ ap reverse (sym (map-append (λ (n : NodeId). n.0) (take p nodes) (drop p nodes)))
+    ∙ ap (λ ns. reverse (numbers ns)) (take-append-drop p nodes))

@@ -1,8 +1,8 @@
 -- Sets that are filled in the order of a list, and what of the list is kept.
-use Rattle.std.proofs.Common.{◌≡◌, ◌<◌, ◌≤◌, ◌+◌, ◌++◌, ◌||◌, ℕ, List, [], ◌∷◌, Bool, true, false, cond, length, drop, take, get_or, reverse, nat_le, Some, None, refl, sym, ap, subst, ◌∙◌, arith, append-nil, length-append}
+use Rattle.std.proofs.Common.{◌≡◌, ◌<◌, ◌≤◌, ◌+◌, ◌++◌, ◌||◌, ℕ, List, [], ◌∷◌, Bool, true, false, cond, length, drop, take, get_or, reverse, nat_le, Some, None, refl, sym, ap, subst, ◌∙◌, arith, append-nil, append_assoc, length-append}
 use Rattle.std.specs.Borrow.{Bor}
 use Rattle.std.specs.List.{list_any, flat_map}
-use Rattle.std.proofs.lemmas.List.{reverse-append, reverse-reverse, length-reverse, map-append}
+use Rattle.std.proofs.lemmas.List.{reverse-append, reverse-reverse, length-reverse, map-append, take-append-drop}
 use Rattle.std.proofs.lemmas.Grind.{flat_map-append}
 use Rattle.std.proofs.lemmas.List.Folds.{list_any-append}
 use Rattle.std.proofs.lemmas.List.Sums.{fold-append}
@@ -177,3 +177,23 @@ module _ {A : Type 0} (same : A → A → Bool) where
         ∙ ap (λ zs. if_short (insert_all same old zs)) (
         sym (reverse-append (f d) (flat_map f (drop p ds))) ∙ ap (λ k. reverse (f d ++ flat_map f (drop k ds))) next
         ∙ ap (λ (l : List X). reverse (flat_map f l)) (sym (drop-here ds i d within is)))
+
+-- items that stand in a set already change nothing
+module _ {A : Type 0} (same : A → A → Bool) (itself : (x : A) → same x x ≡ true) where
+  any_there : (before after : List A) (x : A) → list_any (same x) (before ++ x ∷ after) ≡ true
+  any_there before after x = list_any-append (same x) before (x ∷ after) ∙ ap (λ b. list_any (same x) before || (b || list_any (same x) after)) (itself x) ∙ by (list_any (same x) before)
+    where
+      by : (b : Bool) → (b || (true || list_any (same x) after)) ≡ true
+      by true = refl
+      by false = refl
+
+  there_stays : (before xs after : List A) → insert_all same (before ++ (xs ++ after)) xs ≡ before ++ (xs ++ after)
+  there_stays before [] after = refl
+  there_stays before (x ∷ xs) after =
+      let more : (before ++ x ∷ []) ++ (xs ++ after) ≡ before ++ x ∷ (xs ++ after) = append_assoc before (x ∷ []) (xs ++ after) in
+      ap (λ b. insert_all same (cond b (before ++ x ∷ (xs ++ after)) ((before ++ x ∷ (xs ++ after)) ++ x ∷ [])) xs) (any_there before (xs ++ after) x)
+      ∙ ap (λ keys. insert_all same keys xs) (sym more) ∙ there_stays (before ++ x ∷ []) xs after ∙ more
+
+  pub front_stays : (keys : List A) (i : ℕ) → insert_all same keys (take i keys) ≡ keys
+  front_stays keys i =
+      ap (λ ks. insert_all same ks (take i keys)) (sym (take-append-drop i keys)) ∙ there_stays [] (take i keys) (drop i keys) ∙ take-append-drop i keys

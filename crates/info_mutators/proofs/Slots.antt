@@ -1,17 +1,17 @@
 -- Which numbers are noted, by their slots and by a set of others.
-use Rattle.std.proofs.Common.{◌≡◌, ◌≢◌, ◌<◌, ◌≤◌, ◌+◌, ◌++◌, ◌&&◌, ◌||◌, ℕ, zero, suc, List, [], ◌∷◌, Bool, true, false, not, cond, length, nat_eq, set, get_or, slice_get, bit_and, Option, Some, None, Result, Ok, Err, OnOk, OnErr, refl, sym, ap, subst, ◌∙◌, arith, rules, Vec, Global, vec_len}
+use Rattle.std.proofs.Common.{◌≡◌, ◌≢◌, ◌+◌, ◌++◌, ◌&&◌, ◌||◌, ℕ, zero, suc, List, [], ◌∷◌, Bool, true, false, not, cond, nat_eq, set, slice_get, bit_and, Option, Some, None, Result, Ok, Err, OnOk, OnErr, refl, sym, ap, subst, ◌∙◌, arith}
 use Rattle.std.specs.List.{list_any}
+use Rattle.std.specs.Option.{unwrap_or}
 use Rattle.std.proofs.lemmas.Bool.{eqb-true, eqb-false}
 use Rattle.std.proofs.lemmas.List.{map-append}
 use Rattle.std.proofs.lemmas.List.Folds.{list_any-append}
-use Rattle.std.proofs.lemmas.Option.{slice_get_read, slice_get_past}
 use Rattle.indexmap.specs.IndexSet.{insert_key}
 use Rattle.bp_faults.specs.declared.ids.NodeId.{NodeId}
 use Rattle.pass_core.specs.Orders.{numbers}
 use Rattle.info_mutators.specs.Inside.{is_noted_by, KnowsNoted, NotesOther, StaysNoted}
 use Rattle.info_mutators.proofs.Noted.{or_false}
 
-same_number : (a : ℕ) → nat_eq a a ≡ true
+pub same_number : (a : ℕ) → nat_eq a a ≡ true
 same_number a = by (nat_eq a a) refl
   where
     by : (b : Bool) → nat_eq a a ≡ b → b ≡ true
@@ -146,10 +146,7 @@ new_is_added x noted e = sym (ap (λ b. cond b noted (noted ++ x ∷ [])) e)
 pub noted_stays : (x : ℕ) (noted : List ℕ) → list_any (nat_eq x) noted ≡ true → noted ≡ insert_key nat_eq noted x
 noted_stays x noted e = sym (ap (λ b. cond b noted (noted ++ x ∷ [])) e)
 
-pub no_slot_decides : (o : Option ℕ) (x : ℕ) → o ≡ None → (more : List ℕ) → is_noted_by o more x ≡ list_any (nat_eq x) more
-no_slot_decides o x none more = ap (λ p. is_noted_by p more x) none
-
-pub other_owner_decides : (o : Option ℕ) (held x : ℕ) → o ≡ Some held → held ≢ 0 → held ≢ x + 1 → (more : List ℕ) → is_noted_by o more x ≡ list_any (nat_eq x) more
+other_owner_decides : (o : Option ℕ) (held x : ℕ) → o ≡ Some held → held ≢ 0 → held ≢ x + 1 → (more : List ℕ) → is_noted_by o more x ≡ list_any (nat_eq x) more
 other_owner_decides o held x is taken ne more = ap (λ p. is_noted_by p more x) is ∙ owned_by_other more held x taken ne
 
 -- a node is noted in the list and in the set, unless the set has it
@@ -175,12 +172,11 @@ module _ (mask : ℕ) (slots others : List ℕ) (nodes : List NodeId) (node : No
   other_list (Ok v) noted = other_numbers noted
   other_list (Err e) noted = tt
 
-sized : (v : Vec ℕ Global) → vec_len v ≡ length v.items
-sized v = search rules
+-- what a slot holds
+pub held_there : (o : Option ℕ) (none held : ℕ) → held ≡ unwrap_or o none → held ≢ none → o ≡ Some held
+held_there None none held is ne = absurd (ne is)
+held_there (Some h) none held is ne = ap Some (sym is)
 
--- a slot that isn't there, and what is read of one
-pub no_slot : (slots : Vec ℕ Global) (slot : ℕ) → vec_len slots ≤ slot → slice_get slots.items slot ≡ None
-no_slot slots slot past = slice_get_past slots.items slot (subst (λ n. n ≤ slot) (sized slots) past)
-
-pub held_in : (slots : Vec ℕ Global) (slot held : ℕ) → slot < vec_len slots → held ≡ get_or slots.items slot held → slice_get slots.items slot ≡ Some held
-held_in slots slot held inside read = slice_get_read slots.items (vec_len slots) slot held (sized slots) inside read
+pub held_by_other : (o : Option ℕ) (none held x : ℕ) → held ≡ unwrap_or o none → held ≢ 0 → held ≢ x + 1 → (more : List ℕ) → is_noted_by o more x ≡ list_any (nat_eq x) more
+held_by_other None none held x is taken ne more = refl
+held_by_other (Some h) none held x is taken ne more = other_owner_decides (Some h) held x (ap Some (sym is)) taken ne more

@@ -22,11 +22,12 @@ fn note_all(notes: &mut Notes, nodes: &[NodeId]) -> Result<(), OutOfMemory>
     Ok(())
 }
 
-/// Notes nodes from the last to the first, until there are too many.
+/// Notes nodes from the last to the first, until there are too many. The tails of link lines are mostly alike, so the
+/// tail that stands at the front of the notes already is skipped.
 fn note_from_end(notes: &mut Notes, nodes: &[NodeId]) -> Result<(), OutOfMemory>
     ensures { OnOk result (NotesNumbers notes.old (reverse (numbers nodes.now)) notes.new) }
 {
-    let mut place = nodes.len();
+    let mut place = nodes.len() - notes.shared_tail(nodes);
     while place > 0 {
         place -= 1;
         notes.note(nodes[place])?;

@@ -1,6 +1,5 @@
-ghost use Rattle.std.specs.Prelude.{◌≡◌, true, nat_eq, ◌∷◌, [], IfOk, OnOk, OnErr, slice_get};
-ghost use Rattle.std.specs.List.{list_any};
-ghost use Rattle.std.specs.Option.{option_map};
+ghost use Rattle.std.specs.Prelude.{◌≡◌, ◌≤◌, ◌-◌, ◌∷◌, [], IfOk, OnOk, OnErr, slice_get, length, take, drop, reverse};
+ghost use Rattle.std.specs.Option.{option_map, unwrap_or};
 ghost use Rattle.pass_core.specs.Orders.{numbers};
 ghost use Rattle.info_mutators.specs.Inside.{NotesNumbers, NotesOther, StaysNoted};
 ghost use Rattle.info_mutators.specs.Kept.{if_short};
@@ -54,10 +53,25 @@ fn slots_for(room: usize) -> usize {
     }
 }
 
-fn held_at(slots: &[u64], slot: usize) -> Option<u64>
-    ensures { result ≡ slice_get slots.now slot }
+/// What a slot holds. Where there is no such slot, it is a number that no slot holds.
+fn held_at(slots: &[u64], slot: usize) -> u64
+    ensures { result ≡ unwrap_or (slice_get slots.now slot) u64.MAX }
 {
-    slots.get(slot).copied()
+    slots.get(slot).copied().unwrap_or(u64::MAX)
+}
+
+/// How many of some nodes, from their last on, are the first of others, in the same order.
+fn matching_tail(nodes: &[NodeId], others: &[NodeId]) -> usize
+    ensures within { result ≤ length nodes.now }
+    ensures same { reverse (numbers (drop (length nodes.now - result) nodes.now)) ≡ numbers (take result others.now) }
+{
+    let most = nodes.len().min(others.len());
+    for count in 0..most {
+        if nodes[nodes.len() - 1 - count].0 != others[count].0 {
+            return count;
+        }
+    }
+    most
 }
 
 /// Notes a node in a list and in a set, where the set doesn't have it.
@@ -92,46 +106,31 @@ impl Notes {
         })
     }
 
-    /// Whether a node owns its slot, so that it is there.
-    fn owns_slot(&self, node: NodeId) -> bool
-        ensures { result ≡ true → list_any (nat_eq node.0) self.now ≡ true }
+    /// How many of some nodes, from their last on, are those that were noted first, in the same order.
+    pub fn shared_tail(&self, nodes: &[NodeId]) -> usize
+        ensures within { result ≤ length nodes.now }
+        ensures same { reverse (numbers (drop (length nodes.now - result) nodes.now)) ≡ take result self.now }
     {
-        match held_at(&self.slots, node.0 as usize & self.mask) {
-            Some(held) => held == node.0 as u64 + 1,
-            None => false,
-        }
+        matching_tail(nodes, &self.nodes)
     }
 
-    /// Notes a node where it isn't there yet, unless there are too many. Of the nodes that come again most own their
-    /// slots.
+    /// Notes a node where it isn't there yet, unless there are too many. It takes its slot where that is free, and else
+    /// it is noted in the set of others. Of the nodes that come again most own their slots.
     pub fn note(&mut self, node: NodeId) -> Result<(), OutOfMemory>
         ensures { OnOk result (NotesNumbers self.old (node.0 ∷ []) self.new) }
     {
-        if self.owns_slot(node) {
+        let slot = node.0 as usize & self.mask;
+        let held = held_at(&self.slots, slot);
+        let mark = node.0 as u64 + 1;
+        if held == mark {
             return Ok(());
         }
-        self.note_in_slot(node)
-    }
-
-    /// Notes a node in its slot where that is free, and else in the set of others.
-    fn note_in_slot(&mut self, node: NodeId) -> Result<(), OutOfMemory>
-        ensures { OnOk result (NotesNumbers self.old (node.0 ∷ []) self.new) }
-    {
         if self.nodes.len() > LONGEST_LINE {
             return Ok(());
         }
-        let slot = node.0 as usize & self.mask;
-        if slot >= self.slots.len() {
-            return note_other(&mut self.nodes, &mut self.others, node);
-        }
-        let held = self.slots[slot];
-        let mark = node.0 as u64 + 1;
         if held == 0 {
             self.nodes.push(node)?;
             self.slots[slot] = mark;
-            return Ok(());
-        }
-        if held == mark {
             return Ok(());
         }
         note_other(&mut self.nodes, &mut self.others, node)
