@@ -5,7 +5,7 @@ ghost use Rattle.mutator_rules.specs.Conditions.{MayRun, places_in};
 ghost use Rattle.reverse_deps.specs.Inside.{IsDirectory, ListsNodes, is_wanted_at};
 ghost use Rattle.reverse_deps.specs.Resolved.{has_variation, is_wanted, names_by_number, node_for};
 
-use crate::places::{At, Places};
+use crate::node_list::{Member, NodeList};
 use bp_faults::{NodeId, OutOfMemory, Text};
 use bp_names::laws::tables_grow_with_lists;
 use bp_props::Module;
@@ -19,7 +19,7 @@ use std::alloc::Global;
 #[derive(Drop)]
 pub struct Directory<'a> {
     pub names: NameIndex<'a>,
-    pub nodes: Vec<Places>,
+    pub nodes: Vec<NodeList>,
 }
 
 /// The number of the first module of each name.
@@ -35,12 +35,12 @@ fn number_names<'a>(alloc: Global, mods: &'a [Module]) -> Result<NameIndex<'a>, 
     Ok(table)
 }
 
-fn empty_lists(alloc: Global, count: usize) -> Result<Vec<Places>, OutOfMemory>
+fn empty_lists(alloc: Global, count: usize) -> Result<Vec<NodeList>, OutOfMemory>
     ensures { IfOk result (λ lists. lists.items ≡ replicate count []) }
 {
     let mut lists = Vec::with_capacity(alloc, count)?;
     for _m in 0..count {
-        lists.push(Places::new(alloc))?;
+        lists.push(NodeList::new(alloc))?;
     }
     Ok(lists)
 }
@@ -50,7 +50,7 @@ fn nodes_by_module<P>(
     alloc: Global,
     mods: &[Module],
     g: &Graph<P>,
-) -> Result<Vec<Places>, OutOfMemory>
+) -> Result<Vec<NodeList>, OutOfMemory>
     requires { MayRun (places_in (length mods.now)) g.now.nodes }
     ensures many { IfOk result (λ lists. length lists.items ≡ length mods.now) }
     ensures each { IfOk result (λ lists. ListsNodes g.now.nodes (length mods.now) lists.items) }
@@ -87,11 +87,11 @@ fn is_wanted_at<P>(g: &Graph<P>, want: Wanted, n: NodeId) -> bool
 }
 
 /// The first of some nodes that has the wanted variations.
-fn first_wanted<P>(g: &Graph<P>, numbers: &[At], want: Wanted) -> Option<NodeId>
-    ensures { result ≡ find (is_wanted_at g.now.nodes want) numbers.now }
+fn first_wanted<P>(g: &Graph<P>, members: &[Member], want: Wanted) -> Option<NodeId>
+    ensures { result ≡ find (is_wanted_at g.now.nodes want) members.now }
 {
-    for at in numbers {
-        let n = at.node();
+    for member in members {
+        let n = member.node();
         if is_wanted_at(g, want, n) {
             return Some(n);
         }

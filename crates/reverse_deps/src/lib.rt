@@ -10,7 +10,7 @@ mod directory;
 mod labels;
 pub mod laws;
 mod linking;
-mod places;
+mod node_list;
 mod resolving;
 
 pub use applied::apply;

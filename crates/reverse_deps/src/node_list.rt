@@ -3,27 +3,27 @@ use smallvec::SmallVec;
 use std::alloc::Global;
 use std::marker::Model;
 
-/// The number of a node.
+/// A node of a list, by its number: `SmallVec` asks for values that have a default.
 #[derive(Default, Drop)]
-pub struct At {
+pub struct Member {
     number: u32,
 }
 
-impl Model for At {
+impl Model for Member {
     ghost use Rattle.bp_faults.specs.declared.ids.NodeId.{NodeId};
 
     ghost Value = { NodeId };
 
-    ghost view = { λ at. record { 0 = at.number } };
+    ghost view = { λ member. record { 0 = member.number } };
 }
 
-impl At {
+impl Member {
     ghost use Rattle.std.specs.Prelude.{◌≡◌};
 
-    fn of(n: NodeId) -> At
+    fn of(n: NodeId) -> Member
         ensures { result ≡ n }
     {
-        At { number: n.0 }
+        Member { number: n.0 }
     }
 
     pub fn node(&self) -> NodeId
@@ -35,26 +35,26 @@ impl At {
 
 /// Nodes of one module, of which two take no memory of their own. Contracts see them as a list.
 #[derive(Drop)]
-pub struct Places {
-    nodes: SmallVec<At, 2>,
+pub struct NodeList {
+    nodes: SmallVec<Member, 2>,
 }
 
-impl Model for Places {
+impl Model for NodeList {
     ghost use Rattle.std.specs.Prelude.{List};
     ghost use Rattle.bp_faults.specs.declared.ids.NodeId.{NodeId};
 
     ghost Value = { List NodeId };
 
-    ghost view = { λ places. places.nodes.items };
+    ghost view = { λ list. list.nodes.items };
 }
 
-impl Places {
+impl NodeList {
     ghost use Rattle.std.specs.Prelude.{◌≡◌, ◌++◌, ◌∷◌, [], OnOk};
 
-    pub fn new(alloc: Global) -> Places
+    pub fn new(alloc: Global) -> NodeList
         ensures { result ≡ [] }
     {
-        Places {
+        NodeList {
             nodes: SmallVec::new(alloc),
         }
     }
@@ -62,11 +62,11 @@ impl Places {
     pub fn push(&mut self, n: NodeId) -> Result<(), OutOfMemory>
         ensures { OnOk result (self.new ≡ self.old ++ n ∷ []) }
     {
-        self.nodes.push(At::of(n))?;
+        self.nodes.push(Member::of(n))?;
         Ok(())
     }
 
-    pub fn as_slice(&self) -> &[At]
+    pub fn as_slice(&self) -> &[Member]
         ensures { result.now ≡ self.now }
     {
         self.nodes.as_slice()
