@@ -10,6 +10,7 @@ command.
 import collections
 import os
 import re
+import signal
 import subprocess
 import sys
 import time
@@ -79,12 +80,13 @@ def look(top, used, kinds):
 
 
 def watch(command, used, kinds):
-    """Looks until the command ends. An interruption reaches the command too, by the terminal."""
+    """Looks until the command ends. An interruption is handed on to the command."""
     try:
         while command.poll() is None:
             look(command.pid, used, kinds)
             time.sleep(0.5)
     except KeyboardInterrupt:
+        command.send_signal(signal.SIGINT)
         command.wait()
 
 
@@ -101,6 +103,8 @@ def sums_of(used, kinds):
 
 
 def main():
+    # A shell has what it starts in the background ignore interruptions.
+    signal.signal(signal.SIGINT, signal.default_int_handler)
     command = subprocess.Popen(sys.argv[1:])
     began = time.monotonic()
     used, kinds = {}, {}
