@@ -1,8 +1,7 @@
 -- Results that are all done, or not.
-use Rattle.std.proofs.Common.{◌≡◌, ◌+◌, ◌<◌, ◌++◌, ℕ, zero, suc, List, [], ◌∷◌, length, map, take, get_or, refl, ap, arith, ◌∙◌, sym, subst, Option, Some, None, Result, Global}
+use Rattle.std.proofs.Common.{◌≡◌, ◌+◌, ◌<◌, ◌++◌, ℕ, zero, suc, List, [], ◌∷◌, length, map, take, get_or, refl, ap, arith, ◌∙◌, sym, subst, if◌then◌else◌, Bool, true, false, Option, Some, None, Result, Global}
 use Rattle.std.specs.declared.sync.Arc.{Arc}
 use Rattle.std.specs.Arc.{arc_value}
-use Rattle.std.specs.Option.{option_map}
 use Rattle.std.proofs.lemmas.List.{length-map}
 use Rattle.pass_core.specs.declared.published.Published.{Published}
 use Rattle.pass_core.specs.declared.published.Published.TheVariants.{Done, Bad, Poisoned}
@@ -90,10 +89,11 @@ module _ {O A : Type 0} where
     as_many os h = outs_many (outcomes ins) os (sym h) ∙ ap length values
         ∙ length-map (predecessors plan.edges n) (node_result mean plan)
 
--- what an option of a vector comes to
-pub mapped_none : {T X : Type 0} (f : T → X) (r : Option T) → r ≡ None → (q : Option X) → option_map f r ≡ q → None ≡ q
-mapped_none f r is q h = sym (ap (option_map f) is) ∙ h
+-- what a list says, where not all came into it, and where all did
+pub told_none : {X : Type 0} (all : Bool) (x : X) → all ≡ false → (q : Option X) → (if all then Some x else None) ≡ q
+    → None ≡ q
+told_none all x is q h = sym (ap (λ (b : Bool). if b then Some x else None) is) ∙ h
 
-pub mapped_some : {T X : Type 0} (f : T → X) (r : Option T) (x : T) → r ≡ Some x → (q : Option X) → option_map f r ≡ q
-    → Some (f x) ≡ q
-mapped_some f r x is q h = sym (ap (option_map f) is) ∙ h
+pub told_some : {X : Type 0} (all : Bool) (x : X) → all ≡ true → (q : Option X) → (if all then Some x else None) ≡ q
+    → Some x ≡ q
+told_some all x is q h = sym (ap (λ (b : Bool). if b then Some x else None) is) ∙ h

@@ -4,6 +4,7 @@ ghost use Rattle.visit_workers.specs.Passes.{IsPass, IsMadeRight, Works};
 ghost use Rattle.visit_workers.specs.Settled.{IsSettled, JustClaimed, Reaches};
 
 use crate::judge::judge;
+use crate::lists::Lists;
 use crate::made::Made;
 use crate::node::{gather, spread};
 use crate::pass::Pass;
@@ -20,6 +21,7 @@ fn visit_claimed<V: Visit, G: Gate>(
     seat: &mut Seat<V>,
     n: NodeId,
     hints: &mut Worker<NodeId>,
+    lists: &mut Lists<V::Out>,
 ) -> Result<Made<V::Out>, OutOfMemory>
     requires pass { IsPass (V.takes pass.now.visitor.now) pass.now }
     requires seat { IsSeatOf pass.now.board.now seat.old }
@@ -36,8 +38,8 @@ fn visit_claimed<V: Visit, G: Gate>(
     in_edges_are_together();
     places_of_edges_rise();
     places_tell_targets();
-    let ins = gather(pass, seat, n)?;
-    let verdict = judge(pass, n, &ins)?;
+    gather(pass, seat, n, &mut lists.fetched)?;
+    let verdict = judge(pass, n, &lists.fetched, &mut lists.outs)?;
     let ticket = pass.board.ticket(seat, n);
     spread(pass, seat, n, &verdict, hints)?;
     Ok(Made {
@@ -54,6 +56,7 @@ pub fn attempt<V: Visit, G: Gate>(
     n: NodeId,
     hints: &mut Worker<NodeId>,
     made: &mut Vec<Made<V::Out>>,
+    lists: &mut Lists<V::Out>,
 ) -> Result<(), OutOfMemory>
     requires pass { IsPass (V.takes pass.now.visitor.now) pass.now }
     requires seat { IsSeatOf pass.now.board.now seat.old }
@@ -66,7 +69,7 @@ pub fn attempt<V: Visit, G: Gate>(
 {
     match pass.board.claim(seat, n) {
         Claim::Claimed => {
-            let done = visit_claimed(pass, seat, n, hints)?;
+            let done = visit_claimed(pass, seat, n, hints, lists)?;
             made.push(done)?;
             Ok(())
         }

@@ -31,6 +31,7 @@ fn run_task<V: Visit, G: Gate>(pass: &Pass<V, G>, others: &[Stealer<NodeId>], ta
         &mut task.hints,
         others,
         &mut task.made,
+        &mut task.lists,
     )
     .is_err();
 }

@@ -4,6 +4,7 @@ ghost use Rattle.ready_counters.specs.Views.{whole, all_of_it};
 ghost use Rattle.visit_workers.specs.Passes.{IsPass, Works};
 ghost use Rattle.visit_workers.specs.Tasks.{IsAtWork};
 
+use crate::lists::Lists;
 use crate::pass::Pass;
 use crate::task::Task;
 use bp_faults::{NodeId, OutOfMemory};
@@ -80,6 +81,7 @@ pub fn tasks_of<V: Visit, G: Gate>(
             seat: pass.board.split(seat),
             hints,
             made: Vec::new(pass.alloc),
+            lists: Lists::new(pass.alloc),
             failed: false,
         })?;
     }

@@ -1,5 +1,4 @@
-ghost use Rattle.std.specs.Prelude.{◌≡◌, ◌<◌, map, IfOk};
-ghost use Rattle.std.specs.Option.{option_map};
+ghost use Rattle.std.specs.Prelude.{◌≡◌, ◌<◌, if◌then◌else◌, map, IfOk, None, Some};
 ghost use Rattle.std.specs.Arc.{arc_value};
 ghost use Rattle.pass_core.specs.Plans.{predecessors};
 ghost use Rattle.pass_core.specs.Results.{all_outs};
@@ -13,31 +12,31 @@ use bp_faults::{NodeId, OutOfMemory};
 use bp_ports::Gate;
 use pass_core::laws::results_meet_their_equation;
 use pass_core::{Published, Visit, VisitError};
-use std::alloc::Global;
 use std::sync::Arc;
 
-/// What all of them made, if all are done.
-fn all_done<O: Drop>(
-    alloc: Global,
-    ins: &[Arc<Published<O>>],
-) -> Result<Option<Vec<Arc<O>>>, OutOfMemory>
-    ensures { IfOk result (λ r. option_map (λ outs. map arc_value outs.items) r ≡ all_outs (outcomes ins.now)) }
+/// Puts what they made into a list, as far as they are done, and tells whether all of them are. What the list held
+/// before is dropped, and its memory serves again.
+fn all_done<O: Drop>(ins: &[Arc<Published<O>>], outs: &mut Vec<Arc<O>>) -> Result<bool, OutOfMemory>
+    ensures { IfOk result (λ all. (if all then Some (map arc_value outs.new.items) else None)
+        ≡ all_outs (outcomes ins.now)) }
 {
-    let mut outs = Vec::with_capacity(alloc, ins.len())?;
+    outs.clear();
     for published in ins {
         match &**published {
             Published::Done(shared) => outs.push(Arc::try_clone(shared)?)?,
-            _ => return Ok(None),
+            _ => return Ok(false),
         }
     }
-    Ok(Some(outs))
+    Ok(true)
 }
 
-/// The verdict on a node, by what its predecessors came to. The gate is entered before a visit that is made.
+/// The verdict on a node, by what its predecessors came to. The gate is entered before a visit that is made. The list
+/// serves to hand over what they made, whatever it holds.
 pub fn judge<V: Visit, G: Gate>(
     pass: &Pass<V, G>,
     n: NodeId,
     ins: &[Arc<Published<V::Out>>],
+    outs: &mut Vec<Arc<V::Out>>,
 ) -> Result<Verdict<V::Out>, OutOfMemory>
     requires pass { IsPass (V.takes pass.now.visitor.now) pass.now }
     requires inside { n.0 < pass.now.plan.now.count }
@@ -45,11 +44,11 @@ pub fn judge<V: Visit, G: Gate>(
     ensures { IfOk result (λ found. verdict_result found ≡ result_of (V.meaning pass.now.visitor.now) pass.now n.0) }
 {
     results_meet_their_equation::<V::Out>();
-    let Some(outs) = all_done(pass.alloc, ins)? else {
+    if !all_done(ins, outs)? {
         return Ok(Verdict::Poisoned);
-    };
+    }
     pass.gate.enter(pass.number, n);
-    match pass.visitor.visit(pass.alloc, n, &outs) {
+    match pass.visitor.visit(pass.alloc, n, outs.as_slice()) {
         Ok(out) => Ok(Verdict::Done(Arc::new(pass.alloc, out)?)),
         Err(VisitError::Bad(fault)) => Ok(Verdict::Bad(Box::new(pass.alloc, fault)?)),
         Err(VisitError::OutOfMemory) => Err(OutOfMemory),

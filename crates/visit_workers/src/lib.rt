@@ -12,6 +12,7 @@ mod dealing;
 mod finish;
 mod judge;
 mod links;
+mod lists;
 mod made;
 mod node;
 mod pass;

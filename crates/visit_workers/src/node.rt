@@ -1,4 +1,4 @@
-ghost use Rattle.std.specs.Prelude.{◌≡◌, ◌<◌, ◌≤◌, ◌+◌, [], length, IfOk, OnOk};
+ghost use Rattle.std.specs.Prelude.{◌≡◌, ◌<◌, ◌≤◌, ◌+◌, [], length, OnOk};
 ghost use Rattle.std.specs.Arc.{arc_value};
 ghost use Rattle.pass_core.specs.Shown.{published_result};
 ghost use Rattle.ready_counters.specs.Edges.{edge_source};
@@ -19,12 +19,13 @@ use pass_core::{Published, Visit, edges_into};
 use ready_counters::Seat;
 use std::sync::Arc;
 
-/// Fetches all edges into a node.
+/// Fetches all edges into a node into a list. What the list held before is dropped, and its memory serves again.
 pub fn gather<V: Visit, G: Gate>(
     pass: &Pass<V, G>,
     seat: &mut Seat<V>,
     n: NodeId,
-) -> Result<Vec<Arc<Published<V::Out>>>, OutOfMemory>
+    fetched: &mut Vec<Arc<Published<V::Out>>>,
+) -> Result<(), OutOfMemory>
     requires pass { IsPass (V.takes pass.now.visitor.now) pass.now }
     requires inside { n.0 < pass.now.plan.now.count }
     requires seat { IsSeatOf pass.now.board.now seat.old }
@@ -33,20 +34,20 @@ pub fn gather<V: Visit, G: Gate>(
     ensures seat { IsSeatOf pass.now.board.now seat.new }
     ensures weight { (view_of seat.new).weight ≡ (view_of seat.old).weight }
     ensures gathered { OnOk result (HasGathered pass.now n.0 (view_of seat.old) (view_of seat.new)) }
-    ensures values { IfOk result (λ ins. AreInsOf (V.meaning pass.now.visitor.now) pass.now n.0 ins.items) }
+    ensures values { OnOk result (AreInsOf (V.meaning pass.now.visitor.now) pass.now n.0 fetched.new.items) }
 {
     in_edges_are_together();
     places_of_edges_rise();
     places_tell_targets();
     let edges = edges_into(pass.plan, pass.starts, n);
-    let mut ins = Vec::with_capacity(pass.alloc, edges.len())?;
+    fetched.clear();
     let mut e = pass.starts[n.0 as usize];
     for _edge in edges {
         let shared = pass.board.fetch(seat, e);
-        ins.push(shared)?;
+        fetched.push(shared)?;
         e += 1;
     }
-    Ok(ins)
+    Ok(())
 }
 
 /// Fills and subtracts an edge out of a node. A target that got ready becomes a hint.

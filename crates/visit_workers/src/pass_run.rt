@@ -11,6 +11,7 @@ use crate::crew::{join_all, run_tasks};
 use crate::dealing::{deal, deques, stealers, tasks_of};
 use crate::finish::{by_ticket, outcome};
 use crate::links::outs_of;
+use crate::lists::Lists;
 use crate::made::Made;
 use crate::pass::Pass;
 use crate::work::sweep;
@@ -102,7 +103,8 @@ fn visit_each<R: Threads + Sync, V: Visit<Out: Send + Sync> + Sync, G: Gate + Sy
     serial_order_is_legal();
     let order = serial_order(pass.alloc, pass.plan)?;
     let mut hints = Worker::new_lifo(pass.alloc, 64)?;
-    sweep(pass, seat, &order, &mut hints, &mut made)?;
+    let mut lists = Lists::new(pass.alloc);
+    sweep(pass, seat, &order, &mut hints, &mut made, &mut lists)?;
     Ok(made)
 }
 

@@ -1,16 +1,18 @@
 ghost use Rattle.std.specs.Prelude.{◌≡◌};
 
+use crate::lists::Lists;
 use crate::made::Made;
 use bp_faults::NodeId;
 use crossbeam_deque::Worker;
 use pass_core::Visit;
 use ready_counters::Seat;
 
-/// One worker's seat, its hints, and what it made.
+/// One worker's seat, its hints, what it made, and the lists that it uses again.
 pub struct Task<V: Visit> {
     pub seat: Seat<V>,
     pub hints: Worker<NodeId>,
     pub made: Vec<Made<V::Out>>,
+    pub lists: Lists<V::Out>,
     pub failed: bool,
 }
 
@@ -20,6 +22,7 @@ impl<V: Visit> Drop for Task<V> {
             seat: _seat,
             hints: _hints,
             made: _made,
+            lists: _lists,
             failed: _,
         } = self;
     }
@@ -34,6 +37,7 @@ impl<V: Visit> Task<V> {
             seat,
             hints: _hints,
             made,
+            lists: _lists,
             failed,
         } = self;
         (seat, made, failed)

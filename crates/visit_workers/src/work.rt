@@ -5,6 +5,7 @@ ghost use Rattle.ready_counters.specs.Views.{whole, times};
 ghost use Rattle.visit_workers.specs.Passes.{IsPass, Works};
 
 use crate::attempt::attempt;
+use crate::lists::Lists;
 use crate::made::Made;
 use crate::pass::Pass;
 use bp_faults::{NodeId, OutOfMemory};
@@ -51,6 +52,7 @@ pub fn work<V: Visit, G: Gate>(
     hints: &mut Worker<NodeId>,
     others: &[Stealer<NodeId>],
     made: &mut Vec<Made<V::Out>>,
+    lists: &mut Lists<V::Out>,
 ) -> Result<(), OutOfMemory>
     requires pass { IsPass (V.takes pass.now.visitor.now) pass.now }
     requires seat { IsSeatOf pass.now.board.now seat.old }
@@ -64,7 +66,7 @@ pub fn work<V: Visit, G: Gate>(
             return Ok(());
         };
         if n.0 < pass.plan.count {
-            attempt(pass, seat, n, hints, made)?;
+            attempt(pass, seat, n, hints, made, lists)?;
         }
     }
     Ok(())
@@ -77,6 +79,7 @@ pub fn sweep<V: Visit, G: Gate>(
     order: &[NodeId],
     hints: &mut Worker<NodeId>,
     made: &mut Vec<Made<V::Out>>,
+    lists: &mut Lists<V::Out>,
 ) -> Result<(), OutOfMemory>
     requires pass { IsPass (V.takes pass.now.visitor.now) pass.now }
     requires seat { IsSeatOf pass.now.board.now seat.old }
@@ -89,7 +92,7 @@ pub fn sweep<V: Visit, G: Gate>(
     ensures claimed { OnOk result ((n : ℕ) → n < pass.now.plan.now.count → 1 ≤ times n (view_of seat.new).claimed) }
 {
     for n in order {
-        attempt(pass, seat, *n, hints, made)?;
+        attempt(pass, seat, *n, hints, made, lists)?;
     }
     Ok(())
 }

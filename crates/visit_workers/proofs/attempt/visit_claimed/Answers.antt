@@ -22,7 +22,7 @@ ticket-ticket-requires-clause-ready g c =
     (λ e l to. let r = (range c.in_edges_are_together.ensures c.places_of_edges_rise.ensures
     c.places_tell_targets.ensures c.args.pass.now.plan.now c.requires.pass.is_plan c.args.pass.now.starts.now
     c.requires.pass.starts c.args.n.0 c.requires.inside e blank l).1 to in
-    let d = c.in_ok-ins.ensures.gathered.done e r.0 r.1 in omega arith)
+    let d = c.in_ok-gather.ensures.gathered.done e r.0 r.1 in omega arith)
 
 pub returns-clause-settled : goal.returns-clause-settled
 returns-clause-settled g c =
@@ -35,6 +35,6 @@ returns-clause-settled g c =
     c.requires.inside e blank l)
     (subst (λ (u : View). IsGathering (slice_index c.args.pass.now.starts.now c.args.n.0)
     (slice_index c.args.pass.now.starts.now (c.args.n.0 + 1)) u (view_of c.gather.new.seat)) j.2
-    c.in_ok-ins.ensures.gathered)
+    c.in_ok-gather.ensures.gathered)
     (subst (λ (u : View). IsSpreading (numbers_from 0 c.args.pass.now.plan.now.edges c.args.n.0) u
     (view_of c.spread.new.seat)) c.ticket-ticket.ensures.drawn c.in_ok-spread.ensures.spread)

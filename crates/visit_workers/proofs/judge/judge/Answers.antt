@@ -4,46 +4,46 @@ use Rattle.std.proofs.lemmas.List.{length-map}
 use Rattle.pass_core.specs.Results.{all_outs}
 use Rattle.pass_core.specs.Results.NodeResult.{Done, Bad}
 use Rattle.visit_workers.specs.Settled.{outcomes}
-use Rattle.visit_workers.proofs.Judging.{poisoned, visited, as_many, mapped_none, mapped_some}
+use Rattle.visit_workers.proofs.Judging.{poisoned, visited, as_many, told_none, told_some}
 use Rattle.visit_workers.proofs.judge.judge.Goals as goal
 
-pub returns-in_default : goal.returns-in_default
-returns-in_default g c =
+pub returns-then-not-branch : goal.returns-then-not-branch
+returns-then-not-branch g c =
     sym (poisoned c.results_meet_their_equation.ensures (g.V.Visit.meaning c.args.pass.now.visitor.now)
     c.args.pass.now.plan.now c.requires.pass.is_plan c.requires.pass.free c.args.n.0 c.requires.inside c.args.ins.now
-    c.requires.values (mapped_none (λ outs. map arc_value outs.items) c.in_ok-outs.field-0 c.in_default.is
-    (all_outs (outcomes c.args.ins.now)) c.in_ok-outs.ensures))
+    c.requires.values (told_none c.in_ok-all_done.field-0 (map arc_value c.all_done.new.outs.items) c.if-not-branch.true
+    (all_outs (outcomes c.args.ins.now)) c.in_ok-all_done.ensures))
 
 pub visit-requires : goal.visit-requires
 visit-requires g c =
     let many = as_many c.results_meet_their_equation.ensures (g.V.Visit.meaning c.args.pass.now.visitor.now)
     c.args.pass.now.plan.now c.requires.pass.is_plan c.requires.pass.free c.args.n.0 c.requires.inside
-    c.args.ins.now c.requires.values (map arc_value c.in-Some.outs.items)
-    (mapped_some (λ outs. map arc_value outs.items) c.in_ok-outs.field-0 c.in-Some.outs c.in-Some.is
-    (all_outs (outcomes c.args.ins.now)) c.in_ok-outs.ensures) in
+    c.args.ins.now c.requires.values (map arc_value c.all_done.new.outs.items)
+    (told_some c.in_ok-all_done.field-0 (map arc_value c.all_done.new.outs.items) c.if-not-branch.false
+    (all_outs (outcomes c.args.ins.now)) c.in_ok-all_done.ensures) in
     subst (λ k. g.V.Visit.takes c.args.pass.now.visitor.now c.args.n.0 k)
-    (sym many ∙ length-map c.in-Some.outs.items arc_value ∙ ap length (sym c.deref.ensures.value))
+    (sym many ∙ length-map c.all_done.new.outs.items arc_value ∙ ap length (sym c.as_slice.ensures.value))
     (c.requires.pass.takes_plan c.args.n.0 c.requires.inside)
 
-pub returns-in-Ok : goal.returns-in-Ok
-returns-in-Ok g c =
+pub returns-in_ok-new-in-Ok : goal.returns-in_ok-new-in-Ok
+returns-in_ok-new-in-Ok g c =
     ap Done c.in_ok-new-in-Ok.ensures.ok
     ∙ sym (visited c.results_meet_their_equation.ensures (g.V.Visit.meaning c.args.pass.now.visitor.now)
     c.args.pass.now.plan.now c.requires.pass.is_plan c.requires.pass.free c.args.n.0 c.requires.inside
-    c.args.ins.now c.requires.values (map arc_value c.in-Some.outs.items)
-    (mapped_some (λ outs. map arc_value outs.items) c.in_ok-outs.field-0 c.in-Some.outs c.in-Some.is
-    (all_outs (outcomes c.args.ins.now)) c.in_ok-outs.ensures) (Ok c.in-Ok.out)
+    c.args.ins.now c.requires.values (map arc_value c.all_done.new.outs.items)
+    (told_some c.in_ok-all_done.field-0 (map arc_value c.all_done.new.outs.items) c.if-not-branch.false
+    (all_outs (outcomes c.args.ins.now)) c.in_ok-all_done.ensures) (Ok c.in-Ok.out)
     (ap (λ l. g.V.Visit.meaning c.args.pass.now.visitor.now c.args.n.0 (map arc_value l))
-    (sym c.deref.ensures.value) ∙ c.in-Ok.ensures))
+    (sym c.as_slice.ensures.value) ∙ c.in-Ok.ensures))
 
-pub returns-in-Err-Bad : goal.returns-in-Err-Bad
-returns-in-Err-Bad g c =
+pub returns-in_ok-new-in-Err-Bad : goal.returns-in_ok-new-in-Err-Bad
+returns-in_ok-new-in-Err-Bad g c =
     let told = rw c.in-Err-Bad.field-0-is at c.in-Err-Bad.ensures in
     ap Bad (c.in_ok-new-in-Err-Bad.ensures.ok ∙ c.in-Err-Bad.fault-is)
     ∙ sym (visited c.results_meet_their_equation.ensures (g.V.Visit.meaning c.args.pass.now.visitor.now)
     c.args.pass.now.plan.now c.requires.pass.is_plan c.requires.pass.free c.args.n.0 c.requires.inside
-    c.args.ins.now c.requires.values (map arc_value c.in-Some.outs.items)
-    (mapped_some (λ outs. map arc_value outs.items) c.in_ok-outs.field-0 c.in-Some.outs c.in-Some.is
-    (all_outs (outcomes c.args.ins.now)) c.in_ok-outs.ensures) (Err c.in-Err-Bad.fault)
+    c.args.ins.now c.requires.values (map arc_value c.all_done.new.outs.items)
+    (told_some c.in_ok-all_done.field-0 (map arc_value c.all_done.new.outs.items) c.if-not-branch.false
+    (all_outs (outcomes c.args.ins.now)) c.in_ok-all_done.ensures) (Err c.in-Err-Bad.fault)
     (ap (λ l. g.V.Visit.meaning c.args.pass.now.visitor.now c.args.n.0 (map arc_value l))
-    (sym c.deref.ensures.value) ∙ told))
+    (sym c.as_slice.ensures.value) ∙ told))

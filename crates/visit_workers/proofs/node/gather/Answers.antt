@@ -73,12 +73,12 @@ loop-edge-preserved g c =
           (view_of c.args.seat.now) (view_of c.loop-edge.seat) (view_of c.fetch-shared.new.seat)
           (let h = c.loop-edge.invariant.counted in omega arith) c.fetch-shared.ensures.fetched
           c.loop-edge.invariant.gathering;
-      values = ap outcomes c.in_ok-push.ensures.items ∙ map-append (λ a. published_result (arc_value a)) c.loop-edge.ins.items
-          (c.fetch-shared.result ∷ [])
+      values = ap outcomes c.in_ok-push.ensures.items
+          ∙ map-append (λ a. published_result (arc_value a)) c.loop-edge.fetched.items (c.fetch-shared.result ∷ [])
           ∙ mapped_more (node_result (g.V.Visit.meaning c.args.pass.now.visitor.now) c.args.pass.now.plan.now)
           c.edges_into-edges.result.now c.loop-edge._edge-index c.loop-edge.e blank
-          (outcomes c.loop-edge.ins.items) (published_result (arc_value c.fetch-shared.result)) c.loop-edge-test.true
-          c.loop-edge.invariant.values
+          (outcomes c.loop-edge.fetched.items) (published_result (arc_value c.fetch-shared.result))
+          c.loop-edge-test.true c.loop-edge.invariant.values
           (c.fetch-shared.ensures.value
           ∙ ap (λ w. result_at (g.V.Visit.meaning w) (plan_on_board c.args.pass.now.board.now) c.loop-edge.e)
           (sym c.requires.pass.board_visitor)

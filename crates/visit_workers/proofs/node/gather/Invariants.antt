@@ -11,7 +11,7 @@ invariant-loop-edge g l = record {
   counted : l.e ≡ slice_index l.pass.starts.now l.fn.n.0 + l._edge-index;
   seat : IsSeatOf l.pass.board.now l.seat;
   gathering : IsGathering (slice_index l.pass.starts.now l.fn.n.0) l.e (view_of l.fn.seat) (view_of l.seat);
-  values : outcomes l.ins.items ≡ map
+  values : outcomes l.fetched.items ≡ map
       (λ (d : PlanEdge). node_result (g.V.Visit.meaning l.pass.visitor.now) l.pass.plan.now d.from.0)
       (take l._edge-index l.edges);
 }
