@@ -1,5 +1,5 @@
-ghost use Rattle.std.specs.Prelude.{◌≡◌};
-ghost use Rattle.std.specs.Str.{bytes_eq};
+ghost use Rattle.std.specs.Prelude.{◌≡◌, nat_lt};
+ghost use Rattle.property_tables.specs.Inside.{first_rank};
 
 use crate::Row;
 use bp_faults::Text;
@@ -22,11 +22,11 @@ impl<const N: usize> Model for PropTable<N> {
     ghost invariant = { λ t. (length t.rows.now ≡ N) × IsTrue (names_ascend (map property_of t.rows.now)) };
 }
 
-/// Whether two names of one length are the same. Few of these begin alike, so that most are told apart by one byte.
-fn is_same(own: &str, name: &str) -> bool
-    ensures { result ≡ bytes_eq own.now name.now }
+/// Whether a row's name begins with a lower byte than the name that is wanted, or is empty where that isn't.
+fn begins_lower(own: &str, name: &str) -> bool
+    ensures { result ≡ nat_lt (first_rank own.now) (first_rank name.now) }
 {
-    own.as_bytes().first() == name.as_bytes().first() && own == name
+    own.as_bytes().first() < name.as_bytes().first()
 }
 
 impl<const N: usize> PropTable<N> {
@@ -47,6 +47,12 @@ impl<const N: usize> PropTable<N> {
         ensures { option_map (λ row. property_of row.now) result ≡ property_named self.now name.now }
     {
         let name = name.as_str();
-        self.rows.iter().find(|row| row.name.len() == name.len() && is_same(row.name, name))
+        // Names ascend, so no row in front of this place begins as the name does.
+        let start = self
+            .rows
+            .partition_point(|row| begins_lower(row.name, name));
+        let rest = &self.rows[start..];
+        rest.iter()
+            .find(|row| row.name.len() == name.len() && row.name == name)
     }
 }

@@ -1,15 +1,21 @@
-use Rattle.std.proofs.Common.{rules, tests}
+use Rattle.std.proofs.Common.{rules, tests, ltb, ◌∙◌}
 use Rattle.std.specs.Str.{bytes_eq}
+use Rattle.std.proofs.lemmas.List.{take_rest}
 use Rattle.std.proofs.lemmas.Iterator.{YieldsList-from_slice}
 use Rattle.std.proofs.lemmas.Iterator.Search.{find_from_yields_List}
-use Rattle.property_tables.proofs.Search.{first_row}
+use Rattle.std.proofs.lemmas.List.Sorted.{IsPartitionPoint-from_clause}
+use Rattle.property_tables.specs.Inside.{first_rank}
+use Rattle.property_tables.proofs.Search.{first_row, rows_parted}
 use Rattle.property_tables.proofs.prop_table.PropTable.row.Goals as goal
 
--- each row's name is compared with the one that is wanted
+-- no row in front of the start has the name, and each row's name behind it is compared with the one that is wanted
 pub returns : goal.returns
 returns g c =
     let rows = c.self.inside.rows.now in
     let name = c.args.name.now in
-    rw (← c.self.view_is) (first_row rows name c.find.result
+    let parted = IsPartitionPoint-from_clause (λ row. ltb (first_rank row.name.now) (first_rank name)) rows _
+    c.partition_point-start.ensures.partitioned (rows_parted rows (first_rank name) c.self.invariant.1)
+    (λ a r q k. search rules) in
+    rw (← c.self.view_is) (first_row rows name _ c.find.result c.partition_point-start.ensures.bound parted
     (find_from_yields_List (λ row. bytes_eq row.name.now name) _ _ c.find.result c.find.ensures.ran
-    (YieldsList-from_slice rows cc) (λ x b q k. search (rules, tests))))
+    (YieldsList-from_slice _ (c.iter.ensures.rest ∙ take_rest rows _)) (λ x b q k. search (rules, tests))))
