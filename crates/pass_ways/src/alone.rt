@@ -9,7 +9,7 @@ use bp_faults::{NodeId, Seq};
 use bp_ports::Gate;
 use pass_core::laws::serial_order_is_legal;
 use pass_core::{
-    OrderError, PassError, Plan, Visit, VisitError, run_order, run_serial, serial_order,
+    OrderError, PassError, Plan, Visit, VisitError, run_order, run_serial, serial_order, starts_of,
 };
 use std::alloc::Global;
 use std::sync::Arc;
@@ -88,7 +88,8 @@ pub fn run_alone<V: Visit, G: Gate>(
         gate,
         pass,
     };
-    let order = deep_order(alloc, plan)?;
+    let starts = starts_of(alloc, plan)?;
+    let order = deep_order(alloc, plan, &starts)?;
     match run_order(alloc, plan, &gated, &order) {
         Ok(outs) => Ok(WayRun {
             outs,

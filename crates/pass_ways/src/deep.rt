@@ -5,7 +5,7 @@ ghost use Rattle.pass_core.specs.InEdges.{AreStarts};
 ghost use Rattle.pass_core.specs.Plans.{IsPlan};
 
 use bp_faults::{NodeId, OutOfMemory};
-use pass_core::{Plan, PlanEdge, edges_into, starts_of};
+use pass_core::{Plan, PlanEdge, edges_into};
 use std::alloc::Global;
 
 /// How far the search is with a node.
@@ -142,10 +142,10 @@ fn rises(edges: &[PlanEdge]) -> bool {
 }
 
 /// The nodes of a plan, as a search in depth from each node in turn places them.
-pub fn deep_order(alloc: Global, plan: &Plan) -> Result<Vec<NodeId>, OutOfMemory>
-    requires { IsPlan plan.now }
+pub fn deep_order(alloc: Global, plan: &Plan, starts: &[u32]) -> Result<Vec<NodeId>, OutOfMemory>
+    requires plan { IsPlan plan.now }
+    requires starts { AreStarts plan.now starts.now }
 {
-    let starts = starts_of(alloc, plan)?;
     let count = plan.count as usize;
     let mut search = Search {
         stages: vec![in alloc; Stage::Unmet; count]?,
@@ -153,9 +153,9 @@ pub fn deep_order(alloc: Global, plan: &Plan) -> Result<Vec<NodeId>, OutOfMemory
         order: Vec::with_capacity(alloc, count)?,
     };
     if rises(plan.edges.as_slice()) {
-        search.place_rising(plan, &starts)?;
+        search.place_rising(plan, starts)?;
     } else {
-        search.place_falling(plan, &starts)?;
+        search.place_falling(plan, starts)?;
     }
     Ok(search.order)
 }

@@ -1,6 +1,7 @@
 //! Visits that make nothing of their nodes. They come to the order in which they were made.
 
-ghost use Rattle.std.specs.Prelude.{IfOk, Ok, ⊤, ◌≤◌, ◌<◌, length};
+ghost use Rattle.std.specs.Prelude.{IfOk, IfSome, IsTrue, Ok, ⊤, ◌≤◌, ◌<◌, length};
+ghost use Rattle.pass_core.specs.InEdges.{AreStarts};
 ghost use Rattle.pass_core.specs.Orders.{IsLegal, numbers};
 ghost use Rattle.pass_core.specs.Plans.{IsPlan, HasNoCycle};
 ghost use Rattle.pass_ways.specs.Idle.{AnswersIdle, AnswersIdleBy};
@@ -38,26 +39,89 @@ impl Visit for IdleVisit {
     }
 }
 
-/// The order for one worker: a search in depth makes it, and the serial order stands in for one that isn't legal.
-fn legal_order(alloc: Global, plan: &Plan) -> Result<Vec<NodeId>, OutOfMemory>
+/// Whether a list of nodes is a legal order, by where the in-edges of each node begin.
+fn is_legal(
+    alloc: Global,
+    plan: &Plan,
+    starts: &[u32],
+    order: &[NodeId],
+) -> Result<bool, OutOfMemory>
+    requires plan { IsPlan plan.now }
+    requires starts { AreStarts plan.now starts.now }
+    ensures { IfOk result (λ legal. IsTrue legal → IsLegal plan.now (numbers order.now)) }
+{
+    match check_order(alloc, plan, starts, order) {
+        Ok(()) => Ok(true),
+        Err(OrderError::OutOfMemory) => Err(OutOfMemory),
+        Err(_) => Ok(false),
+    }
+}
+
+/// The nodes of some visits.
+fn visited(alloc: Global, visits: &[(u32, NodeId)]) -> Result<Vec<NodeId>, OutOfMemory> {
+    let mut nodes = Vec::with_capacity(alloc, visits.len())?;
+    for (_, n) in visits {
+        nodes.push(*n)?;
+    }
+    Ok(nodes)
+}
+
+/// The order of the last visits, as many as the plan has nodes, or that order backwards, where it is legal.
+///
+/// Most passes go over the graph of the pass before, in the same or the opposite direction.
+fn order_again(
+    alloc: Global,
+    before: &[(u32, NodeId)],
+    plan: &Plan,
+    starts: &[u32],
+) -> Result<Option<Vec<NodeId>>, OutOfMemory>
+    requires plan { IsPlan plan.now }
+    requires starts { AreStarts plan.now starts.now }
+    ensures { IfOk result (λ found. IfSome found (λ order. IsLegal plan.now (numbers order.items))) }
+{
+    let Some(first) = before.len().checked_sub(plan.count as usize) else {
+        return Ok(None);
+    };
+    let mut order = visited(alloc, &before[first..])?;
+    if is_legal(alloc, plan, starts, &order)? {
+        return Ok(Some(order));
+    }
+    order.reverse();
+    if is_legal(alloc, plan, starts, &order)? {
+        return Ok(Some(order));
+    }
+    Ok(None)
+}
+
+/// A legal order: that of the pass before where it serves, else that of a search in depth. The serial order stands in
+/// for one that isn't legal, of which none is known.
+fn legal_order(
+    alloc: Global,
+    before: &[(u32, NodeId)],
+    plan: &Plan,
+    starts: &[u32],
+) -> Result<Vec<NodeId>, OutOfMemory>
     requires plan { IsPlan plan.now }
     requires free { HasNoCycle plan.now.edges }
+    requires starts { AreStarts plan.now starts.now }
     ensures { IfOk result (λ order. IsLegal plan.now (numbers order.items)) }
 {
     serial_order_is_legal();
-    let order = deep_order(alloc, plan)?;
-    let starts = starts_of(alloc, plan)?;
-    match check_order(alloc, plan, &starts, &order) {
-        Ok(()) => Ok(order),
-        Err(OrderError::OutOfMemory) => Err(OutOfMemory),
-        Err(_) => serial_order(alloc, plan),
+    if let Some(order) = order_again(alloc, before, plan, starts)? {
+        return Ok(order);
     }
+    let order = deep_order(alloc, plan, starts)?;
+    if is_legal(alloc, plan, starts, &order)? {
+        return Ok(order);
+    }
+    serial_order(alloc, plan)
 }
 
 /// Visits the nodes one after another on the caller's thread: for each the gate is entered, and nothing else is done.
 fn order_alone<G: Gate>(
     alloc: Global,
     gate: &G,
+    before: &[(u32, NodeId)],
     pass: u32,
     plan: &Plan,
 ) -> Result<Seq<NodeId>, OutOfMemory>
@@ -65,7 +129,8 @@ fn order_alone<G: Gate>(
     requires free { HasNoCycle plan.now.edges }
     ensures { IfOk result (λ order. IsLegal plan.now (numbers order)) }
 {
-    let order = legal_order(alloc, plan)?;
+    let starts = starts_of(alloc, plan)?;
+    let order = legal_order(alloc, before, plan, &starts)?;
     for n in &order {
         gate.enter(pass, *n);
     }
@@ -126,8 +191,8 @@ fn order_along(
 /// Visits each node of a plan after its predecessors, in some way, and makes nothing of the nodes: the order of the
 /// visits.
 ///
-/// `before` holds the visits of the passes before this one. One worker makes no box for a node, and a pass along lines
-/// none either.
+/// `before` holds the visits of the passes before this one: where the last of them went over the same graph, its order
+/// is taken again, or that order backwards. One worker makes no box for a node, and a pass along lines none either.
 pub fn order_by_way<R: Threads + Sync, G: Gate + Sync>(
     rt: &R,
     alloc: Global,
@@ -143,7 +208,7 @@ pub fn order_by_way<R: Threads + Sync, G: Gate + Sync>(
     ensures { AnswersIdle way.now plan.now pass before.now result }
 {
     match way {
-        Way::Workers { workers: 1, gate } => Ok(order_alone(alloc, *gate, pass, plan)?),
+        Way::Workers { workers: 1, gate } => Ok(order_alone(alloc, *gate, before, pass, plan)?),
         Way::Workers { workers, gate } => {
             Ok(order_on_workers(rt, alloc, *gate, *workers, pass, plan)?)
         }
