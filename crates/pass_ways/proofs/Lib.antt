@@ -6,3 +6,7 @@ pub mod Refused
 pub mod Told
 pub mod Numbered
 pub mod Refusing
+pub mod Stretched
+pub mod Readied
+pub mod Rejoined
+pub mod Linked

@@ -23,15 +23,15 @@ all_from_each P [] h = tt
 all_from_each P (x ∷ xs) h = (h 0 (omega arith), all_from_each P xs (λ i lt. h (suc i) (omega arith)))
 
 module _ (plan : Plan) (order : List ℕ) (ready : (place : ℕ) → place < length order → IsReadyAt plan order place) where
-  inside : AllByRecursion (λ n. n < plan.count) order
-  inside = all_from_each (λ n. n < plan.count) order (λ i lt. (ready i lt).inside)
+  pub ready_inside : AllByRecursion (λ n. n < plan.count) order
+  ready_inside = all_from_each (λ n. n < plan.count) order (λ i lt. (ready i lt).inside)
 
-  apart : AllPairs (λ m n. m ≢ n) order
-  apart i j d lt within same =
+  pub ready_apart : AllPairs (λ m n. m ≢ n) order
+  ready_apart i j d lt within same =
       (ready j within).unvisited (contains_earlier order (slice_index order j) j i lt within (same_at order i (slice_index order j) d (omega arith) ∙ same ∙ same_at order j d 0 within))
 
   pub short_fewer : ((n : ℕ) × (n < plan.count) × (Contains order n → ⊥)) → length order < plan.count
-  short_fewer missing = fewer_where_one_lacks order plan.count missing.0 inside apart missing.1 missing.2
+  short_fewer missing = fewer_where_one_lacks order plan.count missing.0 ready_inside ready_apart missing.1 missing.2
 
 module _ (plan : Plan) (order : List ℕ) where
   -- before the first entry that is refused some node isn't visited

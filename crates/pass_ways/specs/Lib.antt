@@ -3,4 +3,5 @@ pub mod OrderFiles
 pub mod Ways
 pub mod Idle
 pub mod Inside
+pub mod Stretches
 pub mod Laws

@@ -1,5 +1,5 @@
-//! An order for one worker: each node stands behind its predecessors, and near the last of them, so that what a pass
-//! makes lies together. Nothing is proved of it: whoever takes the order tests it.
+//! An order by a search in depth: each node stands behind its predecessors, and near the last of them, so that what a
+//! pass makes lies together. Nothing is proved of it: whoever takes the order tests it.
 
 ghost use Rattle.pass_core.specs.InEdges.{AreStarts};
 ghost use Rattle.pass_core.specs.Plans.{IsPlan};

@@ -1,6 +1,6 @@
 //! Visits that make nothing of their nodes. They come to the order in which they were made.
 
-ghost use Rattle.std.specs.Prelude.{IfOk, IfSome, IsTrue, Ok, ⊤, ◌≤◌, ◌<◌, length};
+ghost use Rattle.std.specs.Prelude.{IfOk, IfSome, IsTrue, ◌≤◌, ◌<◌, length};
 ghost use Rattle.pass_core.specs.InEdges.{AreStarts};
 ghost use Rattle.pass_core.specs.Orders.{IsLegal, numbers};
 ghost use Rattle.pass_core.specs.Plans.{IsPlan, HasNoCycle};
@@ -11,33 +11,14 @@ ghost use Rattle.pass_ways.specs.Ways.{Follows, IsPassWay};
 use crate::along::{lines_from, nodes_of, refusal_at};
 use crate::deep::deep_order;
 use crate::error::WayError;
+use crate::stretches::visit_stretches;
 use crate::way::{OrderLines, Way};
 use bp_faults::{NodeId, OutOfMemory, Seq};
 use bp_ports::Gate;
-use pass_core::laws::{results_meet_their_equation, serial_order_is_legal};
-use pass_core::{
-    OrderError, PassError, Plan, Visit, VisitError, check_order, serial_order, starts_of,
-};
+use pass_core::laws::serial_order_is_legal;
+use pass_core::{OrderError, Plan, check_order, serial_order, starts_of};
 use std::alloc::Global;
-use std::sync::Arc;
 use std::thread::Threads;
-use visit_workers::visit_all;
-
-/// Makes nothing of a node.
-#[derive(Drop)]
-struct IdleVisit;
-
-impl Visit for IdleVisit {
-    type Out = ();
-
-    ghost meaning = { λ _ _ _. Ok tt };
-
-    ghost takes = { λ _ _ _. ⊤ };
-
-    fn visit(&self, _alloc: Global, _n: NodeId, _ins: &[Arc<()>]) -> Result<(), VisitError> {
-        Ok(())
-    }
-}
 
 /// Whether a list of nodes is a legal order, by where the in-edges of each node begin.
 fn is_legal(
@@ -117,32 +98,20 @@ fn legal_order(
     serial_order(alloc, plan)
 }
 
-/// Visits the nodes one after another on the caller's thread: for each the gate is entered, and nothing else is done.
-fn order_alone<G: Gate>(
-    alloc: Global,
-    gate: &G,
-    before: &[(u32, NodeId)],
-    pass: u32,
-    plan: &Plan,
-) -> Result<Seq<NodeId>, OutOfMemory>
-    requires plan { IsPlan plan.now }
-    requires free { HasNoCycle plan.now.edges }
-    ensures { IfOk result (λ order. IsLegal plan.now (numbers order)) }
-{
-    let starts = starts_of(alloc, plan)?;
-    let order = legal_order(alloc, before, plan, &starts)?;
-    for n in &order {
+/// Visits the nodes of a list, each behind the gate: nothing else is done.
+fn enter_each<G: Gate>(gate: &G, pass: u32, order: &[NodeId]) {
+    for n in order {
         gate.enter(pass, *n);
     }
-    Ok(Seq::new(order))
 }
 
-/// Visits the nodes on workers, each behind the gate.
+/// Visits the nodes of a plan, each behind the gate: one worker does it on the caller's thread.
 fn order_on_workers<R: Threads + Sync, G: Gate + Sync>(
     rt: &R,
     alloc: Global,
     gate: &G,
     workers: u32,
+    before: &[(u32, NodeId)],
     pass: u32,
     plan: &Plan,
 ) -> Result<Seq<NodeId>, OutOfMemory>
@@ -151,15 +120,14 @@ fn order_on_workers<R: Threads + Sync, G: Gate + Sync>(
     requires workers { (1 ≤ workers) × (workers ≤ 64) }
     ensures { IfOk result (λ order. IsLegal plan.now (numbers order)) }
 {
-    results_meet_their_equation::<()>();
-    match visit_all(rt, alloc, pass, plan, &IdleVisit, workers, gate) {
-        Ok(run) => {
-            let (_outs, order) = run.into_parts();
-            Ok(Seq::new(order))
-        }
-        Err(PassError::At(_, _)) => unreachable!(),
-        Err(PassError::OutOfMemory) => Err(OutOfMemory),
+    let starts = starts_of(alloc, plan)?;
+    let order = legal_order(alloc, before, plan, &starts)?;
+    if workers == 1 {
+        enter_each(gate, pass, &order);
+        return Ok(Seq::new(order));
     }
+    let nodes = visit_stretches(rt, alloc, gate, workers, pass, plan, &starts, &order)?;
+    Ok(Seq::new(nodes))
 }
 
 /// The order in which the lines behind the visits before a pass name its nodes.
@@ -192,7 +160,7 @@ fn order_along(
 /// visits.
 ///
 /// `before` holds the visits of the passes before this one: where the last of them went over the same graph, its order
-/// is taken again, or that order backwards. One worker makes no box for a node, and a pass along lines none either.
+/// is taken again, or that order backwards. No way makes a box for a node.
 pub fn order_by_way<R: Threads + Sync, G: Gate + Sync>(
     rt: &R,
     alloc: Global,
@@ -208,9 +176,8 @@ pub fn order_by_way<R: Threads + Sync, G: Gate + Sync>(
     ensures { AnswersIdle way.now plan.now pass before.now result }
 {
     match way {
-        Way::Workers { workers: 1, gate } => Ok(order_alone(alloc, *gate, before, pass, plan)?),
         Way::Workers { workers, gate } => {
-            Ok(order_on_workers(rt, alloc, *gate, *workers, pass, plan)?)
+            Ok(order_on_workers(rt, alloc, *gate, *workers, before, pass, plan)?)
         }
         Way::Lines(lines) => order_along(alloc, lines, before, pass, plan),
     }

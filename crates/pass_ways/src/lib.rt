@@ -12,6 +12,7 @@ mod deep;
 mod error;
 mod idle;
 pub mod laws;
+mod stretches;
 mod way;
 mod way_run;
 

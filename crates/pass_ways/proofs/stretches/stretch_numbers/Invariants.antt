@@ -1,0 +1,6 @@
+use Rattle.pass_core.specs.Orders.{numbers}
+use Rattle.pass_ways.specs.Stretches.{TellsStretches}
+use Rattle.pass_ways.proofs.stretches.stretch_numbers.Given as goal
+
+abbrev pub invariant-loop-place : goal.invariant-loop-place
+invariant-loop-place l = TellsStretches l.plan.count l.size (numbers l.order) l.place l.table.items
