@@ -70,7 +70,7 @@ fn plan(alloc: Global, count: u32, pairs: &[(u32, u32)]) -> Result<Plan, OutOfMe
 }
 
 /// A chain of many nodes, each after the next, beside a layer in which each of many nodes stands after many.
-fn large(alloc: Global, chain: u32, wide: u32, deep: u32) -> Result<Plan, OutOfMemory> {
+pub fn large(alloc: Global, chain: u32, wide: u32, deep: u32) -> Result<Plan, OutOfMemory> {
     let middle = chain.saturating_add(wide);
     let count = middle.saturating_add(deep);
     let mut edges = Vec::new(alloc);

@@ -4,6 +4,7 @@ ghost use Rattle.pass_tests.specs.Ways.{number_unless};
 ghost use Rattle.pass_ways.specs.Visits.{visits};
 ghost use Rattle.pass_ways.specs.Ways.{Follows, IsPassWay};
 
+use crate::visits::{falls, large};
 use bp_faults::{Fault, FaultKind, NodeId, OutOfMemory, Place, Seq, Text};
 use bp_ports::{Gate, OpenGate};
 use pass_core::{Plan, PlanEdge, Visit, VisitError};
@@ -266,15 +267,17 @@ fn one_worker_in_depth(rt: HostRuntime) {
     assert!(rt; matches!(order_alone(&rt, rt.alloc()), Ok(30124)));
 }
 
-/// How many nodes workers visit of five, of which they make nothing, and how often they enter the gate.
+/// How many nodes workers visit of a plan in each of two passes that make nothing, and how often they enter the gate.
 fn nothing_on_workers<R: Threads + Sync>(
     rt: &R,
     alloc: Global,
+    plan: &Plan,
     workers: u32,
-) -> Result<(usize, u32), WayError>
-    requires { (1 ≤ workers) × (workers ≤ 64) }
+) -> Result<(usize, usize, u32), WayError>
+    requires plan { IsPlan plan.now }
+    requires free { HasNoCycle plan.now.edges }
+    requires workers { (1 ≤ workers) × (workers ≤ 64) }
 {
-    let plan = both_ways(alloc)?;
     let gate = CountingGate {
         entered: AtomicU32::new(0),
     };
@@ -282,14 +285,50 @@ fn nothing_on_workers<R: Threads + Sync>(
         workers,
         gate: &gate,
     };
-    let order = order_by_way(rt, alloc, &way, &[], 1, &plan)?;
-    Ok((order.as_slice().len(), gate.entered.load(Ordering::SeqCst)))
+    let first = order_by_way(rt, alloc, &way, &[], 1, plan)?;
+    let before = visits_of(alloc, 1, first.as_slice())?;
+    let second = order_by_way(rt, alloc, &way, &before, 2, plan)?;
+    let entered = gate.entered.load(Ordering::SeqCst);
+    Ok((first.as_slice().len(), second.as_slice().len(), entered))
+}
+
+/// The same of five nodes, which stand in stretches of one node.
+fn nothing_of_five<R: Threads + Sync>(
+    rt: &R,
+    alloc: Global,
+    workers: u32,
+) -> Result<(usize, usize, u32), WayError>
+    requires { (1 ≤ workers) × (workers ≤ 64) }
+{
+    let plan = both_ways(alloc)?;
+    nothing_on_workers(rt, alloc, &plan, workers)
+}
+
+/// The same of 240 nodes, of which 100 are a chain: more than there are stretches.
+fn nothing_of_many<R: Threads + Sync>(
+    rt: &R,
+    alloc: Global,
+    workers: u32,
+) -> Result<(usize, usize, u32), WayError>
+    requires { (1 ≤ workers) × (workers ≤ 64) }
+{
+    let plan = large(alloc, 100, 70, 70)?;
+    if !falls(&plan) {
+        return Ok((0, 0, 0));
+    }
+    nothing_on_workers(rt, alloc, &plan, workers)
 }
 
 #[test]
 fn nothing_of_five_nodes(rt: HostRuntime) {
-    assert!(rt; matches!(nothing_on_workers(&rt, rt.alloc(), 1), Ok((5, 5))));
-    assert!(rt; matches!(nothing_on_workers(&rt, rt.alloc(), 2), Ok((5, 5))));
+    assert!(rt; matches!(nothing_of_five(&rt, rt.alloc(), 1), Ok((5, 5, 10))));
+    assert!(rt; matches!(nothing_of_five(&rt, rt.alloc(), 2), Ok((5, 5, 10))));
+}
+
+#[test]
+fn nothing_of_many_nodes(rt: HostRuntime) {
+    assert!(rt; matches!(nothing_of_many(&rt, rt.alloc(), 1), Ok((240, 240, 480))));
+    assert!(rt; matches!(nothing_of_many(&rt, rt.alloc(), 4), Ok((240, 240, 480))));
 }
 
 #[test]
