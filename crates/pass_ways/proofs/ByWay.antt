@@ -16,6 +16,15 @@ pub answers_by_way : {O : Type 0} → (Follows : List (ℕ × NodeId) → Type 0
     → ((made : List (ℕ × NodeId)) → Follows made) → ((order : List NodeId) × IsLegal plan (numbers order))
     → AnswersAlone mean plan result → AnswersBy Follows Refuses mean plan pass before result
 answers_by_way Follows Refuses mean plan pass before (Ok run) all legal alone = (alone.0, (alone.1, all _))
-answers_by_way Follows Refuses mean plan pass before (Err (At n fault)) all legal alone = (alone, (legal.0, (legal.1, all _)))
+answers_by_way Follows Refuses mean plan pass before (Err (At n fault)) all legal alone = (
+  alone,
+  (
+    legal.0,
+    (
+      legal.1,
+      all _,
+    ),
+  ),
+)
 answers_by_way Follows Refuses mean plan pass before (Err (Refused fault)) all legal alone = absurd alone
 answers_by_way Follows Refuses mean plan pass before (Err OutOfMemory) all legal alone = tt

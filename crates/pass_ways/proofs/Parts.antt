@@ -1,5 +1,6 @@
 -- Parts of passes: lists of nodes of which each was ready.
-use Rattle.std.proofs.Common.{◌≡◌, ◌≢◌, ◌<◌, ◌≤◌, ℕ, zero, suc, List, [], ◌∷◌, length, take, refl, ap, sym, ◌∙◌, subst, arith}
+use Rattle.std.proofs.Common.{◌≡◌, ◌≢◌, ◌<◌, ◌≤◌, ℕ, zero, suc, List, [], ◌∷◌, length, take, refl, ap, sym, ◌∙◌}
+use Rattle.std.proofs.Common.{subst, arith}
 use Rattle.std.specs.Prelude.{slice_index}
 use Rattle.std.specs.List.{AllByRecursion, AllPairs, Contains}
 use Rattle.std.proofs.lemmas.List.{get_or-take, length-take-le, take-map}
@@ -28,7 +29,8 @@ module _ (plan : Plan) (order : List ℕ) (ready : (place : ℕ) → place < len
 
   pub ready_apart : AllPairs (λ m n. m ≢ n) order
   ready_apart i j d lt within same =
-      (ready j within).unvisited (contains_earlier order (slice_index order j) j i lt within (same_at order i (slice_index order j) d (omega arith) ∙ same ∙ same_at order j d 0 within))
+      (ready j within).unvisited (contains_earlier order (slice_index order j) j i lt within (same_at order i
+      (slice_index order j) d (omega arith) ∙ same ∙ same_at order j d 0 within))
 
   pub short_fewer : ((n : ℕ) × (n < plan.count) × (Contains order n → ⊥)) → length order < plan.count
   short_fewer missing = fewer_where_one_lacks order plan.count missing.0 ready_inside ready_apart missing.1 missing.2
@@ -40,8 +42,10 @@ module _ (plan : Plan) (order : List ℕ) where
       let many : length (take k order) ≡ k = length-take-le k order (let e = first.inside in omega arith) in
       let ready : (place : ℕ) → place < length (take k order) → IsReadyAt plan (take k order) place = λ place lt.
       let less : place < k = omega arith in
-      subst (λ (l : List ℕ). IsReadyAfter plan l (slice_index (take k order) place)) (sym (take_take order k place (omega arith)))
-      (subst (IsReadyAfter plan (take place order)) (sym (get_or-take k order place 0 less)) (first.ready place less)) in
+      subst (λ (l : List ℕ). IsReadyAfter plan l (slice_index (take k order) place)) (sym (take_take order k place
+      (omega arith)))
+      (subst (IsReadyAfter plan (take place order)) (sym (get_or-take k order place 0 less)) (first.ready place less))
+      in
       let e = first.inside in
       record { ready = ready; missing = one_lacks (take k order) plan.count (omega arith) }
 

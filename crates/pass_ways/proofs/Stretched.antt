@@ -1,5 +1,7 @@
 -- What stands in the stretches of an order, and in some of them one after another.
-use Rattle.std.proofs.Common.{◌≡◌, ◌<◌, ◌+◌, ◌*◌, ◌/◌, ◌%◌, ◌⊎◌, ℕ, zero, suc, List, [], ◌∷◌, ◌++◌, length, map, get_or, take, drop, inl, inr, ⊎_elim, refl, ap, sym, ◌∙◌, subst, arith, append_assoc, length-drop}
+use Rattle.std.proofs.Common.{◌≡◌, ◌<◌, ◌+◌, ◌*◌, ◌/◌, ◌%◌, ◌⊎◌, ℕ, zero, suc, List, [], ◌∷◌, ◌++◌, length, map}
+use Rattle.std.proofs.Common.{get_or, take, drop, inl, inr, ⊎_elim, refl, ap, sym, ◌∙◌, subst, arith, append_assoc}
+use Rattle.std.proofs.Common.{length-drop}
 use Rattle.std.specs.Prelude.{slice_index}
 use Rattle.std.specs.List.{Contains}
 use Rattle.std.proofs.lemmas.List.{append-nil, length-take, get_or-take, get_or-drop, take-map, map-append}
@@ -13,10 +15,12 @@ drop-map f zero xs = refl
 drop-map f (suc k) [] = refl
 drop-map f (suc k) (x ∷ xs) = drop-map f k xs
 
-pub stretch-map : {X Y : Type 0} (f : X → Y) (size k : ℕ) (xs : List X) → stretch size k (map f xs) ≡ map f (stretch size k xs)
+pub stretch-map : {X Y : Type 0} (f : X → Y) (size k : ℕ) (xs : List X) → stretch size k (map f xs) ≡ map f (stretch
+    size k xs)
 stretch-map f size k xs = ap (take size) (drop-map f (k * size) xs) ∙ take-map f size (drop (k * size) xs)
 
-pub joined_stretches-map : {X Y : Type 0} (f : X → Y) (size : ℕ) (xs : List X) (ks : List ℕ) → map f (joined_stretches size xs ks) ≡ joined_stretches size (map f xs) ks
+pub joined_stretches-map : {X Y : Type 0} (f : X → Y) (size : ℕ) (xs : List X) (ks : List ℕ) → map f (joined_stretches
+    size xs ks) ≡ joined_stretches size (map f xs) ks
 joined_stretches-map f size xs [] = refl
 joined_stretches-map f size xs (k ∷ ks) =
     map-append f (stretch size k xs) (joined_stretches size xs ks)
@@ -24,7 +28,8 @@ joined_stretches-map f size xs (k ∷ ks) =
     ∙ ap (λ l. stretch size k (map f xs) ++ l) (joined_stretches-map f size xs ks)
 
 -- one stretch more
-pub joined_stretches-push : {X : Type 0} (size : ℕ) (xs : List X) (ks : List ℕ) (k : ℕ) → joined_stretches size xs (ks ++ k ∷ []) ≡ joined_stretches size xs ks ++ stretch size k xs
+pub joined_stretches-push : {X : Type 0} (size : ℕ) (xs : List X) (ks : List ℕ) (k : ℕ) → joined_stretches size xs (ks
+    ++ k ∷ []) ≡ joined_stretches size xs ks ++ stretch size k xs
 joined_stretches-push size xs [] k = append-nil (stretch size k xs)
 joined_stretches-push size xs (j ∷ js) k =
     ap (λ l. stretch size j xs ++ l) (joined_stretches-push size xs js k)
@@ -47,7 +52,8 @@ module _ (size : ℕ) (order : List ℕ) where
   offset_stretch k r lt = div-mul-add k size r lt
 
   -- the entry at a place stands in the stretch of the place
-  pub in_stretch : (place : ℕ) → 0 < size → place < length order → Contains (stretch size (place / size) order) (slice_index order place)
+  pub in_stretch : (place : ℕ) → 0 < size → place < length order → Contains (stretch size (place / size) order)
+      (slice_index order place)
   in_stretch place positive lt =
       let small : place % size < size = mod_below place size positive in
       let whole : place / size * size + place % size ≡ place = div-add-mod' place size in
@@ -61,7 +67,8 @@ module _ (size : ℕ) (order : List ℕ) where
       )
 
   -- what stands in a stretch stands at a place of that stretch
-  pub from_stretch : (k n : ℕ) → Contains (stretch size k order) n → (place : ℕ) × (place < length order) × (place / size ≡ k) × (slice_index order place ≡ n)
+  pub from_stretch : (k n : ℕ) → Contains (stretch size k order) n → (place : ℕ) × (place < length order) × (place /
+      size ≡ k) × (slice_index order place ≡ n)
   from_stretch k n c =
       let small = offset_small k c.0 c.1 in
       let inside = offset_inside k c.0 c.1 in (
@@ -75,14 +82,18 @@ module _ (size : ℕ) (order : List ℕ) where
   first_or_other ks j k zero lt is = inl is
   first_or_other ks j k (suc i) lt is = inr (i, omega arith, is)
 
-  pub in_joined : (ks : List ℕ) (k n : ℕ) → Contains ks k → Contains (stretch size k order) n → Contains (joined_stretches size order ks) n
+  pub in_joined : (ks : List ℕ) (k n : ℕ) → Contains ks k → Contains (stretch size k order) n → Contains
+      (joined_stretches size order ks) n
   in_joined [] k n c h = absurd (let e = c.1 in omega arith)
   in_joined (j ∷ js) k n c h = ⊎_elim
-      (λ same. Contains-append_left (stretch size j order) (joined_stretches size order js) n (subst (λ i. Contains (stretch size i order) n) (sym same) h))
-      (λ other. Contains-append_right (stretch size j order) (joined_stretches size order js) n (in_joined js k n other h))
+      (λ same. Contains-append_left (stretch size j order) (joined_stretches size order js) n (subst (λ i. Contains
+      (stretch size i order) n) (sym same) h))
+      (λ other. Contains-append_right (stretch size j order) (joined_stretches size order js) n (in_joined js k n other
+      h))
       (first_or_other js j k c.0 c.1 c.2)
 
-  pub from_joined : (ks : List ℕ) (n : ℕ) → Contains (joined_stretches size order ks) n → (k : ℕ) × Contains ks k × Contains (stretch size k order) n
+  pub from_joined : (ks : List ℕ) (n : ℕ) → Contains (joined_stretches size order ks) n → (k : ℕ) × Contains ks k ×
+      Contains (stretch size k order) n
   from_joined [] n c = absurd (let e = c.1 in omega arith)
   from_joined (j ∷ js) n c = ⊎_elim
       (λ here. (j, (0, omega arith, refl), here))

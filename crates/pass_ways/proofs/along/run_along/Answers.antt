@@ -13,41 +13,63 @@ lines_from-requires g c =
 
 pub returns-in-Ok : goal.returns-in-Ok
 returns-in-Ok g c =
-    let taken = taken_is c.args.lines.now.lines.now _ _ _ _ _ c.lines_from.ensures c.in_ok-order.ensures in
-    (c.in-Ok.ensures.1, made_along c.args.lines.now.lines.now c.args.before.now c.requires.follows c.args.pass c.args.plan.now c.in_ok-order.order.items taken c.new.result c.new.ensures (subst (λ l. IsLegal c.args.plan.now (numbers l)) (c.deref.ensures.value ∙ sym c.new.ensures) c.in-Ok.ensures.0))
+    let taken = taken_is c.args.lines.now.lines.now _ _ _ _ _ c.lines_from.ensures c.in_ok-order.ensures in (
+      c.in-Ok.ensures.1,
+      made_along c.args.lines.now.lines.now c.args.before.now c.requires.follows c.args.pass
+          c.args.plan.now c.in_ok-order.order.items taken c.new.result c.new.ensures (subst (λ l. IsLegal c.args.plan.now
+          (numbers l)) (c.deref.ensures.value ∙ sym c.new.ensures) c.in-Ok.ensures.0),
+    )
 
 pub returns-in-Err-At : goal.returns-in-Err-At
 returns-in-Err-At g c =
     let taken = taken_is c.args.lines.now.lines.now _ _ _ _ _ c.lines_from.ensures c.in_ok-order.ensures in
-    let at = rw c.in-Err-At.field-0-is at c.in-Err-At.ensures in
-    (at.1, (c.deref.result.now, made_along c.args.lines.now.lines.now c.args.before.now c.requires.follows c.args.pass c.args.plan.now c.in_ok-order.order.items taken c.deref.result.now c.deref.ensures.value at.0))
+    let at = rw c.in-Err-At.field-0-is at c.in-Err-At.ensures in (
+      at.1,
+      (
+        c.deref.result.now,
+        made_along c.args.lines.now.lines.now c.args.before.now c.requires.follows c.args.pass
+            c.args.plan.now c.in_ok-order.order.items taken c.deref.result.now c.deref.ensures.value at.0,
+      ),
+    )
 
 pub refusal_at-requires-clause-inside : goal.refusal_at-requires-clause-inside
 refusal_at-requires-clause-inside g c =
     let taken = taken_is c.args.lines.now.lines.now _ _ _ _ _ c.lines_from.ensures c.in_ok-order.ensures in
     let at = rw c.in-Err-NotReady.field-0-is at c.in-Err-NotReady.ensures in
-    let many = few_numbers c.args.lines.now.lines.now c.args.before.now c.requires.follows c.args.pass c.args.plan.now c.in_ok-order.order.items taken c.deref.result.now c.deref.ensures.value in
+    let many = few_numbers c.args.lines.now.lines.now c.args.before.now c.requires.follows c.args.pass c.args.plan.now
+    c.in_ok-order.order.items taken c.deref.result.now c.deref.ensures.value in
     let few : c.in-Err-NotReady.place ≤ length c.in_ok-order.order.items = let e = at.inside in omega arith in
-    inside_at c.args.lines.now.lines.now c.args.before.now c.requires.follows c.args.pass c.args.plan.now c.in_ok-order.order.items taken c.in-Err-NotReady.place few
+    inside_at c.args.lines.now.lines.now c.args.before.now c.requires.follows c.args.pass c.args.plan.now
+    c.in_ok-order.order.items taken c.in-Err-NotReady.place few
 
 pub returns-in-Err-NotReady : goal.returns-in-Err-NotReady
 returns-in-Err-NotReady g c =
     let taken = taken_is c.args.lines.now.lines.now _ _ _ _ _ c.lines_from.ensures c.in_ok-order.ensures in
     let at = rw c.in-Err-NotReady.field-0-is at c.in-Err-NotReady.ensures in
-    by_refusal (λ e. AnswersBy (Say c.args.lines.now.lines.now) (IsRefused c.args.lines.now.lines.now c.args.lines.now.file) (g.V.Visit.meaning c.args.v.now) c.args.plan.now c.args.pass c.args.before.now (Err e)) _ _ c.refusal_at.ensures
-    (refused_at c.args.lines.now.lines.now c.args.before.now c.requires.follows c.args.pass c.args.plan.now c.in_ok-order.order.items taken c.args.lines.now.file _ c.in-Err-NotReady.place (rw c.deref.ensures.value at at) refl) tt
+    by_refusal (λ e. AnswersBy (Say c.args.lines.now.lines.now) (IsRefused c.args.lines.now.lines.now
+    c.args.lines.now.file) (g.V.Visit.meaning c.args.v.now) c.args.plan.now c.args.pass c.args.before.now (Err e))
+    _ _ c.refusal_at.ensures
+    (refused_at c.args.lines.now.lines.now c.args.before.now c.requires.follows c.args.pass c.args.plan.now
+    c.in_ok-order.order.items taken c.args.lines.now.file _ c.in-Err-NotReady.place (rw c.deref.ensures.value at
+    at) refl) tt
 
 pub refusal_at-requires-in-Err-Ends-clause-inside : goal.refusal_at-requires-in-Err-Ends-clause-inside
 refusal_at-requires-in-Err-Ends-clause-inside g c =
     let taken = taken_is c.args.lines.now.lines.now _ _ _ _ _ c.lines_from.ensures c.in_ok-order.ensures in
     let at = rw c.in-Err-Ends.field-0-is at c.in-Err-Ends.ensures in
-    let many = few_numbers c.args.lines.now.lines.now c.args.before.now c.requires.follows c.args.pass c.args.plan.now c.in_ok-order.order.items taken c.deref.result.now c.deref.ensures.value in
+    let many = few_numbers c.args.lines.now.lines.now c.args.before.now c.requires.follows c.args.pass c.args.plan.now
+    c.in_ok-order.order.items taken c.deref.result.now c.deref.ensures.value in
     let few : c.in-Err-Ends.place ≤ length c.in_ok-order.order.items = let e = at.whole in omega arith in
-    inside_at c.args.lines.now.lines.now c.args.before.now c.requires.follows c.args.pass c.args.plan.now c.in_ok-order.order.items taken c.in-Err-Ends.place few
+    inside_at c.args.lines.now.lines.now c.args.before.now c.requires.follows c.args.pass c.args.plan.now
+    c.in_ok-order.order.items taken c.in-Err-Ends.place few
 
 pub returns-in-Err-Ends : goal.returns-in-Err-Ends
 returns-in-Err-Ends g c =
     let taken = taken_is c.args.lines.now.lines.now _ _ _ _ _ c.lines_from.ensures c.in_ok-order.ensures in
     let at = rw c.in-Err-Ends.field-0-is at c.in-Err-Ends.ensures in
-    by_refusal (λ e. AnswersBy (Say c.args.lines.now.lines.now) (IsRefused c.args.lines.now.lines.now c.args.lines.now.file) (g.V.Visit.meaning c.args.v.now) c.args.plan.now c.args.pass c.args.before.now (Err e)) _ _ c.refusal_at-in-Err-Ends.ensures
-    (refused_short c.args.lines.now.lines.now c.args.before.now c.requires.follows c.args.pass c.args.plan.now c.in_ok-order.order.items taken c.args.lines.now.file _ c.in-Err-Ends.place (rw c.deref.ensures.value at at) refl) tt
+    by_refusal (λ e. AnswersBy (Say c.args.lines.now.lines.now) (IsRefused c.args.lines.now.lines.now
+    c.args.lines.now.file) (g.V.Visit.meaning c.args.v.now) c.args.plan.now c.args.pass c.args.before.now (Err e))
+    _ _ c.refusal_at-in-Err-Ends.ensures
+    (refused_short c.args.lines.now.lines.now c.args.before.now c.requires.follows c.args.pass c.args.plan.now
+    c.in_ok-order.order.items taken c.args.lines.now.file _ c.in-Err-Ends.place (rw c.deref.ensures.value at at)
+    refl) tt

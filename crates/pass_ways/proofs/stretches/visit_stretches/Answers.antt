@@ -10,7 +10,8 @@ use Rattle.pass_ways.proofs.Told.{legal_whole}
 use Rattle.pass_ways.proofs.stretches.visit_stretches.Goals as goal
 
 -- what holds of the nodes that an answer has
-if_answered : {E : Type 0} (P Q : List NodeId → Type 0) → ((nodes : List NodeId) → P nodes → Q nodes) → (result : Result (Vec NodeId Global) E)
+if_answered : {E : Type 0} (P Q : List NodeId → Type 0) → ((nodes : List NodeId) → P nodes → Q nodes) → (result :
+    Result (Vec NodeId Global) E)
     → IfOk result (λ nodes. P nodes.items) → IfOk result (λ nodes. Q nodes.items)
 if_answered P Q f (Ok nodes) h = f nodes.items h
 if_answered P Q f (Err error) h = tt
@@ -26,7 +27,10 @@ pub returns : goal.returns
 returns g c =
     let size = c.sizes-size.result.0 in
     let turns = c.in_ok-turns.turns.items in
-    if_answered (λ nodes. nodes ≡ joined_stretches size c.args.order.now (numbers c.deref.result.now)) (λ nodes. IsLegal c.args.plan.now (numbers nodes))
-    (λ nodes is. nodes_legal c.args.plan.now c.args.order.now c.requires.legal size c.sizes-size.ensures.positive c.in_ok-stretches.stretches c.in_ok-stretches.ensures
-    (numbers turns) c.in_ok-turns.ensures nodes (is ∙ ap (λ l. joined_stretches size c.args.order.now (numbers l)) c.deref.ensures.value))
+    if_answered (λ nodes. nodes ≡ joined_stretches size c.args.order.now (numbers c.deref.result.now)) (λ nodes.
+    IsLegal c.args.plan.now (numbers nodes))
+    (λ nodes is. nodes_legal c.args.plan.now c.args.order.now c.requires.legal size c.sizes-size.ensures.positive
+    c.in_ok-stretches.stretches c.in_ok-stretches.ensures
+    (numbers turns) c.in_ok-turns.ensures nodes (is ∙ ap (λ l. joined_stretches size c.args.order.now (numbers l))
+    c.deref.ensures.value))
     c.join_stretches.result c.join_stretches.ensures

@@ -16,7 +16,11 @@ returns-in-Err-At g c =
       at,
       (
         order,
-        (subst (IsLegal plan) (sym (numbers-nodes_numbered serial.0)) legal, subst (λ w. Follows w (c.args.before.now ++ visits c.args.pass order)) (sym c.in-Workers.is) tt),
+        (
+          subst (IsLegal plan) (sym (numbers-nodes_numbered serial.0)) legal,
+          subst (λ w. Follows w (c.args.before.now
+              ++ visits c.args.pass order)) (sym c.in-Workers.is) tt,
+        ),
       ),
     )
 
