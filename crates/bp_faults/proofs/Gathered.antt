@@ -8,13 +8,14 @@ use Rattle.std.proofs.lemmas.Bool.{cases_order}
 use Rattle.bp_faults.specs.declared.fault.Fault.{Fault}
 use Rattle.bp_faults.specs.Order.{Precedes, IsFirstByHeight}
 
-ordered : (hm m hn n : ℕ) → Dec (hm < hn) → Dec (hn < hm) → Dec (m < n) → Dec (n < m)
+-- Of two numbers with heights one precedes the other, by height and then by number, or they are the same.
+pub by_height : (hm m hn n : ℕ) → Dec (hm < hn) → Dec (hn < hm) → Dec (m < n) → Dec (n < m)
     → ((hm < hn) ⊎ ((hm ≡ hn) × (m < n))) ⊎ (((hn < hm) ⊎ ((hn ≡ hm) × (n < m))) ⊎ (m ≡ n))
-ordered hm m hn n (yes a) b c d = inl (inl a)
-ordered hm m hn n (no a) (yes b) c d = inr (inl (inl b))
-ordered hm m hn n (no a) (no b) (yes c) d = inl (inr (omega arith, c))
-ordered hm m hn n (no a) (no b) (no c) (yes d) = inr (inl (inr (omega arith, d)))
-ordered hm m hn n (no a) (no b) (no c) (no d) = inr (inr (omega arith))
+by_height hm m hn n (yes a) b c d = inl (inl a)
+by_height hm m hn n (no a) (yes b) c d = inr (inl (inl b))
+by_height hm m hn n (no a) (no b) (yes c) d = inl (inr (omega arith, c))
+by_height hm m hn n (no a) (no b) (no c) (yes d) = inr (inl (inr (omega arith, d)))
+by_height hm m hn n (no a) (no b) (no c) (no d) = inr (inr (omega arith))
 
 module _ {O : Type 0} where
   values_same : (xs ys : List O) → map {B = Result O Fault} Ok xs ≡ map Ok ys → xs ≡ ys

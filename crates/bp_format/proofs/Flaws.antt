@@ -4,6 +4,7 @@ use Rattle.std.specs.List.{count_by, Contains, fold}
 use Rattle.std.proofs.Math.Seq.{drop-append_seam}
 use Rattle.std.proofs.lemmas.List.{drop-drop, drop-map, length-map, map-append}
 use Rattle.bp_faults.specs.declared.place.Place.{Place}
+use Rattle.bp_faults.specs.declared.limits.TheConstants.{DEEPEST_NESTING}
 use Rattle.bp_lexer.specs.declared.token.Punct.TheVariants.{OpenBrace, Colon, Comma}
 use Rattle.bp_lexer.specs.declared.token.TokenKind.{TokenKind}
 use Rattle.bp_lexer.specs.declared.token.TokenKind.TheVariants.{Ident, Punct as Mark}
@@ -98,7 +99,7 @@ nested_alike a b k same is =
       bracket = f.0;
       at = f.2 ∙ ap (λ l. f.0 ∷ l) (behind_first b k f.0 f.1 f.2);
       opening = sym (ap is_opening kind) ∙ is.opening;
-      open_before = sym (count_alike is_opening (take k a) (take k b) (alike_take k a b same)) ∙ is.open_before ∙ ap (λ n. n + 64) (count_alike closes (take k a) (take k b) (alike_take k a b same));
+      open_before = sym (count_alike is_opening (take k a) (take k b) (alike_take k a b same)) ∙ is.open_before ∙ ap (λ n. n + DEEPEST_NESTING) (count_alike closes (take k a) (take k b) (alike_take k a b same));
       expected = begins_alike (take (k + 1) a) (take (k + 1) b) (alike_take (k + 1) a b same) is.expected;
     }
 

@@ -4,6 +4,7 @@ use Rattle.std.specs.Prelude.{codes}
 use Rattle.std.proofs.Math.Seq.{take-append_seam, drop-append_seam}
 use Rattle.std.proofs.lemmas.Bool.{cond-true}
 use Rattle.std.proofs.lemmas.List.{drop-drop}
+use Rattle.bp_faults.specs.declared.limits.TheConstants.{DEEPEST_NESTING}
 use Rattle.bp_lexer.specs.declared.token.Punct.TheVariants.{OpenBracket}
 use Rattle.bp_lexer.specs.declared.token.TokenKind.TheVariants.{Punct as Mark}
 use Rattle.bp_parser.specs.declared.flaw.Flaw.TheVariants.{TooNested}
@@ -22,11 +23,11 @@ use Rattle.bp_format.proofs.Holes.{IsHole, Files, SameDefs, lead_of, lead_words,
 use Rattle.bp_format.proofs.Located.{IsTreeAt}
 use Rattle.bp_format.proofs.Reset.{new_words}
 
--- 64 brackets are open before the word, and it opens another
+-- as many brackets are open before the word as may be, and it opens another
 pub record IsDeep (ws a : List Word) (w : Word) (b : List Word) : Type 0 where
   pub split : ws ≡ a ++ w ∷ b
   pub opening : is_opening w.kind ≡ true
-  pub deep : opened a ≡ shut a + 64
+  pub deep : opened a ≡ shut a + DEEPEST_NESTING
 
 -- the words of a file have no such word
 deep_nested : (ws : List Word) (ds : List Definition) (a : List Word) (w : Word) (b : List Word) → SpellsFile ds ws → IsDeep ws a w b → IsTooNested ws (length a)
@@ -38,7 +39,7 @@ deep_nested ws ds a w b s is =
       bracket = w;
       at = here ∙ ap (λ l. w ∷ l) behind;
       opening = is.opening;
-      open_before = ap opened front ∙ is.deep ∙ ap (λ l. shut l + 64) (sym front);
+      open_before = ap opened front ∙ is.deep ∙ ap (λ l. shut l + DEEPEST_NESTING) (sym front);
       expected = (drop (length a + 1) ws, ds, subst (SpellsFile ds) (sym (take-append-drop (length a + 1) ws)) s);
     }
 
@@ -139,8 +140,8 @@ shallow w (Instead at) (Items p xs) new ws tree is same h k nested =
     (λ a b e. none a b nested.bracket (record { split = old ∙ e.split; opening = e.opening; deep = e.deep }))
     (λ c e here at. first c e here at d.deep (λ deep. none h.before h.old.0 (record { kind = Mark OpenBracket; at = p; text = h.old.1.0 }) (record { split = h.split ∙ ap (λ l. h.before ++ l) h.old.1.1; opening = refl; deep = deep })))
   where
-    first : (c e : List Word) → bit_words (list_bits w.items) ≡ c ++ nested.bracket ∷ e → take k (new_words w (Instead at) h.before h.kept h.after) ≡ h.before ++ c → opened (take k (new_words w (Instead at) h.before h.kept h.after)) ≡ shut (take k (new_words w (Instead at) h.before h.kept h.after)) + 64 → (opened h.before ≡ shut h.before + 64 → ⊥) → ⊥
-    first [] e here at deep known = known (ap opened (sym (append-nil h.before) ∙ sym at) ∙ deep ∙ ap (λ l. shut l + 64) (at ∙ append-nil h.before))
+    first : (c e : List Word) → bit_words (list_bits w.items) ≡ c ++ nested.bracket ∷ e → take k (new_words w (Instead at) h.before h.kept h.after) ≡ h.before ++ c → opened (take k (new_words w (Instead at) h.before h.kept h.after)) ≡ shut (take k (new_words w (Instead at) h.before h.kept h.after)) + DEEPEST_NESTING → (opened h.before ≡ shut h.before + DEEPEST_NESTING → ⊥) → ⊥
+    first [] e here at deep known = known (ap opened (sym (append-nil h.before) ∙ sym at) ∙ deep ∙ ap (λ l. shut l + DEEPEST_NESTING) (at ∙ append-nil h.before))
     first (v ∷ c) e here at deep known =
         let inner : bit_words (inner_bits w.items) ≡ c ++ nested.bracket ∷ e = cc in
         absurd (omega (arith, no_inner_open w.items, counted_in (bit_words (inner_bits w.items)) c nested.bracket e inner nested.opening))

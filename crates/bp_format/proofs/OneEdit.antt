@@ -1,11 +1,12 @@
 -- Setting a list in a text comes to one edited text or one fault.
 use Rattle.std.proofs.Common.{◌≡◌, ℕ, List, ◌++◌, length, take, drop, Some, Result, Ok, Err, sym, refl, ap, ◌∙◌, subst, ⊎_elim, inl, inr}
-use Rattle.std.specs.Prelude.{◌⊎◌, ◌^◌, if◌then◌else◌, nat_le, [], Option, None}
+use Rattle.std.specs.Prelude.{◌⊎◌, if◌then◌else◌, nat_le, [], Option, None}
 use Rattle.std.proofs.lemmas.Bool.{cases_lt, cond-true, cond-false, le-leb, lt-leb}
 use Rattle.bp_faults.specs.Answers.{then_do}
 use Rattle.bp_faults.specs.Faults.{fault_at, file_start}
 use Rattle.bp_faults.specs.declared.fault.Fault.{Fault}
 use Rattle.bp_faults.specs.declared.kind.FaultKind.TheVariants.{TextTooLong}
+use Rattle.bp_faults.specs.declared.limits.TheConstants.{LARGEST_FILE}
 use Rattle.bp_lexer.specs.Laws.{PlacesRise, TokensStandWithin}
 use Rattle.bp_lexer.specs.Meaning.{IsTokenList, IsFirstLexFault as IsLexFault}
 use Rattle.bp_lexer.specs.declared.token.Token.{Token}
@@ -26,7 +27,7 @@ put text w s None = []
 put text w s (Some b) = take b.0 text ++ (put_in w.property w.items s ++ drop b.1 text)
 
 abbrev sized : ℕ → List ℕ → Result (List ℕ) Fault
-sized file out = if nat_le (length out) (2 ^ 20) then Ok out else Err (fault_at TextTooLong (file_start file))
+sized file out = if nat_le (length out) LARGEST_FILE then Ok out else Err (fault_at TextTooLong (file_start file))
 
 -- what an edit comes to once the text has been read
 abbrev rest_of : ℕ → List ℕ → Wanted → List Token → File → Result (List ℕ) Fault
@@ -45,11 +46,11 @@ rest_edited file text out w e =
     ∙ ap (λ b. sized file (put text w e.place b)) e.spanned ∙ ap (sized file) (sym e.edited)
 
 staged : (file : ℕ) (text : List ℕ) (w : Wanted) (a : Result (List ℕ) Fault) → EditMeans file text w a → Staged file text w a
-staged file text w (Ok out) m = inr (inr (m.0.read, sym (rest_edited file text out w m.0 ∙ cond-true (nat_le (length out) (2 ^ 20)) _ _ (le-leb (length out) (2 ^ 20) m.1))))
+staged file text w (Ok out) m = inr (inr (m.0.read, sym (rest_edited file text out w m.0 ∙ cond-true (nat_le (length out) LARGEST_FILE) _ _ (le-leb (length out) LARGEST_FILE m.1))))
 staged file text w (Err f) (inl m) = inl (f, m, refl)
 staged file text w (Err f) (inr (inl m)) = inr (inl (m.0, m.1, (f, m.2, refl)))
 staged file text w (Err f) (inr (inr (inl m))) = inr (inr (m.0, sym (ap (λ r. then_do r (λ s. sized file (put text w s (span s m.0.tokens)))) m.1)))
-staged file text w (Err f) (inr (inr (inr m))) = inr (inr (m.1.read, sym (rest_edited file text m.0 w m.1 ∙ cond-false (nat_le (length m.0) (2 ^ 20)) _ _ (lt-leb (length m.0) (2 ^ 20) m.2) ∙ ap Err (sym m.3))))
+staged file text w (Err f) (inr (inr (inr m))) = inr (inr (m.1.read, sym (rest_edited file text m.0 w m.1 ∙ cond-false (nat_le (length m.0) LARGEST_FILE) _ _ (lt-leb (length m.0) LARGEST_FILE m.2) ∙ ap Err (sym m.3))))
 
 -- a text is read in one way
 same_rest : Readings → (file : ℕ) (text : List ℕ) (w : Wanted) (r s : IsFile file text) → rest_of file text w r.tokens r.tree ≡ rest_of file text w s.tokens s.tree
@@ -83,7 +84,7 @@ fits : (file : ℕ) (text out : List ℕ) (w : Wanted) → IsEdited file text w 
 fits file text out w e = ⊎_elim
     (λ past. (Err (fault_at TextTooLong (file_start file)), inr (inr (inr (out, e, past, refl)))))
     (λ short. (Ok out, (e, short)))
-    (cases_lt (2 ^ 20) (length out))
+    (cases_lt LARGEST_FILE (length out))
 
 some_place : TokensStandWithin → PlacesRise → (file : ℕ) (text : List ℕ) (w : Wanted) (read : IsFile file text) (found : Result Spot Fault) → spot file w.name w.property read.tree.defs ≡ found → (outcome : Result (List ℕ) Fault) × EditMeans file text w outcome
 some_place within rise file text w read (Err f) is = (Err f, inr (inr (inl (read, is))))

@@ -1,10 +1,10 @@
 -- Formatting a text comes to one layout or one fault.
 use Rattle.std.proofs.Common.{◌≡◌, ℕ, ⊎_elim, refl, List, [], length, sym, ap, ◌∙◌, subst, inl, inr, arith, Result, Ok, Err}
-use Rattle.std.specs.Prelude.{◌^◌}
 use Rattle.std.proofs.lemmas.Bool.{cases_lt}
 use Rattle.bp_faults.specs.Faults.{fault_at, file_start}
 use Rattle.bp_faults.specs.declared.fault.Fault.{Fault}
 use Rattle.bp_faults.specs.declared.kind.FaultKind.TheVariants.{TextTooLong}
+use Rattle.bp_faults.specs.declared.limits.TheConstants.{LARGEST_FILE}
 use Rattle.bp_lexer.specs.declared.token.Token.{Token}
 use Rattle.bp_lexer.specs.Meaning.{IsTokenList}
 use Rattle.bp_lexer.specs.Laws.{OneTokenList, SomeListOrFault, NotListAndFault, OneFault as OneLexFault}
@@ -59,7 +59,7 @@ fits : (file : ℕ) (text out : List ℕ) → HasLayout file text out → (outco
 fits file text out h = ⊎_elim
     (λ past. (Err (fault_at TextTooLong (file_start file)), inr (inr (out, h, past, refl))))
     (λ short. (Ok out, (h, short)))
-    (cases_lt (2 ^ 20) (length out))
+    (cases_lt LARGEST_FILE (length out))
 
 pub some_format : Readings → (file : ℕ) (text : List ℕ) → (outcome : Result (List ℕ) Fault) × FormatMeans file text outcome
 some_format law file text = ⊎_elim

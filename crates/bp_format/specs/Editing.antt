@@ -1,8 +1,9 @@
 -- What it means to set a list in a text.
-use Rattle.std.specs.Prelude.{◌≡◌, ℕ, ◌<◌, ◌≤◌, ◌^◌, ◌⊎◌, List, ◌++◌, codes, length, take, drop, Some, Result, Ok, Err}
+use Rattle.std.specs.Prelude.{◌≡◌, ℕ, ◌<◌, ◌≤◌, ◌⊎◌, List, ◌++◌, codes, length, take, drop, Some, Result, Ok, Err}
 use Rattle.bp_faults.specs.Faults.{fault_at, file_start}
 use Rattle.bp_faults.specs.declared.fault.Fault.{Fault}
 use Rattle.bp_faults.specs.declared.kind.FaultKind.TheVariants.{TextTooLong}
+use Rattle.bp_faults.specs.declared.limits.TheConstants.{LARGEST_FILE}
 use Rattle.bp_lexer.specs.declared.token.Token.{Token}
 use Rattle.bp_lexer.specs.Meaning.{IsTokenList, IsFirstLexFault as IsLexFault}
 use Rattle.bp_parser.specs.Trees.{File}
@@ -47,10 +48,10 @@ pub record IsEdited (file : ℕ) (text : List ℕ) (w : Wanted) (out : List ℕ)
 -- What setting a list comes to: the edited text, if it has at most 2^20 bytes, or a fault. The faults are that of the
 -- text's tokens, that of its tree, that there is no such module or no list, and that the edited text is longer.
 abbrev pub EditMeans : ℕ → List ℕ → Wanted → Result (List ℕ) Fault → Type 0
-EditMeans file text w (Ok out) = IsEdited file text w out × (length out ≤ 2 ^ 20)
+EditMeans file text w (Ok out) = IsEdited file text w out × (length out ≤ LARGEST_FILE)
 EditMeans file text w (Err fault) =
     IsLexFault file text fault
     ⊎ (((tokens : List Token) × IsTokenList file text tokens × IsTreeFault text (words_of text tokens) fault)
     ⊎ (((read : IsFile file text) × (spot file w.name w.property read.tree.defs ≡ Err fault))
-    ⊎ ((out : List ℕ) × IsEdited file text w out × (2 ^ 20 < length out)
+    ⊎ ((out : List ℕ) × IsEdited file text w out × (LARGEST_FILE < length out)
     × (fault ≡ fault_at TextTooLong (file_start file)))))

@@ -1,8 +1,9 @@
 -- What formatting a text means.
-use Rattle.std.specs.Prelude.{◌≡◌, ℕ, ◌<◌, ◌≤◌, ◌^◌, ◌⊎◌, List, [], length, Result, Ok, Err}
+use Rattle.std.specs.Prelude.{◌≡◌, ℕ, ◌<◌, ◌≤◌, ◌⊎◌, List, [], length, Result, Ok, Err}
 use Rattle.bp_faults.specs.Faults.{fault_at, file_start}
 use Rattle.bp_faults.specs.declared.fault.Fault.{Fault}
 use Rattle.bp_faults.specs.declared.kind.FaultKind.TheVariants.{TextTooLong}
+use Rattle.bp_faults.specs.declared.limits.TheConstants.{LARGEST_FILE}
 use Rattle.bp_lexer.specs.declared.token.Token.{Token}
 use Rattle.bp_lexer.specs.Meaning.{IsTokenList, IsFirstLexFault as IsLexFault}
 use Rattle.bp_parser.specs.Trees.{File}
@@ -24,9 +25,9 @@ pub record HasLayout (file : ℕ) (text : List ℕ) (out : List ℕ) : Type 0 wh
 -- What formatting a text comes to: its layout, if that has at most 2^20 bytes, or a fault. The faults are that of its
 -- tokens, that of its tree, and that the layout is longer.
 abbrev pub FormatMeans : ℕ → List ℕ → Result (List ℕ) Fault → Type 0
-FormatMeans file text (Ok out) = HasLayout file text out × (length out ≤ 2 ^ 20)
+FormatMeans file text (Ok out) = HasLayout file text out × (length out ≤ LARGEST_FILE)
 FormatMeans file text (Err fault) =
     IsLexFault file text fault
     ⊎ (((tokens : List Token) × IsTokenList file text tokens × IsTreeFault text (words_of text tokens) fault)
-    ⊎ ((out : List ℕ) × HasLayout file text out × (2 ^ 20 < length out)
+    ⊎ ((out : List ℕ) × HasLayout file text out × (LARGEST_FILE < length out)
     × (fault ≡ fault_at TextTooLong (file_start file))))

@@ -1,4 +1,4 @@
-ghost use Rattle.std.specs.Prelude.{◌≡◌, ◌≤◌, ◌^◌, ◌++◌, ℕ, Some, IfOk, OnOk, length, take, drop, map, string_bytes};
+ghost use Rattle.std.specs.Prelude.{◌≡◌, ◌≤◌, ◌++◌, ℕ, Some, IfOk, OnOk, length, take, drop, map, string_bytes};
 ghost use Rattle.std.specs.Prelude.{IsCharBoundary};
 ghost use Rattle.bp_faults.specs.Answers.{Tells};
 ghost use Rattle.bp_lexer.specs.declared.token.TokenKind.TheVariants.{Ident};
@@ -76,7 +76,7 @@ pub fn set_list(
     property: &Text,
     items: &[Text],
 ) -> Result<String, EditError>
-    requires short { length text.now ≤ 2 ^ 20 }
+    requires short { length text.now ≤ LARGEST_FILE }
     requires name { IsForm Ident property.now }
     ensures { Tells string_bytes
         (EditMeans file text.now record { name = name.now; property = property.now; items = items.now }) result }

@@ -1,7 +1,8 @@
-ghost use Rattle.std.specs.Prelude.{◌≡◌, ◌≤◌, ◌^◌, length, string_bytes};
+ghost use Rattle.std.specs.Prelude.{◌≡◌, ◌≤◌, length, string_bytes};
 ghost use Rattle.bp_faults.specs.Answers.{Tells};
 ghost use Rattle.bp_faults.specs.Faults.{fault_at, file_start};
 ghost use Rattle.bp_faults.specs.declared.kind.FaultKind.TheVariants as kind;
+ghost use Rattle.bp_faults.specs.declared.limits.TheConstants.{LARGEST_FILE};
 ghost use Rattle.bp_format.specs.Meaning.{FormatMeans};
 
 use crate::FormatError;
@@ -23,7 +24,7 @@ pub fn too_long(alloc: Global, file: u32) -> Fault
 /// The faults are those of its tokens, then those of its tree, then *text is too long*, where the layout
 /// has more than 2^20 bytes.
 pub fn format(alloc: Global, text: &str, file: u32) -> Result<String, FormatError>
-    requires { length text.now ≤ 2 ^ 20 }
+    requires { length text.now ≤ LARGEST_FILE }
     ensures { Tells string_bytes (FormatMeans file text.now) result }
 {
     let tokens = tokens(alloc, text, file)?;

@@ -1,4 +1,4 @@
-ghost use Rattle.std.specs.Prelude.{MatchOption, ◌≡◌, ◌<◌, ◌≤◌, ◌+◌, ◌^◌, [], IfOk, OnOk, length, drop, slice_index_or};
+ghost use Rattle.std.specs.Prelude.{MatchOption, ◌≡◌, ◌<◌, ◌≤◌, ◌+◌, [], IfOk, OnOk, length, drop, slice_index_or};
 ghost use Rattle.std.specs.Prelude.{string_bytes, ◌++◌, replicate, ◌*◌, Some, None, ℕ, List};
 ghost use Rattle.bp_lexer.specs.declared.token.Token.{Token};
 ghost use Rattle.bp_lexer.specs.Meaning.{IsToken, IsTokenList};
@@ -91,8 +91,9 @@ fn push_gap(out: &mut String, gap: Gap) -> Result<(), OutOfMemory>
 /// The layout of the tokens of a text, or none where it is longer than a file may be. It stops there.
 pub fn layout(alloc: Global, text: &str, tokens: &[Token]) -> Result<Option<String>, OutOfMemory>
     requires { (file : ℕ) × IsTokenList file text.now tokens.now }
-    ensures { IfOk result (λ laid. MatchOption laid (2 ^ 20 < length (layout (pieces [] text.now tokens.now)))
-        (λ out. (string_bytes out ≡ layout (pieces [] text.now tokens.now)) × (length (string_bytes out) ≤ 2 ^ 20))) }
+    ensures { IfOk result (λ laid. MatchOption laid (LARGEST_FILE < length (layout (pieces [] text.now tokens.now)))
+        (λ out. (string_bytes out ≡ layout (pieces [] text.now tokens.now))
+        × (length (string_bytes out) ≤ LARGEST_FILE))) }
 {
     lists_have_tokens();
     let mut out = String::new(alloc);

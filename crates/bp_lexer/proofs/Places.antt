@@ -5,6 +5,7 @@ use Rattle.std.specs.List.{count_by, take_while, prefix_len}
 use Rattle.std.proofs.lemmas.List.{reverse-append, take_more, length-reverse}
 use Rattle.std.proofs.lemmas.List.Sums.{sum_by_push, take_while-cons, count_by-le-length}
 use Rattle.std.proofs.lemmas.Bool.{cases_Bool, cond-true, cond-false}
+use Rattle.bp_faults.specs.Faults.{file_start}
 use Rattle.bp_faults.specs.declared.place.Place.{Place}
 use Rattle.bp_lexer.specs.Places.{begins_char, last_line, place_at}
 use Rattle.bp_lexer.specs.Search.{place_after}
@@ -52,9 +53,9 @@ place_small file text i =
       omega (arith, count_by-le-length begins_char (last_line (take i text)), length-reverse (take kept turned), length-take kept turned, length-reverse (take i text), length-take i text),
     )
 
-pub place_start : (file : ℕ) (text : List ℕ) → place_at file text 0 ≡ record { file = file; line = 1; col = 1 }
+pub place_start : (file : ℕ) (text : List ℕ) (start : Place) → start ≡ file_start file → start ≡ place_at file text 0
 unfolding place_at
-place_start file text = refl
+place_start file text start is = is
 
 -- a place at which a file goes on is in that file
 pub place_file : (file : ℕ) (text : List ℕ) (i : ℕ) (p : Place) → p ≡ place_at file text i → p ≡ place_at p.file text i

@@ -1,4 +1,5 @@
-ghost use Rattle.std.specs.Prelude.{◌≡◌, ◌+◌, ◌<◌, ◌≤◌, ◌^◌, length, IfOk, IfErr, slice_index};
+ghost use Rattle.std.specs.Prelude.{◌≡◌, ◌+◌, ◌<◌, ◌≤◌, length, IfOk, IfErr, slice_index};
+ghost use Rattle.bp_faults.specs.declared.limits.TheConstants.{LARGEST_FILE};
 ghost use Rattle.bp_lexer.specs.Strings.{IsClosedAt, is_escape};
 ghost use Rattle.bp_lexer.specs.Search.{KnowsBadEscape, IsBodyFlaw};
 
@@ -32,7 +33,7 @@ fn first_bad(rest: &[u8], n: usize, bad: Option<usize>) -> Option<usize>
 
 /// The length of a string's body, from behind the quote that opens it.
 pub fn body_len(rest: &[u8]) -> Result<usize, Flaw>
-    requires { length rest.now ≤ 2 ^ 20 }
+    requires { length rest.now ≤ LARGEST_FILE }
     ensures found { IfOk result (IsClosedAt is_escape rest.now) }
     ensures flaw { IfErr result (IsBodyFlaw rest.now) }
 {

@@ -1,4 +1,5 @@
-ghost use Rattle.std.specs.Prelude.{◌≡◌, ◌<◌, ◌≤◌, ◌^◌, ◌⊎◌, length, slice_index, IsTrue};
+ghost use Rattle.std.specs.Prelude.{◌≡◌, ◌<◌, ◌≤◌, ◌⊎◌, length, slice_index, IsTrue};
+ghost use Rattle.bp_faults.specs.declared.limits.TheConstants.{LARGEST_FILE};
 ghost use Rattle.bp_lexer.specs.Classes.{is_digit};
 ghost use Rattle.bp_lexer.specs.Search.{Finds};
 
@@ -12,7 +13,7 @@ use crate::punct::punct_form;
 fn int_form(text: &[u8]) -> Result<(TokenKind, usize), Flaw>
     requires first { (slice_index text.now 0 ≡ 45) ⊎ IsTrue (is_digit (slice_index text.now 0)) }
     requires nonempty { 0 < length text.now }
-    requires short { length text.now ≤ 2 ^ 20 }
+    requires short { length text.now ≤ LARGEST_FILE }
     ensures { Finds text.now result }
 {
     let more = run_len(text, 1, Class::Digit);
@@ -25,7 +26,7 @@ fn int_form(text: &[u8]) -> Result<(TokenKind, usize), Flaw>
 fn string_form(text: &[u8]) -> Result<(TokenKind, usize), Flaw>
     requires first { slice_index text.now 0 ≡ 34 }
     requires nonempty { 0 < length text.now }
-    requires short { length text.now ≤ 2 ^ 20 }
+    requires short { length text.now ≤ LARGEST_FILE }
     ensures { Finds text.now result }
 {
     let inner = body_len(&text[1..])?;
@@ -35,7 +36,7 @@ fn string_form(text: &[u8]) -> Result<(TokenKind, usize), Flaw>
 fn raw_form(text: &[u8]) -> Result<(TokenKind, usize), Flaw>
     requires first { slice_index text.now 0 ≡ 96 }
     requires nonempty { 0 < length text.now }
-    requires short { length text.now ≤ 2 ^ 20 }
+    requires short { length text.now ≤ LARGEST_FILE }
     ensures { Finds text.now result }
 {
     let inner = run_len(text, 1, Class::Raw);
@@ -49,7 +50,7 @@ fn raw_form(text: &[u8]) -> Result<(TokenKind, usize), Flaw>
 fn block_form(text: &[u8]) -> Result<(TokenKind, usize), Flaw>
     requires first { slice_index text.now 0 ≡ 47 }
     requires second { slice_index text.now 1 ≡ 42 }
-    requires short { length text.now ≤ 2 ^ 20 }
+    requires short { length text.now ≤ LARGEST_FILE }
     ensures { Finds text.now result }
 {
     match comment_end(&text[2..]) {
@@ -61,7 +62,7 @@ fn block_form(text: &[u8]) -> Result<(TokenKind, usize), Flaw>
 fn comment_form(text: &[u8]) -> Result<(TokenKind, usize), Flaw>
     requires first { slice_index text.now 0 ≡ 47 }
     requires nonempty { 0 < length text.now }
-    requires short { length text.now ≤ 2 ^ 20 }
+    requires short { length text.now ≤ LARGEST_FILE }
     ensures { Finds text.now result }
 {
     match second(text) {
@@ -74,7 +75,7 @@ fn comment_form(text: &[u8]) -> Result<(TokenKind, usize), Flaw>
 /// The longest form at the front of a text, and its length.
 pub fn longest_form(text: &[u8]) -> Result<(TokenKind, usize), Flaw>
     requires nonempty { 0 < length text.now }
-    requires short { length text.now ≤ 2 ^ 20 }
+    requires short { length text.now ≤ LARGEST_FILE }
     ensures { Finds text.now result }
 {
     let first = text[0];

@@ -1,6 +1,7 @@
-ghost use Rattle.std.specs.Prelude.{◌≡◌, ◌+◌, ◌<◌, ◌≤◌, ◌^◌, ◌↔◌, length, drop, take, IfOk, IsTrue, IsCharBoundary};
+ghost use Rattle.std.specs.Prelude.{◌≡◌, ◌+◌, ◌<◌, ◌≤◌, ◌↔◌, length, drop, take, IfOk, IsTrue, IsCharBoundary};
 ghost use Rattle.std.specs.Prelude.{string_bytes};
 ghost use Rattle.bp_faults.specs.Answers.{Tells};
+ghost use Rattle.bp_faults.specs.declared.limits.TheConstants.{LARGEST_FILE};
 ghost use Rattle.bp_lexer.specs.declared.class.Class.TheVariants.{White};
 ghost use Rattle.bp_lexer.specs.declared.token.TokenKind.TheVariants.{Int};
 ghost use Rattle.bp_lexer.specs.Classes.{in_class};
@@ -45,7 +46,7 @@ fn fault_of(
     place: Place,
     flaw: Flaw,
 ) -> Result<Fault, OutOfMemory>
-    requires short { length text.now ≤ 2 ^ 20 }
+    requires short { length text.now ≤ LARGEST_FILE }
     requires within { IsCharBoundary text.now at }
     requires here { place ≡ place_at place.file text.now at }
     requires flaw { HasFlaw (drop at text.now) flaw }
@@ -82,7 +83,7 @@ fn is_in_range(text: &str, at: usize, len: usize) -> bool
 // The token that begins at a place, and its length.
 fn token_at(text: &str, at: usize) -> Result<(TokenKind, usize), Flaw>
     requires within { at < length text.now }
-    requires short { length text.now ≤ 2 ^ 20 }
+    requires short { length text.now ≤ LARGEST_FILE }
     ensures { FindsToken (drop at text.now) result }
 {
     let (kind, len) = longest_form(&text.as_bytes()[at..])?;
@@ -116,7 +117,7 @@ fn has_line_end(kind: TokenKind) -> bool
 // The place behind the token that begins at a place.
 fn place_behind(bytes: &[u8], at: usize, kind: TokenKind, len: usize, place: Place) -> Place
     requires within { at ≤ length bytes.now }
-    requires short { length bytes.now ≤ 2 ^ 20 }
+    requires short { length bytes.now ≤ LARGEST_FILE }
     requires here { place ≡ place_at place.file bytes.now at }
     requires token { IsLongest (drop at bytes.now) kind len }
     ensures { result ≡ place_at place.file bytes.now (at + len) }
@@ -130,22 +131,18 @@ fn place_behind(bytes: &[u8], at: usize, kind: TokenKind, len: usize, place: Pla
     }
 }
 
-/// The tokens of a text, which has at most 2^20 bytes, comments among them.
+/// The tokens of a text, which has at most as many bytes as a file may have, comments among them.
 ///
 /// Where none begins, the first fault is that of the language: *unexpected character*,
 /// *unterminated string*, *unterminated comment*, *bad escape* or *number out of range*.
 pub fn tokens(alloc: Global, text: &str, file: u32) -> Result<Vec<Token>, LexError>
-    requires { length text.now ≤ 2 ^ 20 }
+    requires { length text.now ≤ LARGEST_FILE }
     ensures { Tells (λ tokens. tokens.items) (LexMeans file text.now) result }
 {
     let bytes = text.as_bytes();
     let mut tokens = Vec::with_capacity(alloc, MOST_ROOM.min(bytes.len() / BYTES_A_TOKEN))?;
     let mut at = 0;
-    let mut place = Place {
-        file,
-        line: 1,
-        col: 1,
-    };
+    let mut place = Place::start(file);
     while at < bytes.len() {
         let byte = bytes[at];
         if byte == b' ' {

@@ -1,5 +1,6 @@
 ghost use Rattle.std.specs.Prelude.{◌≡◌, ◌+◌, ◌<◌, ◌≤◌, ◌^◌, length};
 ghost use Rattle.std.specs.List.{count_by};
+ghost use Rattle.bp_faults.specs.declared.limits.TheConstants.{LARGEST_LIST_FILE};
 ghost use Rattle.bp_lexer.specs.Places.{begins_char, place_at};
 ghost use Rattle.bp_lexer.specs.Search.{place_after, place_along};
 
@@ -63,7 +64,7 @@ pub fn place_along(place: Place, count: usize) -> Place
 pub fn advance(bytes: &[u8], from: usize, to: usize, place: Place) -> Place
     requires order { from ≤ to }
     requires within { to ≤ length bytes.now }
-    requires short { length bytes.now ≤ 2 ^ 22 }
+    requires short { length bytes.now ≤ LARGEST_LIST_FILE }
     requires at { place ≡ place_at place.file bytes.now from }
     ensures { result ≡ place_at place.file bytes.now to }
 {

@@ -4,15 +4,13 @@ use Rattle.std.specs.Str.{bytes_eq}
 use Rattle.std.specs.declared.cmp.Ordering.{Ordering}
 use Rattle.std.specs.declared.cmp.Ordering.TheVariants.{Less, Equal, Greater}
 use Rattle.std.specs.Ordering.{nat_cmp, ordering_then, ordering_reverse}
-use Rattle.std.specs.Cmp.Lexicographic.{slice_cmp, same_text}
+use Rattle.std.specs.Cmp.Lexicographic.{slice_cmp}
 use Rattle.std.proofs.lemmas.Bool.{and_parts, and_from}
 use Rattle.std.proofs.lemmas.Cmp.{nat_list_cmp_total, nat_list_eq_equiv, tied_itself}
 use Rattle.std.proofs.lemmas.Map.Lookups.{exact_bytes}
+use Rattle.bp_faults.proofs.Lists.{same_bytes}
 use Rattle.bp_load.specs.Directories.{is_above, directory_cmp}
 use Rattle.bp_load.specs.Laws.{AncestorsStandFirst}
-
-same_bytes : (a b : List ℕ) → bytes_eq a b ≡ true → a ≡ b
-same_bytes a b is = same_text a b (sym is)
 
 itself : (a : List ℕ) → bytes_eq a a ≡ true
 itself a = nat_list_eq_equiv.refl a

@@ -1,6 +1,6 @@
 -- A map from directories to paths, as it takes line after line.
 use Rattle.std.proofs.Common.{◌≡◌, ◌↔◌, ℕ, ◌+◌, ◌-◌, ◌<◌, ◌≤◌, ◌⊎◌, inl, inr, Bool, true, false, List, [], ◌∷◌, ◌++◌, length, get_or, take, map, refl, ap, sym, subst, ◌∙◌, arith}
-use Rattle.std.specs.Prelude.{◌==◌, nat_le, IsTrue, Some, None, Result, Ok, Err, ◌^◌, ◌||◌, if◌then◌else◌, codes}
+use Rattle.std.specs.Prelude.{◌==◌, nat_le, IsTrue, Some, None, Result, Ok, Err, ◌||◌, if◌then◌else◌, codes}
 use Rattle.std.specs.List.{Contains, filter_map, cons_option, join_with_byte, slice_split}
 use Rattle.std.specs.Str.Lines.{lines, lines_of_parts}
 use Rattle.std.proofs.lemmas.List.Sums.{count_by-le-length}
@@ -23,6 +23,7 @@ use Rattle.bp_load.specs.Directories.{directories, directory_cmp}
 use Rattle.bp_load.specs.ListFile.{is_blank, without_dots, is_listed, is_sound, listed_path, file_name, AreListed, AreFiles, IsWrongAt, IsFirstListFault, line_place}
 use Rattle.bp_faults.specs.Faults.{fault_on}
 use Rattle.bp_faults.specs.declared.kind.FaultKind.TheVariants.{BadList, TooMany}
+use Rattle.bp_faults.specs.declared.limits.TheConstants.{MOST_FILES}
 use Rattle.bp_load.specs.Listing.{Entries, with_line, with_path, counted_entries}
 use Rattle.bp_load.proofs.Orders.{directories_total, exact_directories, sorted_insert}
 use Rattle.bp_load.proofs.Members.{Has, has_contained, contained_had}
@@ -161,7 +162,7 @@ with_listed lines entries line full listed lists =
 -- the same, and the paths are no more than the limit
 pub record Holds (lines : List (List ℕ)) (entries : Entries) : Type 0 where
   pub lists : Lists lines entries
-  pub few : length (values_of entries) ≤ 2 ^ 14
+  pub few : length (values_of entries) ≤ MOST_FILES
 
 pub holds_none : Holds [] []
 unfolding IsStrictlySortedBy
@@ -177,19 +178,19 @@ holds_none = record {
 pub files_held : (lines : List (List ℕ)) (entries : Entries) → Holds lines entries → AreFiles lines (values_of entries)
 files_held lines entries holds = record { listed = holds.lists.listed; few = holds.few }
 
-counted_ok : (at : ℕ) (entries new : Entries) → counted_entries at entries ≡ Ok new → (entries ≡ new) × (length entries ≤ 2 ^ 14)
-counted_ok at entries new = by (nat_le (length entries) (2 ^ 14)) refl
+counted_ok : (at : ℕ) (entries new : Entries) → counted_entries at entries ≡ Ok new → (entries ≡ new) × (length entries ≤ MOST_FILES)
+counted_ok at entries new = by (nat_le (length entries) MOST_FILES) refl
   where
-    by : (few : Bool) → nat_le (length entries) (2 ^ 14) ≡ few → (if few then Ok entries else Err (fault_on TooMany (line_place at) (codes "files"))) ≡ Ok new → (entries ≡ new) × (length entries ≤ 2 ^ 14)
-    by true few is = (cc, leb-true (length entries) (2 ^ 14) few)
+    by : (few : Bool) → nat_le (length entries) MOST_FILES ≡ few → (if few then Ok entries else Err (fault_on TooMany (line_place at) (codes "files"))) ≡ Ok new → (entries ≡ new) × (length entries ≤ MOST_FILES)
+    by true few is = (cc, leb-true (length entries) MOST_FILES few)
     by false many is = absurd (cc)
 
-counted_err : (at : ℕ) (entries : Entries) (fault : Fault) → counted_entries at entries ≡ Err fault → (2 ^ 14 < length entries) × (fault ≡ fault_on TooMany (line_place at) (codes "files"))
-counted_err at entries fault = by (nat_le (length entries) (2 ^ 14)) refl
+counted_err : (at : ℕ) (entries : Entries) (fault : Fault) → counted_entries at entries ≡ Err fault → (MOST_FILES < length entries) × (fault ≡ fault_on TooMany (line_place at) (codes "files"))
+counted_err at entries fault = by (nat_le (length entries) MOST_FILES) refl
   where
-    by : (few : Bool) → nat_le (length entries) (2 ^ 14) ≡ few → (if few then Ok entries else Err (fault_on TooMany (line_place at) (codes "files"))) ≡ Err fault → (2 ^ 14 < length entries) × (fault ≡ fault_on TooMany (line_place at) (codes "files"))
+    by : (few : Bool) → nat_le (length entries) MOST_FILES ≡ few → (if few then Ok entries else Err (fault_on TooMany (line_place at) (codes "files"))) ≡ Err fault → (MOST_FILES < length entries) × (fault ≡ fault_on TooMany (line_place at) (codes "files"))
     by true few is = absurd (cc)
-    by false many is = (leb-false (length entries) (2 ^ 14) many, cc)
+    by false many is = (leb-false (length entries) MOST_FILES many, cc)
 
 -- a line that is taken
 

@@ -1,6 +1,6 @@
 -- A list file means one thing alone.
 use Rattle.std.proofs.Common.{◌≡◌, ℕ, ◌+◌, ◌<◌, ◌≤◌, ◌⊎◌, inl, inr, ⊎_elim, false, true≢false, List, [], length, get_or, take, drop, ap, sym, ◌∙◌, subst, arith}
-use Rattle.std.specs.Prelude.{Result, Ok, Err, ◌^◌, codes}
+use Rattle.std.specs.Prelude.{Result, Ok, Err, codes}
 use Rattle.std.specs.List.{Contains, filter_map}
 use Rattle.std.proofs.lemmas.Bool.{cases_order}
 use Rattle.std.proofs.lemmas.List.{take-take, get_or-take, take-append-drop, length-take}
@@ -8,6 +8,7 @@ use Rattle.std.proofs.lemmas.List.Elements.{filter_map-append, Contains-append_l
 use Rattle.bp_faults.specs.declared.fault.Fault.{Fault}
 use Rattle.bp_faults.specs.Faults.{fault_on}
 use Rattle.bp_faults.specs.declared.kind.FaultKind.TheVariants.{BadList, TooMany}
+use Rattle.bp_faults.specs.declared.limits.TheConstants.{MOST_FILES}
 use Rattle.bp_load.specs.Directories.{directories, directory_cmp}
 use Rattle.std.specs.Str.Lines.{lines}
 use Rattle.bp_load.proofs.AsTexts.{as_text_once}
@@ -35,7 +36,7 @@ no_wrong lines paths at fault files below (inr many) =
 abbrev Wrong : List ℕ → List (List ℕ) → ℕ → Fault → Type 0
 Wrong line front at fault =
     ((is_sound line ≡ false) × (fault ≡ fault_on BadList (line_place at) line))
-    ⊎ ((paths : List (List ℕ)) × AreListed front paths × (2 ^ 14 < length paths) × (fault ≡ fault_on TooMany (line_place at) (codes "files")))
+    ⊎ ((paths : List (List ℕ)) × AreListed front paths × (MOST_FILES < length paths) × (fault ≡ fault_on TooMany (line_place at) (codes "files")))
 
 wrong_in_front : (lines : List (List ℕ)) (at n : ℕ) (fault : Fault) → at < n → IsWrongAt lines at fault → IsWrongAt (take n lines) at fault
 wrong_in_front lines at n fault before wrong =

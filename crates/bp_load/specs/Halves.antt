@@ -5,6 +5,7 @@ use Rattle.std.specs.declared.vec.Vec.{Vec}
 use Rattle.std.specs.declared.alloc.Global.{Global}
 use Rattle.bp_faults.specs.declared.refusal.Refusal.{Refusal}
 use Rattle.bp_faults.specs.declared.refusal.Refusal.TheVariants.{OutOfMemory}
+use Rattle.bp_faults.specs.declared.limits.TheConstants.{LARGEST_FILE}
 use Rattle.bp_faults.specs.Answers.{Tells}
 use Rattle.bp_faults.specs.Phases.{Phase}
 use Rattle.bp_load.specs.declared.parsed.Parsed.{Parsed}
@@ -24,7 +25,7 @@ JoinMeans (Ok front) (Ok back) whole = AppendMeans front.items back.items whole
 
 -- Files that a worker may parse, the first of which has the number: no number and no file is too large.
 abbrev pub CanParse : ℕ → List (List ℕ × Vec ℕ Global) → Type 0
-CanParse number files = (number + length files < 2 ^ 32) × All (λ f. length f.1 ≤ 2 ^ 20) (sources_given files)
+CanParse number files = (number + length files < 2 ^ 32) × All (λ f. length f.1 ≤ LARGEST_FILE) (sources_given files)
 
 -- An answer tells what files mean, the first of which has the number.
 abbrev pub TellsTrees : ℕ → List (List ℕ × Vec ℕ Global) → Result (Vec Parsed Global) Refusal → Type 0

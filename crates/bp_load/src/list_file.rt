@@ -8,6 +8,7 @@ ghost use Rattle.bp_faults.specs.Answers.{Tells, Leaves};
 ghost use Rattle.bp_faults.specs.Characters.{is_barred_in_paths};
 ghost use Rattle.bp_faults.specs.Faults.{fault_on};
 ghost use Rattle.bp_faults.specs.declared.kind.FaultKind.TheVariants.{BadList as BadListAs};
+ghost use Rattle.bp_faults.specs.declared.limits.TheConstants.{LARGEST_LIST_FILE};
 ghost use Rattle.property_tables.specs.Paths.{parts};
 ghost use Rattle.bp_load.specs.Directories.{directory_cmp};
 ghost use Rattle.bp_load.specs.ListFile.{is_blank as blank, without_dots, file_name, is_listed, line_place};
@@ -123,7 +124,7 @@ fn take_line(
 
 /// The files that lines list, each under the components of its directory.
 fn files_of(alloc: Global, text: &str) -> Result<BTreeMap<Directory, Path>, LoadError>
-    requires { length text.now ≤ 2 ^ 22 }
+    requires { length text.now ≤ LARGEST_LIST_FILE }
     ensures { Tells (λ files. values files) (LinesMean (lines text.now)) result }
 {
     let mut files = BTreeMap::new(alloc);
@@ -141,7 +142,7 @@ fn files_of(alloc: Global, text: &str) -> Result<BTreeMap<Directory, Path>, Load
 /// in list* at a line that names no Android.bp file, and *too many* `files` at the line that names one file
 /// more than 16,384.
 pub fn file_list(alloc: Global, bytes: &[u8]) -> Result<Vec<Path>, LoadError>
-    requires { length bytes.now ≤ 2 ^ 22 }
+    requires { length bytes.now ≤ LARGEST_LIST_FILE }
     ensures { Tells (λ paths. paths.items) (ListMeans bytes.now) result }
 {
     match str::from_utf8(bytes) {

@@ -1,5 +1,6 @@
-ghost use Rattle.std.specs.Prelude.{◌≡◌, ◌≤◌, ◌^◌, List, length, IfOk};
+ghost use Rattle.std.specs.Prelude.{◌≡◌, ◌≤◌, List, length, IfOk};
 ghost use Rattle.bp_faults.specs.Answers.{Tells};
+ghost use Rattle.bp_faults.specs.declared.limits.TheConstants.{LARGEST_FILE};
 ghost use Rattle.bp_parser.specs.Trees.{tree_view};
 ghost use Rattle.bp_load.specs.Directories.{directory_of};
 ghost use Rattle.bp_load.specs.Texts.{AsText};
@@ -42,7 +43,7 @@ fn dir_of(alloc: Global, file: &Path) -> Result<Path, OutOfMemory>
 
 /// The tree of a text.
 fn tree_of(alloc: Global, text: &str, number: u32) -> Result<FileTree, LoadError>
-    requires { length text.now ≤ 2 ^ 20 }
+    requires { length text.now ≤ LARGEST_FILE }
     ensures { Tells tree_view (SourceTextMeans number text.now) result }
 {
     let tokens = tokens(alloc, text, number)?;
@@ -51,7 +52,7 @@ fn tree_of(alloc: Global, text: &str, number: u32) -> Result<FileTree, LoadError
 
 /// The tree of the bytes of a file, which must be UTF-8.
 fn tree_of_bytes(alloc: Global, bytes: &[u8], number: u32) -> Result<FileTree, LoadError>
-    requires { length bytes.now ≤ 2 ^ 20 }
+    requires { length bytes.now ≤ LARGEST_FILE }
     ensures { Tells tree_view (AsText number bytes.now (SourceTextMeans number bytes.now)) result }
 {
     match str::from_utf8(bytes) {
@@ -77,7 +78,7 @@ fn sum_of(bytes: &[u8]) -> u64 {
 
 /// A file, parsed.
 fn parse_file(alloc: Global, file: &(Path, Vec<u8>), number: u32) -> Result<Parsed, LoadError>
-    requires { length file.now.1.items ≤ 2 ^ 20 }
+    requires { length file.now.1.items ≤ LARGEST_FILE }
     ensures { Tells placed_of (SourceFileMeans number (file.now.0, file.now.1.items)) result }
 {
     let tree = tree_of_bytes(alloc, file.1.as_slice(), number)?;

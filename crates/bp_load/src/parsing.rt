@@ -1,6 +1,7 @@
 ghost use Rattle.std.specs.Prelude.{◌≡◌, ◌+◌, ◌<◌, ◌≤◌, ◌^◌, ◌++◌, length, sum_by};
 ghost use Rattle.std.specs.List.{All};
 ghost use Rattle.std.specs.Thread.{IsSync};
+ghost use Rattle.bp_faults.specs.declared.limits.TheConstants.{LARGEST_FILE};
 ghost use Rattle.bp_load.specs.Halves.{CanParse, TellsTrees};
 ghost use Rattle.bp_load.specs.Trees.{sources_given};
 
@@ -17,7 +18,7 @@ const FEW_BYTES: usize = 65_536;
 /// The bytes of files in all.
 fn size(files: &[(Path, Vec<u8>)]) -> usize
     requires few { length files.now < 2 ^ 32 }
-    requires short { All (λ f. length f.1 ≤ 2 ^ 20) (sources_given files.now) }
+    requires short { All (λ f. length f.1 ≤ LARGEST_FILE) (sources_given files.now) }
     ensures { result ≡ sum_by (λ f. length f.1) (sources_given files.now) }
 {
     let mut bytes = 0;
@@ -31,7 +32,7 @@ fn size(files: &[(Path, Vec<u8>)]) -> usize
 /// other whose middle is before the cut.
 fn cut(files: &[(Path, Vec<u8>)], share: usize) -> usize
     requires few { length files.now < 2 ^ 32 }
-    requires short { All (λ f. length f.1 ≤ 2 ^ 20) (sources_given files.now) }
+    requires short { All (λ f. length f.1 ≤ LARGEST_FILE) (sources_given files.now) }
     ensures { result ≤ length files.now }
 {
     let mut bytes = 0;

@@ -1,6 +1,7 @@
-ghost use Rattle.std.specs.Prelude.{◌≡◌, ◌≤◌, ◌^◌, length, map};
+ghost use Rattle.std.specs.Prelude.{◌≡◌, ◌≤◌, length, map};
 ghost use Rattle.std.specs.List.{All};
 ghost use Rattle.bp_faults.specs.Answers.{Tells};
+ghost use Rattle.bp_faults.specs.declared.limits.TheConstants.{LARGEST_FILE, MOST_FILES};
 ghost use Rattle.bp_load.specs.Directories.{AreInFileOrder};
 ghost use Rattle.bp_load.specs.Trees.{sources_given};
 ghost use Rattle.bp_load.specs.Inherited.{placed_raw, RawMean};
@@ -22,9 +23,9 @@ pub fn raw_modules(
     alloc: Global,
     files: &[(Path, Vec<u8>)],
 ) -> Result<Vec<(Path, RawModule)>, LoadError>
-    requires few { length files.now ≤ 2 ^ 14 }
+    requires few { length files.now ≤ MOST_FILES }
     requires order { AreInFileOrder (map (λ f. f.0) (sources_given files.now)) }
-    requires short { All (λ f. length f.1 ≤ 2 ^ 20) (sources_given files.now) }
+    requires short { All (λ f. length f.1 ≤ LARGEST_FILE) (sources_given files.now) }
     ensures { Tells (λ modules. map placed_raw modules.items) (RawMean (sources_given files.now)) result }
 {
     let parsed = all_parsed(alloc, files, 1)?;

@@ -1,6 +1,7 @@
-ghost use Rattle.std.specs.Prelude.{◌≡◌, ◌≤◌, ◌^◌, length, map};
+ghost use Rattle.std.specs.Prelude.{◌≡◌, ◌≤◌, length, map};
 ghost use Rattle.std.specs.List.{All};
 ghost use Rattle.bp_faults.specs.Answers.{Answers, Tells};
+ghost use Rattle.bp_faults.specs.declared.limits.TheConstants.{LARGEST_FILE, MOST_FILES};
 ghost use Rattle.bp_load.specs.Directories.{AreInFileOrder};
 ghost use Rattle.bp_load.specs.Trees.{sources_given};
 ghost use Rattle.bp_load.specs.Inherited.{placed_raw};
@@ -44,9 +45,9 @@ pub fn load<R: Threads + Sync>(
     files: &[(Path, Vec<u8>)],
     workers: u32,
 ) -> Result<Vec<Module>, LoadError>
-    requires few { length files.now ≤ 2 ^ 14 }
+    requires few { length files.now ≤ MOST_FILES }
     requires order { AreInFileOrder (map (λ f. f.0) (sources_given files.now)) }
-    requires short { All (λ f. length f.1 ≤ 2 ^ 20) (sources_given files.now) }
+    requires short { All (λ f. length f.1 ≤ LARGEST_FILE) (sources_given files.now) }
     ensures { Tells (λ modules. modules.items) (LoadMeans (sources_given files.now)) result }
 {
     let parsed = parsed_by(rt, alloc, files, 1, workers)?;

@@ -4,6 +4,7 @@ use Rattle.std.specs.Cmp.Lexicographic.{nat_list_eq_equiv}
 use Rattle.std.proofs.Common.{◌≡◌, ℕ, zero, suc, ◌+◌, ◌<◌, ◌≤◌, length, take, drop, arith, length-drop, List, [], ◌∷◌, ◌++◌, true, Option, Some, None, sym, refl, ap, ◌∙◌, subst, inl, inr, ⊎_elim}
 use Rattle.std.proofs.lemmas.Bool.{cases_Bool, cond-true, cond-false, eqb-true, eq-eqb}
 use Rattle.std.proofs.lemmas.Map.Views.{list_any-from_Contains}
+use Rattle.bp_faults.specs.declared.limits.TheConstants.{DEEPEST_NESTING}
 use Rattle.bp_lexer.specs.declared.token.Punct.TheVariants.{OpenBrace, OpenBracket}
 use Rattle.bp_lexer.specs.declared.token.TokenKind.{TokenKind}
 use Rattle.bp_lexer.specs.declared.token.TokenKind.TheVariants.{Ident, Punct as Mark}
@@ -22,17 +23,17 @@ use Rattle.bp_parser.proofs.OneMeaning.{shorter, tree_or_unexpected, in_range}
 
 -- what a flaw says
 
-bracket_found : (ps : List Part) (k : TokenKind) (n : List ℕ) (at : ℕ) → is_opening k ≡ true → depth_of ps ≡ 64 → flaw_at ps k n at ≡ Some (TooNested at)
-bracket_found ps (Mark OpenBrace) n at opening full = cond-true (depth_of ps == 64) _ _ (eq-eqb (depth_of ps) 64 full)
-bracket_found ps (Mark OpenBracket) n at opening full = cond-true (depth_of ps == 64) _ _ (eq-eqb (depth_of ps) 64 full)
+bracket_found : (ps : List Part) (k : TokenKind) (n : List ℕ) (at : ℕ) → is_opening k ≡ true → depth_of ps ≡ DEEPEST_NESTING → flaw_at ps k n at ≡ Some (TooNested at)
+bracket_found ps (Mark OpenBrace) n at opening full = cond-true (depth_of ps == DEEPEST_NESTING) _ _ (eq-eqb (depth_of ps) DEEPEST_NESTING full)
+bracket_found ps (Mark OpenBracket) n at opening full = cond-true (depth_of ps == DEEPEST_NESTING) _ _ (eq-eqb (depth_of ps) DEEPEST_NESTING full)
 bracket_found ps _ n at opening full = absurd cc
 
-bracket_says : (ps : List Part) (at : ℕ) (e : Flaw) → bracket_flaw ps at ≡ Some e → (depth_of ps ≡ 64) × (e ≡ TooNested at)
+bracket_says : (ps : List Part) (at : ℕ) (e : Flaw) → bracket_flaw ps at ≡ Some e → (depth_of ps ≡ DEEPEST_NESTING) × (e ≡ TooNested at)
 bracket_says ps at e says =
     ⊎_elim
-    (λ yes. (eqb-true (depth_of ps) 64 yes, sym (some_same (TooNested at) e (sym (cond-true (depth_of ps == 64) _ _ yes) ∙ says))))
-    (λ other. none_some e (sym (cond-false (depth_of ps == 64) _ _ other) ∙ says))
-    (cases_Bool (depth_of ps == 64))
+    (λ yes. (eqb-true (depth_of ps) DEEPEST_NESTING yes, sym (some_same (TooNested at) e (sym (cond-true (depth_of ps == DEEPEST_NESTING) _ _ yes) ∙ says))))
+    (λ other. none_some e (sym (cond-false (depth_of ps == DEEPEST_NESTING) _ _ other) ∙ says))
+    (cases_Bool (depth_of ps == DEEPEST_NESTING))
 
 name_says : (ps : List Part) (n : List ℕ) (at : ℕ) (e : Flaw) → name_flaw ps n at ≡ Some e → e ≡ Duplicate at
 name_says (more_terms ∷ ps) n at e says = name_says ps n at e says
@@ -44,7 +45,7 @@ name_says (entries names ∷ ps) n at e says =
 name_says _ n at e says = none_some e says
 
 abbrev Says : TokenKind → List Part → ℕ → Flaw → Type 0
-Says k ps at e = ((e ≡ TooNested at) × (is_opening k ≡ true) × (depth_of ps ≡ 64)) ⊎ (e ≡ Duplicate at)
+Says k ps at e = ((e ≡ TooNested at) × (is_opening k ≡ true) × (depth_of ps ≡ DEEPEST_NESTING)) ⊎ (e ≡ Duplicate at)
 
 flaw_says : (ps : List Part) (k : TokenKind) (n : List ℕ) (at : ℕ) (e : Flaw) → flaw_at ps k n at ≡ Some e → Says k ps at e
 flaw_says ps Ident n at e says = inr (name_says ps n at e says)
@@ -248,7 +249,7 @@ no_bracket ts r j found beyond f =
     let zero' : j ≡ 0 + j = omega arith in
     let p = passed ts [] 0 r j found (in_range ts _ f.bracket j f.at) (subst (Beyond r) zero' beyond) in
     let e = same_head p.word f.bracket _ _ (sym p.here ∙ f.at) in
-    let full : depth_of p.state ≡ 64 = omega (arith, depth_before ts j p.state p.reached, f.open_before) in
+    let full : depth_of p.state ≡ DEEPEST_NESTING = omega (arith, depth_before ts j p.state p.reached, f.open_before) in
     none_some (TooNested (0 + j)) (sym p.clean ∙ flaw_same p.state p.word f.bracket (0 + j) e.0 ∙ bracket_found p.state f.bracket.kind f.bracket.text (0 + j) f.opening full)
 
 brace_state : (ps : List Part) (n : List ℕ) (new : List Part) → behind_all ps (Mark OpenBrace) n ≡ Some new → (more : List Part) × (new ≡ entries [] ∷ more)

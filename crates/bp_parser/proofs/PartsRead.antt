@@ -5,6 +5,7 @@ use Rattle.std.proofs.Common.{◌≡◌, ℕ, ◌+◌, ◌≤◌, length, drop, 
 use Rattle.std.proofs.lemmas.Map.Views.{Contains-from_any}
 use Rattle.std.proofs.lemmas.Slice.Eq.{bytes_eq-Decides}
 use Rattle.bp_faults.specs.declared.place.Place.{Place}
+use Rattle.bp_faults.specs.declared.limits.TheConstants.{DEEPEST_NESTING}
 use Rattle.bp_lexer.specs.declared.token.Punct.{Punct}
 use Rattle.bp_lexer.specs.declared.token.Punct.TheVariants.{OpenBrace, CloseBrace, CloseBracket, Comma}
 use Rattle.bp_lexer.specs.declared.token.Token.{Token}
@@ -82,7 +83,7 @@ within_part close ts at next within (inl comma) = (omega (arith, comma.1), omega
 within_part close ts at next within (inr end) = (omega (arith, end.1), omega (arith, end.1))
 
 -- a bracket too many
-pub too_nested : (mark : Punct) (new : List Part → List Part) (ws : List Word) (at depth : ℕ) (stop : Stop) → IsMark mark (drop at ws) (drop (at + 1) ws) → ((n : List ℕ) (parts : List Part) → behind_all (an_expr ∷ parts) (Mark mark) n ≡ Some (new parts)) → ((n : List ℕ) (parts : List Part) → flaw_at (an_expr ∷ parts) (Mark mark) n at ≡ bracket_flaw parts at) → (stop ≡ Bad (TooNested at)) × (depth ≡ 64) → StopsWith (an_expr ∷ []) ws at depth stop
+pub too_nested : (mark : Punct) (new : List Part → List Part) (ws : List Word) (at depth : ℕ) (stop : Stop) → IsMark mark (drop at ws) (drop (at + 1) ws) → ((n : List ℕ) (parts : List Part) → behind_all (an_expr ∷ parts) (Mark mark) n ≡ Some (new parts)) → ((n : List ℕ) (parts : List Part) → flaw_at (an_expr ∷ parts) (Mark mark) n at ≡ bracket_flaw parts at) → (stop ≡ Bad (TooNested at)) × (depth ≡ DEEPEST_NESTING) → StopsWith (an_expr ∷ []) ws at depth stop
 too_nested mark new ws at depth stop s goes opens why =
     subst (StopsWith (an_expr ∷ []) ws at depth) (sym why.0)
     ((λ parts deep. halt (Mark mark) s.0 s.1.0 (drop at ws) (drop (at + 1) ws) at (an_expr ∷ parts) (new parts) (TooNested at) s.1.1 (goes s.1.0 parts) (opens s.1.0 parts ∙ full parts at (deep ∙ why.1))), tt)

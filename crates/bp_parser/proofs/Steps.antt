@@ -7,6 +7,7 @@ use Rattle.std.proofs.lemmas.Bool.{cond-true, cond-false, eq-eqb}
 use Rattle.std.proofs.lemmas.Bool.Decides.{nat_tests}
 use Rattle.std.proofs.lemmas.List.Folds.{list_any-append}
 use Rattle.bp_faults.specs.declared.place.Place.{Place}
+use Rattle.bp_faults.specs.declared.limits.TheConstants.{DEEPEST_NESTING}
 use Rattle.bp_lexer.specs.declared.token.Punct.{Punct}
 use Rattle.bp_lexer.specs.declared.token.Punct.TheVariants.{OpenBrace, CloseBrace, OpenBracket, CloseBracket, Colon, Comma, Equal, PlusEqual, Plus}
 use Rattle.bp_lexer.specs.declared.token.TokenKind.{TokenKind}
@@ -57,17 +58,17 @@ refuse [] at ps end none' = end
 refuse (w ∷ ws) at ps end none' = ap (λ o. go_behind o (flaw_at ps w.kind w.text at) at (λ l. stuck ws (at + 1) l)) (none' w ws refl)
 
 -- a bracket that may be open, and one that would be too many
-pub not_full : (ps : List Part) (at : ℕ) → depth_of ps < 64 → bracket_flaw ps at ≡ None
-not_full ps at room = cond-false (depth_of ps == 64) _ _ (let apart : (depth_of ps == 64) ≡ false = grind (arith, nat_tests) in apart)
+pub not_full : (ps : List Part) (at : ℕ) → depth_of ps < DEEPEST_NESTING → bracket_flaw ps at ≡ None
+not_full ps at room = cond-false (depth_of ps == DEEPEST_NESTING) _ _ (let apart : (depth_of ps == DEEPEST_NESTING) ≡ false = grind (arith, nat_tests) in apart)
 
-pub full : (ps : List Part) (at : ℕ) → depth_of ps ≡ 64 → bracket_flaw ps at ≡ Some (TooNested at)
-full ps at deep = cond-true (depth_of ps == 64) _ _ (eq-eqb (depth_of ps) 64 deep)
+pub full : (ps : List Part) (at : ℕ) → depth_of ps ≡ DEEPEST_NESTING → bracket_flaw ps at ≡ Some (TooNested at)
+full ps at deep = cond-true (depth_of ps == DEEPEST_NESTING) _ _ (eq-eqb (depth_of ps) DEEPEST_NESTING deep)
 
 -- a list, a map and a further term begin
-pub into_list : (ws : List Word) (at : ℕ) (parts : List Part) → IsMark OpenBracket (drop at ws) (drop (at + 1) ws) → depth_of parts < 64 → stuck (drop at ws) at (an_expr ∷ parts) ≡ stuck (drop (at + 1) ws) (at + 1) (items ∷ more_terms ∷ parts)
+pub into_list : (ws : List Word) (at : ℕ) (parts : List Part) → IsMark OpenBracket (drop at ws) (drop (at + 1) ws) → depth_of parts < DEEPEST_NESTING → stuck (drop at ws) at (an_expr ∷ parts) ≡ stuck (drop (at + 1) ws) (at + 1) (items ∷ more_terms ∷ parts)
 into_list ws at parts s room = pass_mark OpenBracket (drop at ws) (drop (at + 1) ws) at (an_expr ∷ parts) (items ∷ more_terms ∷ parts) s (λ n. refl) (λ n. not_full parts at room)
 
-pub into_map : (ws : List Word) (at : ℕ) (parts : List Part) → IsMark OpenBrace (drop at ws) (drop (at + 1) ws) → depth_of parts < 64 → stuck (drop at ws) at (an_expr ∷ parts) ≡ stuck (drop (at + 1) ws) (at + 1) (entries [] ∷ more_terms ∷ parts)
+pub into_map : (ws : List Word) (at : ℕ) (parts : List Part) → IsMark OpenBrace (drop at ws) (drop (at + 1) ws) → depth_of parts < DEEPEST_NESTING → stuck (drop at ws) at (an_expr ∷ parts) ≡ stuck (drop (at + 1) ws) (at + 1) (entries [] ∷ more_terms ∷ parts)
 into_map ws at parts s room = pass_mark OpenBrace (drop at ws) (drop (at + 1) ws) at (an_expr ∷ parts) (entries [] ∷ more_terms ∷ parts) s (λ n. refl) (λ n. not_full parts at room)
 
 pub pass_plus : (ws : List Word) (at : ℕ) (parts : List Part) → IsMark Plus (drop at ws) (drop (at + 1) ws) → stuck (drop at ws) at (more_terms ∷ parts) ≡ stuck (drop (at + 1) ws) (at + 1) (an_expr ∷ parts)

@@ -5,6 +5,7 @@ use Rattle.std.proofs.Common.{◌≡◌, ℕ, ◌+◌, drop, arith, List, [], �
 use Rattle.std.proofs.lemmas.List.{drop-drop}
 use Rattle.std.proofs.lemmas.Map.Views.{Contains-from_any}
 use Rattle.bp_faults.specs.declared.place.Place.{Place}
+use Rattle.bp_faults.specs.declared.limits.TheConstants.{DEEPEST_NESTING}
 use Rattle.bp_lexer.specs.declared.token.Punct.TheVariants.{OpenBrace, CloseBrace, OpenBracket, CloseBracket, Colon, Comma, Equal, PlusEqual, Plus}
 use Rattle.bp_lexer.specs.declared.token.TokenKind.{TokenKind}
 use Rattle.bp_lexer.specs.declared.token.TokenKind.TheVariants.{Ident, Int, Quoted, Raw, Punct as Mark}
@@ -165,8 +166,8 @@ bracket_again false whole i = tt
 
 flaw_again : (ps : List Part) (whole : List Word) (k : TokenKind) (at : Place) (n : List ℕ) (ws : List Word) (i : ℕ) → drop i whole ≡ record { kind = k; at = at; text = n } ∷ ws → drop (i + 1) whole ≡ ws → Track ps whole (record { kind = k; at = at; text = n } ∷ ws) → IsAgain (flaw_at ps k n i) whole i
 flaw_again ps whole Ident at n ws i here next track = name_again ps whole at n ws i here next track
-flaw_again ps whole (Mark OpenBrace) at n ws i here next track = bracket_again (depth_of ps == 64) whole i
-flaw_again ps whole (Mark OpenBracket) at n ws i here next track = bracket_again (depth_of ps == 64) whole i
+flaw_again ps whole (Mark OpenBrace) at n ws i here next track = bracket_again (depth_of ps == DEEPEST_NESTING) whole i
+flaw_again ps whole (Mark OpenBracket) at n ws i here next track = bracket_again (depth_of ps == DEEPEST_NESTING) whole i
 flaw_again ps whole _ at n ws i here next track = tt
 
 unexpected_or_again : {A : Type 0} (i k : ℕ) → Some (Unexpected i) ≡ Some (Duplicate k) → A

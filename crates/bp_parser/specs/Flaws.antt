@@ -1,6 +1,7 @@
 -- What is wrong where the words of a file have no tree.
 use Rattle.std.specs.Prelude.{◌≡◌, ℕ, ◌+◌, ◌<◌, ◌≤◌, Bool, true, false, List, ◌∷◌, ◌++◌, length, take, drop}
 use Rattle.std.specs.List.{count_by, Contains}
+use Rattle.bp_faults.specs.declared.limits.TheConstants.{DEEPEST_NESTING}
 use Rattle.bp_faults.specs.declared.place.Place.{Place}
 use Rattle.bp_lexer.specs.declared.token.Punct.TheVariants.{OpenBrace, CloseBrace, OpenBracket, CloseBracket, Colon}
 use Rattle.bp_lexer.specs.declared.token.Punct.TheVariants.{Comma}
@@ -37,12 +38,13 @@ closes (Mark CloseBrace) = true
 closes (Mark CloseBracket) = true
 closes _ = false
 
--- A bracket that would be the 65th open one. The words up to it, itself included, begin a file's.
+-- A bracket before which as many are open as may be. The words up to it, itself included, begin a file's.
 pub record IsTooNested (ws : List Word) (k : ℕ) : Type 0 where
   pub bracket : Word
   pub at : drop k ws ≡ bracket ∷ drop (k + 1) ws
   pub opening : is_opening bracket.kind ≡ true
-  pub open_before : count_by (λ w. is_opening w.kind) (take k ws) ≡ count_by (λ w. closes w.kind) (take k ws) + 64
+  pub open_before : count_by (λ w. is_opening w.kind) (take k ws)
+      ≡ count_by (λ w. closes w.kind) (take k ws) + DEEPEST_NESTING
   pub expected : BeginsAFile (take (k + 1) ws)
 
 -- Entries, each with a comma behind it, and then rest.

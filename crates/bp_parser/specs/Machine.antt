@@ -1,9 +1,10 @@
--- What may come next, word by word. The functions that read say by it how far they came. It stands in
--- contracts of private functions alone.
+-- What may come next, word by word. No public contract speaks of it: the functions that read say by it how far they
+-- came.
 use Rattle.std.specs.Prelude.{◌≡◌, ℕ, suc, ◌+◌, ◌==◌, Bool, true, false, List, [], ◌∷◌, ◌++◌, Option, Some, None, ⊤}
 use Rattle.std.specs.Prelude.{drop, if◌then◌else◌}
 use Rattle.std.specs.List.{list_any}
 use Rattle.std.specs.Str.{bytes_eq}
+use Rattle.bp_faults.specs.declared.limits.TheConstants.{DEEPEST_NESTING}
 use Rattle.bp_lexer.specs.declared.token.Punct.TheVariants.{OpenBrace, CloseBrace, OpenBracket, CloseBracket, Colon}
 use Rattle.bp_lexer.specs.declared.token.Punct.TheVariants.{Comma, Equal, PlusEqual, Plus}
 use Rattle.bp_lexer.specs.declared.token.TokenKind.{TokenKind}
@@ -103,9 +104,9 @@ name_flaw (more_terms ∷ parts) n at = name_flaw parts n at
 name_flaw (entries names ∷ parts) n at = if is_among n names then Some (Duplicate at) else None
 name_flaw _ n at = None
 
--- A bracket where 64 are open is nested too deeply.
+-- A bracket is nested too deeply where as many are open as may be.
 abbrev pub bracket_flaw : List Part → ℕ → Option Flaw
-bracket_flaw parts at = if depth_of parts == 64 then Some (TooNested at) else None
+bracket_flaw parts at = if depth_of parts == DEEPEST_NESTING then Some (TooNested at) else None
 
 -- What is wrong with a word that is expected, by its kind.
 abbrev pub flaw_at : List Part → TokenKind → List ℕ → ℕ → Option Flaw

@@ -1,4 +1,4 @@
--- In what words private functions say what they read.
+-- In what words private functions say what they read. No public contract speaks of it.
 use Rattle.std.specs.Prelude.{◌≡◌, ℕ, ◌+◌, ◌<◌, ◌⊎◌, List, ◌∷◌, length, drop, slice_index_or}
 use Rattle.std.specs.List.{All}
 use Rattle.bp_lexer.specs.declared.token.Punct.{Punct}

@@ -15,20 +15,18 @@ use crate::known_names::KnownNames;
 use crate::stop::Stop;
 use crate::tree::{EntryExpr, Expr, MapExpr};
 use crate::words::{after_part, expect, is_mark, name_at, word_at};
+use bp_faults::limits::DEEPEST_NESTING;
 use bp_faults::{OutOfMemory, Place, Text};
 use bp_lexer::{Punct, Token};
 use std::alloc::Global;
 
-/// How many brackets may be open.
-const MAX_OPEN: usize = 64;
-
 // Whether one more bracket may be open.
 fn check_depth(at: usize, depth: usize) -> Result<(), Stop>
-    requires { depth ≤ 64 }
-    ensures ok { OnOk result (depth < 64) }
-    ensures err { IfErr result (λ stop. (stop ≡ Bad (TooNested at)) × (depth ≡ 64)) }
+    requires { depth ≤ DEEPEST_NESTING }
+    ensures ok { OnOk result (depth < DEEPEST_NESTING) }
+    ensures err { IfErr result (λ stop. (stop ≡ Bad (TooNested at)) × (depth ≡ DEEPEST_NESTING)) }
 {
-    if depth == MAX_OPEN {
+    if depth == DEEPEST_NESTING {
         Err(Stop::Bad(Flaw::TooNested(at)))
     } else {
         Ok(())
@@ -76,7 +74,7 @@ pub fn expr_at(
 ) -> Result<(Expr, usize), Stop>
     requires tokens { AreTokens text.now words.now }
     requires within { at ≤ length words.now }
-    requires room { depth ≤ 64 }
+    requires room { depth ≤ DEEPEST_NESTING }
     ensures spells { IfOk result (λ x. Spells (tree_of x.0) (drop at (all_words text.now words.now))
         (drop x.1 (all_words text.now words.now))) }
     ensures further { IfOk result (λ x. (at < x.1) × (x.1 ≤ length words.now)) }
@@ -99,7 +97,7 @@ fn terms_at(
 ) -> Result<(Vec<(Place, Expr)>, usize), Stop>
     requires tokens { AreTokens text.now words.now }
     requires within { at ≤ length words.now }
-    requires room { depth ≤ 64 }
+    requires room { depth ≤ DEEPEST_NESTING }
     ensures spells { IfOk result (λ x. SpellsTerms (terms_then (map term_of x.0.items) no_term)
         (drop at (all_words text.now words.now)) (drop x.1 (all_words text.now words.now))) }
     ensures further { IfOk result (λ x. (at ≤ x.1) × (x.1 ≤ length words.now)) }
@@ -127,7 +125,7 @@ fn prim_at(
 ) -> Result<(Expr, usize), Stop>
     requires tokens { AreTokens text.now words.now }
     requires within { at ≤ length words.now }
-    requires room { depth ≤ 64 }
+    requires room { depth ≤ DEEPEST_NESTING }
     ensures prim { IfOk result (λ x. IsPrim (tree_of x.0)) }
     ensures spells { IfOk result (λ x. Spells (tree_of x.0) (drop at (all_words text.now words.now))
         (drop x.1 (all_words text.now words.now))) }
@@ -167,7 +165,7 @@ fn list_at(
 ) -> Result<(Vec<Expr>, usize), Stop>
     requires tokens { AreTokens text.now words.now }
     requires within { at ≤ length words.now }
-    requires room { depth < 64 }
+    requires room { depth < DEEPEST_NESTING }
     ensures spells { IfOk result (λ x. SpellsItems (trees_then (map tree_of x.0.items) no_tree)
         (drop at (all_words text.now words.now)) (drop x.1 (all_words text.now words.now))) }
     ensures further { IfOk result (λ x. (at < x.1) × (x.1 ≤ length words.now)) }
@@ -196,7 +194,7 @@ pub fn map_at(
 ) -> Result<(MapExpr, usize), Stop>
     requires tokens { AreTokens text.now words.now }
     requires brace { HasMark Punct.OpenBrace words.now at }
-    requires room { depth < 64 }
+    requires room { depth < DEEPEST_NESTING }
     ensures spells { IfOk result (λ x. Spells (Body (map_of x.0).at (map_of x.0).entries)
         (drop at (all_words text.now words.now)) (drop x.1 (all_words text.now words.now))) }
     ensures further { IfOk result (λ x. (at < x.1) × (x.1 ≤ length words.now)) }

@@ -1,5 +1,6 @@
-ghost use Rattle.std.specs.Prelude.{◌≡◌, ◌≤◌, ◌^◌, [], ◌∷◌, ℕ, length, map, IfOk, IfErr, None, Some, Result, Ok, Err};
+ghost use Rattle.std.specs.Prelude.{◌≡◌, ◌≤◌, [], ◌∷◌, ℕ, length, map, IfOk, IfErr, None, Some, Result, Ok, Err};
 ghost use Rattle.bp_faults.specs.Answers.{Tells};
+ghost use Rattle.bp_faults.specs.declared.limits.TheConstants.{LARGEST_FILE};
 ghost use Rattle.bp_parser.specs.Trees.{definition_of, tree_view};
 ghost use Rattle.bp_parser.specs.Words.{all_words};
 ghost use Rattle.bp_parser.specs.Grammar.{SpellsFile};
@@ -37,7 +38,7 @@ fn subject_at(
     at: usize,
 ) -> Result<(Place, Text), OutOfMemory>
     requires tokens { AreTokens text.now words.now }
-    requires short { length text.now ≤ 2 ^ 20 }
+    requires short { length text.now ≤ LARGEST_FILE }
     ensures { IfOk result (λ x. (x.0 ≡ word_place text.now (all_words text.now words.now) at)
         × (x.1 ≡ word_subject (all_words text.now words.now) at)) }
 {
@@ -53,7 +54,7 @@ fn subject_at(
 // The fault that a flaw is.
 fn fault_of(alloc: Global, text: &str, words: &[Token], flaw: Flaw) -> Result<Fault, OutOfMemory>
     requires tokens { AreTokens text.now words.now }
-    requires short { length text.now ≤ 2 ^ 20 }
+    requires short { length text.now ≤ LARGEST_FILE }
     ensures { IfOk result (λ fault. fault ≡ parse_fault text.now (all_words text.now words.now) flaw) }
 {
     match flaw {
@@ -95,7 +96,7 @@ fn defs(alloc: Global, text: &str, words: &[Token]) -> Result<Vec<Def>, Stop>
 /// The length is that which `tokens` requires, so whoever has its tokens has it.
 pub fn parse(alloc: Global, text: &str, tokens: &[Token]) -> Result<FileTree, ParseError>
     requires tokens { AreTokensOf text.now tokens.now }
-    requires short { length text.now ≤ 2 ^ 20 }
+    requires short { length text.now ≤ LARGEST_FILE }
     ensures { Tells tree_view (ParseMeans text.now tokens.now) result }
 {
     lists_have_tokens();

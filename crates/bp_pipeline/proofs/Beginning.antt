@@ -6,6 +6,7 @@ use Rattle.std.specs.Prelude.{slice_index_or, slice_get, replicate, Some}
 use Rattle.std.specs.List.{AllByRecursion, AllPairs}
 use Rattle.std.proofs.lemmas.List.{take_more, length-take}
 use Rattle.bp_faults.specs.declared.ids.ModuleId.{ModuleId}
+use Rattle.bp_faults.specs.declared.limits.TheConstants.{MOST_MODULES}
 use Rattle.bp_props.specs.declared.module.Module.{Module}
 use Rattle.bp_props.specs.declared.props.Props.{Props}
 use Rattle.pass_core.specs.declared.plan.PlanEdge.{PlanEdge}
@@ -18,7 +19,7 @@ use Rattle.module_graph.specs.Axes.{axis_index}
 use Rattle.module_graph.specs.Graphs.{edges_of, outward, NameNodes}
 use Rattle.module_graph.specs.Numbered.{by_number}
 use Rattle.module_graph.specs.Walks.{NoneReturns}
-use Rattle.mutator_rules.specs.Conditions.{places_in}
+use Rattle.mutator_rules.specs.Conditions.{indices_in}
 use Rattle.variant_graphs.specs.Splitting.{HasFreeAxis}
 use Rattle.bp_pipeline.specs.First.{first_from, first_node, first_nodes}
 use Rattle.bp_pipeline.specs.Inside.{IsUsable, AreFreeAt}
@@ -77,11 +78,11 @@ distinct ms i j d before within same vars =
     omega (arith, equal)
 
 accepted : (count k : ℕ) (ms : List Module) → k + length ms ≤ count
-    → AllByRecursion (λ (x : Node Props). places_in count x.«module».0) (first_from k ms)
+    → AllByRecursion (λ (x : Node Props). indices_in count x.«module».0) (first_from k ms)
 accepted count k [] few = tt
 accepted count k (m ∷ ms) few = (omega arith, accepted count (k + 1) ms (omega arith))
 
-usable : (ms : List Module) → length ms ≤ 2 ^ 17 → IsUsable (length ms) (first_nodes ms)
+usable : (ms : List Module) → length ms ≤ MOST_MODULES → IsUsable (length ms) (first_nodes ms)
 usable ms few =
     let many = length-first_from 0 ms in
     let bare : edges_of (first_nodes ms) ≡ [] = no_edges 0 ms in
@@ -103,7 +104,7 @@ usable ms few =
     }
 
 -- the first graph is usable
-pub first_usable : (ms : List Module) (nodes : List (Node Props)) → length ms ≤ 2 ^ 17 → nodes ≡ first_nodes ms
+pub first_usable : (ms : List Module) (nodes : List (Node Props)) → length ms ≤ MOST_MODULES → nodes ≡ first_nodes ms
     → IsUsable (length ms) nodes
 first_usable ms nodes few is = subst (IsUsable (length ms)) (sym is) (usable ms few)
 

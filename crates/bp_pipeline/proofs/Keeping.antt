@@ -23,7 +23,7 @@ use Rattle.module_graph.specs.Numbered.{by_number}
 use Rattle.module_graph.specs.Planned.{plan_of}
 use Rattle.mutator_rules.specs.declared.request.Request.{Request}
 use Rattle.mutator_rules.specs.declared.split.Split.{Split}
-use Rattle.mutator_rules.specs.Conditions.{MayRun, places_in}
+use Rattle.mutator_rules.specs.Conditions.{MayRun, indices_in}
 use Rattle.mutator_rules.specs.Outcomes.{KindOutcome, Made, FaultAt, NodesBeyond, EdgesBeyond}
 use Rattle.mutator_kinds.specs.BottomUp.{BottomUpMeans, first_payloads}
 use Rattle.reverse_deps.specs.Applied.{AskInside}
@@ -181,10 +181,10 @@ next_free p pass at old free (Err e) stay = tt
 
 -- A rule that accepts the modules of a list may be run where places in the list may.
 pub may_places : {P : Type 0} (Accepts : ℕ → Type 0) (count : ℕ) (nodes : List (Node P))
-    → ((m : ℕ) → Accepts m ↔ places_in count m) → MayRun Accepts nodes → MayRun (places_in count) nodes
+    → ((m : ℕ) → Accepts m ↔ indices_in count m) → MayRun Accepts nodes → MayRun (indices_in count) nodes
 may_places Accepts count nodes same may = record {
   numbered = may.numbered;
   accepted =
-      all_map (λ (x : Node _). Accepts x.«module».0) (λ (x : Node _). places_in count x.«module».0)
+      all_map (λ (x : Node _). Accepts x.«module».0) (λ (x : Node _). indices_in count x.«module».0)
       (λ x accepted. (same x.«module».0).0 accepted) nodes may.accepted;
 }

@@ -1,13 +1,14 @@
 -- The first mutators come to something, since each pass does.
-use Rattle.std.proofs.Common.{◌≤◌, ◌^◌, ℕ, zero, suc, List, Ok, Err, length, refl, subst}
+use Rattle.std.proofs.Common.{◌≤◌, ℕ, zero, suc, List, Ok, Err, length, refl, subst}
 use Rattle.std.specs.Prelude.{IfOk}
 use Rattle.bp_faults.specs.Phases.{HasOutcome, IsOnce}
+use Rattle.bp_faults.specs.declared.limits.TheConstants.{MOST_MODULES}
 use Rattle.bp_props.specs.declared.module.Module.{Module}
 use Rattle.bp_props.specs.declared.props.Props.{Props}
 use Rattle.module_graph.specs.declared.graph.Node.{Node}
 use Rattle.module_graph.specs.Graphs.{IsValid}
 use Rattle.mutator_rules.specs.declared.config.Config.{Config}
-use Rattle.mutator_rules.specs.Conditions.{MayRun, places_in}
+use Rattle.mutator_rules.specs.Conditions.{MayRun, indices_in}
 use Rattle.mutator_rules.specs.Configs.{TargetsDiffer}
 use Rattle.bp_pipeline.specs.Course.{CourseMeans, GraphAfter}
 use Rattle.bp_pipeline.specs.First.{first_nodes}
@@ -18,10 +19,10 @@ use Rattle.bp_pipeline.proofs.Beginning.{first_free, first_usable}
 use Rattle.bp_pipeline.proofs.SomeStep.{Comes}
 
 -- The first graph is ready for the first pass.
-pub first_ready : (mods : List Module) → length mods ≤ 2 ^ 17 → IsReadyForPass (length mods) 0 (first_nodes mods)
+pub first_ready : (mods : List Module) → length mods ≤ MOST_MODULES → IsReadyForPass (length mods) 0 (first_nodes mods)
 first_ready mods few = (first_usable mods (first_nodes mods) few refl, first_free mods (first_nodes mods) refl)
 
-module _ (step : SomeStep) (mods : List Module) (few : length mods ≤ 2 ^ 17) (c : Config) (differ : TargetsDiffer c)
+module _ (step : SomeStep) (mods : List Module) (few : length mods ≤ MOST_MODULES) (c : Config) (differ : TargetsDiffer c)
   where
     pub course_some : (p : ℕ) → Comes (CourseMeans mods c p) (IsReadyForPass (length mods) p)
     course_some zero = (Ok (first_nodes mods), refl, first_ready mods few)
@@ -39,7 +40,7 @@ module _ (step : SomeStep) (mods : List Module) (few : length mods ≤ 2 ^ 17) (
     -- The graph that they come to is that one.
     pub valid_graph : (k : ℕ) (nodes : List (Node Props)) → IsOnce (GraphAfter mods c k)
         → GraphAfter mods c k (Ok nodes)
-        → IsValid nodes × MayRun (places_in (length mods)) nodes
+        → IsValid nodes × MayRun (indices_in (length mods)) nodes
     valid_graph k nodes once means =
         let made = course_some (passes_of k) in
         let same = once made.0 (Ok nodes) made.1 means in

@@ -1,9 +1,10 @@
 -- Lines are replayed to something, since they say a legal order of each pass or are refused in it.
-use Rattle.std.proofs.Common.{◌≡◌, ◌<◌, ◌≤◌, ◌^◌, ◌⊎◌, ◌++◌, ℕ, zero, suc, List, [], ◌∷◌, length, drop, inl, inr, refl}
+use Rattle.std.proofs.Common.{◌≡◌, ◌<◌, ◌≤◌, ◌⊎◌, ◌++◌, ℕ, zero, suc, List, [], ◌∷◌, length, drop, inl, inr, refl}
 use Rattle.std.proofs.Common.{Result, Ok, Err, arith}
 use Rattle.std.specs.Prelude.{IfOk}
 use Rattle.bp_faults.specs.declared.fault.Fault.{Fault}
 use Rattle.bp_faults.specs.declared.ids.NodeId.{NodeId}
+use Rattle.bp_faults.specs.declared.limits.TheConstants.{MOST_MODULES}
 use Rattle.bp_faults.specs.Phases.{HasOutcome}
 use Rattle.bp_props.specs.declared.module.Module.{Module}
 use Rattle.bp_props.specs.declared.props.Props.{Props}
@@ -48,7 +49,7 @@ none_behind (suc n) (x ∷ xs) is = let rest = none_behind n xs is in omega arit
 
 module _ (step : SomeStep) (short : PartsAreShort) (one : OneOutcome Actions) (plans : PlansOfGraphsArePlans Props)
     (acyclic : ValidPlansHaveNoCycle Props) (mods : List Module) (c : Config) (lines : List OrderLine) (file : ℕ)
-    (few : length mods ≤ 2 ^ 17) (differ : TargetsDiffer c) where
+    (few : length mods ≤ MOST_MODULES) (differ : TargetsDiffer c) where
   abbrev Replayed : Type 0
   Replayed = HasOutcome (ReplayMeans mods c lines file)
 

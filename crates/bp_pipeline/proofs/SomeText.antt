@@ -1,6 +1,7 @@
 -- What is generated of modules has an outcome, since each of its phases has.
-use Rattle.std.proofs.Common.{◌≡◌, ◌≤◌, ◌^◌, ℕ, List, Result, Ok, Err, length, refl, arith}
+use Rattle.std.proofs.Common.{◌≡◌, ◌≤◌, ℕ, List, Result, Ok, Err, length, refl, arith}
 use Rattle.bp_faults.specs.declared.fault.Fault.{Fault}
+use Rattle.bp_faults.specs.declared.limits.TheConstants.{MOST_MODULES}
 use Rattle.bp_faults.specs.Phases.{HasOutcome}
 use Rattle.bp_faults.proofs.Phases.{then_some}
 use Rattle.bp_props.specs.declared.module.Module.{Module}
@@ -33,7 +34,7 @@ pass_some {O} one mean plan is_plan free = let made = one mean plan is_plan free
     by (Err at) is = (Err at.1, (at.0, is))
 
 module _ (graph : SomeGraph) (valid : GraphsAreValid) (one : OneOutcome Actions) (plans : PlansOfGraphsArePlans Props)
-    (acyclic : ValidPlansHaveNoCycle Props) (mods : List Module) (c : Config) (few : length mods ≤ 2 ^ 17)
+    (acyclic : ValidPlansHaveNoCycle Props) (mods : List Module) (c : Config) (few : length mods ≤ MOST_MODULES)
     (differ : TargetsDiffer c) where
   pub actions_some : HasOutcome (ActionsMean mods c)
   actions_some = let first = graph mods c mutator_count few differ (omega arith) in by first.0 first.1

@@ -14,13 +14,13 @@ use Rattle.variant_graphs.specs.declared.error.StepError.{StepError}
 use Rattle.variant_graphs.specs.declared.error.StepError.TheVariants.{Kind, Refused}
 use Rattle.variant_graphs.specs.Splitting.{HasFreeAxis}
 use Rattle.mutator_rules.specs.declared.error.KindError.TheVariants.{At, Nodes, Edges, OutOfMemory as Want}
-use Rattle.mutator_rules.specs.Conditions.{MayRun, places_in}
+use Rattle.mutator_rules.specs.Conditions.{MayRun, indices_in}
 use Rattle.bp_pipeline.specs.Limits.{place_of_module}
 
 -- The graph is valid, and its nodes are variants of modules by their numbers.
 pub record IsUsable {P : Type 0} (count : ℕ) (nodes : List (Node P)) : Type 0 where
   pub valid : IsValid nodes
-  pub may : MayRun (places_in count) nodes
+  pub may : MayRun (indices_in count) nodes
 
 -- The number of the pass that splits along an axis.
 abbrev pub split_at : Axis → ℕ

@@ -1,7 +1,8 @@
 -- What holds of all modules and configurations.
-use Rattle.std.specs.Prelude.{◌≡◌, ◌≤◌, ◌^◌, ℕ, List, Result, Ok, Err, All, length}
+use Rattle.std.specs.Prelude.{◌≡◌, ◌≤◌, ℕ, List, Result, Ok, Err, All, length}
 use Rattle.bp_faults.specs.declared.fault.Fault.{Fault}
 use Rattle.bp_faults.specs.declared.ids.NodeId.{NodeId}
+use Rattle.bp_faults.specs.declared.limits.TheConstants.{MOST_MODULES}
 use Rattle.bp_faults.specs.Phases.{HasOutcome, IsOnce}
 use Rattle.bp_props.specs.declared.module.Module.{Module}
 use Rattle.bp_props.specs.declared.props.Props.{Props}
@@ -10,7 +11,7 @@ use Rattle.module_graph.specs.Graphs.{IsValid}
 use Rattle.mutator_rules.specs.declared.config.Config.{Config}
 use Rattle.order_text.specs.Lines.{IsVisit}
 use Rattle.order_text.specs.Texts.{journal_text}
-use Rattle.mutator_rules.specs.Conditions.{MayRun, places_in}
+use Rattle.mutator_rules.specs.Conditions.{MayRun, indices_in}
 use Rattle.mutator_rules.specs.Configs.{TargetsDiffer}
 use Rattle.pass_ways.specs.declared.way.OrderLine.{OrderLine}
 use Rattle.pass_ways.specs.OrderFiles.{Say}
@@ -66,14 +67,14 @@ JournalTextsAreReplayed =
 -- The first mutators come to a graph or a fault, whatever the modules are.
 abbrev pub SomeGraph : Type 0
 SomeGraph =
-    (mods : List Module) (c : Config) (k : ℕ) → length mods ≤ 2 ^ 17 → TargetsDiffer c → k ≤ mutator_count
+    (mods : List Module) (c : Config) (k : ℕ) → length mods ≤ MOST_MODULES → TargetsDiffer c → k ≤ mutator_count
     → HasOutcome (GraphAfter mods c k)
 
 -- A graph that they come to is valid, a `u32` numbers its nodes and edges, and its nodes are variants of the modules.
 abbrev pub GraphsAreValid : Type 0
 GraphsAreValid =
-    (mods : List Module) (c : Config) (k : ℕ) (nodes : List (Node Props)) → length mods ≤ 2 ^ 17 → TargetsDiffer c
-    → k ≤ mutator_count → GraphAfter mods c k (Ok nodes) → IsValid nodes × MayRun (places_in (length mods)) nodes
+    (mods : List Module) (c : Config) (k : ℕ) (nodes : List (Node Props)) → length mods ≤ MOST_MODULES → TargetsDiffer c
+    → k ≤ mutator_count → GraphAfter mods c k (Ok nodes) → IsValid nodes × MayRun (indices_in (length mods)) nodes
 
 -- Where the first mutators come to a graph, fewer of them do.
 abbrev pub EarlierGraphs : Type 0
@@ -84,16 +85,16 @@ EarlierGraphs =
 -- All mutators and actions come to a text for Ninja or a fault, whatever the modules are.
 abbrev pub SomeText : Type 0
 SomeText =
-    (mods : List Module) (c : Config) → length mods ≤ 2 ^ 17 → TargetsDiffer c → HasOutcome (TextMeans mods c)
+    (mods : List Module) (c : Config) → length mods ≤ MOST_MODULES → TargetsDiffer c → HasOutcome (TextMeans mods c)
 
 -- The lines of an order file are replayed to a text or a fault, whatever they are.
 abbrev pub SomeReplay : Type 0
 SomeReplay =
-    (mods : List Module) (c : Config) (lines : List OrderLine) (file : ℕ) → length mods ≤ 2 ^ 17 → TargetsDiffer c
+    (mods : List Module) (c : Config) (lines : List OrderLine) (file : ℕ) → length mods ≤ MOST_MODULES → TargetsDiffer c
     → HasOutcome (ReplayMeans mods c lines file)
 
 -- So is an order file, whatever its bytes are.
 abbrev pub SomeOrder : Type 0
 SomeOrder =
-    (mods : List Module) (c : Config) (order : List ℕ) (file : ℕ) → length mods ≤ 2 ^ 17 → TargetsDiffer c
+    (mods : List Module) (c : Config) (order : List ℕ) (file : ℕ) → length mods ≤ MOST_MODULES → TargetsDiffer c
     → HasOutcome (OrderMeans mods c order file)

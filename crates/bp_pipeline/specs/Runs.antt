@@ -1,10 +1,11 @@
 -- What a call answers that runs passes some way. No public contract speaks of it.
-use Rattle.std.specs.Prelude.{◌≤◌, ◌<◌, ◌^◌, ◌⊎◌, ℕ, suc, List, length, map, Result, Ok, Err, ⊤}
+use Rattle.std.specs.Prelude.{◌≤◌, ◌<◌, ◌⊎◌, ℕ, suc, List, length, map, Result, Ok, Err, ⊤}
 use Rattle.std.specs.Arc.{arc_value}
 use Rattle.bp_faults.specs.declared.fault.Fault.{Fault}
 use Rattle.bp_faults.specs.declared.ids.NodeId.{NodeId}
 use Rattle.bp_faults.specs.declared.refusal.Refusal.{Refusal}
 use Rattle.bp_faults.specs.declared.refusal.Refusal.TheVariants.{Bad, OutOfMemory}
+use Rattle.bp_faults.specs.declared.limits.TheConstants.{MOST_MODULES}
 use Rattle.bp_props.specs.declared.module.Module.{Module}
 use Rattle.bp_props.specs.declared.props.Props.{Props}
 use Rattle.build_actions.specs.declared.actions.Actions.{Actions}
@@ -31,7 +32,7 @@ use Rattle.bp_pipeline.specs.Passes.{StepMeans}
 module _ {G : Type 0} where
   -- Passes may be run with a workshop.
   pub record MayStart (shop : Workshop G) : Type 0 where
-    pub few : length shop.mods.now ≤ 2 ^ 17
+    pub few : length shop.mods.now ≤ MOST_MODULES
     pub targets : TargetsDiffer shop.config.now
     pub way : IsPassWay shop.way
 

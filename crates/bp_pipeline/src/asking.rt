@@ -2,7 +2,7 @@ ghost use Rattle.std.specs.Prelude.{◌≡◌, ◌≤◌, ◌<◌, ◌^◌, IfOk
 ghost use Rattle.bp_faults.specs.declared.limits.TheConstants.{MOST_EDGES};
 ghost use Rattle.bp_faults.specs.Answers.{Tells};
 ghost use Rattle.module_graph.specs.Graphs.{IsValid, all_edges};
-ghost use Rattle.mutator_rules.specs.Conditions.{MayRun, places_in};
+ghost use Rattle.mutator_rules.specs.Conditions.{MayRun, indices_in};
 ghost use Rattle.reverse_deps.specs.Applied.{AskInside, ApplyMeans};
 ghost use Rattle.reverse_deps.specs.Linked.{without_edges};
 
@@ -22,13 +22,13 @@ pub fn with_asked<P: Drop>(
     asked: &[(NodeId, Request)],
 ) -> Result<Graph<P>, GraphError>
     requires few { length mods.now < 2 ^ 32 }
-    requires may { MayRun (places_in (length mods.now)) g.nodes }
+    requires may { MayRun (indices_in (length mods.now)) g.nodes }
     requires asking { AskInside (length g.nodes) asked.now }
     requires valid { IsValid g.nodes }
     requires edges { length (all_edges g.nodes) ≤ MOST_EDGES }
     ensures means { Tells (λ made. made.nodes) (ApplyMeans mods.now g.nodes asked.now) result }
     ensures bare { IfOk result (λ made. map without_edges made.nodes ≡ map without_edges g.nodes) }
-    ensures may { IfOk result (λ made. MayRun (places_in (length mods.now)) made.nodes) }
+    ensures may { IfOk result (λ made. MayRun (indices_in (length mods.now)) made.nodes) }
     ensures valid { IfOk result (λ made. IsValid made.nodes) }
 {
     nothing_asked_keeps::<P>();

@@ -1,5 +1,6 @@
-ghost use Rattle.std.specs.Prelude.{◌≡◌, ◌≤◌, ◌^◌, [], length, IfOk, All};
+ghost use Rattle.std.specs.Prelude.{◌≡◌, ◌≤◌, [], length, IfOk, All};
 ghost use Rattle.bp_faults.specs.Answers.{Tells};
+ghost use Rattle.bp_faults.specs.declared.limits.TheConstants.{MOST_MODULES, MOST_WORKERS};
 ghost use Rattle.module_graph.specs.Graphs.{IsValid};
 ghost use Rattle.mutator_rules.specs.Configs.{TargetsDiffer};
 ghost use Rattle.order_text.specs.Lines.{IsVisit};
@@ -89,10 +90,10 @@ pub fn shared_graph_after<'m, R: Threads + Sync, G: Gate + Sync>(
     workers: u32,
     gate: &'m G,
 ) -> Result<Graph<Record<'m>>, GenError>
-    requires few { length mods.now ≤ 2 ^ 17 }
+    requires few { length mods.now ≤ MOST_MODULES }
     requires targets { TargetsDiffer c.now }
     requires built { k ≤ mutator_count }
-    requires workers { (1 ≤ workers) × (workers ≤ 64) }
+    requires workers { (1 ≤ workers) × (workers ≤ MOST_WORKERS) }
     ensures means { Tells (λ g. g.nodes) (GraphAfter mods.now c.now k) result }
     ensures valid { IfOk result (λ g. IsValid g.nodes) }
 {
@@ -119,10 +120,10 @@ pub fn graph_after<R: Threads + Sync, G: Gate + Sync>(
     workers: u32,
     gate: &G,
 ) -> Result<Graph<Props>, GenError>
-    requires few { length mods.now ≤ 2 ^ 17 }
+    requires few { length mods.now ≤ MOST_MODULES }
     requires targets { TargetsDiffer c.now }
     requires built { k ≤ mutator_count }
-    requires workers { (1 ≤ workers) × (workers ≤ 64) }
+    requires workers { (1 ≤ workers) × (workers ≤ MOST_WORKERS) }
     ensures means { Tells (λ g. g.nodes) (GraphAfter mods.now c.now k) result }
     ensures valid { IfOk result (λ g. IsValid g.nodes) }
 {

@@ -1,4 +1,5 @@
-ghost use Rattle.std.specs.Prelude.{◌≡◌, ◌≤◌, ◌^◌, length, IfOk};
+ghost use Rattle.std.specs.Prelude.{◌≡◌, ◌≤◌, length, IfOk};
+ghost use Rattle.bp_faults.specs.declared.limits.TheConstants.{MOST_MODULES};
 ghost use Rattle.bp_pipeline.specs.First.{first_nodes, first_node};
 ghost use Rattle.bp_pipeline.specs.Inside.{IsUsable, AreFreeAt};
 
@@ -25,7 +26,7 @@ fn first_node<'m>(
 
 /// The graph with a node for each module, to which it lends its properties, without edges.
 pub fn first_graph<'m>(alloc: Global, mods: &'m [Module]) -> Result<Graph<Record<'m>>, OutOfMemory>
-    requires { length mods.now ≤ 2 ^ 17 }
+    requires { length mods.now ≤ MOST_MODULES }
     ensures first { IfOk result (λ g. g.nodes ≡ first_nodes mods.now) }
     ensures usable { IfOk result (λ g. IsUsable (length mods.now) g.nodes) }
     ensures free { IfOk result (λ g. AreFreeAt 0 g.nodes) }

@@ -1,5 +1,6 @@
-ghost use Rattle.std.specs.Prelude.{◌≤◌, ◌^◌, length, All, IfOk, IsUtf8};
+ghost use Rattle.std.specs.Prelude.{◌≤◌, length, All, IfOk, IsUtf8};
 ghost use Rattle.bp_faults.specs.Answers.{Tells};
+ghost use Rattle.bp_faults.specs.declared.limits.TheConstants.{MOST_MODULES, MOST_WORKERS};
 ghost use Rattle.mutator_rules.specs.Configs.{TargetsDiffer};
 ghost use Rattle.order_text.specs.Lines.{IsVisit};
 ghost use Rattle.bp_pipeline.specs.Generated.{TextMeans, IsStatementCount, AreSizes};
@@ -45,9 +46,9 @@ pub fn generate<R: Threads + Sync, G: Gate + Sync>(
     workers: u32,
     gate: &G,
 ) -> Result<Generated, GenError>
-    requires few { length mods.now ≤ 2 ^ 17 }
+    requires few { length mods.now ≤ MOST_MODULES }
     requires targets { TargetsDiffer c.now }
-    requires workers { (1 ≤ workers) × (workers ≤ 64) }
+    requires workers { (1 ≤ workers) × (workers ≤ MOST_WORKERS) }
     ensures text { Tells (λ made. made.ninja) (TextMeans mods.now c.now) result }
     ensures utf8 { IfOk result (λ made. IsUtf8 made.ninja) }
     ensures journal { IfOk result (λ made. IsLegalJournal mods.now c.now made.journal) }

@@ -1,5 +1,6 @@
-ghost use Rattle.std.specs.Prelude.{◌≤◌, ◌<◌, ◌^◌, suc, drop, length};
+ghost use Rattle.std.specs.Prelude.{◌≤◌, ◌<◌, suc, drop, length};
 ghost use Rattle.bp_faults.specs.Answers.{Answers, Tells};
+ghost use Rattle.bp_faults.specs.declared.limits.TheConstants.{LARGEST_ORDER_FILE, MOST_MODULES};
 ghost use Rattle.mutator_rules.specs.Configs.{TargetsDiffer};
 ghost use Rattle.bp_pipeline.specs.Replays.{OrderMeans, ReplayMeans, end_of};
 
@@ -50,7 +51,7 @@ pub fn replay_lines<R: Threads + Sync>(
     lines: &[OrderLine],
     file: u32,
 ) -> Result<Seq<u8>, GenError>
-    requires few { length mods.now ≤ 2 ^ 17 }
+    requires few { length mods.now ≤ MOST_MODULES }
     requires targets { TargetsDiffer c.now }
     requires lines { length lines.now < 4294967295 }
     ensures { Tells (λ text. text) (ReplayMeans mods.now c.now lines.now file) result }
@@ -79,9 +80,9 @@ pub fn replay<R: Threads + Sync>(
     order: &[u8],
     file: u32,
 ) -> Result<Seq<u8>, GenError>
-    requires few { length mods.now ≤ 2 ^ 17 }
+    requires few { length mods.now ≤ MOST_MODULES }
     requires targets { TargetsDiffer c.now }
-    requires order { length order.now ≤ 2 ^ 26 }
+    requires order { length order.now ≤ LARGEST_ORDER_FILE }
     ensures { Tells (λ text. text) (OrderMeans mods.now c.now order.now file) result }
 {
     let lines = order_lines(alloc, order)?;

@@ -4,7 +4,7 @@ ghost use Rattle.module_graph.specs.declared.variations.Axis.TheVariants.{Target
 ghost use Rattle.module_graph.specs.declared.variations.Axis.TheVariants.{PerSource as SourceAxis};
 ghost use Rattle.module_graph.specs.declared.variations.Axis.TheVariants.{Sanitize as SanitizeAxis};
 ghost use Rattle.module_graph.specs.Planned.{plan_of};
-ghost use Rattle.mutator_rules.specs.Conditions.{places_in};
+ghost use Rattle.mutator_rules.specs.Conditions.{indices_in};
 ghost use Rattle.mutator_rules.specs.Idle.{LeavesAll};
 ghost use Rattle.mutator_kinds.specs.BottomUp.{BottomUpMeans, IsFreeFor, DifferFor};
 ghost use Rattle.variant_graphs.specs.Splitting.{HasFreeAxis, StayFree};
@@ -61,7 +61,7 @@ where
     requires may { MayStep shop.now journal.old.items graph.nodes }
     requires free { IsFreeFor (M.splits_along rule.now) graph.nodes }
     requires differ { DifferFor (M.meaning rule.now) graph.nodes (M.splits_along rule.now) }
-    requires accepts { (m : ℕ) → M.accepts rule.now m ↔ places_in (length shop.now.mods.now) m }
+    requires accepts { (m : ℕ) → M.accepts rule.now m ↔ indices_in (length shop.now.mods.now) m }
     requires alone { IsTrue idle → LeavesAll (M.meaning rule.now) graph.nodes }
     ensures tells { TellsPass shop.now.way (λ made. (made.graph.nodes, made.asked))
         (ComesTo shop.now.mods.now (BottomUpMeans (M.meaning rule.now) graph.nodes (M.splits_along rule.now)))
@@ -105,7 +105,7 @@ where
     G: Gate + Sync,
     requires may { MayStep shop.now journal.old.items graph.nodes }
     requires along { M.splits_along rule.now ≡ None }
-    requires accepts { (m : ℕ) → M.accepts rule.now m ↔ places_in (length shop.now.mods.now) m }
+    requires accepts { (m : ℕ) → M.accepts rule.now m ↔ indices_in (length shop.now.mods.now) m }
     requires alone { IsTrue idle → LeavesAll (M.meaning rule.now) graph.nodes }
     ensures tells { TellsPass shop.now.way (λ g. g.nodes)
         (AskMeans shop.now.mods.now (M.meaning rule.now) graph.nodes)
@@ -138,7 +138,7 @@ where
     requires may { MayStep shop.now journal.old.items graph.nodes }
     requires free { IsFreeFor (M.splits_along rule.now) graph.nodes }
     requires differ { DifferFor (M.meaning rule.now) graph.nodes (M.splits_along rule.now) }
-    requires accepts { (m : ℕ) → M.accepts rule.now m ↔ places_in (length shop.now.mods.now) m }
+    requires accepts { (m : ℕ) → M.accepts rule.now m ↔ indices_in (length shop.now.mods.now) m }
     requires alone { IsTrue idle → LeavesAll (M.meaning rule.now) graph.nodes }
     ensures tells { TellsPass shop.now.way (λ g. g.nodes)
         (MakeMeans shop.now.mods.now (M.splits_along rule.now) (M.meaning rule.now) graph.nodes)

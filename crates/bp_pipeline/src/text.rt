@@ -1,5 +1,6 @@
 ghost use Rattle.std.specs.Prelude.{◌≡◌, ◌<◌, ◌≤◌, ◌^◌, IfOk, IsUtf8, length};
 ghost use Rattle.bp_faults.specs.Answers.{Tells};
+ghost use Rattle.bp_faults.specs.declared.limits.TheConstants.{MOST_WORKERS};
 ghost use Rattle.bp_pipeline.specs.Generated.{text_within_limit};
 
 use bp_faults::{Fault, FaultKind, Place, Refusal};
@@ -15,7 +16,7 @@ pub fn text_of<R: Threads + Sync>(
     file: &NinjaFile,
     workers: u32,
 ) -> Result<Vec<u8>, Refusal>
-    requires workers { (1 ≤ workers) × (workers ≤ 64) }
+    requires workers { (1 ≤ workers) × (workers ≤ MOST_WORKERS) }
     ensures text { Tells (λ text. text.items) (λ outcome. text_within_limit file.now ≡ outcome) result }
     ensures utf8 { IfOk result (λ text. IsUtf8 text.items) }
     ensures few { IfOk result (λ _. length file.now.statements < 2 ^ 32) }

@@ -136,7 +136,7 @@ impl GroupProps {
         group_truths!(copy_scalars self, mark);
     }
 
-    /// Puts the lists of a group behind. After want of memory a part of them may stand there.
+    /// Puts the lists of a group behind. Where memory ran out a part of them may stand there.
     pub(crate) fn extend(&mut self, alloc: Global, other: &GroupProps) -> Result<(), OutOfMemory>
         ensures ok { OnOk result (self.new ≡ lists_merged self.old other.now) }
         ensures begins { GroupBegins self.old self.new }

@@ -13,7 +13,7 @@ pub struct Listed<T> {
     pub at: Option<Place>,
 }
 
-// Puts a copy of each item at the end. After want of memory some may stand there.
+// Puts a copy of each item at the end. Where memory ran out some may stand there.
 fn add_copies<T: Payload + Drop>(
     items: &mut Seq<T>,
     alloc: Global,
@@ -69,7 +69,7 @@ impl<T: Drop> Listed<T> {
 }
 
 impl<T: Payload + Drop> Listed<T> {
-    /// Puts the items of the other list behind. After want of memory a part of them may stand there.
+    /// Puts the items of the other list behind. Where memory ran out a part of them may stand there.
     pub(crate) fn extend(&mut self, alloc: Global, other: &Listed<T>) -> Result<(), OutOfMemory>
         ensures ok { OnOk result (self.new ≡ list_merged self.old other.now) }
         ensures begins { ListBegins self.old self.new }

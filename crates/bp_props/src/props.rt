@@ -124,7 +124,7 @@ impl Props {
         self.groups.group(id)
     }
 
-    // Makes this record equal to another. After want of memory a part of it may be.
+    // Makes this record equal to another. Where memory ran out a part of it may be.
     fn set_all(&mut self, alloc: Global, other: &Props) -> Result<(), OutOfMemory>
         ensures { OnOk result (self.new ≡ other.now) }
     {
@@ -157,7 +157,7 @@ impl Props {
         Ok(())
     }
 
-    // The same, with the lists that are a record's alone cut back after want of memory.
+    // The same, with the lists that are a record's alone cut back where memory ran out.
     fn extend_base(
         &mut self,
         alloc: Global,

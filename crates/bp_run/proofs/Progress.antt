@@ -1,5 +1,5 @@
 -- How far files are read: what holds of those that are read, and of the store.
-use Rattle.std.proofs.Common.{◌≡◌, ◌≤◌, ◌<◌, ◌+◌, ◌^◌, ◌∙◌, ℕ, zero, suc, List, Vec, [], ◌∷◌, ◌++◌, length, map, take}
+use Rattle.std.proofs.Common.{◌≡◌, ◌≤◌, ◌<◌, ◌+◌, ◌∙◌, ℕ, zero, suc, List, Vec, [], ◌∷◌, ◌++◌, length, map, take}
 use Rattle.std.proofs.Common.{get_or, Option, Some, None, Result, Ok, Err, sym, ap, subst, arith}
 use Rattle.std.specs.Prelude.{IfSome}
 use Rattle.std.specs.List.{All}
@@ -7,6 +7,7 @@ use Rattle.std.specs.declared.alloc.Global.{Global}
 use Rattle.std.proofs.lemmas.List.{map-append, take_more}
 use Rattle.std.proofs.lemmas.List.Elements.{All-append}
 use Rattle.bp_faults.specs.declared.fault.Fault.{Fault}
+use Rattle.bp_faults.specs.declared.limits.TheConstants.{LARGEST_FILE, LARGEST_TREE}
 use Rattle.bp_ports.specs.Files.{Files}
 use Rattle.bp_load.specs.Trees.{Source, sources_given}
 use Rattle.bp_run.specs.declared.stop.Stop.{Stop}
@@ -28,15 +29,15 @@ pub record Told : Type 0 where
 pub record Reads (old now : Told) (paths : List (List ℕ)) (i number size : ℕ) (read : List Held) : Type 0 where
   pub number_is : number ≡ 1 + i
   pub size_is : size ≡ size_of (sources_given read)
-  pub bound : size ≤ 2 ^ 26
+  pub bound : size ≤ LARGEST_TREE
   pub names : map (λ f. f.0) (sources_given read) ≡ take i paths
-  pub short : All (λ f. length f.1 ≤ 2 ^ 20) (sources_given read)
+  pub short : All (λ f. length f.1 ≤ LARGEST_FILE) (sources_given read)
   pub gives : IfSome old.files (λ files. sources_of files (take i paths) ≡ Ok (sources_given read))
   pub files : now.files ≡ old.files
   pub later : old.reads ≤ now.reads
   pub writes : now.writes ≡ old.writes
 
-one_short : (s : Source) → length s.1 ≤ 2 ^ 20 → All (λ f. length f.1 ≤ 2 ^ 20) (s ∷ [])
+one_short : (s : Source) → length s.1 ≤ LARGEST_FILE → All (λ f. length f.1 ≤ LARGEST_FILE) (s ∷ [])
 one_short s short zero d below = short
 one_short s short (suc n) d below = absurd (omega arith)
 
@@ -81,7 +82,7 @@ module _ (old now : Told) (paths : List (List ℕ)) (i number size : ℕ) (read 
 
   -- a path whose file is read
   pub one_read : (bytes : Vec ℕ Global) (count : ℕ) → count ≡ length bytes.items → (next : Told) (more : List Held)
-      → more ≡ read ++ (path, bytes) ∷ [] → length bytes.items ≤ 2 ^ 20 → size + length bytes.items ≤ 2 ^ 26
+      → more ≡ read ++ (path, bytes) ∷ [] → length bytes.items ≤ LARGEST_FILE → size + length bytes.items ≤ LARGEST_TREE
       → IfSome now.files (Gives (Ok bytes)) → next.files ≡ now.files → now.reads ≤ next.reads → next.writes ≡ now.writes
       → Reads old next paths (i + 1) (number + 1) (size + count) more
   one_read bytes count count_is next more more_is short bound h files later writes =
@@ -96,8 +97,8 @@ module _ (old now : Told) (paths : List (List ℕ)) (i number size : ℕ) (read 
             ap (map (λ f. f.0)) front ∙ map-append (λ f. f.0) (sources_given read) ((path, bytes.items) ∷ [])
             ∙ ap (λ names. names ++ path ∷ []) reads.names
             ∙ ap (λ p. take i paths ++ p ∷ []) is ∙ sym (take_more paths i path within);
-        short = subst (All (λ f. length f.1 ≤ 2 ^ 20)) (sym front)
-            (All-append (λ f. length f.1 ≤ 2 ^ 20) (sources_given read) ((path, bytes.items) ∷ []) reads.short
+        short = subst (All (λ f. length f.1 ≤ LARGEST_FILE)) (sym front)
+            (All-append (λ f. length f.1 ≤ LARGEST_FILE) (sources_given read) ((path, bytes.items) ∷ []) reads.short
             (one_short (path, bytes.items) short));
         gives = by old.files reads.gives (subst (λ m. IfSome m (Gives (Ok bytes))) reads.files h);
         files = files ∙ reads.files;

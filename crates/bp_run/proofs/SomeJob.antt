@@ -1,8 +1,9 @@
 -- A sound job has an outcome, where each phase has.
-use Rattle.std.proofs.Common.{◌≡◌, ◌≤◌, ◌^◌, ℕ, zero, suc, List, Result, Ok, Err, length, refl, arith}
+use Rattle.std.proofs.Common.{◌≡◌, ◌≤◌, ℕ, zero, suc, List, Result, Ok, Err, length, refl, arith}
 use Rattle.std.specs.FinMap.{get}
 use Rattle.bp_faults.specs.declared.fault.Fault.{Fault}
 use Rattle.bp_faults.specs.declared.limits.TheConstants.{LARGEST_LIST_FILE}
+use Rattle.bp_faults.specs.declared.limits.TheConstants.{MOST_MODULES}
 use Rattle.bp_faults.specs.Phases.{HasOutcome, GoesOn}
 use Rattle.bp_faults.proofs.Phases.{goes_on_some, then_some}
 use Rattle.bp_ports.specs.Files.{Files}
@@ -22,29 +23,31 @@ use Rattle.bp_pipeline.specs.Laws.{EarlierGraphs, SomeGraph, SomeText}
 use Rattle.bp_pipeline.specs.Mutators.{mutator_count}
 use Rattle.bp_pipeline.specs.Shown.{shown_graph}
 use Rattle.command_words.specs.declared.configuration.Synth.{Synth as SynthWords}
+use Rattle.command_words.specs.Sound.{IsSoundSynth}
 use Rattle.synthetic_tree.specs.declared.summary.Summary.{Summary}
+use Rattle.synthetic_tree.specs.Laws.{SomeTree}
 use Rattle.synthetic_tree.specs.Summary.{summary_text}
 use Rattle.bp_run.specs.declared.words.Configuration.{Configuration}
 use Rattle.bp_run.specs.declared.words.Configuration.TheVariants.{Build, Graph, Synth}
 use Rattle.bp_run.specs.Job.{synth_config, IsSummary, SummaryGives, ModulesGive, JobMeans}
-use Rattle.bp_run.specs.Tree.{read_of, sources_of, ListFileMeans, ListedFilesLoad, ListLoads, TreeMeans}
+use Rattle.bp_run.specs.Tree.{read_of, sources_of, ListFileMeans, ListedFilesLoad, ListLoads, SynthLoads, TreeMeans}
 use Rattle.bp_run.specs.Words.{config_of, IsSoundForCommand}
 use Rattle.bp_run.proofs.Counted.{few_modules}
 
 -- The modules that are loaded of what is read are few.
 few_read : (read : Result (List Source) Fault) (typed : List Module) → GoesOn read LoadMeans (Ok typed)
-    → length typed ≤ 2 ^ 17
+    → length typed ≤ MOST_MODULES
 few_read (Ok sources) typed means = few_modules sources typed means
 few_read (Err fault) typed means = absurd (cc)
 
 few_listed : (list : List ℕ) (files : Files) (typed : List Module) → ListLoads list files (Ok typed)
-    → length typed ≤ 2 ^ 17
+    → length typed ≤ MOST_MODULES
 few_listed list files typed (Ok paths, means, loads) = few_read (sources_of files paths) typed loads
 few_listed list files typed (Err fault, means, loads) = absurd (cc)
 
 -- So are those of a tree.
 few_loaded : (c : Configuration) (files : Files) (typed : List Module) → TreeMeans c files (Ok typed)
-    → length typed ≤ 2 ^ 17
+    → length typed ≤ MOST_MODULES
 few_loaded (Build words) files typed means = few_listed words.list files typed means
 few_loaded (Graph words) files typed means = few_listed words.list files typed means
 few_loaded (Synth words) files typed (sources, tree, means) = few_modules sources typed means
@@ -56,6 +59,20 @@ module _ (list : SomeList) (load : SomeLoad) where
       then_some (ListFileMeans path files) (ListedFilesLoad files)
       (goes_on_some (read_of 0 LARGEST_LIST_FILE (get files path)) ListMeans list)
       (λ paths. goes_on_some (sources_of files paths) LoadMeans load)
+
+  module _ (tree : SomeTree) where
+    -- What a synthetic tree loads as: it has files, and files load as something.
+    synth_some : (words : SynthWords) → IsSoundSynth words → HasOutcome (SynthLoads words)
+    synth_some words sound =
+        let made = tree words.seed words.modules sound.few in
+        let loaded = load made.0 in
+        (loaded.0, (made.0, made.1, loaded.1))
+
+    -- What the tree of a configuration loads as.
+    pub some_loaded : (c : Configuration) (files : Files) → IsSoundForCommand c → HasOutcome (TreeMeans c files)
+    some_loaded (Build words) files sound = some_listed words.list files
+    some_loaded (Graph words) files sound = some_listed words.list files
+    some_loaded (Synth words) files sound = synth_some words sound
 
 -- What a text was made of: the graph after all mutators, and the file.
 module _ (earlier : EarlierGraphs) (words : SynthWords) (typed : List Module) where
@@ -117,7 +134,7 @@ default_differ (suc zero) (suc (suc (suc j))) d lt within same = absurd (omega (
 default_differ (suc (suc i)) j d lt within same = absurd (omega (arith, lt, within))
 
 module _ (graph : SomeGraph) (text : SomeText) (earlier : EarlierGraphs) where
-  some_given : (c : Configuration) → IsSoundForCommand c → (typed : List Module) → length typed ≤ 2 ^ 17
+  some_given : (c : Configuration) → IsSoundForCommand c → (typed : List Module) → length typed ≤ MOST_MODULES
       → HasOutcome (ModulesGive c typed)
   some_given (Build words) sound typed few = text typed (config_of words.targets) few sound.targets
   some_given (Graph words) sound typed few =

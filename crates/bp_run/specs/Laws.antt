@@ -11,7 +11,7 @@ use Rattle.bp_run.specs.declared.words.Rewriting.{Rewriting}
 use Rattle.command_words.specs.declared.configuration.Replay.{Replay as ReplayWords}
 use Rattle.command_words.specs.Sound.{IsSoundReplay}
 use Rattle.bp_run.specs.Job.{JobMeans, ReplayJobMeans, RewriteMeans}
-use Rattle.bp_run.specs.Tree.{ListLoads, TreeMeans}
+use Rattle.bp_run.specs.Tree.{ListLoads}
 use Rattle.bp_run.specs.Words.{IsSoundForCommand}
 
 -- A job has one outcome.
@@ -30,11 +30,9 @@ OneRewrite = (r : Rewriting) (files : Files) → IsOnce (RewriteMeans r files)
 abbrev pub SomeListed : Type 0
 SomeListed = (list : List ℕ) (files : Files) → HasOutcome (ListLoads list files)
 
--- The job of a sound configuration has an outcome, where its tree has one: a text or a fault.
+-- The job of a sound configuration has an outcome, over all files: a text or a fault.
 abbrev pub SomeJob : Type 0
-SomeJob =
-    (c : Configuration) (files : Files) → IsSoundForCommand c → HasOutcome (TreeMeans c files)
-    → HasOutcome (JobMeans c files)
+SomeJob = (c : Configuration) (files : Files) → IsSoundForCommand c → HasOutcome (JobMeans c files)
 
 -- The job of `replay` has an outcome, over all files.
 abbrev pub SomeReplay : Type 0

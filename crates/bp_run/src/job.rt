@@ -1,5 +1,6 @@
-ghost use Rattle.std.specs.Prelude.{◌≡◌, ◌≤◌, ◌^◌, IfOk, IfSome, length, map, Some};
+ghost use Rattle.std.specs.Prelude.{◌≡◌, ◌≤◌, IfOk, IfSome, length, map, Some};
 ghost use Rattle.std.specs.List.{All};
+ghost use Rattle.bp_faults.specs.declared.limits.TheConstants.{LARGEST_FILE, MOST_FILES, MOST_MODULES};
 ghost use Rattle.bp_load.specs.Directories.{AreInFileOrder};
 ghost use Rattle.bp_load.specs.Trees.{sources_given};
 ghost use Rattle.command_words.specs.Sound.{IsSoundBuild, IsSoundGraph, IsSoundSynth};
@@ -61,7 +62,7 @@ fn make_build<R: Threads + Sync, G: Gate + Sync>(
     typed: &[Module],
     gate: &G,
 ) -> Result<Made, Stop>
-    requires few { length typed.now ≤ 2 ^ 17 }
+    requires few { length typed.now ≤ MOST_MODULES }
     requires sound { IsSoundBuild words.now }
     ensures makes { GivesOrRunsOut (λ made. made) (ModulesMake (BuildCommand words.now) typed.now) result }
     ensures asked { IfOk result (λ made. journal_path made.journal ≡ journal_of (BuildCommand words.now)) }
@@ -83,7 +84,7 @@ fn make_graph<R: Threads + Sync, G: Gate + Sync>(
     typed: &[Module],
     gate: &G,
 ) -> Result<Made, Stop>
-    requires few { length typed.now ≤ 2 ^ 17 }
+    requires few { length typed.now ≤ MOST_MODULES }
     requires sound { IsSoundGraph words.now }
     ensures makes { GivesOrRunsOut (λ made. made) (ModulesMake (GraphCommand words.now) typed.now) result }
     ensures asked { IfOk result (λ made. journal_path made.journal ≡ journal_of (GraphCommand words.now)) }
@@ -141,7 +142,7 @@ fn make_synth<R: Threads + Sync, G: Gate + Sync>(
     typed: &[Module],
     gate: &G,
 ) -> Result<Made, Stop>
-    requires few { length typed.now ≤ 2 ^ 17 }
+    requires few { length typed.now ≤ MOST_MODULES }
     requires sound { IsSoundSynth words.now }
     ensures makes { GivesOrRunsOut (λ made. made) (ModulesMake (SynthCommand words.now) typed.now) result }
     ensures asked { IfOk result (λ made. journal_path made.journal ≡ journal_of (SynthCommand words.now)) }
@@ -162,7 +163,7 @@ fn make<R: Threads + Sync, G: Gate + Sync>(
     typed: &[Module],
     gate: &G,
 ) -> Result<Made, Stop>
-    requires few { length typed.now ≤ 2 ^ 17 }
+    requires few { length typed.now ≤ MOST_MODULES }
     requires sound { IsSoundForCommand configuration.now }
     ensures makes { GivesOrRunsOut (λ made. made) (ModulesMake configuration.now typed.now) result }
     ensures asked { IfOk result (λ made. journal_path made.journal ≡ journal_of configuration.now) }
@@ -192,7 +193,7 @@ pub fn do_job<R: Threads + Sync, S: Store, G: Gate + Sync>(
     store: &mut S,
     gate: &G,
 ) -> Result<Made, Stop>
-    requires few { length paths.now ≤ 2 ^ 14 }
+    requires few { length paths.now ≤ MOST_FILES }
     requires order { AreInFileOrder paths.now }
     requires sound { IsSoundForCommand configuration.now }
     ensures gives { IfSome (S.files store.old) (λ files. GivesOrStops (λ made. made)
@@ -217,9 +218,9 @@ pub fn do_job_over<R: Threads + Sync, G: Gate + Sync>(
     files: &[(Path, Vec<u8>)],
     gate: &G,
 ) -> Result<Made, Stop>
-    requires few { length files.now ≤ 2 ^ 14 }
+    requires few { length files.now ≤ MOST_FILES }
     requires order { AreInFileOrder (map (λ f. f.0) (sources_given files.now)) }
-    requires short { All (λ f. length f.1 ≤ 2 ^ 20) (sources_given files.now) }
+    requires short { All (λ f. length f.1 ≤ LARGEST_FILE) (sources_given files.now) }
     requires sound { IsSoundForCommand configuration.now }
     ensures makes { GivesOrRunsOut (λ made. made) (SourcesMake configuration.now (sources_given files.now)) result }
     ensures asked { IfOk result (λ made. journal_path made.journal ≡ journal_of configuration.now) }

@@ -8,6 +8,7 @@ use bp_load::laws::{one_list, one_load};
 use bp_pipeline::laws::{earlier_graphs, one_graph, one_order, some_graph, some_order, some_text};
 use build_actions::Actions;
 use pass_core::laws::at_most_one_outcome;
+use synthetic_tree::laws::some_tree;
 
 /// A job has one outcome, since each of its phases has.
 pub fn one_job()
@@ -53,13 +54,15 @@ pub fn some_rewrite()
     one_edit();
 }
 
-/// A sound job has an outcome, since each of its phases has: a text or a fault, over all files.
+/// A sound job has an outcome, since each of its phases has: a text or a fault, over all files. Words give no other
+/// configuration than a sound one, which is a clause of `configure`.
 pub fn some_job()
     ensures listed { SomeListed }
     ensures job { SomeJob }
 {
     one_list();
     one_load();
+    some_tree();
     some_graph();
     earlier_graphs();
     some_text();

@@ -1,5 +1,6 @@
-ghost use Rattle.std.specs.Prelude.{◌≡◌, ◌≤◌, ◌^◌, IfOk, IfSome, length, map};
+ghost use Rattle.std.specs.Prelude.{◌≡◌, ◌≤◌, IfOk, IfSome, length, map};
 ghost use Rattle.std.specs.List.{All};
+ghost use Rattle.bp_faults.specs.declared.limits.TheConstants.{LARGEST_FILE, MOST_FILES, MOST_MODULES};
 ghost use Rattle.bp_load.specs.Directories.{AreInFileOrder};
 ghost use Rattle.bp_load.specs.Loaded.{LoadMeans};
 ghost use Rattle.bp_load.specs.Trees.{sources_given};
@@ -22,11 +23,11 @@ pub fn load_files<R: Threads + Sync>(
     files: &[(Path, Vec<u8>)],
     workers: u32,
 ) -> Result<Vec<Module>, Stop>
-    requires few { length files.now ≤ 2 ^ 14 }
+    requires few { length files.now ≤ MOST_FILES }
     requires order { AreInFileOrder (map (λ f. f.0) (sources_given files.now)) }
-    requires short { All (λ f. length f.1 ≤ 2 ^ 20) (sources_given files.now) }
+    requires short { All (λ f. length f.1 ≤ LARGEST_FILE) (sources_given files.now) }
     ensures gives { GivesOrRunsOut (λ typed. typed.items) (LoadMeans (sources_given files.now)) result }
-    ensures few { IfOk result (λ typed. length typed.items ≤ 2 ^ 17) }
+    ensures few { IfOk result (λ typed. length typed.items ≤ MOST_MODULES) }
 {
     let typed = load(rt, alloc, files, workers)?;
     Ok(typed)
@@ -40,11 +41,11 @@ pub fn load_listed<R: Threads + Sync, S: Store>(
     store: &mut S,
     workers: u32,
 ) -> Result<Vec<Module>, Stop>
-    requires few { length paths.now ≤ 2 ^ 14 }
+    requires few { length paths.now ≤ MOST_FILES }
     requires order { AreInFileOrder paths.now }
     ensures gives { IfSome (S.files store.old) (λ files. GivesOrStops (λ typed. typed.items)
         (ListedFilesLoad files paths.now) (CannotReadOf files paths.now) result) }
-    ensures few { IfOk result (λ typed. length typed.items ≤ 2 ^ 17) }
+    ensures few { IfOk result (λ typed. length typed.items ≤ MOST_MODULES) }
     ensures cause { ReadCause (S.read_faults store.old) (S.read_faults store.new) result }
     ensures files { S.files store.new ≡ S.files store.old }
     ensures writes { S.write_faults store.new ≡ S.write_faults store.old }

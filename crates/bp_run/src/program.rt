@@ -1,5 +1,6 @@
 ghost use Rattle.std.specs.Prelude.{◌≡◌};
-ghost use Rattle.bp_run.specs.End.{end_without_words};
+ghost use Rattle.bp_run.specs.End.{end_without_words, PrintMeans};
+ghost use Rattle.bp_run.specs.World.{stream};
 
 use crate::end::{End, report, status};
 use crate::run;
@@ -31,13 +32,16 @@ fn end_without_words(kind: ErrorKind) -> End
     }
 }
 
-// Prints the text of a notice.
-fn print<O: Sink, D: Sink>(text: &str, out: &mut O, diag: &mut D) -> ExitCode {
+// Prints the text of a notice: the exit status. It takes no memory, so the line for a failure is a literal.
+fn print<O: Sink, D: Sink>(text: &str, out: &mut O, diag: &mut D) -> u8
+    ensures { PrintMeans text.now (stream O.Sink out.old) (stream O.Sink out.new)
+        (stream D.Sink diag.old) (stream D.Sink diag.new) result }
+{
     match out.put(text.as_bytes()) {
-        Ok(()) => ExitCode::from(0),
+        Ok(()) => 0,
         Err(_) => {
             let _ = diag.put(b"bpgen: cannot write standard output\n");
-            ExitCode::from(4)
+            4
         }
     }
 }
@@ -56,7 +60,7 @@ pub fn start<R: Threads + Sync>(threads: &R, rt: HostRuntime) -> ExitCode {
     };
     let mut out = StdSink::out(rt);
     if let Some(notice) = notice_of(&words) {
-        return print(notice.text(), &mut out, &mut diag);
+        return ExitCode::from(print(notice.text(), &mut out, &mut diag));
     }
     let mut store = FsStore::new(rt);
     ExitCode::from(run(

@@ -1,7 +1,8 @@
-ghost use Rattle.std.specs.Prelude.{◌≡◌, ◌≤◌, ◌+◌, ◌^◌, ◌∷◌, [], ◌++◌, IfOk, OnOk, IfSome, length, map};
+ghost use Rattle.std.specs.Prelude.{◌≡◌, ◌≤◌, ◌+◌, ◌∷◌, [], ◌++◌, IfOk, OnOk, IfSome, length, map};
 ghost use Rattle.std.specs.List.{All};
 ghost use Rattle.std.specs.FinMap.{get};
 ghost use Rattle.bp_faults.specs.Faults.{fault_at, file_start};
+ghost use Rattle.bp_faults.specs.declared.limits.TheConstants.{MOST_FILES};
 ghost use Rattle.bp_load.specs.Directories.{AreInFileOrder};
 ghost use Rattle.bp_load.specs.ListFile.{ListMeans};
 ghost use Rattle.bp_load.specs.Trees.{sources_given};
@@ -49,9 +50,9 @@ pub fn read_file<S: Store>(
 
 // The paths that the bytes of a list name.
 fn list_paths(alloc: Global, bytes: &[u8]) -> Result<Vec<Path>, Stop>
-    requires { length bytes.now ≤ 2 ^ 22 }
+    requires { length bytes.now ≤ LARGEST_LIST_FILE }
     ensures gives { GivesOrRunsOut (λ paths. paths.items) (ListMeans bytes.now) result }
-    ensures few { IfOk result (λ paths. length paths.items ≤ 2 ^ 14) }
+    ensures few { IfOk result (λ paths. length paths.items ≤ MOST_FILES) }
     ensures order { IfOk result (λ paths. AreInFileOrder paths.items) }
 {
     Ok(file_list(alloc, bytes)?)
@@ -61,7 +62,7 @@ fn list_paths(alloc: Global, bytes: &[u8]) -> Result<Vec<Path>, Stop>
 pub fn read_list<S: Store>(alloc: Global, list: &Text, store: &mut S) -> Result<Vec<Path>, Stop>
     ensures gives { IfSome (S.files store.old) (λ files. GivesOrStops (λ paths. paths.items)
         (ListFileMeans list.now files) (λ unread. unread ≡ list.now) result) }
-    ensures few { IfOk result (λ paths. length paths.items ≤ 2 ^ 14) }
+    ensures few { IfOk result (λ paths. length paths.items ≤ MOST_FILES) }
     ensures order { IfOk result (λ paths. AreInFileOrder paths.items) }
     ensures cause { ReadCause (S.read_faults store.old) (S.read_faults store.new) result }
     ensures files { S.files store.new ≡ S.files store.old }
@@ -73,11 +74,11 @@ pub fn read_list<S: Store>(alloc: Global, list: &Text, store: &mut S) -> Result<
 
 // The bytes of a file are counted behind those of that size.
 fn count_bytes(alloc: Global, bytes: Vec<u8>, number: u32, size: usize) -> Result<Vec<u8>, Stop>
-    requires size { size ≤ 2 ^ 26 }
-    requires short { length bytes.items ≤ 2 ^ 20 }
+    requires size { size ≤ LARGEST_TREE }
+    requires short { length bytes.items ≤ LARGEST_FILE }
     ensures gives { GivesOrRunsOut (λ bytes. bytes.items) (Exactly (counted_bytes number size bytes.items)) result }
     ensures same { IfOk result (λ counted. counted.items ≡ bytes.items) }
-    ensures bound { IfOk result (λ bytes. size + length bytes.items ≤ 2 ^ 26) }
+    ensures bound { IfOk result (λ bytes. size + length bytes.items ≤ LARGEST_TREE) }
 {
     if size + bytes.len() <= LARGEST_TREE {
         return Ok(bytes);
@@ -94,11 +95,11 @@ fn read_source<S: Store>(
     number: u32,
     size: usize,
 ) -> Result<Vec<u8>, Stop>
-    requires { size ≤ 2 ^ 26 }
+    requires { size ≤ LARGEST_TREE }
     ensures gives { IfSome (S.files store.old) (λ files. GivesOrStops (λ bytes. bytes.items)
         (Exactly (file_bytes files number size path.now)) (λ unread. unread ≡ path.now) result) }
-    ensures short { IfOk result (λ bytes. length bytes.items ≤ 2 ^ 20) }
-    ensures bound { IfOk result (λ bytes. size + length bytes.items ≤ 2 ^ 26) }
+    ensures short { IfOk result (λ bytes. length bytes.items ≤ LARGEST_FILE) }
+    ensures bound { IfOk result (λ bytes. size + length bytes.items ≤ LARGEST_TREE) }
     ensures cause { ReadCause (S.read_faults store.old) (S.read_faults store.new) result }
     ensures files { S.files store.new ≡ S.files store.old }
     ensures writes { S.write_faults store.new ≡ S.write_faults store.old }
@@ -121,11 +122,11 @@ pub fn read_files<S: Store>(
     paths: &[Path],
     store: &mut S,
 ) -> Result<Vec<(Path, Vec<u8>)>, Stop>
-    requires { length paths.now ≤ 2 ^ 14 }
+    requires { length paths.now ≤ MOST_FILES }
     ensures gives { IfSome (S.files store.old) (λ files. GivesOrStops (λ read. sources_given read.items)
         (Exactly (sources_of files paths.now)) (CannotReadOf files paths.now) result) }
     ensures paths { IfOk result (λ read. map (λ f. f.0) (sources_given read.items) ≡ paths.now) }
-    ensures short { IfOk result (λ read. All (λ f. length f.1 ≤ 2 ^ 20) (sources_given read.items)) }
+    ensures short { IfOk result (λ read. All (λ f. length f.1 ≤ LARGEST_FILE) (sources_given read.items)) }
     ensures cause { ReadCause (S.read_faults store.old) (S.read_faults store.new) result }
     ensures files { S.files store.new ≡ S.files store.old }
     ensures writes { S.write_faults store.new ≡ S.write_faults store.old }

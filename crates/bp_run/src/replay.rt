@@ -1,5 +1,6 @@
-ghost use Rattle.std.specs.Prelude.{◌≡◌, ◌≤◌, ◌+◌, ◌^◌, None, IfOk, IfSome, length, map};
+ghost use Rattle.std.specs.Prelude.{◌≡◌, ◌≤◌, ◌+◌, None, IfOk, IfSome, length, map};
 ghost use Rattle.std.specs.List.{All};
+ghost use Rattle.bp_faults.specs.declared.limits.TheConstants.{LARGEST_FILE, MOST_FILES};
 ghost use Rattle.bp_load.specs.Directories.{AreInFileOrder};
 ghost use Rattle.bp_load.specs.Trees.{sources_given};
 ghost use Rattle.command_words.specs.Sound.{IsSoundReplay};
@@ -28,7 +29,7 @@ pub struct Inputs {
 
 // The number of the order file: the next one behind the files that the list names.
 fn order_number(paths: &[Path]) -> u32
-    requires { length paths.now ≤ 2 ^ 14 }
+    requires { length paths.now ≤ MOST_FILES }
     ensures { result ≡ length paths.now + 1 }
 {
     paths.len() as u32 + 1
@@ -42,15 +43,15 @@ fn read_inputs<S: Store>(
     number: u32,
     store: &mut S,
 ) -> Result<Inputs, Stop>
-    requires few { length paths.now ≤ 2 ^ 14 }
+    requires few { length paths.now ≤ MOST_FILES }
     requires number { number ≡ length paths.now + 1 }
     ensures gives { IfSome (S.files store.old) (λ files. GivesOrStops
         (λ inputs. (sources_given inputs.files.items, inputs.order.items))
         (Exactly (sources_and_order files paths.now words.now.order))
         (CannotReadAlong files paths.now words.now.order) result) }
     ensures paths { IfOk result (λ inputs. map (λ f. f.0) (sources_given inputs.files.items) ≡ paths.now) }
-    ensures short { IfOk result (λ inputs. All (λ f. length f.1 ≤ 2 ^ 20) (sources_given inputs.files.items)) }
-    ensures bound { IfOk result (λ inputs. length inputs.order.items ≤ 2 ^ 26) }
+    ensures short { IfOk result (λ inputs. All (λ f. length f.1 ≤ LARGEST_FILE) (sources_given inputs.files.items)) }
+    ensures bound { IfOk result (λ inputs. length inputs.order.items ≤ LARGEST_ORDER_FILE) }
     ensures cause { ReadCause (S.read_faults store.old) (S.read_faults store.new) result }
     ensures files { S.files store.new ≡ S.files store.old }
     ensures writes { S.write_faults store.new ≡ S.write_faults store.old }
@@ -68,10 +69,10 @@ fn replay_inputs<R: Threads + Sync>(
     inputs: &Inputs,
     number: u32,
 ) -> Result<Made, Stop>
-    requires few { length inputs.now.files.items ≤ 2 ^ 14 }
+    requires few { length inputs.now.files.items ≤ MOST_FILES }
     requires order { AreInFileOrder (map (λ f. f.0) (sources_given inputs.now.files.items)) }
-    requires short { All (λ f. length f.1 ≤ 2 ^ 20) (sources_given inputs.now.files.items) }
-    requires bound { length inputs.now.order.items ≤ 2 ^ 26 }
+    requires short { All (λ f. length f.1 ≤ LARGEST_FILE) (sources_given inputs.now.files.items) }
+    requires bound { length inputs.now.order.items ≤ LARGEST_ORDER_FILE }
     requires sound { IsSoundReplay words.now }
     ensures gives { GivesOrRunsOut (λ made. made.text)
         (SourcesReplay words.now number (sources_given inputs.now.files.items, inputs.now.order.items)) result }
@@ -94,7 +95,7 @@ pub fn do_replay<R: Threads + Sync, S: Store>(
     paths: &[Path],
     store: &mut S,
 ) -> Result<Made, Stop>
-    requires few { length paths.now ≤ 2 ^ 14 }
+    requires few { length paths.now ≤ MOST_FILES }
     requires order { AreInFileOrder paths.now }
     requires sound { IsSoundReplay words.now }
     ensures gives { IfSome (S.files store.old) (λ files. GivesOrStops (λ made. made.text)

@@ -1,4 +1,4 @@
-ghost use Rattle.std.specs.Prelude.{◌≡◌, ◌≤◌, ◌^◌, None, IfOk, IfSome, length, string_bytes};
+ghost use Rattle.std.specs.Prelude.{◌≡◌, ◌≤◌, None, IfOk, IfSome, length, string_bytes};
 ghost use Rattle.bp_faults.specs.Answers.{Tells};
 ghost use Rattle.bp_faults.specs.Faults.{fault_at};
 ghost use Rattle.bp_faults.specs.declared.kind.FaultKind.TheVariants.{NotUtf8};
@@ -18,7 +18,7 @@ use std::alloc::Global;
 
 // The new text of a text.
 fn rewrite_text(alloc: Global, rewriting: &Rewriting, text: &str) -> Result<String, Refusal>
-    requires short { length text.now ≤ 2 ^ 20 }
+    requires short { length text.now ≤ LARGEST_FILE }
     requires sound { IsSoundRewriting rewriting.now }
     ensures { Tells string_bytes (TextGives rewriting.now text.now) result }
 {
@@ -33,7 +33,7 @@ fn rewrite_text(alloc: Global, rewriting: &Rewriting, text: &str) -> Result<Stri
 
 // What is made of a text.
 fn make_text(alloc: Global, rewriting: &Rewriting, text: &str) -> Result<Made, Stop>
-    requires short { length text.now ≤ 2 ^ 20 }
+    requires short { length text.now ≤ LARGEST_FILE }
     requires sound { IsSoundRewriting rewriting.now }
     ensures gives { GivesOrRunsOut (λ made. made.text) (TextGives rewriting.now text.now) result }
     ensures plain { IfOk result (λ made. made.journal ≡ None) }
@@ -48,7 +48,7 @@ fn make_text(alloc: Global, rewriting: &Rewriting, text: &str) -> Result<Made, S
 // The fault of bytes that are no text. The first so many of them are.
 fn no_text(alloc: Global, bytes: &[u8], valid: usize) -> Stop
     requires within { valid ≤ length bytes.now }
-    requires short { length bytes.now ≤ 2 ^ 20 }
+    requires short { length bytes.now ≤ LARGEST_FILE }
     ensures { result ≡ Stop.Fault (fault_at NotUtf8 (place_at 0 bytes.now valid)) }
 {
     Stop::Fault(Fault::at(alloc, FaultKind::NotUtf8, place_in(bytes, valid, 0)))
@@ -56,7 +56,7 @@ fn no_text(alloc: Global, bytes: &[u8], valid: usize) -> Stop
 
 // What is made of the bytes of FILE, which must be UTF-8.
 fn make(alloc: Global, rewriting: &Rewriting, bytes: &[u8]) -> Result<Made, Stop>
-    requires short { length bytes.now ≤ 2 ^ 20 }
+    requires short { length bytes.now ≤ LARGEST_FILE }
     requires sound { IsSoundRewriting rewriting.now }
     ensures gives { GivesOrRunsOut (λ made. made.text) (BytesGive rewriting.now bytes.now) result }
     ensures plain { IfOk result (λ made. made.journal ≡ None) }

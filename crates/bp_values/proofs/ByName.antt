@@ -1,6 +1,6 @@
 -- What a file means depends on the inherited values by name alone.
 use Rattle.std.proofs.Common.{◌≡◌, ℕ, Bool, true, false, cond, List, [], ◌∷◌, ◌++◌, Option, None, Some, option_map, Result, Ok, Err, refl, ap, sym, subst, ◌∙◌, if◌then◌else◌, ◌||◌}
-use Rattle.std.specs.Prelude.{◌^◌, codes}
+use Rattle.std.specs.Prelude.{codes}
 use Rattle.std.specs.Option.{option_or}
 use Rattle.std.specs.Map.{lookup}
 use Rattle.std.specs.Str.{bytes_eq}
@@ -10,6 +10,7 @@ use Rattle.bp_faults.specs.Answers.{then_do}
 use Rattle.bp_faults.specs.Faults.{fault_on}
 use Rattle.bp_faults.specs.declared.fault.Fault.{Fault}
 use Rattle.bp_faults.specs.declared.kind.FaultKind.TheVariants.{AfterUse}
+use Rattle.bp_faults.specs.declared.limits.TheConstants.{MOST_LIST_ITEMS}
 use Rattle.bp_faults.specs.declared.place.Place.{Place}
 use Rattle.bp_parser.specs.Trees as tree
 use Rattle.bp_parser.specs.Trees.{Tree, Atom, Trees, Terms, Entries, no_tree, tree_and, no_term, term_and, no_entry, entry_and, Map, Definition, Assigns, Extends, Declares, first_place}
@@ -34,7 +35,7 @@ same_atom a b at (tree.Name name) same = ap (known_value at name) (same name)
 mutual
   same_val : (t : Tree) (a b : Pairs) → HasSameValues a b → val a t ≡ val b t
   same_val (tree.Leaf at atom) a b same = same_atom a b at atom same
-  same_val (tree.Items at items) a b same = ap (λ r. then_do r (λ l. then_do (list_within (2 ^ 16) (codes "list") at l) (λ m. Ok (Items m)))) (same_items items a b same)
+  same_val (tree.Items at items) a b same = ap (λ r. then_do r (λ l. then_do (list_within MOST_LIST_ITEMS (codes "list") at l) (λ m. Ok (Items m)))) (same_items items a b same)
   same_val (tree.Body at entries) a b same = ap (λ r. then_do (then_do r (λ fs. nested_fields at fs)) (λ fs. Ok (body fs))) (same_entries entries a b same)
   same_val (tree.Sum first terms) a b same = λ i. then_do (same_val first a b same i) (λ value. same_terms terms value a b same i)
 

@@ -1,5 +1,5 @@
 -- The names of each map differ in what a file means, where they do in the file and in what it inherits.
-use Rattle.std.specs.Prelude.{◌≢◌, ℤ, ◌+ℤ◌, ◌^◌, codes, IfOk, IfSome, ⊤}
+use Rattle.std.specs.Prelude.{◌≢◌, ℤ, ◌+ℤ◌, codes, IfOk, IfSome, ⊤}
 use Rattle.std.specs.List.{All, AllPairs, list_any}
 use Rattle.std.specs.Str.{bytes_eq}
 use Rattle.std.specs.Cmp.Lexicographic.{nat_list_eq_equiv}
@@ -13,6 +13,7 @@ use Rattle.std.proofs.lemmas.Result.{IfOk-at_ok}
 use Rattle.bp_faults.specs.Answers.{then_do}
 use Rattle.bp_faults.specs.Faults.{fault_on}
 use Rattle.bp_faults.specs.declared.kind.FaultKind.TheVariants.{AfterUse}
+use Rattle.bp_faults.specs.declared.limits.TheConstants.{LONGEST_STRING, MOST_LIST_ITEMS}
 use Rattle.bp_faults.specs.declared.fault.Fault.{Fault}
 use Rattle.bp_faults.specs.declared.place.Place.{Place}
 use Rattle.bp_faults.specs.declared.place.Item.{Item}
@@ -148,11 +149,11 @@ number_kept at a (Number b) = if_test HasDistinctNames (is_i64 (a +ℤ b)) (Numb
 number_kept at a _ = tt
 
 text_kept : (at : Place) (a : List ℕ) (b : Meaning) → IfOk (sum_text at a b) HasDistinctNames
-text_kept at a (Str b) = if_then (λ c. ⊤) HasDistinctNames (list_within (2 ^ 20) (codes "string") at (a ++ b)) (λ c. Ok (Str c)) (anything (list_within (2 ^ 20) (codes "string") at (a ++ b))) (λ c any. tt)
+text_kept at a (Str b) = if_then (λ c. ⊤) HasDistinctNames (list_within LONGEST_STRING (codes "string") at (a ++ b)) (λ c. Ok (Str c)) (anything (list_within LONGEST_STRING (codes "string") at (a ++ b))) (λ c any. tt)
 text_kept at a _ = tt
 
 items_kept : (at : Place) (a : List Item) (b : Meaning) → IfOk (sum_item at a b) HasDistinctNames
-items_kept at a (Items b) = if_then (λ c. ⊤) HasDistinctNames (list_within (2 ^ 16) (codes "list") at (a ++ b)) (λ c. Ok (Items c)) (anything (list_within (2 ^ 16) (codes "list") at (a ++ b))) (λ c any. tt)
+items_kept at a (Items b) = if_then (λ c. ⊤) HasDistinctNames (list_within MOST_LIST_ITEMS (codes "list") at (a ++ b)) (λ c. Ok (Items c)) (anything (list_within MOST_LIST_ITEMS (codes "list") at (a ++ b))) (λ c any. tt)
 items_kept at a _ = tt
 
 map_kept : (at : Place) (a : Fields) (each : List Field → Result (List Field) Fault) (b : Meaning) → AreDistinct (field_names a) → HasDistinctNames b
@@ -212,10 +213,10 @@ atom_kept scope at (tree.Name name) kept = known_kept at name (value_in scope na
 abbrev Evaluated : Entries → List Field → Type 0
 Evaluated es fs = (names fs ≡ written.entry_names es) × All Kept fs
 
-items_any : (r : Result (List Item) Fault) (at : Place) → IfOk (then_do r (λ l. then_do (list_within (2 ^ 16) (codes "list") at l) (λ m. Ok (Items m)))) HasDistinctNames
+items_any : (r : Result (List Item) Fault) (at : Place) → IfOk (then_do r (λ l. then_do (list_within MOST_LIST_ITEMS (codes "list") at l) (λ m. Ok (Items m)))) HasDistinctNames
 items_any r at =
     if_then (λ l. ⊤) HasDistinctNames r _ (anything r)
-    (λ l any. if_then (λ m. ⊤) HasDistinctNames (list_within (2 ^ 16) (codes "list") at l) (λ m. Ok (Items m)) (anything (list_within (2 ^ 16) (codes "list") at l)) (λ m also. tt))
+    (λ l any. if_then (λ m. ⊤) HasDistinctNames (list_within MOST_LIST_ITEMS (codes "list") at l) (λ m. Ok (Items m)) (anything (list_within MOST_LIST_ITEMS (codes "list") at l)) (λ m also. tt))
 
 nested_kept : (r : Result (List Field) Fault) (at : Place) (es : Entries) → AreDistinct (written.entry_names es) → IfOk r (Evaluated es) → IfOk (then_do r (λ fs. nested_fields at fs)) (λ fs. HasDistinctNames (body fs))
 nested_kept r at es distinct found =

@@ -3,6 +3,7 @@ use Rattle.std.specs.Prelude.{ℕ, ◌+◌, max, nat_le, List, Result, Ok, Err, 
 use Rattle.bp_faults.specs.declared.place.Place.{Place}
 use Rattle.bp_faults.specs.declared.fault.Fault.{Fault}
 use Rattle.bp_faults.specs.declared.kind.FaultKind.TheVariants.{TooNested}
+use Rattle.bp_faults.specs.declared.limits.TheConstants.{DEEPEST_NESTING}
 use Rattle.bp_faults.specs.Faults.{fault_at}
 use Rattle.bp_values.specs.Values.{Meaning, Truth, Number, Str, Items, Body, Fields, no_field, field_and, Field, body}
 
@@ -20,6 +21,6 @@ abbrev mutual
   depth_of_fields no_field = 0
   depth_of_fields (field_and name at value more) = max (depth value) (depth_of_fields more)
 
--- The fields of a map literal, or the fault of a map that is deeper than 64.
+-- The fields of a map literal, or the fault of a map that is deeper than the limit.
 abbrev pub nested_fields : Place → List Field → Result (List Field) Fault
-nested_fields at fs = if nat_le (depth (body fs)) 64 then Ok fs else Err (fault_at TooNested at)
+nested_fields at fs = if nat_le (depth (body fs)) DEEPEST_NESTING then Ok fs else Err (fault_at TooNested at)

@@ -1,10 +1,11 @@
 -- What an expression is worth in a scope: a value, or its first fault in the order of evaluation.
 -- Source: Soong reference, "Android.bp file format", variables and operators.
-use Rattle.std.specs.Prelude.{ℕ, ◌^◌, List, [], ◌∷◌, codes, Option, None, Some, Result, Ok, Err}
+use Rattle.std.specs.Prelude.{ℕ, List, [], ◌∷◌, codes, Option, None, Some, Result, Ok, Err}
 use Rattle.bp_faults.specs.declared.place.Place.{Place}
 use Rattle.bp_faults.specs.declared.place.Item.{Item}
 use Rattle.bp_faults.specs.declared.fault.Fault.{Fault}
 use Rattle.bp_faults.specs.declared.kind.FaultKind.TheVariants.{UnknownVariable, WrongType}
+use Rattle.bp_faults.specs.declared.limits.TheConstants.{MOST_LIST_ITEMS}
 use Rattle.bp_faults.specs.Answers.{then_do}
 use Rattle.bp_faults.specs.Faults.{fault_on}
 use Rattle.bp_parser.specs.Trees as tree
@@ -39,7 +40,8 @@ abbrev mutual
   pub val : Pairs → Tree → Result Meaning Fault
   val scope (tree.Leaf at atom) = val_atom scope at atom
   val scope (tree.Items at items) =
-      then_do (val_items scope items) (λ l. then_do (list_within (2 ^ 16) (codes "list") at l) (λ m. Ok (Items m)))
+      then_do (val_items scope items)
+      (λ l. then_do (list_within MOST_LIST_ITEMS (codes "list") at l) (λ m. Ok (Items m)))
   val scope (tree.Body at entries) =
       then_do (then_do (val_entries scope entries) (λ fs. nested_fields at fs)) (λ fs. Ok (body fs))
   val scope (tree.Sum first terms) = then_do (val scope first) (λ value. val_terms scope value terms)

@@ -8,6 +8,7 @@ use Rattle.bp_faults.specs.declared.place.Place.{Place}
 use Rattle.bp_faults.specs.declared.place.Item.{Item}
 use Rattle.bp_faults.specs.declared.fault.Fault.{Fault}
 use Rattle.bp_faults.specs.declared.kind.FaultKind.TheVariants.{BadSum, TooMany}
+use Rattle.bp_faults.specs.declared.limits.TheConstants.{LONGEST_STRING, MOST_LIST_ITEMS}
 use Rattle.bp_faults.specs.Answers.{then_do}
 use Rattle.bp_faults.specs.Faults.{fault_on}
 use Rattle.bp_values.specs.Values.{Meaning, Truth, Number, Str, Items, Body, Fields, no_field, field_and, Field}
@@ -35,11 +36,11 @@ list_within limit what at xs = if nat_le (length xs) limit then Ok xs else Err (
 
 -- The two joined, within the limit.
 abbrev pub sum_texts : Place → List ℕ → List ℕ → Result Meaning Fault
-sum_texts at a b = then_do (list_within (2 ^ 20) (codes "string") at (a ++ b)) (λ c. Ok (Str c))
+sum_texts at a b = then_do (list_within LONGEST_STRING (codes "string") at (a ++ b)) (λ c. Ok (Str c))
 
 -- Two lists joined, within the limit.
 abbrev pub sum_items : Place → List Item → List Item → Result Meaning Fault
-sum_items at a b = then_do (list_within (2 ^ 16) (codes "list") at (a ++ b)) (λ c. Ok (Items c))
+sum_items at a b = then_do (list_within MOST_LIST_ITEMS (codes "list") at (a ++ b)) (λ c. Ok (Items c))
 
 -- The sum of two integers, where it is one of 64 bits.
 abbrev pub sum_numbers : Place → ℤ → ℤ → Result Meaning Fault

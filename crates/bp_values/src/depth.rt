@@ -4,6 +4,7 @@ ghost use Rattle.bp_values.specs.Values.{meaning, field_of, fields_then, no_fiel
 ghost use Rattle.bp_values.specs.Depths.{nested_fields, depth, depth_of_fields};
 
 use crate::{Entry, EvalError, Value};
+use bp_faults::limits::DEEPEST_NESTING;
 use bp_faults::{Fault, FaultKind, Place};
 use std::alloc::Global;
 
@@ -11,7 +12,7 @@ use std::alloc::Global;
 pub fn within_depth(alloc: Global, at: Place, entries: Vec<Entry>) -> Result<Vec<Entry>, EvalError>
     ensures { Answers (λ es. map field_of es.items) result (nested_fields at (map field_of entries.items)) }
 {
-    if are_within(entries.as_slice(), 63) {
+    if are_within(entries.as_slice(), DEEPEST_NESTING - 1) {
         return Ok(entries);
     }
     Err(EvalError::Bad(Fault::at(alloc, FaultKind::TooNested, at)))
@@ -19,7 +20,7 @@ pub fn within_depth(alloc: Global, at: Place, entries: Vec<Entry>) -> Result<Vec
 
 /// Whether a value's depth is within the limit.
 #[cycle(depths)]
-fn is_within(value: &Value, limit: u32) -> bool
+fn is_within(value: &Value, limit: usize) -> bool
     ensures { result ≡ nat_le (depth (meaning value.now)) limit }
 {
     match value {
@@ -29,7 +30,7 @@ fn is_within(value: &Value, limit: u32) -> bool
 }
 
 #[cycle(depths)]
-fn are_within(entries: &[Entry], limit: u32) -> bool
+fn are_within(entries: &[Entry], limit: usize) -> bool
     ensures { result ≡ nat_le (depth_of_fields (fields_then (map field_of entries.now) no_field)) limit }
 {
     'entries: for entry in entries {

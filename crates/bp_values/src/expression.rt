@@ -1,4 +1,4 @@
-ghost use Rattle.std.specs.Prelude.{◌≡◌, map, ◌^◌, codes, Ok, IfOk};
+ghost use Rattle.std.specs.Prelude.{◌≡◌, map, codes, Ok, IfOk};
 ghost use Rattle.bp_parser.specs.Trees.{tree_of, map_of, entry_of, term_of, trees_then, terms_then};
 ghost use Rattle.bp_parser.specs.Trees.{entries_then, first_place as place_of};
 ghost use Rattle.bp_parser.specs.Trees.{no_tree, no_term, no_entry};
@@ -15,6 +15,7 @@ use crate::map_sum::MapSum;
 use crate::sums::{add, add_copy, too_many};
 use crate::value::{copy_value, make_entry, map_value};
 use crate::{Entry, EvalError, Scope, Value};
+use bp_faults::limits::MOST_LIST_ITEMS;
 use bp_faults::{Fault, FaultKind, Item, Place, Text};
 use bp_parser::{EntryExpr, Expr, MapExpr};
 use std::alloc::Global;
@@ -111,9 +112,9 @@ pub fn value_of(alloc: Global, scope: &Scope, expr: &Expr) -> Result<Value, Eval
 /// A list value, within the limit.
 fn list_value(alloc: Global, at: Place, items: Vec<Item>) -> Result<Value, EvalError>
     ensures { Answers meaning result
-        (then_do (list_within (2 ^ 16) (codes "list") at items.items) (λ l. Ok (Items l))) }
+        (then_do (list_within MOST_LIST_ITEMS (codes "list") at items.items) (λ l. Ok (Items l))) }
 {
-    if items.len() > 1 << 16 {
+    if items.len() > MOST_LIST_ITEMS {
         return Err(EvalError::Bad(too_many(alloc, at, "list")?));
     }
     Ok(Value::Strs(items))

@@ -14,6 +14,7 @@ ghost use Rattle.bp_values.specs.Inside.{IsIndex, HasMet, not_among};
 
 use crate::value::{copy_entry, copy_value, make_entry, map_value};
 use crate::{Entry, EvalError, Value};
+use bp_faults::limits::{LONGEST_STRING, MOST_LIST_ITEMS};
 use bp_faults::{Fault, FaultKind, Item, OutOfMemory, Payload, Place, Text, copy_all};
 use bp_names::{NameSet, NameTable};
 use std::alloc::Global;
@@ -57,7 +58,7 @@ pub(crate) fn too_many(alloc: Global, at: Place, what: &str) -> Result<Fault, Ou
 fn join(alloc: Global, at: Place, mut first: Text, second: &Text) -> Result<Value, EvalError>
     ensures { Answers meaning result (sum_texts at first second.now) }
 {
-    if first.as_str().len() + second.as_str().len() > 1 << 20 {
+    if first.as_str().len() + second.as_str().len() > LONGEST_STRING {
         return Err(EvalError::Bad(too_many(alloc, at, "string")?));
     }
     first.push_str(second.as_str())?;
@@ -73,7 +74,7 @@ fn append(
 ) -> Result<Value, EvalError>
     ensures { Answers meaning result (sum_items at first.items second.items) }
 {
-    if first.len() + second.len() > 1 << 16 {
+    if first.len() + second.len() > MOST_LIST_ITEMS {
         return Err(EvalError::Bad(too_many(alloc, at, "list")?));
     }
     first.append(&mut second)?;

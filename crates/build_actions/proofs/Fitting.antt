@@ -7,6 +7,7 @@ use Rattle.std.specs.Map.{keys_of, values_of}
 use Rattle.std.specs.Str.{bytes_eq}
 use Rattle.std.proofs.lemmas.Slice.Eq.{bytes_eq-Decides}
 use Rattle.bp_faults.specs.declared.place.Item.{Item}
+use Rattle.bp_faults.proofs.Lists.{all_append, pairs_apart}
 use Rattle.ninja_file.specs.declared.file.Statement.{Statement}
 use Rattle.ninja_file.specs.Names.{is_name, is_value, is_path}
 use Rattle.ninja_file.specs.Meaning.{AllDiffer, IsStatement}
@@ -18,7 +19,6 @@ use Rattle.build_actions.specs.Variables.{Variables, variable}
 use Rattle.build_actions.specs.Compiles.{language_of, rule_of, variables_in, compile_step, compile_steps, objects_in}
 use Rattle.build_actions.specs.Paths.{object_path}
 use Rattle.bp_names.specs.Meaning.{knows}
-use Rattle.build_actions.proofs.Differing.{all_append, pairs_apart}
 use Rattle.build_actions.proofs.Outputs.{Differ}
 use Rattle.build_actions.proofs.Shown.{IsPath, Shown, value_of}
 

@@ -10,9 +10,9 @@ use Rattle.ninja_file.specs.Meaning.{AllDiffer, IsRule, IsStatement, outs_of, Is
 use Rattle.build_actions.specs.declared.actions.Actions.{Actions}
 use Rattle.build_actions.specs.Head.{head_rules, compile_command, dependency_bindings, compile_rule, assemble_rule, archive_rule, link_rule}
 use Rattle.build_actions.specs.File.{all_path, outputs_of, all_step, all_statements, file_of_actions}
-use Rattle.build_actions.proofs.Differing.{Apart, pairs_apart, all_append, all_flat}
+use Rattle.build_actions.proofs.Differing.{all_flat}
 use Rattle.build_actions.proofs.Outputs.{Differ}
-use Rattle.bp_faults.proofs.Lists.{all_map}
+use Rattle.bp_faults.proofs.Lists.{all_map, Apart, pairs_apart, all_append}
 use Rattle.build_actions.proofs.Shown.{IsPath}
 use Rattle.build_actions.proofs.Fitting.{six, apart_texts, fits, rule_at, no_variables}
 use Rattle.build_actions.proofs.Written.{IsGood}

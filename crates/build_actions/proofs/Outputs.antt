@@ -11,6 +11,7 @@ use Rattle.bp_faults.specs.declared.fault.Fault.{Fault}
 use Rattle.bp_faults.specs.declared.place.Item.{Item}
 use Rattle.bp_faults.specs.declared.kind.FaultKind.TheVariants.{DuplicateSource}
 use Rattle.bp_faults.specs.Answers.{then_do}
+use Rattle.bp_faults.proofs.Lists.{Apart, all_map, apart_image}
 use Rattle.bp_names.specs.Meaning.{knows}
 use Rattle.ninja_file.specs.declared.file.Statement.{Statement}
 use Rattle.build_actions.specs.declared.compile.Compiler.{Compiler}
@@ -20,7 +21,6 @@ use Rattle.build_actions.specs.declared.sources.Language.{Language}
 use Rattle.build_actions.specs.Sources.{source_fault, source_kind, checked_by, sources_checked}
 use Rattle.build_actions.specs.Paths.{object_path}
 use Rattle.build_actions.specs.Compiles.{language_by, language_of, compile_step, compile_steps, objects_in}
-use Rattle.build_actions.proofs.Differing.{Apart, all_each, all_image}
 
 -- the paths of the files that are compiled
 abbrev pub source_of : Item → Option (List ℕ)
@@ -64,14 +64,14 @@ checked_differ earlier (file ∷ files) h = by (source_kind file.text) refl h (c
     On = sources_checked (earlier ++ file.text ∷ []) files ≡ Ok tt → Apart (λ p q. p ≢ q) (sources_in files) × AllByRecursion (Others (earlier ++ file.text ∷ [])) (sources_in files)
 
     fewer : AllByRecursion (Others (earlier ++ file.text ∷ [])) (sources_in files) → AllByRecursion (Others earlier) (sources_in files)
-    fewer rest = all_each (Others (earlier ++ file.text ∷ [])) (Others earlier) (λ path o. (others_split earlier file.text path o).0) (sources_in files) rest
+    fewer rest = all_map (Others (earlier ++ file.text ∷ [])) (Others earlier) (λ path o. (others_split earlier file.text path o).0) (sources_in files) rest
 
     compile : (b : Bool) → knows earlier file.text ≡ b
         → then_do (cond (not b) passed (Err (source_fault DuplicateSource file))) (λ done. sources_checked (earlier ++ file.text ∷ []) files) ≡ Ok tt → On → Rest (file.text ∷ sources_in files)
     compile true e k on = cc
     compile false e k on =
         let rest = on k in (
-          (all_each (Others (earlier ++ file.text ∷ [])) (λ q. file.text ≢ q) (λ path o. (others_split earlier file.text path o).1) (sources_in files) rest.1, rest.0),
+          (all_map (Others (earlier ++ file.text ∷ [])) (λ q. file.text ≢ q) (λ path o. (others_split earlier file.text path o).1) (sources_in files) rest.1, rest.0),
           (e, fewer rest.1),
         )
 
@@ -97,10 +97,6 @@ objects_map directory (file ∷ files) = by (language_of file) (objects_map dire
 object_differs : (directory p q : List ℕ) → Differ p q → Differ (object_path directory p) (object_path directory q)
 object_differs directory p q differ same =
     differ (append_cancel_right p q (codes ".o") (append_cancel_left (codes "/obj/") (p ++ codes ".o") (q ++ codes ".o") (append_cancel_left directory (codes "/obj/" ++ (p ++ codes ".o")) (codes "/obj/" ++ (q ++ codes ".o")) same)))
-
-apart_image : {A B : Type 0} (R : A → A → Type 0) (S : B → B → Type 0) (f : A → B) → ((x y : A) → R x y → S (f x) (f y)) → (xs : List A) → Apart R xs → Apart S (map f xs)
-apart_image R S f imp [] h = tt
-apart_image R S f imp (x ∷ xs) h = (all_image (R x) (S (f x)) f (λ y. imp x y) xs h.0, apart_image R S f imp xs h.1)
 
 pub objects_differ : (directory : List ℕ) (files : List Item) → sources_checked [] files ≡ Ok tt → Apart Differ (objects_in directory files)
 objects_differ directory files h = subst (λ l. Apart Differ l) (sym (objects_map directory files)) (apart_image Differ Differ (object_path directory) (object_differs directory) (sources_in files) (checked_differ [] files h).0)

@@ -1,10 +1,13 @@
 -- Texts that a file for Ninja can hold.
-use Rattle.std.proofs.Common.{◌≡◌, ◌++◌, ◌&&◌, ◌==◌, not, cond, suc, length, ℕ, Bool, true, false, List, [], ◌∷◌, map, refl, ap, arith, subst}
+use Rattle.std.proofs.Common.{◌≡◌, ◌++◌, ◌==◌, not, cond, suc, length, ℕ, Bool, true, false, List, [], ◌∷◌, map, refl, arith, subst}
 use Rattle.std.specs.Prelude.{codes}
 use Rattle.std.specs.List.{AllByRecursion, flat_map, list_all}
 use Rattle.std.specs.Fmt.{decimal}
 use Rattle.std.proofs.lemmas.Bool.Decides.{nat_tests}
+use Rattle.std.proofs.lemmas.Bool.{and_parts, and_from}
+use Rattle.std.proofs.lemmas.List.{append-nil}
 use Rattle.bp_faults.specs.declared.target.Target.TheVariants as T
+use Rattle.bp_faults.proofs.Lists.{all_append}
 use Rattle.module_graph.specs.declared.variation.Variation.{Variation}
 use Rattle.module_graph.specs.declared.variation.Variation.TheVariants.{Empty, Target as For, Common, Vendor, Recovery, Static, Shared, PerSource, Asan}
 use Rattle.module_graph.specs.Names.{is_label_byte}
@@ -12,14 +15,6 @@ use Rattle.module_graph.specs.Laws.{VariantNamesArePlain}
 use Rattle.ninja_file.specs.Names.{is_shown, is_value, is_path}
 use Rattle.build_actions.specs.Variables.{word_line, target_word, target_by, level_words, include_word}
 use Rattle.build_actions.specs.Writable.{has_shown_bytes}
-use Rattle.build_actions.proofs.Differing.{all_append}
-
-both : (a b : Bool) → (a && b) ≡ true → (a ≡ true) × (b ≡ true)
-both true b h = (refl, h)
-both false b h = cc
-
-and : (a b : Bool) → a ≡ true → b ≡ true → (a && b) ≡ true
-and a b ha hb = (λ i. ha i && hb i)
 
 -- a byte of no control character
 abbrev pub IsShown : ℕ → Type 0
@@ -40,42 +35,42 @@ IsPath path = is_path path ≡ true
 
 pub shown_of : (text : List ℕ) → has_shown_bytes text ≡ true → Shown text
 shown_of [] h = tt
-shown_of (b ∷ text) h = let s = both (is_shown b) (list_all is_shown text) h in (s.0, shown_of text s.1)
+shown_of (b ∷ text) h = let s = and_parts (is_shown b) (list_all is_shown text) h in (s.0, shown_of text s.1)
 
 bytes_shown : (text : List ℕ) → Shown text → list_all is_shown text ≡ true
 bytes_shown [] h = refl
-bytes_shown (b ∷ text) h = and (is_shown b) (list_all is_shown text) h.0 (bytes_shown text h.1)
+bytes_shown (b ∷ text) h = and_from (is_shown b) (list_all is_shown text) h.0 (bytes_shown text h.1)
 
 not_zero : (n : ℕ) → not (suc n == 0) ≡ true
 not_zero n = grind (arith, nat_tests)
 
 -- a value: a text without control characters that isn't empty
 pub value_of : (b : ℕ) (text : List ℕ) → Shown (b ∷ text) → is_value (b ∷ text) ≡ true
-value_of b text h = and (not (suc (length text) == 0)) (list_all is_shown (b ∷ text)) (not_zero (length text)) (bytes_shown (b ∷ text) h)
+value_of b text h = and_from (not (suc (length text) == 0)) (list_all is_shown (b ∷ text)) (not_zero (length text)) (bytes_shown (b ∷ text) h)
 
 no_bars : (text : List ℕ) → Clear text → list_all (λ b. not (b == 124)) text ≡ true
 no_bars [] h = refl
-no_bars (b ∷ text) h = and (not (b == 124)) (list_all (λ b. not (b == 124)) text) h.0.1 (no_bars text h.1)
+no_bars (b ∷ text) h = and_from (not (b == 124)) (list_all (λ b. not (b == 124)) text) h.0.1 (no_bars text h.1)
 
 pub clear_shown : (text : List ℕ) → Clear text → Shown text
 clear_shown [] h = tt
 clear_shown (b ∷ text) h = (h.0.0, clear_shown text h.1)
 
 pub path_of : (b : ℕ) (text : List ℕ) → Clear (b ∷ text) → IsPath (b ∷ text)
-path_of b text h = and (is_value (b ∷ text)) (list_all (λ b. not (b == 124)) (b ∷ text)) (value_of b text (clear_shown (b ∷ text) h)) (no_bars (b ∷ text) h)
+path_of b text h = and_from (is_value (b ∷ text)) (list_all (λ b. not (b == 124)) (b ∷ text)) (value_of b text (clear_shown (b ∷ text) h)) (no_bars (b ∷ text) h)
 
 clear_both : (text : List ℕ) → list_all is_shown text ≡ true → list_all (λ b. not (b == 124)) text ≡ true → Clear text
 clear_both [] h k = tt
 clear_both (b ∷ text) h k =
-    let s = both (is_shown b) (list_all is_shown text) h in
-    let t = both (not (b == 124)) (list_all (λ b. not (b == 124)) text) k in
+    let s = and_parts (is_shown b) (list_all is_shown text) h in
+    let t = and_parts (not (b == 124)) (list_all (λ b. not (b == 124)) text) k in
     ((s.0, t.0), clear_both text s.1 t.1)
 
 pub path_clear : (text : List ℕ) → IsPath text → Clear text
 path_clear [] h = tt
 path_clear (b ∷ text) h =
-    let s = both (is_value (b ∷ text)) (list_all (λ b. not (b == 124)) (b ∷ text)) h in
-    let v = both (not (suc (length text) == 0)) (list_all is_shown (b ∷ text)) s.0 in
+    let s = and_parts (is_value (b ∷ text)) (list_all (λ b. not (b == 124)) (b ∷ text)) h in
+    let v = and_parts (not (suc (length text) == 0)) (list_all is_shown (b ∷ text)) s.0 in
     clear_both (b ∷ text) v.1 s.1
 
 -- a text that is written out
@@ -122,11 +117,7 @@ target_shown Asan = tt
 
 -- a number, which is part of some variant's name
 decimal_shown : VariantNamesArePlain → (n : ℕ) → Shown (decimal n)
-decimal_shown plain n = (clear_shown (codes "t" ++ decimal n) (plain_clear (codes "t" ++ decimal n) (subst (λ l. AllByRecursion (λ c. is_label_byte c ≡ true) l) (no_more (codes "t" ++ decimal n)) (plain (PerSource n ∷ []))))).1
-  where
-    no_more : (text : List ℕ) → text ++ [] ≡ text
-    no_more [] = refl
-    no_more (b ∷ text) = ap (λ l. b ∷ l) (no_more text)
+decimal_shown plain n = (clear_shown (codes "t" ++ decimal n) (plain_clear (codes "t" ++ decimal n) (subst (λ l. AllByRecursion (λ c. is_label_byte c ≡ true) l) (append-nil (codes "t" ++ decimal n)) (plain (PerSource n ∷ []))))).1
 
 pub level_shown : VariantNamesArePlain → (level : ℕ) → AllByRecursion Shown (level_words level)
 level_shown plain level = by (level == 10000)

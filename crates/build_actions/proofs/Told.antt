@@ -1,5 +1,5 @@
 -- Outputs of nodes that are told apart by their names.
-use Rattle.std.proofs.Common.{◌≡◌, ◌≢◌, ◌<◌, ◌++◌, ◌⊎◌, inl, inr, ℕ, List, [], ◌∷◌, ◌||◌, ◌==◌, Bool, true, false, length, drop, get_or, Option, Some, None, Ok, refl, sym, ap, subst, ◌∙◌, append_assoc, arith, zero, suc}
+use Rattle.std.proofs.Common.{◌≡◌, ◌≢◌, ◌<◌, ◌++◌, ◌⊎◌, inl, inr, ℕ, List, [], ◌∷◌, ◌||◌, ◌==◌, Bool, true, false, length, drop, get_or, Option, Some, None, Ok, refl, sym, ap, subst, ◌∙◌, append_assoc, arith}
 use Rattle.std.specs.Prelude.{codes, slice_get}
 use Rattle.std.specs.Option.{option_map_or}
 use Rattle.std.specs.List.{AllByRecursion, AllPairs, flat_map}
@@ -8,8 +8,10 @@ use Rattle.std.proofs.lemmas.List.{append_cancel_left}
 use Rattle.std.proofs.lemmas.Option.{slice_get_within, get_or_from_slice_get}
 use Rattle.std.proofs.lemmas.Grind.{flat_map-append}
 use Rattle.bp_faults.specs.declared.place.Item.{Item}
+use Rattle.bp_faults.proofs.Lists.{all_append, Apart, apart_pairs, pairs_apart, apart_append, all_map}
 use Rattle.module_graph.specs.declared.graph.Node.{Node}
 use Rattle.std.proofs.lemmas.Bool.Decides.{nat_tests}
+use Rattle.std.proofs.lemmas.List.Elements.{All-from_recursion, recursion_from_All}
 use Rattle.module_graph.specs.Names.{is_label_byte, variant_name_of}
 use Rattle.module_graph.specs.Laws.{VariantNamesArePlain}
 use Rattle.build_actions.specs.Variants.{AreOnAxes}
@@ -31,7 +33,7 @@ use Rattle.build_actions.specs.Products.{product_step}
 use Rattle.build_actions.specs.Acts.{files_alone, objects_of, made_of, acts_by, acts, acts_at}
 use Rattle.build_actions.specs.File.{all_path, all_step, file_of_actions}
 use Rattle.build_actions.specs.Laws.{has_slash, AreTold, made_below, AreMade}
-use Rattle.build_actions.proofs.Differing.{all_append, Apart, Across, apart_pairs, pairs_apart, all_at, apart_append, apart_flat, all_flat, all_each}
+use Rattle.build_actions.proofs.Differing.{Across, apart_flat, all_flat}
 use Rattle.build_actions.proofs.Separated.{before_it}
 use Rattle.build_actions.proofs.Outputs.{Differ, then_ok, objects_differ, objects_all, compiles_outs}
 
@@ -133,7 +135,7 @@ module _ (ms : List Module) (nodes : List (Node Props)) where
       by_owner x node None e k = nothing n made (let same : files_alone [] ≡ made = cc in same)
       by_owner x node (Some m) e k =
           let o = acts_outputs ms nodes m x ins made (role_of m.kind) k in
-          record { each = all_each (IsBelow m x) (IsOf n) (λ out b. record { m = m; x = x; node = node; owner = e; below = b }) (node_outs made) o.below; differ = o.differ }
+          record { each = all_map (IsBelow m x) (IsOf n) (λ out b. record { m = m; x = x; node = node; owner = e; below = b }) (node_outs made) o.below; differ = o.differ }
 
       by_node : (o : Option (Node Props)) → slice_get nodes n ≡ o → option_map_or (λ (x : Node Props). option_map_or (λ m. acts ms nodes m x ins) (slice_get ms x.module.0) (Ok (files_alone []))) o (Ok (files_alone [])) ≡ Ok made → OutputsOf n made
       by_node None e k = nothing n made (let same : files_alone [] ≡ made = cc in same)
@@ -169,16 +171,16 @@ module _ (ms : List Module) (nodes : List (Node Props)) where
     variants_differ = λ i j d lt within owner same.
         told.distinct i j d lt within owner
         (told_by_name (get_or nodes i d).vars (get_or nodes j d).vars
-        (all_at (λ (x : Node Props). AreOnAxes x.vars) nodes i d (omega arith) told.on_axes)
-        (all_at (λ (x : Node Props). AreOnAxes x.vars) nodes j d within told.on_axes) same);
+        (All-from_recursion (λ (x : Node Props). AreOnAxes x.vars) nodes told.on_axes i d (omega arith))
+        (All-from_recursion (λ (x : Node Props). AreOnAxes x.vars) nodes told.on_axes j d within) same);
   }
 
   module _ (told : AreNamed) where
     name_free : (p : ℕ) (m : Module) → slice_get ms p ≡ Some m → has_slash m.name ≡ false
-    name_free p m is = subst (λ (a : Module). has_slash a.name ≡ false) (get_or_from_slice_get ms p m m is) (all_at (λ (a : Module). has_slash a.name ≡ false) ms p m (slice_get_within ms p m is) told.names)
+    name_free p m is = subst (λ (a : Module). has_slash a.name ≡ false) (get_or_from_slice_get ms p m m is) (All-from_recursion (λ (a : Module). has_slash a.name ≡ false) ms told.names p m (slice_get_within ms p m is))
 
     variant_free : (n : ℕ) (x : Node Props) → slice_get nodes n ≡ Some x → has_slash (variant_name_of x.vars) ≡ false
-    variant_free n x is = subst (λ (y : Node Props). has_slash (variant_name_of y.vars) ≡ false) (get_or_from_slice_get nodes n x x is) (all_at (λ (y : Node Props). has_slash (variant_name_of y.vars) ≡ false) nodes n x (slice_get_within nodes n x is) told.variants)
+    variant_free n x is = subst (λ (y : Node Props). has_slash (variant_name_of y.vars) ≡ false) (get_or_from_slice_get nodes n x x is) (All-from_recursion (λ (y : Node Props). has_slash (variant_name_of y.vars) ≡ false) nodes told.variants n x (slice_get_within nodes n x is))
 
     names_apart : (p q : ℕ) (a b : Module) → slice_get ms p ≡ Some a → slice_get ms q ≡ Some b → p < q → a.name ≢ b.name
     names_apart p q a b ha hb lt =
@@ -214,27 +216,23 @@ module _ (ms : List Module) (nodes : List (Node Props)) where
         let e : codes "out/m/" ++ (a.m.name ++ 47 ∷ (variant_name_of a.x.vars ++ 47 ∷ a.below.rest)) ≡ codes "out/all" = sym (spread a.m a.x a.below.rest) ∙ sym a.below.is ∙ same in
         unlike 109 97 (omega arith) (ap (λ l. get_or l 4 0) e)
 
-    all_from : {A : Type 0} (P : A → Type 0) (xs : List A) → ((n : ℕ) (d : A) → n < length xs → P (get_or xs n d)) → AllByRecursion P xs
-    all_from P [] h = tt
-    all_from P (x ∷ xs) h = (h zero x (omega arith), all_from P xs (λ n d lt. h (suc n) d (omega arith)))
-
     module _ (made : List Actions) (are : AreMade ms nodes made) where
       outputs : (n : ℕ) (d : Actions) → n < length made → OutputsOf n (get_or made n d)
       outputs n d lt = outputs_at_node n (made_below nodes made n d) (get_or made n d) (are.each n d lt)
 
       across : (i j : ℕ) (d : Actions) → i < j → j < length made → Across node_outs Differ (get_or made i d) (get_or made j d)
       across i j d lt within =
-          all_each (IsOf i) (λ o. AllByRecursion (Differ o) (node_outs (get_or made j d)))
-          (λ o a. all_each (IsOf j) (Differ o) (λ p b. nodes_apart i j o p lt a b) (node_outs (get_or made j d)) (outputs j d within).each)
+          all_map (IsOf i) (λ o. AllByRecursion (Differ o) (node_outs (get_or made j d)))
+          (λ o a. all_map (IsOf j) (Differ o) (λ p b. nodes_apart i j o p lt a b) (node_outs (get_or made j d)) (outputs j d within).each)
           (node_outs (get_or made i d)) (outputs i d (omega arith)).each
 
       nodes_outs : Apart Differ (flat_map node_outs made)
-      nodes_outs = apart_flat node_outs Differ made (all_from (λ a. Apart Differ (node_outs a)) made (λ n d lt. (outputs n d lt).differ)) (apart_pairs (Across node_outs Differ) made across)
+      nodes_outs = apart_flat node_outs Differ made (recursion_from_All (λ a. Apart Differ (node_outs a)) made (λ n d lt. (outputs n d lt).differ)) (apart_pairs (Across node_outs Differ) made across)
 
       not_all : AllByRecursion (λ o. AllByRecursion (Differ o) (all_path ∷ [])) (flat_map node_outs made)
       not_all = all_flat node_outs (λ o. AllByRecursion (Differ o) (all_path ∷ [])) made
-          (all_from (λ a. AllByRecursion (λ o. AllByRecursion (Differ o) (all_path ∷ [])) (node_outs a)) made
-          (λ n d lt. all_each (IsOf n) (λ o. AllByRecursion (Differ o) (all_path ∷ [])) (λ o a. (no_all n o a, tt)) (node_outs (get_or made n d)) (outputs n d lt).each))
+          (recursion_from_All (λ a. AllByRecursion (λ o. AllByRecursion (Differ o) (all_path ∷ [])) (node_outs a)) made
+          (λ n d lt. all_map (IsOf n) (λ o. AllByRecursion (Differ o) (all_path ∷ [])) (λ o a. (no_all n o a, tt)) (node_outs (get_or made n d)) (outputs n d lt).each))
 
       joined : (xs : List Actions) → outs (flat_map (λ (node : Actions). node.statements) xs) ≡ flat_map node_outs xs
       joined [] = refl

@@ -4,9 +4,10 @@ use Rattle.std.specs.Prelude.{codes, IsTrue, Contains, slice_get, slice_index_or
 use Rattle.std.specs.Option.{option_map_or}
 use Rattle.std.specs.List.{AllByRecursion, flat_map, filter_map, cons_option}
 use Rattle.std.proofs.lemmas.Option.{slice_get_within, get_or_from_slice_get}
+use Rattle.std.proofs.lemmas.List.Elements.{All-from_recursion, recursion_from_All}
 use Rattle.bp_faults.specs.declared.ids.NodeId.{NodeId}
 use Rattle.bp_faults.specs.declared.place.Item.{Item}
-use Rattle.bp_faults.proofs.Lists.{all_map, both as each_both}
+use Rattle.bp_faults.proofs.Lists.{all_map, both as each_both, all_append, all_image, all_split}
 use Rattle.module_graph.specs.declared.direction.Direction.TheVariants.{BottomUp}
 use Rattle.module_graph.specs.declared.graph.Edge.{Edge}
 use Rattle.module_graph.specs.declared.graph.Node.{Node}
@@ -37,7 +38,7 @@ use Rattle.build_actions.specs.Products.{is_whole, is_data, outputs_at, data_out
 use Rattle.build_actions.specs.Acts.{files_alone, objects_of, made_of, acts_by, acts, acts_at}
 use Rattle.build_actions.specs.Laws.{made_below, AreMade}
 use Rattle.build_actions.specs.Writable.{has_shown_bytes, flag_words, AreWritable}
-use Rattle.build_actions.proofs.Differing.{all_append, all_image, all_at, all_flat}
+use Rattle.build_actions.proofs.Differing.{all_flat}
 use Rattle.build_actions.proofs.Outputs.{then_ok}
 use Rattle.build_actions.proofs.Shown.{IsPath, Shown, Clear, shown_of, clear_if, clear_append, path_clear, path_of, plain_clear, joined_shown, target_shown, level_shown, includes_shown}
 use Rattle.build_actions.proofs.Fitting.{six, AreVariables, apart_texts, two_variables, three_variables, fits, no_variables, rule_at, kept_all, Fits, steps_fit, objects_fit}
@@ -92,10 +93,6 @@ headers_good (f ∷ files) h = by (is_header f) (headers_good files h.1)
     by true rest = (h.0, rest)
     by false rest = rest
 
-taken_first : {A : Type 0} (P : A → Type 0) (xs ys : List A) → AllByRecursion P (xs ++ ys) → AllByRecursion P xs × AllByRecursion P ys
-taken_first P [] ys h = (tt, h)
-taken_first P (x ∷ xs) ys h = let r = taken_first P xs ys h.1 in ((h.0, r.0), r.1)
-
 pub record AreWords (p : Props) : Type 0 where
   pub c : AllByRecursion Shown p.base.cflags.items
   pub conly : AllByRecursion Shown p.base.conlyflags.items
@@ -107,11 +104,11 @@ pub record AreWords (p : Props) : Type 0 where
 words_are : (p : Props) → AllByRecursion (λ w. IsTrue (has_shown_bytes w)) (flag_words p) → AreWords p
 words_are p h =
     let all = all_map (λ w. IsTrue (has_shown_bytes w)) Shown (λ w k. shown_of w k) (flag_words p) h in
-    let a = taken_first Shown p.base.cflags.items (p.base.conlyflags.items ++ (p.base.cppflags.items ++ (p.base.asflags.items ++ (p.base.ldflags.items ++ p.includes)))) all in
-    let b = taken_first Shown p.base.conlyflags.items (p.base.cppflags.items ++ (p.base.asflags.items ++ (p.base.ldflags.items ++ p.includes))) a.1 in
-    let d = taken_first Shown p.base.cppflags.items (p.base.asflags.items ++ (p.base.ldflags.items ++ p.includes)) b.1 in
-    let e = taken_first Shown p.base.asflags.items (p.base.ldflags.items ++ p.includes) d.1 in
-    let f = taken_first Shown p.base.ldflags.items p.includes e.1 in
+    let a = all_split Shown p.base.cflags.items (p.base.conlyflags.items ++ (p.base.cppflags.items ++ (p.base.asflags.items ++ (p.base.ldflags.items ++ p.includes)))) all in
+    let b = all_split Shown p.base.conlyflags.items (p.base.cppflags.items ++ (p.base.asflags.items ++ (p.base.ldflags.items ++ p.includes))) a.1 in
+    let d = all_split Shown p.base.cppflags.items (p.base.asflags.items ++ (p.base.ldflags.items ++ p.includes)) b.1 in
+    let e = all_split Shown p.base.asflags.items (p.base.ldflags.items ++ p.includes) d.1 in
+    let f = all_split Shown p.base.ldflags.items p.includes e.1 in
     record { c = a.0; conly = b.0; cpp = d.0; assembler = e.0; ld = f.0; includes = f.1 }
 
 module _ (plain : VariantNamesArePlain) where
@@ -172,7 +169,7 @@ module _ (plain : VariantNamesArePlain) where
 
   module _ (ms : List Module) (nodes : List (Node Props)) (write : AreWritable ms nodes) where
     name_good : (p : ℕ) (m : Module) → slice_get ms p ≡ Some m → IsPath m.name
-    name_good p m is = subst (λ (a : Module). IsPath a.name) (get_or_from_slice_get ms p m m is) (all_at (λ (a : Module). IsPath a.name) ms p m (slice_get_within ms p m is) write.names)
+    name_good p m is = subst (λ (a : Module). IsPath a.name) (get_or_from_slice_get ms p m m is) (All-from_recursion (λ (a : Module). IsPath a.name) ms write.names p m (slice_get_within ms p m is))
 
     by_role : (role : Role) (path : List ℕ) → IsPath path → AllByRecursion IsPath (cons_option (output_by role path) [])
     by_role Makes path h = (h, tt)
@@ -245,9 +242,9 @@ module _ (plain : VariantNamesArePlain) where
     fine_at : (n : ℕ) (x : Node Props) → slice_get nodes n ≡ Some x → IsFine x
     fine_at n x is = record {
       sources = subst (λ (y : Node Props). AllByRecursion (λ (s : Source). s.named ≡ false → IsTrue (is_path s.item.text)) y.payload.base.srcs.items) (get_or_from_slice_get nodes n x x is)
-          (all_at (λ (y : Node Props). AllByRecursion (λ (s : Source). s.named ≡ false → IsTrue (is_path s.item.text)) y.payload.base.srcs.items) nodes n x (slice_get_within nodes n x is) write.sources);
+          (All-from_recursion (λ (y : Node Props). AllByRecursion (λ (s : Source). s.named ≡ false → IsTrue (is_path s.item.text)) y.payload.base.srcs.items) nodes write.sources n x (slice_get_within nodes n x is));
       words = words_are x.payload (subst (λ (y : Node Props). AllByRecursion (λ w. IsTrue (has_shown_bytes w)) (flag_words y.payload)) (get_or_from_slice_get nodes n x x is)
-          (all_at (λ (y : Node Props). AllByRecursion (λ w. IsTrue (has_shown_bytes w)) (flag_words y.payload)) nodes n x (slice_get_within nodes n x is) write.words));
+          (All-from_recursion (λ (y : Node Props). AllByRecursion (λ w. IsTrue (has_shown_bytes w)) (flag_words y.payload)) nodes write.words n x (slice_get_within nodes n x is)));
     }
 
     files_good : (x : Node Props) (ins : List Actions) → IsFine x → AllByRecursion IsGood ins → AllByRecursion IsFile (files_of ms nodes x ins)
@@ -288,9 +285,5 @@ module _ (plain : VariantNamesArePlain) where
           (λ m h. good_below fuel m d (let a = h.0 in omega arith) h.1) (targets nodes n) all)
           (are.each n d (omega arith))
 
-      every : {A : Type 0} (P : A → Type 0) (xs : List A) → ((n : ℕ) (d : A) → n < length xs → P (get_or xs n d)) → AllByRecursion P xs
-      every P [] h = tt
-      every P (x ∷ xs) h = (h zero x (omega arith), every P xs (λ n d lt. h (suc n) d (omega arith)))
-
       pub all_good : AllByRecursion IsGood made
-      all_good = every IsGood made (λ n d lt. good_below (suc (free.rank n)) n d (omega arith) (let many = are.many in omega arith))
+      all_good = recursion_from_All IsGood made (λ n d lt. good_below (suc (free.rank n)) n d (omega arith) (let many = are.many in omega arith))

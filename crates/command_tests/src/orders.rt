@@ -1,8 +1,8 @@
 //! Replays along order files, of four modules of which one is needed by two ways.
 
-use bp_faults::OutOfMemory;
+use bp_faults::{OutOfMemory, Text};
 use bp_ports::MemStore;
-use memory_runs::{BUILD, end_of, put, store_of, tree_of};
+use memory_runs::{BUILD, end_of, put, store_of, store_that_fails, tree_of};
 use std::alloc::Global;
 use std::test::Fail;
 use std::thread::Threads;
@@ -45,23 +45,34 @@ fn order(alloc: Global, (early, up, down): Nodes, last: u32) -> Result<String, O
     Ok(lines)
 }
 
-// The tree and an order file.
-fn store_with(alloc: Global, order: &str) -> Result<MemStore, OutOfMemory> {
-    let mut tree = tree_of(alloc, TREE)?;
-    put(alloc, "order.txt", order.as_bytes(), &mut tree)?;
-    store_of(alloc, tree)
+// A tree, and an order file of these bytes.
+fn tree_with(alloc: Global, text: &str, order: &[u8]) -> Result<Vec<(Text, Vec<u8>)>, OutOfMemory> {
+    let mut tree = tree_of(alloc, text)?;
+    put(alloc, "order.txt", order, &mut tree)?;
+    Ok(tree)
 }
 
-// Whether the order is refused with this line, and OUT isn't written.
+// Whether a replay over these files is refused with this line, and OUT isn't written.
+fn refuses_files<R: Threads + Sync>(
+    rt: &R,
+    alloc: Global,
+    tree: Vec<(Text, Vec<u8>)>,
+    line: &str,
+) -> Result<bool, OutOfMemory> {
+    let mut store = store_of(alloc, tree)?;
+    let ended = end_of(rt, alloc, REPLAY, &mut store)?;
+    Ok(ended.tells(1, line) && store.held("build.ninja").is_none())
+}
+
+// Whether the order is refused with this line.
 fn refuses_order<R: Threads + Sync>(
     rt: &R,
     alloc: Global,
     order: &str,
     line: &str,
 ) -> Result<bool, OutOfMemory> {
-    let mut store = store_with(alloc, order)?;
-    let ended = end_of(rt, alloc, REPLAY, &mut store)?;
-    Ok(ended.tells(1, line) && store.held("build.ninja").is_none())
+    let tree = tree_with(alloc, TREE, order.as_bytes())?;
+    refuses_files(rt, alloc, tree, line)
 }
 
 /// First lines that no order has, and how a fault shows them.
@@ -121,7 +132,7 @@ fn replayed<R: Threads + Sync>(
     nodes: Nodes,
 ) -> Result<Vec<u8>, OutOfMemory> {
     let lines = order(alloc, nodes, 13)?;
-    let mut store = store_with(alloc, lines.as_str())?;
+    let mut store = store_of(alloc, tree_with(alloc, TREE, lines.as_bytes())?)?;
     written(rt, alloc, REPLAY, &mut store)
 }
 
@@ -175,5 +186,129 @@ fn untold<R: Threads + Sync>(
 #[test]
 fn illegal_orders(rt: HostRuntime) -> Result<(), Fail> {
     assert_eq!(rt; untold(&rt, rt.alloc(), ILLEGAL)?, None);
+    Ok(())
+}
+
+const MISSING: &str = "@Android.bp\ncc_binary { name: \"a\", static_libs: [\"b\"] }";
+
+/// A tree, its order file where there is one, and the line of the first of its two faults: of the list, of the order
+/// file as a whole, of the tree, of a mutator, and of a line of the order.
+const FAULTS: &[(&str, Option<&str>, &str)] = &[
+    (
+        "@../Android.bp\n",
+        None,
+        "list:1:1: error 33: bad path in list: ../Android.bp\n",
+    ),
+    (
+        "@Android.bp\nm",
+        None,
+        "order.txt:1:1: error 31: no such file\n",
+    ),
+    (
+        "@Android.bp\nm",
+        Some(""),
+        "Android.bp:1:2: error 7: unexpected token: end of file\n",
+    ),
+    (
+        MISSING,
+        Some("1 0\n2 0\n3 0\n4 0\n5 0\n6 0\n"),
+        "Android.bp:1:38: error 21: missing module: b\n",
+    ),
+    (
+        MISSING,
+        Some("1 0\n2 0\n3 0\n4 0\n5 0\n"),
+        "order.txt:6:1: error 36: order ends early\n",
+    ),
+];
+
+// Whether a replay over a tree and its order file is refused with this line.
+fn refuses_replay<R: Threads + Sync>(
+    rt: &R,
+    alloc: Global,
+    text: &str,
+    order: Option<&str>,
+    line: &str,
+) -> Result<bool, OutOfMemory> {
+    let tree = match order {
+        Some(order) => tree_with(alloc, text, order.as_bytes())?,
+        None => tree_of(alloc, text)?,
+    };
+    refuses_files(rt, alloc, tree, line)
+}
+
+#[test]
+fn faults_before_an_order(rt: HostRuntime) -> Result<(), Fail> {
+    for (tree, order, line) in FAULTS {
+        assert!(rt;
+            refuses_replay(&rt, rt.alloc(), tree, *order, line)?,
+            "{line}"
+        );
+    }
+    Ok(())
+}
+
+/// How many bytes an order file of one line has, at the limit and one beyond it, and the line of the fault.
+const LONG: &[(usize, &str)] = &[
+    (
+        1 << 26,
+        "order.txt:1:1: error 35: not ready: \
+            11111111111111111111111111111111111111111111111111111111111111111111111111111111\n",
+    ),
+    (
+        (1 << 26) + 1,
+        "order.txt:1:1: error 32: file is too large\n",
+    ),
+];
+
+// Whether an order file of so many bytes is refused with this line.
+fn refuses_long<R: Threads + Sync>(
+    rt: &R,
+    alloc: Global,
+    count: usize,
+    line: &str,
+) -> Result<bool, OutOfMemory> {
+    let order = vec![in alloc; b'1'; count]?;
+    let tree = tree_with(alloc, TREE, order.as_slice())?;
+    refuses_files(rt, alloc, tree, line)
+}
+
+#[test]
+fn order_files_at_the_limit_and_beyond(rt: HostRuntime) -> Result<(), Fail> {
+    for (count, line) in LONG {
+        assert!(rt; refuses_long(&rt, rt.alloc(), *count, line)?, "{line}");
+    }
+    Ok(())
+}
+
+/// The number of the call of the store that fails, the status, and the line. The calls are the list, the file that it
+/// names, the order file and OUT, in this order.
+const FAILING: &[(u32, u8, &str)] = &[
+    (1, 3, "bpgen: cannot read list\n"),
+    (2, 3, "bpgen: cannot read Android.bp\n"),
+    (3, 3, "bpgen: cannot read order.txt\n"),
+    (4, 4, "bpgen: cannot write build.ninja\n"),
+];
+
+// Whether a legal replay whose call of this number fails ends so, and OUT isn't written.
+fn fails_at<R: Threads + Sync>(
+    rt: &R,
+    alloc: Global,
+    call: u32,
+    status: u8,
+    line: &str,
+) -> Result<bool, OutOfMemory> {
+    let lines = order(alloc, FIRST, 13)?;
+    let tree = tree_with(alloc, TREE, lines.as_bytes())?;
+    let mut store = store_that_fails(alloc, tree, call)?;
+    let ended = end_of(rt, alloc, REPLAY, &mut store)?;
+    let is_last = store.calls() == call;
+    Ok(is_last && ended.tells(status, line) && store.held("build.ninja").is_none())
+}
+
+#[test]
+fn failing_store(rt: HostRuntime) -> Result<(), Fail> {
+    for (call, status, line) in FAILING {
+        assert!(rt; fails_at(&rt, rt.alloc(), *call, *status, line)?, "{line}");
+    }
     Ok(())
 }

@@ -5,6 +5,7 @@ use Rattle.std.specs.List.{list_all, list_any}
 use Rattle.std.specs.Option.{option_map_or}
 use Rattle.std.specs.Str.{bytes_eq}
 use Rattle.std.proofs.lemmas.List.{map-append}
+use Rattle.std.proofs.lemmas.Bool.{and_parts}
 use Rattle.clap.specs.Walk.{Row, Rule, Text, Walk, arg_by_id, at_row, default_rows, finished, first_of, has_row, more_values, nothing_held, reading_by, settled_rows, used_by_id, walk, walk_from, walked, with_default, with_values, without}
 use Rattle.clap.specs.Simple.{Shape, built, matches_of}
 use Rattle.clap.specs.Takes.{default_passes, is_given, is_valid, level_passes, settle_passes, takes, turn_passes, use_passes, walk_passes}
@@ -20,7 +21,7 @@ use Rattle.command_words.specs.Options.{option_name, options_of, is_required, is
 use Rattle.command_words.specs.Values.{is_option_value, with_first}
 use Rattle.command_words.specs.Rules.{app_for}
 use Rattle.command_words.specs.Words.{option_of, pair_with, option_pairs, is_same_option, are_plain_pairs, has_option, has_required, option_value}
-use Rattle.command_words.proofs.Walking.{Turn, awaits, both, built_rule, held, not_true, rules_are, rules_for, shape_for, simple, turn_of, value_met, value_passes}
+use Rattle.command_words.proofs.Walking.{Turn, awaits, built_rule, held, not_true, rules_are, rules_for, shape_for, simple, turn_of, value_met, value_passes}
 
 -- the row of a pair
 abbrev pub row_of : Pair → Row
@@ -53,7 +54,7 @@ used_new o value rows new =
 
 fresh : (before : List Pair) (p : Pair) (ps : List Pair) → has_none_twice is_same_option before (p ∷ ps) ≡ true → (has_row (option_name p.option) (rows_of before) ≡ false) × (has_none_twice is_same_option (before ++ p ∷ []) ps ≡ true)
 fresh before p ps once =
-    let h = both (not (list_any (λ q. is_same_option q p) before)) (has_none_twice is_same_option (before ++ p ∷ []) ps) once in
+    let h = and_parts (not (list_any (λ q. is_same_option q p) before)) (has_none_twice is_same_option (before ++ p ∷ []) ps) once in
     (sym (list_any-map (λ r. bytes_eq r.id (option_name p.option)) row_of before) ∙ not_true (list_any (λ q. is_same_option q p) before) h.0, h.1)
 
 -- ---- one pair
@@ -141,7 +142,7 @@ walks c (word ∷ []) before ps rows pending are values once stands = absurd (cc
 walks c (word ∷ value ∷ rest) before ps rows pending are values once stands =
     let first = first_pair c word value rest ps are in
     let p : Pair = record { option = first.option; value = value } in
-    let values_here = both (is_option_value value) (all_values first.more) (subst (λ (qs : List Pair). all_values qs ≡ true) first.are values) in
+    let values_here = and_parts (is_option_value value) (all_values first.more) (subst (λ (qs : List Pair). all_values qs ≡ true) first.are values) in
     let new = fresh before p first.more (subst (λ (qs : List Pair). has_none_twice is_same_option before qs ≡ true) first.are once) in
     let turn = turn_of c first.option word first.named in
     let settled = settled_rows (rules_for c) pending rows in
@@ -220,8 +221,8 @@ no_subcommands c = refl
 
 pub line : (c : CommandName) (words : List Text) (ps : List Pair) → option_pairs c (drop 1 words) ≡ Some ps → are_plain_pairs c ps ≡ true → Line c words ps
 line c words ps are plain =
-    let h = both (all_values ps) (has_none_twice is_same_option [] ps && has_required c ps) plain in
-    let k = both (has_none_twice is_same_option [] ps) (has_required c ps) h.1 in
+    let h = and_parts (all_values ps) (has_none_twice is_same_option [] ps && has_required c ps) plain in
+    let k = and_parts (has_none_twice is_same_option [] ps) (has_required c ps) h.1 in
     let w = walks c (drop 1 words) [] ps [] None are h.0 k.0 (record { rows_are = refl; passes = refl }) in
     let end : (walk (rules_for c) [] nothing_held (drop 1 words)).held ≡ held w.last_rows w.last_pending = ap (λ (at : Walk). at.held) w.ends in
     let rows : finished (rules_for c) (walk (rules_for c) [] nothing_held (drop 1 words)).held ≡ rows_of ps =

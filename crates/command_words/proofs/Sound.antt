@@ -11,6 +11,7 @@ use Rattle.std.proofs.lemmas.List.Elements.{All-nil, All-cons}
 use Rattle.std.proofs.lemmas.Slice.Eq.{bytes_eq-Decides}
 use Rattle.bp_faults.specs.Targets.{target_name}
 use Rattle.bp_faults.specs.declared.target.Target.{Target}
+use Rattle.bp_faults.specs.declared.limits.TheConstants.{MOST_WORKERS}
 use Rattle.command_words.specs.declared.command.CommandName.{CommandName}
 use Rattle.command_words.specs.declared.command.CommandName.TheVariants.{Build, Replay, Graph, Synth, Format, Edit}
 use Rattle.command_words.specs.declared.option.OptionName.TheVariants as option
@@ -53,7 +54,7 @@ number_within low high text =
 
 workers_sound : (given : Option (List ℕ)) → IfSome (workers_of given) AreWorkers
 workers_sound None = (lit≤ tt, lit≤ tt)
-workers_sound (Some text) = number_within 1 64 text
+workers_sound (Some text) = number_within 1 MOST_WORKERS text
 
 -- ---- targets
 

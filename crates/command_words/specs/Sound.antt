@@ -1,6 +1,7 @@
 -- What every configuration keeps, so that a caller need not know how words give one.
 use Rattle.std.specs.Prelude.{◌≡◌, ◌≢◌, ◌≤◌, ℕ, List, ◌∷◌, true, IfSome, ⊤}
 use Rattle.std.specs.List.{AllPairs, list_all}
+use Rattle.bp_faults.specs.declared.limits.TheConstants.{MOST_WORKERS}
 use Rattle.bp_faults.specs.declared.target.Target.{Target}
 use Rattle.command_words.specs.declared.configuration.Build.{Build}
 use Rattle.command_words.specs.declared.configuration.Configuration.{Configuration}
@@ -13,7 +14,7 @@ use Rattle.command_words.specs.Values.{is_first_byte, is_further_byte}
 
 -- There are 1 to 64 workers.
 abbrev pub AreWorkers : ℕ → Type 0
-AreWorkers n = (1 ≤ n) × (n ≤ 64)
+AreWorkers n = (1 ≤ n) × (n ≤ MOST_WORKERS)
 
 -- The targets differ.
 abbrev pub AreDistinctTargets : List Target → Type 0

@@ -280,7 +280,7 @@ fn configuration_behind(
         Some(pairs) if is_plain(command, pairs.as_slice()) => {
             match matches(alloc, command, words) {
                 Ok(matches) => configuration_by(alloc, command, &matches),
-                // Plain words are refused for want of memory alone.
+                // Plain words are refused for that memory ran out alone.
                 Err(_) => Err(OutOfMemory),
             }
         }

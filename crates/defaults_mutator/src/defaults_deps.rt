@@ -4,7 +4,7 @@ ghost use Rattle.defaults_mutator.specs.Asked.{defaults_asked};
 ghost use Rattle.defaults_mutator.specs.Idle.{names_no_defaults};
 ghost use Rattle.module_rules.specs.Rules.{asks};
 ghost use Rattle.module_rules.specs.Shaped.{asks_shaped};
-ghost use Rattle.mutator_rules.specs.Conditions.{MayRun, places_in};
+ghost use Rattle.mutator_rules.specs.Conditions.{MayRun, indices_in};
 ghost use Rattle.mutator_rules.specs.Idle.{LeavesAll};
 
 use crate::leaving::name_no_defaults;
@@ -45,7 +45,7 @@ impl<'a> DefaultsDeps<'a> {
 
     /// Whether the rule leaves every node of a graph as it is: no node names defaults.
     pub fn leaves_all(&self, g: &Graph<Record<'a>>) -> bool
-        requires { MayRun (places_in (length self.now)) g.now.nodes }
+        requires { MayRun (indices_in (length self.now)) g.now.nodes }
         ensures alone { IsTrue result → LeavesAll (asks defaults_asked self.now) g.now.nodes }
         ensures exact { result ≡ list_all names_no_defaults g.now.nodes }
     {
@@ -72,7 +72,7 @@ impl<'a> BottomUp<Record<'a>> for DefaultsDeps<'a> {
 
     ghost meaning = { λ rule. asks defaults_asked rule };
 
-    ghost accepts = { λ rule. places_in (length rule) };
+    ghost accepts = { λ rule. indices_in (length rule) };
 
     fn axis(&self) -> Option<Axis> {
         None

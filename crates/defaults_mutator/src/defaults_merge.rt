@@ -5,7 +5,7 @@ ghost use Rattle.defaults_mutator.specs.Idle.{has_no_edges};
 ghost use Rattle.defaults_mutator.specs.Merged.{over_defaults, defaults_merged};
 ghost use Rattle.module_rules.specs.Rules.{renews};
 ghost use Rattle.module_rules.specs.Shaped.{renews_shaped};
-ghost use Rattle.mutator_rules.specs.Conditions.{MayRun, places_in};
+ghost use Rattle.mutator_rules.specs.Conditions.{MayRun, indices_in};
 ghost use Rattle.mutator_rules.specs.Idle.{LeavesAll};
 
 use crate::following::followed;
@@ -46,7 +46,7 @@ impl<'a> DefaultsMerge<'a> {
 
     /// Whether the rule leaves every node of a graph as it is: it does where no node has edges, and says no else.
     pub fn leaves_all(&self, g: &Graph<Record<'a>>) -> bool
-        requires { MayRun (places_in (length self.now)) g.now.nodes }
+        requires { MayRun (indices_in (length self.now)) g.now.nodes }
         ensures alone { IsTrue result → LeavesAll (renews defaults_merged self.now) g.now.nodes }
         ensures exact { result ≡ list_all has_no_edges g.now.nodes }
     {
@@ -93,7 +93,7 @@ impl<'a> BottomUp<Record<'a>> for DefaultsMerge<'a> {
 
     ghost meaning = { λ rule. renews defaults_merged rule };
 
-    ghost accepts = { λ rule. places_in (length rule) };
+    ghost accepts = { λ rule. indices_in (length rule) };
 
     fn axis(&self) -> Option<Axis> {
         None

@@ -1,5 +1,6 @@
-ghost use Rattle.std.specs.Prelude.{◌≡◌, ◌++◌, ◌≤◌, ◌^◌, [], length, IfOk, OnOk, All};
+ghost use Rattle.std.specs.Prelude.{◌≡◌, ◌++◌, ◌≤◌, [], length, IfOk, OnOk, All};
 ghost use Rattle.std.specs.List.{cons_option};
+ghost use Rattle.bp_faults.specs.declared.limits.TheConstants.{LARGEST_FILE};
 ghost use Rattle.bp_lexer.specs.Meaning.{IsToken, IsTokenList};
 ghost use Rattle.fault_view.specs.ModuleNames.{AreNames, is_colon_token, is_string, is_name_entry, first_name};
 ghost use Rattle.fault_view.specs.ModuleNames.{token_names};
@@ -72,7 +73,7 @@ fn names_in(alloc: Global, text: &str, tokens: &[Token]) -> Result<Vec<Text>, Ou
 
 /// The names of the modules of a text, as its tokens tell them. A text that has no tokens has no names.
 pub fn module_names(alloc: Global, text: &str) -> Result<Vec<Text>, OutOfMemory>
-    requires { length text.now ≤ 2 ^ 20 }
+    requires { length text.now ≤ LARGEST_FILE }
     ensures { IfOk result (λ names. AreNames text.now names.items) }
 {
     // Laws: so there are no other tokens, and none where there is a fault.

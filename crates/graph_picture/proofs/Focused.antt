@@ -3,6 +3,7 @@ use Rattle.std.proofs.Common.{◌≡◌, ◌≢◌, ◌∙◌, ◌+◌, ◌<◌,
 use Rattle.std.specs.List.{AllByRecursion}
 use Rattle.std.proofs.lemmas.Bool.{cases_eq}
 use Rattle.std.proofs.lemmas.List.{length-map}
+use Rattle.std.proofs.lemmas.Option.{slice_get_within}
 use Rattle.bp_faults.proofs.Lists.{all_contained}
 use Rattle.graph_picture.specs.declared.focus.Focus.{Focus}
 use Rattle.graph_picture.specs.declared.variant.Arrow.{Arrow}
@@ -18,11 +19,6 @@ got : {X : Type 0} (xs : List X) (i : ℕ) (x : X) → i < length xs → x ≡ g
 got [] i x lt is = absurd (omega arith)
 got (y ∷ xs) zero x lt is = ap Some (sym is)
 got (y ∷ xs) (suc i) x lt is = got xs i x (omega arith) is
-
-got_inside : {X : Type 0} (xs : List X) (i : ℕ) (x : X) → slice_get xs i ≡ Some x → i < length xs
-got_inside [] i x e = absurd (let f : None ≡ Some x = e in cc)
-got_inside (y ∷ xs) zero x e = omega arith
-got_inside (y ∷ xs) (suc i) x e = omega (arith, got_inside xs i x e)
 
 got_all : {X : Type 0} (P : X → Type 0) (xs : List X) (i : ℕ) (x : X) → AllByRecursion P xs → slice_get xs i ≡ Some x → P x
 got_all P [] i x all e = absurd (let f : None ≡ Some x = e in cc)
@@ -63,7 +59,7 @@ pub numbers_all : (variants : List Variant) (owner numbers : List ℕ) (n : ℕ)
     → Contains numbers k ↔ IsOf variants owner k
 numbers_all variants owner numbers n le so_far k = (
   λ h. ((so_far k).0 h).1,
-  λ h. (so_far k).1 (omega (arith, got_inside variants k h.0 h.1), h),
+  λ h. (so_far k).1 (omega (arith, slice_get_within variants k h.0 h.1), h),
 )
 
 -- the targets of edges
@@ -107,7 +103,7 @@ module _ (Step Other : ℕ → ℕ → Type 0) where
 module _ (variants : List Variant) (focus : Focus) (starts : List ℕ)
     (of : (k : ℕ) → Contains starts k ↔ IsOf variants focus.module k) where
   pub starts_inside : (k : ℕ) → Contains starts k → k < length variants
-  starts_inside k h = let u = (of k).0 h in got_inside variants k u.0 u.1
+  starts_inside k h = let u = (of k).0 h in slice_get_within variants k u.0 u.1
 
   pub none_of : starts ≡ [] → (k : ℕ) → IsOf variants focus.module k → ⊥
   none_of none k h = contains_none k (subst (λ (l : List ℕ). Contains l k) none ((of k).1 h))

@@ -1,5 +1,5 @@
 -- Marks that grow level by level are exactly what is within so many steps.
-use Rattle.std.proofs.Common.{◌≡◌, ◌≢◌, ◌∙◌, ◌+◌, ◌≤◌, ◌⊎◌, inl, inr, ℕ, zero, suc, Bool, true, false, List, [], length, ap, sym, subst, refl, arith, take, replicate, ◌++◌, ◌∷◌, Contains}
+use Rattle.std.proofs.Common.{◌≡◌, ◌≢◌, ◌∙◌, ◌+◌, ◌≤◌, ◌⊎◌, inl, inr, ℕ, zero, suc, Bool, true, false, List, [], length, ap, sym, subst, refl, arith, take, replicate, ◌++◌, Contains}
 use Rattle.std.proofs.lemmas.Bool.{cases_eq}
 use Rattle.std.proofs.Math.Seq.{take-append_seam}
 use Rattle.graph_picture.specs.Growing.{Has, Grows, IsNext, IsWithin, IsLevel, MarkWithin}
@@ -120,10 +120,6 @@ module _ (lists : List (List ℕ)) (starts : List ℕ) where
 -- a vector that was lent as a slice
 pub lent_back : {X : Type 0} (n : ℕ) (new rest : List X) → n ≡ length new → take n (new ++ rest) ≡ new
 lent_back n new rest e = ap (λ (k : ℕ). take k (new ++ rest)) e ∙ take-append_seam new rest
-
-pub empty_is : {X : Type 0} (xs : List X) → length xs ≡ 0 → xs ≡ []
-empty_is [] e = refl
-empty_is (x ∷ xs) e = absurd (omega arith)
 
 -- marks that aren't set
 pub unset : (n k : ℕ) → mark_at (replicate n false) k ≡ false

@@ -2,7 +2,6 @@
 use Rattle.std.proofs.Common.{◌≡◌, ◌<◌, ◌++◌, ◌||◌, ℕ, zero, suc, List, [], ◌∷◌, Bool, true, false, cond, length, reverse, Option, Some, None, Result, Ok, Err, refl, sym, ap, subst, ◌∙◌}
 use Rattle.std.specs.List.{AllByRecursion, list_any, flat_map}
 use Rattle.std.specs.Str.{bytes_eq}
-use Rattle.std.proofs.lemmas.List.{reverse-append}
 use Rattle.std.proofs.lemmas.List.Folds.{list_any-append}
 use Rattle.bp_faults.specs.declared.ids.NodeId.{NodeId}
 use Rattle.bp_props.specs.declared.module.Module.{Module}
@@ -24,11 +23,7 @@ use Rattle.info_mutators.specs.Info.{is_same_node, line_part, shared_part, neede
 use Rattle.module_rules.specs.Results.{one_variant}
 use Rattle.info_mutators.specs.Laws.{HoldsNodes, InfoHoldsNodes, ExportsAreIncluded}
 use Rattle.info_mutators.proofs.Noted.{any_kept, any_reverse}
-use Rattle.bp_faults.proofs.Lists.{same_bytes}
-
-all_append : {A : Type 0} (P : A → Type 0) (xs ys : List A) → AllByRecursion P xs → AllByRecursion P ys → AllByRecursion P (xs ++ ys)
-all_append P [] ys h k = k
-all_append P (x ∷ xs) ys h k = (h.0, all_append P xs ys h.1 k)
+use Rattle.bp_faults.proofs.Lists.{same_bytes, all_append, all_flat, all_reversed}
 
 module _ {A : Type 0} (P : A → Type 0) where
   all_last : (same : A → A → Bool) (xs : List A) → AllByRecursion P xs → AllByRecursion P (last_of_each same xs)
@@ -39,16 +34,8 @@ module _ {A : Type 0} (P : A → Type 0) where
       by true rest = rest
       by false rest = (h.0, rest)
 
-  all_reverse : (xs : List A) → AllByRecursion P xs → AllByRecursion P (reverse xs)
-  all_reverse [] h = tt
-  all_reverse (x ∷ xs) h = subst (AllByRecursion P) (sym (reverse-append (x ∷ []) xs)) (all_append P (reverse xs) (x ∷ []) (all_reverse xs h.1) (h.0, tt))
-
   all_first : (same : A → A → Bool) (xs : List A) → AllByRecursion P xs → AllByRecursion P (first_of_each same xs)
-  all_first same xs h = all_reverse (last_of_each same (reverse xs)) (all_last same (reverse xs) (all_reverse xs h))
-
-  all_flat : {X : Type 0} (Q : X → Type 0) (f : X → List A) → ((x : X) → Q x → AllByRecursion P (f x)) → (xs : List X) → AllByRecursion Q xs → AllByRecursion P (flat_map f xs)
-  all_flat Q f each [] h = tt
-  all_flat Q f each (x ∷ xs) h = all_append P (f x) (flat_map f xs) (each x h.0) (all_flat Q f each xs h.1)
+  all_first same xs h = all_reversed P (last_of_each same (reverse xs)) (all_last same (reverse xs) (all_reversed P xs h))
 
 IsIn : ℕ → Dependency → Type 0
 IsIn count d = (d.node.0 < count) × HoldsNodes count d.props
@@ -98,9 +85,9 @@ needed_in count d h = by (is_archived d.kind)
 lists_in : (count : ℕ) (own : Props) (ds : List Dependency) → AllByRecursion (IsIn count) ds → HoldsNodes count (with_lists own ds)
 unfolding IsIn
 lists_in count own ds h =
-    let lines = all_flat (below count) (IsIn count) (λ (d : Dependency). line_part d.node d.props d.kind) (λ d i. linked_in count d.node d.props d.kind i.0 i.1) ds h in
-    let own_ones = all_flat (below count) (IsIn count) (λ (d : Dependency). shared_part d.node d.kind) (λ d i. shared_in count d.node d.kind i.0) ds h in
-    let more = all_flat (below count) (IsIn count) needed_part (λ d i. needed_in count d i.1) ds h in
+    let lines = all_flat (IsIn count) (below count) (λ (d : Dependency). line_part d.node d.props d.kind) (λ d i. linked_in count d.node d.props d.kind i.0 i.1) ds h in
+    let own_ones = all_flat (IsIn count) (below count) (λ (d : Dependency). shared_part d.node d.kind) (λ d i. shared_in count d.node d.kind i.0) ds h in
+    let more = all_flat (IsIn count) (below count) needed_part (λ d i. needed_in count d i.1) ds h in
     record {
       line = all_last (below count) is_same_node (flat_map (λ (d : Dependency). line_part d.node d.props d.kind) ds) lines;
       slibs = all_first (below count) is_same_node (flat_map (λ (d : Dependency). shared_part d.node d.kind) ds ++ flat_map needed_part ds) (all_append (below count) (flat_map (λ (d : Dependency). shared_part d.node d.kind) ds) (flat_map needed_part ds) own_ones more);

@@ -7,6 +7,7 @@ use Rattle.std.proofs.lemmas.List.{map-append}
 use Rattle.std.proofs.lemmas.List.Folds.{list_any-append}
 use Rattle.indexmap.specs.IndexSet.{insert_key}
 use Rattle.bp_faults.specs.declared.ids.NodeId.{NodeId}
+use Rattle.bp_faults.proofs.Lists.{get_else}
 use Rattle.pass_core.specs.Orders.{numbers}
 use Rattle.info_mutators.specs.Inside.{is_noted_by, KnowsNoted, NotesOther, StaysNoted}
 use Rattle.info_mutators.proofs.Noted.{or_false}
@@ -25,18 +26,11 @@ other_number a b ne = by (nat_eq a b) refl
     by true e = absurd (ne (eqb-true a b e))
     by false e = refl
 
--- a slot that is written, and the others
+-- a slot that is written
 get_set_here : (xs : List ℕ) (i v x : ℕ) → slice_get xs i ≡ Some x → slice_get (set xs i v) i ≡ Some v
 get_set_here [] i v x e = cc
 get_set_here (y ∷ ys) zero v x e = refl
 get_set_here (y ∷ ys) (suc i) v x e = get_set_here ys i v x e
-
-get_set_there : (xs : List ℕ) (i j v : ℕ) → j ≢ i → slice_get (set xs i v) j ≡ slice_get xs j
-get_set_there [] i j v ne = refl
-get_set_there (y ∷ ys) zero zero v ne = absurd (ne refl)
-get_set_there (y ∷ ys) zero (suc j) v ne = refl
-get_set_there (y ∷ ys) (suc i) zero v ne = refl
-get_set_there (y ∷ ys) (suc i) (suc j) v ne = get_set_there ys i j v (λ e. ne (ap suc e))
 
 -- a list with one number more
 any_last : (x : ℕ) (xs : List ℕ) → list_any (nat_eq x) (xs ++ x ∷ []) ≡ true
@@ -90,7 +84,7 @@ module _ (mask : ℕ) (slots others noted : List ℕ) (knows : KnowsNoted mask s
           ∙ owned_by_other others (x + 1) y (λ z. omega (arith, z)) (λ z. ne (omega (arith, z)))
           ∙ no_other y same (list_any (nat_eq y) others) refl ∙ sym (any_before y x noted ne)
       there y ne false e =
-          ap (λ o. is_noted_by o others y) (get_set_there slots (bit_and x mask) (bit_and y mask) (x + 1) (eqb-false (bit_and y mask) (bit_and x mask) e))
+          ap (λ o. is_noted_by o others y) (get_else slots (bit_and x mask) (bit_and y mask) (x + 1) (eqb-false (bit_and y mask) (bit_and x mask) e))
           ∙ knows.found y ∙ sym (any_before y x noted ne)
 
       here : (y : ℕ) → (b : Bool) → nat_eq y x ≡ b

@@ -2,7 +2,7 @@ ghost use Rattle.std.specs.Prelude.{◌≡◌, ◌<◌, IfOk, None, map, length}
 ghost use Rattle.std.specs.Arc.{arc_value};
 ghost use Rattle.std.specs.List.{AllByRecursion};
 ghost use Rattle.module_graph.specs.declared.graph.Edge.{Edge};
-ghost use Rattle.mutator_rules.specs.Conditions.{MayRun, places_in};
+ghost use Rattle.mutator_rules.specs.Conditions.{MayRun, indices_in};
 ghost use Rattle.info_mutators.specs.Dependencies.{dependencies_of};
 ghost use Rattle.info_mutators.specs.Info.{too_long, with_short_lists, info_meant};
 ghost use Rattle.info_mutators.specs.Shaped.{info_shaped};
@@ -29,7 +29,7 @@ fn dependencies_of<'a, 'm>(
     edges: &'a [Edge],
     made: &'a [Arc<Split<Record<'m>>>],
 ) -> Result<Vec<Dependency<'a, 'm>>, OutOfMemory>
-    requires may { MayRun (places_in (length mods.now)) g.now.nodes }
+    requires may { MayRun (indices_in (length mods.now)) g.now.nodes }
     requires ends { AllByRecursion (λ (e : Edge). e.to.0 < length g.now.nodes) edges.now }
     requires each { length made.now ≡ length edges.now }
     ensures { IfOk result
@@ -106,7 +106,7 @@ impl<'a> BottomUp<Record<'a>> for Info<'a> {
 
     ghost meaning = { λ rule. info_meant rule };
 
-    ghost accepts = { λ rule. places_in (length rule) };
+    ghost accepts = { λ rule. indices_in (length rule) };
 
     fn axis(&self) -> Option<Axis> {
         None

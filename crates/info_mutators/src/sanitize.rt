@@ -2,7 +2,7 @@ ghost use Rattle.std.specs.Prelude.{◌≡◌, ◌&&◌, IfOk, IsTrue, OnOk, map
 ghost use Rattle.std.specs.Arc.{arc_value};
 ghost use Rattle.std.specs.List.{list_all};
 ghost use Rattle.info_mutators.specs.Dependencies.{is_archived};
-ghost use Rattle.mutator_rules.specs.Conditions.{places_in};
+ghost use Rattle.mutator_rules.specs.Conditions.{indices_in};
 ghost use Rattle.mutator_rules.specs.Idle.{KeepsPayloads, WantsNothing};
 ghost use Rattle.info_mutators.specs.Idle.{is_off, is_unsanitized};
 ghost use Rattle.info_mutators.specs.Sanitize.{outgoing_of, incoming_of};
@@ -115,7 +115,7 @@ impl<'a> Sanitize<'a> {
 impl<'a> Transition<Record<'a>> for Sanitize<'a> {
     ghost meaning = { λ rule. sanitize_meant };
 
-    ghost accepts = { λ rule. places_in (length rule) };
+    ghost accepts = { λ rule. indices_in (length rule) };
 
     fn axis(&self) -> Axis {
         Axis::Sanitize

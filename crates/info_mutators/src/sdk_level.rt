@@ -2,7 +2,7 @@ ghost use Rattle.std.specs.Prelude.{◌≡◌, IsTrue, Some, map, length, if◌t
 ghost use Rattle.std.specs.Arc.{arc_value};
 ghost use Rattle.std.specs.List.{list_all};
 ghost use Rattle.mutator_rules.specs.Arrivals.{kinds_into};
-ghost use Rattle.mutator_rules.specs.Conditions.{places_in};
+ghost use Rattle.mutator_rules.specs.Conditions.{indices_in};
 ghost use Rattle.mutator_rules.specs.Idle.{KeepsPayloads};
 ghost use Rattle.info_mutators.specs.Idle.{has_no_level};
 ghost use Rattle.info_mutators.specs.SdkLevel.{is_level_handed, lesser, least, handed_levels, own_level_or};
@@ -102,7 +102,7 @@ impl<'a> SdkLevel<'a> {
 impl<'a> TopDown<Record<'a>> for SdkLevel<'a> {
     ghost meaning = { λ rule. level_meant };
 
-    ghost accepts = { λ rule. places_in (length rule) };
+    ghost accepts = { λ rule. indices_in (length rule) };
 
     fn visit(
         &self,

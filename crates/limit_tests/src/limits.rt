@@ -330,8 +330,8 @@ type ManySources = (
     &'static str,
 );
 
-/// More text than OUT may have, since each source's statement has the flag; and more edges than a graph may have, since
-/// each source's variant has them.
+/// More text than OUT may have, since each source's statement has the flag; more edges than a graph may have, since
+/// each source's variant has them; and one variant more than a graph may have, behind those of four tests.
 const MANY_SOURCES: &[ManySources] = &[
     (
         "@Android.bp\ncc_binary { name: \"a\", srcs: [",
@@ -350,6 +350,19 @@ const MANY_SOURCES: &[ManySources] = &[
         65_536,
         "] }\ncc_library_static { name: \"z\" }",
         "Android.bp:2:15: error 30: too many: edges\n",
+    ),
+    (
+        "@Android.bp\nx = [",
+        65_536,
+        "]\n",
+        "",
+        0,
+        "cc_test { name: \"a\", test_per_src: true, srcs: x }\n\
+            cc_test { name: \"b\", test_per_src: true, srcs: x }\n\
+            cc_test { name: \"c\", test_per_src: true, srcs: x }\n\
+            cc_test { name: \"d\", test_per_src: true, srcs: x }\n\
+            cc_test { name: \"e\" }",
+        "Android.bp:6:1: error 30: too many: variants\n",
     ),
 ];
 

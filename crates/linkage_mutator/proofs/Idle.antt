@@ -1,8 +1,9 @@
 -- Nodes that the rule `plugins` leaves as they are.
-use Rattle.std.proofs.Common.{◌≡◌, ◌∙◌, ap, refl, arith, length, map, true, false, Bool, List, [], ◌∷◌, Result, Ok}
+use Rattle.std.proofs.Common.{◌≡◌, ◌∙◌, ap, refl, length, map, true, false, Bool, List, [], ◌∷◌, Result, Ok}
 use Rattle.std.specs.Prelude.{cond}
 use Rattle.std.specs.List.{AllByRecursion, list_all}
 use Rattle.std.proofs.lemmas.Bool.{and_parts, eqb-true}
+use Rattle.std.proofs.lemmas.List.{nil_from_length}
 use Rattle.bp_faults.specs.declared.fault.Fault.{Fault}
 use Rattle.bp_faults.specs.declared.place.Item.{Item}
 use Rattle.bp_props.specs.declared.module.Module.{Module}
@@ -16,10 +17,6 @@ use Rattle.module_rules.specs.Idle.{LeavesNode}
 use Rattle.module_rules.specs.Results.{one_variant}
 use Rattle.linkage_mutator.specs.Idle.{is_no_plugin}
 use Rattle.linkage_mutator.specs.Plugins.{is_shared, plugin_request, plugins_asked}
-
-none_in : {X : Type 0} (xs : List X) → length xs ≡ 0 → xs ≡ []
-none_in [] is = refl
-none_in (x ∷ xs) is = absurd (omega arith)
 
 abbrev no_requests : List Request
 no_requests = []
@@ -37,7 +34,7 @@ module _ (mods : List Module) where
   leave_plugins [] is = tt
   leave_plugins (x ∷ nodes) is =
       let parts = and_parts (is_no_plugin x) (list_all is_no_plugin nodes) is in
-      let none = none_in x.payload.plugin_of.items (eqb-true (length x.payload.plugin_of.items) 0 parts.0) in
+      let none = nil_from_length x.payload.plugin_of.items (eqb-true (length x.payload.plugin_of.items) 0 parts.0) in
       let shared = is_shared (variation_on Link x.vars) in (
         λ m ins. ap (λ (items : List Item). answered (one_variant x.payload
             (cond shared (map (plugin_request mods x.vars) items) []))) none

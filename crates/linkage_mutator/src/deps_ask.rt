@@ -3,7 +3,7 @@ ghost use Rattle.linkage_mutator.specs.Deps.{named_items, libraries_asked, deps_
 ghost use Rattle.module_rules.specs.Asking.{requests};
 ghost use Rattle.module_rules.specs.Rules.{asks};
 ghost use Rattle.module_rules.specs.Shaped.{asks_shaped};
-ghost use Rattle.mutator_rules.specs.Conditions.{places_in};
+ghost use Rattle.mutator_rules.specs.Conditions.{indices_in};
 
 use crate::wanting::own_with;
 use bp_faults::{NodeId, OutOfMemory, Payload, Seq};
@@ -114,7 +114,7 @@ impl<'a> BottomUp<Record<'a>> for DepsAsk<'a> {
 
     ghost meaning = { λ rule. asks deps_asked rule };
 
-    ghost accepts = { λ rule. places_in (length rule) };
+    ghost accepts = { λ rule. indices_in (length rule) };
 
     fn axis(&self) -> Option<Axis> {
         None

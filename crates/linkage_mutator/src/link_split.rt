@@ -4,7 +4,7 @@ ghost use Rattle.module_graph.specs.declared.variations.Axis.TheVariants.{Link};
 ghost use Rattle.module_rules.specs.Groups.{with_group};
 ghost use Rattle.module_rules.specs.Rules.{splits};
 ghost use Rattle.module_rules.specs.Shaped.{splits_shaped};
-ghost use Rattle.mutator_rules.specs.Conditions.{places_in};
+ghost use Rattle.mutator_rules.specs.Conditions.{indices_in};
 
 use bp_faults::{NodeId, OutOfMemory, Payload, Seq};
 use bp_props::{GroupId, Module, ModuleKind};
@@ -110,7 +110,7 @@ impl<'a> BottomUp<Record<'a>> for LinkSplit<'a> {
 
     ghost meaning = { λ rule. splits link_variants rule };
 
-    ghost accepts = { λ rule. places_in (length rule) };
+    ghost accepts = { λ rule. indices_in (length rule) };
 
     fn axis(&self) -> Option<Axis> {
         Some(Axis::Link)

@@ -7,7 +7,7 @@ ghost use Rattle.module_graph.specs.declared.variations.Axis.TheVariants.{PerSou
 ghost use Rattle.module_graph.specs.Numbered.{by_number};
 ghost use Rattle.module_rules.specs.Rules.{splits};
 ghost use Rattle.module_rules.specs.Shaped.{splits_shaped};
-ghost use Rattle.mutator_rules.specs.Conditions.{MayRun, places_in};
+ghost use Rattle.mutator_rules.specs.Conditions.{MayRun, indices_in};
 ghost use Rattle.mutator_rules.specs.Idle.{LeavesAll};
 
 use crate::leaving::are_built_once;
@@ -47,7 +47,7 @@ impl<'a> PerSource<'a> {
 
     /// Whether the rule leaves every node of a graph as it is: no node is to be built for each of its sources.
     pub fn leaves_all(&self, g: &Graph<Record<'a>>) -> bool
-        requires { MayRun (places_in (length self.now)) g.now.nodes }
+        requires { MayRun (indices_in (length self.now)) g.now.nodes }
         ensures alone { IsTrue result → LeavesAll (splits source_variants self.now) g.now.nodes }
         ensures exact { result ≡ list_all is_built_once g.now.nodes }
     {
@@ -126,7 +126,7 @@ impl<'a> BottomUp<Record<'a>> for PerSource<'a> {
 
     ghost meaning = { λ rule. splits source_variants rule };
 
-    ghost accepts = { λ rule. places_in (length rule) };
+    ghost accepts = { λ rule. indices_in (length rule) };
 
     fn axis(&self) -> Option<Axis> {
         Some(Axis::PerSource)

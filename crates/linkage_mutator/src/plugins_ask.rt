@@ -6,7 +6,7 @@ ghost use Rattle.linkage_mutator.specs.Inside.{kind_at};
 ghost use Rattle.linkage_mutator.specs.Plugins.{IsNameTable, IsNameTableIfSome};
 ghost use Rattle.module_rules.specs.Rules.{asks};
 ghost use Rattle.module_rules.specs.Shaped.{asks_shaped};
-ghost use Rattle.mutator_rules.specs.Conditions.{MayRun, places_in};
+ghost use Rattle.mutator_rules.specs.Conditions.{MayRun, indices_in};
 ghost use Rattle.mutator_rules.specs.Idle.{LeavesAll};
 
 use crate::leaving::are_no_plugins;
@@ -68,7 +68,7 @@ impl<'a, 't> PluginsAsk<'a, 't> {
 
     /// Whether the rule leaves every node of a graph as it is: no node is a plugin.
     pub fn leaves_all(&self, g: &Graph<Record<'a>>) -> bool
-        requires { MayRun (places_in (length self.now)) g.now.nodes }
+        requires { MayRun (indices_in (length self.now)) g.now.nodes }
         ensures alone { IsTrue result → LeavesAll (asks (plugins_asked self.now) self.now) g.now.nodes }
         ensures exact { result ≡ list_all is_no_plugin g.now.nodes }
     {
@@ -188,7 +188,7 @@ impl<'a, 't> BottomUp<Record<'a>> for PluginsAsk<'a, 't> {
 
     ghost meaning = { λ rule. asks (plugins_asked rule) rule };
 
-    ghost accepts = { λ rule. places_in (length rule) };
+    ghost accepts = { λ rule. indices_in (length rule) };
 
     fn axis(&self) -> Option<Axis> {
         None

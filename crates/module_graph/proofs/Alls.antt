@@ -1,10 +1,10 @@
 -- What holds of each item of a list.
-use Rattle.std.proofs.Common.{◌≡◌, ◌+◌, ◌<◌, ◌++◌, arith, zero-add, suc, ℕ, List, [], ◌∷◌, map, length, take, get_or, subst, sym}
+use Rattle.std.proofs.Common.{◌≡◌, ◌+◌, ◌<◌, arith, zero-add, suc, ℕ, List, [], ◌∷◌, map, length, take, get_or, subst, sym}
 use Rattle.std.specs.List.{AllByRecursion}
 use Rattle.std.proofs.lemmas.List.{take_more}
 use Rattle.pass_core.specs.declared.plan.PlanEdge.{PlanEdge}
 use Rattle.pass_core.specs.Plans.{HaveEndsBelow}
-use Rattle.bp_faults.proofs.Lists.{all_pushed}
+use Rattle.bp_faults.proofs.Lists.{all_pushed, all_append, all_image}
 use Rattle.module_graph.specs.declared.direction.Direction.TheVariants.{BottomUp}
 use Rattle.module_graph.specs.declared.graph.Edge.{Edge}
 use Rattle.module_graph.specs.declared.graph.Node.{Node}
@@ -12,21 +12,9 @@ use Rattle.module_graph.specs.Numbered.{by_number}
 use Rattle.module_graph.specs.Graphs.{outward, edges_of, NameNodes}
 use Rattle.module_graph.specs.Planned.{turned_edge, plan_edges}
 
-pub all_append : {A : Type 0} (P : A → Type 0) (xs ys : List A) → AllByRecursion P xs → AllByRecursion P ys → AllByRecursion P (xs ++ ys)
-all_append P [] ys h k = k
-all_append P (x ∷ xs) ys h k = (h.0, all_append P xs ys h.1 k)
-
 -- one item more
 pub all_taken : {A : Type 0} (P : A → Type 0) (xs : List A) (i : ℕ) (d : A) → i < length xs → AllByRecursion P (take i xs) → P (get_or xs i d) → AllByRecursion P (take (i + 1) xs)
 all_taken P xs i d lt h here = subst (λ l. AllByRecursion P l) (sym (take_more xs i d lt)) (all_pushed P (take i xs) (get_or xs i d) h here)
-
-pub all_image : {A B : Type 0} (P : A → Type 0) (Q : B → Type 0) (f : A → B) → ((x : A) → P x → Q (f x)) → (xs : List A) → AllByRecursion P xs → AllByRecursion Q (map f xs)
-all_image P Q f imp [] h = tt
-all_image P Q f imp (x ∷ xs) h = (imp x h.0, all_image P Q f imp xs h.1)
-
-pub all_before : {A B : Type 0} (f : A → B) (Q : B → Type 0) (xs : List A) → AllByRecursion Q (map f xs) → AllByRecursion (λ x. Q (f x)) xs
-all_before f Q [] h = tt
-all_before f Q (x ∷ xs) h = (h.0, all_before f Q xs h.1)
 
 pub all_by_number : {X A : Type 0} (P : X → Type 0) (Q : A → Type 0) (bound : ℕ) (f : ℕ → X → List A) → ((n : ℕ) (x : X) → n < bound → P x → AllByRecursion Q (f n x))
     → (k : ℕ) (xs : List X) → k + length xs ≡ bound → AllByRecursion P xs → AllByRecursion Q (by_number f k xs)

@@ -2,11 +2,10 @@
 use Rattle.std.proofs.Common.{◌≡◌, ◌+◌, ◌<◌, ◌≤◌, ℕ, zero, suc, List, map, length, take, get_or, refl, ap, sym, subst, arith, take_all}
 use Rattle.std.specs.List.{AllByRecursion}
 use Rattle.pass_core.specs.declared.plan.PlanEdge.{PlanEdge}
-use Rattle.bp_faults.proofs.Lists.{all_map}
+use Rattle.bp_faults.proofs.Lists.{all_map, all_append, all_image}
 use Rattle.module_graph.specs.declared.graph.Node.{Node}
 use Rattle.module_graph.specs.Graphs.{outward, edges_of}
 use Rattle.module_graph.specs.Walks.{Walk, Returns}
-use Rattle.module_graph.proofs.Alls.{all_append, all_image}
 use Rattle.module_graph.proofs.Numbers.{by_number_step}
 use Rattle.module_graph.proofs.Walking.{at_step}
 

@@ -11,8 +11,8 @@ use Rattle.pass_core.specs.declared.plan.PlanEdge.{PlanEdge}
 use Rattle.pass_core.specs.Plans.{in_edges, HaveEndsBelow}
 use Rattle.module_graph.specs.Walks.{Walk}
 use Rattle.module_graph.specs.Search.{found_at, BeginWithin, IsGrowing, IsGiven, AreDistances, unfound}
-use Rattle.bp_faults.proofs.Lists.{all_map}
-use Rattle.module_graph.proofs.Alls.{all_append, all_taken}
+use Rattle.bp_faults.proofs.Lists.{all_map, all_append}
+use Rattle.module_graph.proofs.Alls.{all_taken}
 use Rattle.module_graph.proofs.Sorted.{all_into, each_into}
 
 module _ (found : List (Option ℕ)) (m level : ℕ) (inside : m < length found) (free : found_at found m ≡ None) where

@@ -10,8 +10,7 @@ use Rattle.module_graph.specs.declared.nearest.Near.{Near}
 use Rattle.module_graph.specs.Walks.{Walk}
 use Rattle.module_graph.specs.Cycles.{IsNearest}
 use Rattle.module_graph.specs.Search.{found_at, AreDistances, IsNearestFound, nearer}
-use Rattle.bp_faults.proofs.Lists.{all_map}
-use Rattle.module_graph.proofs.Alls.{all_append}
+use Rattle.bp_faults.proofs.Lists.{all_map, all_append}
 
 module _ (found : List (Option ℕ)) where
   abbrev Above : ℕ → Edge → Type 0

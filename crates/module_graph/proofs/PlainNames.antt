@@ -7,10 +7,10 @@ use Rattle.std.proofs.lemmas.Bool.Decides.{nat_tests}
 use Rattle.bp_faults.specs.declared.target.Target.{Target}
 use Rattle.bp_faults.specs.declared.target.Target.TheVariants.{AndroidArm64, AndroidArm, AndroidX86_64, AndroidX86, LinuxGlibcX86_64, LinuxGlibcX86}
 use Rattle.bp_faults.specs.Targets.{target_name}
+use Rattle.bp_faults.proofs.Lists.{all_append}
 use Rattle.module_graph.specs.declared.variation.Variation.{Variation}
 use Rattle.module_graph.specs.declared.variation.Variation.TheVariants.{Empty, Target as ForTarget, Common, Vendor, Recovery, Static, Shared, PerSource, Asan}
 use Rattle.module_graph.specs.Names.{spelling, is_set, is_label_byte, variant_name_of}
-use Rattle.module_graph.proofs.Alls.{all_append}
 
 abbrev IsPlain : ℕ → Type 0
 IsPlain c = is_label_byte c ≡ true

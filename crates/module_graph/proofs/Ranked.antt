@@ -8,8 +8,7 @@ use Rattle.pass_core.specs.declared.plan.PlanEdge.{PlanEdge}
 use Rattle.pass_core.specs.Plans.{in_edges, predecessors, HasNoCycle, HaveEndsBelow}
 use Rattle.pass_core.specs.Heights.{above_all, unroll}
 use Rattle.module_graph.specs.Walks.{Leads, Walk, NoneReturns}
-use Rattle.bp_faults.proofs.Lists.{all_map, below_top, map-same}
-use Rattle.module_graph.proofs.Alls.{all_before, all_image}
+use Rattle.bp_faults.proofs.Lists.{all_map, below_top, map-same, all_image, all_before}
 use Rattle.module_graph.proofs.Sorted.{all_into, each_into}
 use Rattle.module_graph.proofs.Starts.{starts, distinct_cons, distinct_nil, distinct_short}
 use Rattle.module_graph.proofs.Walking.{walk_push}

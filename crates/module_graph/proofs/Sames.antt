@@ -2,6 +2,7 @@
 use Rattle.std.proofs.Common.{◌≡◌, ℕ, zero, suc, Bool, true, false, ◌&&◌, refl, ap, ◌∙◌, sym, subst, arith, eq-eqb, nat_eq}
 use Rattle.std.specs.Prelude.{◌↔◌, IsTrue}
 use Rattle.std.proofs.lemmas.Bool.Decides.{nat_tests}
+use Rattle.std.proofs.lemmas.Bool.{and_parts}
 use Rattle.bp_faults.specs.declared.target.Target.{Target}
 use Rattle.bp_faults.specs.declared.target.Target.TheVariants.{AndroidArm64, AndroidArm, AndroidX86_64, AndroidX86}
 use Rattle.bp_faults.specs.declared.target.Target.TheVariants.{LinuxGlibcX86_64, LinuxGlibcX86}
@@ -52,11 +53,6 @@ variation_back Shared = refl
 variation_back (PerSource n) = refl
 variation_back Asan = refl
 
-pub both_so : (a b : Bool) → (a && b) ≡ true → (a ≡ true) × (b ≡ true)
-both_so true true h = (refl, refl)
-both_so true false h = cc
-both_so false b h = cc
-
 pub same_self : (v : Variation) → same v v ≡ true
 unfolding same
 same_self v =
@@ -69,7 +65,7 @@ number_same m n h = grind (arith, nat_tests)
 pub same_is : (v w : Variation) → same v w ≡ true → v ≡ w
 unfolding same
 same_is v w h =
-    let b = both_so (nat_eq (sort_number v) (sort_number w)) (nat_eq (own_number v) (own_number w)) h in
+    let b = and_parts (nat_eq (sort_number v) (sort_number w)) (nat_eq (own_number v) (own_number w)) h in
     let s = number_same (sort_number v) (sort_number w) b.0 in
     let o = number_same (own_number v) (own_number w) b.1 in
     sym (variation_back v) ∙ (λ i. variation_from (s i) (o i)) ∙ variation_back w

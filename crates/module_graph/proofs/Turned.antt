@@ -14,8 +14,8 @@ use Rattle.module_graph.specs.Numbered.{by_number}
 use Rattle.module_graph.specs.Graphs.{outward, edges_of, NameNodes}
 use Rattle.module_graph.specs.Planned.{turned_edge, by_target, plan_edges}
 use Rattle.module_graph.specs.Walks.{Leads, Walk, NoneReturns}
-use Rattle.bp_faults.proofs.Lists.{all_map}
-use Rattle.module_graph.proofs.Alls.{all_image, edges_of_ends, turned_ends}
+use Rattle.bp_faults.proofs.Lists.{all_map, all_image}
+use Rattle.module_graph.proofs.Alls.{edges_of_ends, turned_ends}
 use Rattle.module_graph.proofs.Sorted.{all_by_target, into_by_target, all_into, all_of_into}
 use Rattle.module_graph.proofs.Walking.{at_step, none_returns, walk_push}
 use Rattle.module_graph.proofs.Ranked.{ranked}

@@ -1,7 +1,7 @@
 -- Along the nearest edges each step comes one nearer to the start.
 use Rattle.std.proofs.Common.{◌≡◌, ◌≢◌, ◌<◌, ◌≤◌, ◌++◌, ℕ, suc, List, [], ◌∷◌, refl, ◌∙◌, sym, subst, arith, Option, Some, None}
 use Rattle.std.specs.List.{AllByRecursion}
-use Rattle.bp_faults.proofs.Lists.{all_map}
+use Rattle.bp_faults.proofs.Lists.{all_map, all_append}
 use Rattle.module_graph.specs.declared.graph.Edge.{Edge}
 use Rattle.module_graph.specs.declared.graph.Node.{Node}
 use Rattle.module_graph.specs.declared.nearest.Near.{Near}
@@ -9,7 +9,6 @@ use Rattle.module_graph.specs.Graphs.{edges_of}
 use Rattle.module_graph.specs.Walks.{Leads, Walk}
 use Rattle.module_graph.specs.Cycles.{IsNearest, IsWay, edges_at}
 use Rattle.module_graph.specs.Search.{found_at, AreDistances, IsNearestFound}
-use Rattle.module_graph.proofs.Alls.{all_append}
 use Rattle.module_graph.proofs.Nearer.{nearest_is}
 use Rattle.module_graph.proofs.Outward.{all_middle, leads_out, at_target}
 

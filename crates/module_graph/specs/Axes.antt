@@ -1,4 +1,4 @@
--- The places of a node's variations.
+-- The indices of a node's variations.
 use Rattle.std.specs.Prelude.{ℕ}
 use Rattle.module_graph.specs.declared.variations.Axis.{Axis}
 use Rattle.module_graph.specs.declared.variations.Axis.TheVariants.{Target, Image, Link, PerSource, Sanitize}

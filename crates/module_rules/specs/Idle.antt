@@ -6,7 +6,7 @@ use Rattle.bp_props.specs.declared.module.Module.{Module}
 use Rattle.bp_props.specs.declared.props.Props.{Props}
 use Rattle.module_graph.specs.declared.graph.Node.{Node}
 use Rattle.mutator_rules.specs.declared.split.Split.{Split}
-use Rattle.mutator_rules.specs.Conditions.{MayRun, places_in}
+use Rattle.mutator_rules.specs.Conditions.{MayRun, indices_in}
 use Rattle.mutator_rules.specs.Idle.{LeavesAll, left_alone}
 use Rattle.module_rules.specs.Seen.{at_node}
 
@@ -19,5 +19,5 @@ module _ (rule : Module → Node Props → List (Split Props) → Result (Split 
 abbrev pub LeavesAllByEach : Type 0
 LeavesAllByEach =
     (rule : Module → Node Props → List (Split Props) → Result (Split Props) Fault) (mods : List Module)
-    (nodes : List (Node Props)) → MayRun (places_in (length mods)) nodes → AllByRecursion (LeavesNode rule) nodes
+    (nodes : List (Node Props)) → MayRun (indices_in (length mods)) nodes → AllByRecursion (LeavesNode rule) nodes
     → LeavesAll (at_node rule mods) nodes

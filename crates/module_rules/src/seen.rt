@@ -1,6 +1,6 @@
 ghost use Rattle.std.specs.Prelude.{length};
 ghost use Rattle.module_rules.specs.Seen.{IsSeen};
-ghost use Rattle.mutator_rules.specs.Conditions.{MayVisit, places_in};
+ghost use Rattle.mutator_rules.specs.Conditions.{MayVisit, indices_in};
 
 use crate::Record;
 use bp_faults::NodeId;
@@ -17,7 +17,7 @@ pub struct Seen<'a, 'm> {
 impl<'a, 'm> Seen<'a, 'm> {
     /// The module and the node that a rule sees at node `n`.
     pub fn at(mods: &'a [Module], g: &'a Graph<Record<'m>>, n: NodeId) -> Seen<'a, 'm>
-        requires { MayVisit (places_in (length mods.now)) g.now.nodes n.0 }
+        requires { MayVisit (indices_in (length mods.now)) g.now.nodes n.0 }
         ensures { IsSeen mods.now g.now.nodes n.0 result.module.now result.node.now }
     {
         let node = &g.nodes.as_slice()[n.0 as usize];

@@ -7,6 +7,7 @@ use Rattle.std.proofs.lemmas.List.Elements.{recursion_from_All}
 use Rattle.std.proofs.lemmas.List.Quantifiers.{position-Some}
 use Rattle.bp_faults.specs.declared.fault.Fault.{Fault}
 use Rattle.bp_faults.specs.declared.ids.NodeId.{NodeId}
+use Rattle.bp_faults.proofs.Lists.{all_each}
 use Rattle.pass_core.specs.declared.plan.Plan.{Plan}
 use Rattle.pass_core.specs.Laws.{OutsMeetTheirEquation}
 use Rattle.pass_core.specs.Outcomes.{PassOutcomeMeans}
@@ -47,10 +48,6 @@ chosen_within v (w ∷ ws) place is = by (position (same v) (w ∷ ws)) refl
 pub chosen_none : (v : Variation) (ws : List Variation) → chosen v ws ≡ None → length ws ≡ 0
 chosen_none v [] is = refl
 chosen_none v (w ∷ ws) is = cc
-
-all_each : {A : Type 0} (Q : A → Type 0) → ((x : A) → Q x) → (xs : List A) → AllByRecursion Q xs
-all_each Q h [] = tt
-all_each Q h (x ∷ xs) = (h x, all_each Q h xs)
 
 abbrev wanting : ℕ → Request → NodeId × Request
 wanting n r = (record { 0 = n }, r)

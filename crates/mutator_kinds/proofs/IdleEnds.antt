@@ -20,7 +20,7 @@ module _ {T W : Type 0} (order_of : T → List NodeId) (way : Way W) (plan : Pla
   abbrev StepFollows : Result T StepError → Type 0
   StepFollows = FollowedMeans order_of (Runs (Follows way) plan pass before)
 
-  -- by the way's refusal, or for want of memory
+  -- by the way's refusal, or for that memory ran out
   module _ {G : Type 0} (view : T → G) (Means : KindOutcome G → Type 0) where
     abbrev StepAnswers : Result T StepError → Type 0
     StepAnswers = AnswersStep view Means (RefusesPass way before pass plan)

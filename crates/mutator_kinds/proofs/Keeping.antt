@@ -14,7 +14,7 @@ use Rattle.module_graph.specs.Laws.{PlansOfGraphsArePlans, ValidPlansHaveNoCycle
 use Rattle.module_graph.specs.Planned.{plan_of}
 use Rattle.mutator_rules.specs.declared.request.Request.{Request}
 use Rattle.mutator_rules.specs.declared.split.Split.{Split}
-use Rattle.mutator_rules.specs.Conditions.{MayRun, places_in}
+use Rattle.mutator_rules.specs.Conditions.{MayRun, indices_in}
 use Rattle.mutator_rules.specs.Outcomes.{Made}
 use Rattle.variant_graphs.specs.Laws.{IsKept, SplitsStayValid, SplitsKeepModules, OtherAxesStayFree}
 use Rattle.variant_graphs.specs.Laws.{NewPayloadsStayValid, NewPayloadsKeepModules, NewPayloadsLeaveAxesFree}
@@ -26,13 +26,13 @@ use Rattle.mutator_kinds.proofs.May.{may_still}
 
 module _ {P : Type 0} (payloads_valid : NewPayloadsStayValid P) (payloads_modules : NewPayloadsKeepModules P)
     (payloads_free : NewPayloadsLeaveAxesFree P) (nodes : List (Node P)) (count : ℕ) (valid : IsValid nodes)
-    (may : MayRun (places_in count) nodes) where
+    (may : MayRun (indices_in count) nodes) where
   pub top_down_keeps : (mean : List (Node P) → ℕ → List EdgeKind → List P → Result P Fault) (new : List (Node P))
       → TopDownMeans mean nodes (Made new) → IsKept count None nodes new
   top_down_keeps mean new (outs, results, is) =
       subst (IsKept count None nodes) (sym is) (record {
         valid = payloads_valid nodes outs valid;
-        may = may_still (places_in count) nodes (with_payloads nodes outs) may
+        may = may_still (indices_in count) nodes (with_payloads nodes outs) may
             (payloads_modules nodes outs may.numbered);
         free = λ axis other free. payloads_free nodes outs axis free;
       })
@@ -53,7 +53,7 @@ module _ {P : Type 0} (payloads_valid : NewPayloadsStayValid P) (payloads_module
         along differ in
         subst (IsKept count along nodes) (sym results.1) (record {
           valid = valid_after nodes outs as_many along splits_valid payloads_valid valid free apart;
-          may = may_still (places_in count) nodes (new_nodes along nodes outs) may
+          may = may_still (indices_in count) nodes (new_nodes along nodes outs) may
               (modules_after nodes outs as_many along splits_modules payloads_modules may.numbered apart results.0);
           free = free_after nodes outs as_many along splits_free payloads_free;
         })

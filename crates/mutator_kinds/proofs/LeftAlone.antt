@@ -1,9 +1,10 @@
 -- Passes of rules that leave every node as it is.
-use Rattle.std.proofs.Common.{◌≡◌, ◌∙◌, ◌<◌, ◌+◌, ap, subst, sym, refl, arith, length, map, get_or, ℕ, zero, suc, List, [], ◌∷◌, Option, Some, None, Result, Ok, Err}
+use Rattle.std.proofs.Common.{◌≡◌, ◌∙◌, ◌<◌, ◌+◌, ap, subst, sym, refl, length, map, get_or, ℕ, zero, suc, List, [], ◌∷◌, Option, Some, None, Result, Ok, Err}
 use Rattle.std.specs.Prelude.{slice_get, IsErr, IsErrAnd}
 use Rattle.std.proofs.lemmas.List.{length-map}
 use Rattle.bp_faults.specs.declared.fault.Fault.{Fault}
 use Rattle.bp_faults.specs.declared.ids.NodeId.{NodeId}
+use Rattle.bp_faults.proofs.Lists.{some_there}
 use Rattle.module_graph.specs.declared.graph.Node.{Node}
 use Rattle.module_graph.specs.declared.variation.Variation.{Variation}
 use Rattle.module_graph.specs.declared.variation.Variation.TheVariants.{Empty}
@@ -26,11 +27,6 @@ use Rattle.variant_graphs.specs.Steps.{AnswersStep}
 use Rattle.mutator_kinds.specs.BottomUp.{chosen, new_nodes, rule_along, variants_of, BottomUpMeans, IsFreeFor, VisitsMeans}
 use Rattle.mutator_kinds.proofs.InPlace.{chosen_of_one}
 
-at_place : {X : Type 0} (xs : List X) (n : ℕ) → n < length xs → (x : X) × (slice_get xs n ≡ Some x)
-at_place [] n lt = absurd (omega arith)
-at_place (x ∷ xs) zero lt = (x, refl)
-at_place (x ∷ xs) (suc n) lt = at_place xs n (omega arith)
-
 module _ {P : Type 0} where
   -- each node with its own payload
   pub with_own : (xs : List (Node P)) → xs ≡ with_payloads xs (map (λ (x : Node P). x.payload) xs)
@@ -52,7 +48,7 @@ module _ {P : Type 0} where
   led_first : (xs : List (Node P)) (t : ℕ) → t < length xs
       → chosen Empty (map (λ (b : Variation × P). b.0) (get_or (variants_of (map left_alone xs)) t [])) ≡ Some 0
   led_first xs t lt =
-      let x = at_place xs t lt in
+      let x = some_there xs t lt in
       ap (λ l. chosen Empty (map (λ (b : Variation × P). b.0) l)) (alone_at xs t x.0 x.1)
       ∙ chosen_of_one Empty (Empty ∷ []) refl
 

@@ -8,7 +8,7 @@ use Rattle.module_graph.specs.declared.variations.Axis.{Axis}
 use Rattle.module_graph.specs.Graphs.{IsNumbered, IsValid}
 use Rattle.mutator_rules.specs.declared.request.Request.{Request}
 use Rattle.mutator_rules.specs.declared.split.Split.{Split}
-use Rattle.mutator_rules.specs.Conditions.{MayRun, places_in}
+use Rattle.mutator_rules.specs.Conditions.{MayRun, indices_in}
 use Rattle.mutator_rules.specs.Outcomes.{KindOutcome, Made}
 use Rattle.variant_graphs.specs.Laws.{IsKept}
 use Rattle.mutator_kinds.specs.BottomUp.{BottomUpMeans, DifferFor, IsFreeFor}
@@ -46,7 +46,7 @@ module _ (P : Type 0) where
   abbrev pub TopDownKeeps : Type 0
   TopDownKeeps =
       (mean : List (Node P) → ℕ → List EdgeKind → List P → Result P Fault) (nodes new : List (Node P)) (count : ℕ)
-      → IsValid nodes → MayRun (places_in count) nodes → TopDownMeans mean nodes (Made new)
+      → IsValid nodes → MayRun (indices_in count) nodes → TopDownMeans mean nodes (Made new)
       → IsKept count None nodes new
 
   -- So is the graph that a rule from the bottom up makes.
@@ -54,5 +54,5 @@ module _ (P : Type 0) where
   BottomUpKeeps =
       (mean : List (Node P) → ℕ → List (Split P) → Result (Split P) Fault) (nodes : List (Node P)) (along : Option Axis)
       (new : List (Node P) × List (NodeId × Request)) (count : ℕ)
-      → IsValid nodes → MayRun (places_in count) nodes → IsFreeFor along nodes → DifferFor mean nodes along
+      → IsValid nodes → MayRun (indices_in count) nodes → IsFreeFor along nodes → DifferFor mean nodes along
       → BottomUpMeans mean nodes along (Made new) → IsKept count along nodes new.0

@@ -1,4 +1,5 @@
 ghost use Rattle.std.specs.Prelude.{◌≡◌, ◌≤◌, IfOk, [], length, None};
+ghost use Rattle.bp_faults.specs.declared.limits.TheConstants.{MOST_WORKERS};
 ghost use Rattle.pass_core.specs.Orders.{IsLegal, numbers};
 ghost use Rattle.pass_core.specs.Plans.{IsPlan};
 ghost use Rattle.module_graph.specs.declared.direction.Direction.TheVariants.{TopDown};
@@ -171,7 +172,7 @@ where
     G: Gate + Sync,
     requires valid { IsValid g.nodes }
     requires may { MayRun (M.accepts m.now) g.nodes }
-    requires workers { (1 ≤ workers) × (workers ≤ 64) }
+    requires workers { (1 ≤ workers) × (workers ≤ MOST_WORKERS) }
     ensures means { AnswersTopDown (λ made. made.graph.nodes) (TopDownMeans (M.meaning m.now) g.nodes) result }
     ensures legal { IfOk result (λ made. IsLegal (plan_of TopDown g.nodes) (numbers made.order)) }
     ensures asked { IfOk result (λ made. made.asked ≡ []) }

@@ -1,5 +1,6 @@
 ghost use Rattle.std.specs.Prelude.{◌≡◌, ◌≤◌, IfOk, length, map};
 ghost use Rattle.std.specs.Arc.{arc_value};
+ghost use Rattle.bp_faults.specs.declared.limits.TheConstants.{MOST_WORKERS};
 ghost use Rattle.pass_core.specs.Orders.{IsLegal, numbers};
 ghost use Rattle.module_graph.specs.declared.direction.Direction.TheVariants.{BottomUp};
 ghost use Rattle.module_graph.specs.Graphs.{IsValid, targets};
@@ -173,7 +174,7 @@ where
     requires may { MayRun (M.accepts m.now) g.nodes }
     requires free { IsFreeFor (M.splits_along m.now) g.nodes }
     requires differ { DifferFor (M.meaning m.now) g.nodes (M.splits_along m.now) }
-    requires workers { (1 ≤ workers) × (workers ≤ 64) }
+    requires workers { (1 ≤ workers) × (workers ≤ MOST_WORKERS) }
     ensures means { AnswersKind (λ made. (made.graph.nodes, made.asked))
         (BottomUpMeans (M.meaning m.now) g.nodes (M.splits_along m.now)) result }
     ensures legal { IfOk result (λ made. IsLegal (plan_of BottomUp g.nodes) (numbers made.order)) }

@@ -4,7 +4,7 @@ use Rattle.std.specs.List.{AllByRecursion}
 use Rattle.std.proofs.lemmas.List.{map-append, length-take-le}
 use Rattle.std.proofs.lemmas.List.Elements.{filter-append}
 use Rattle.bp_faults.specs.declared.ids.NodeId.{NodeId}
-use Rattle.bp_faults.proofs.Lists.{take-more}
+use Rattle.bp_faults.proofs.Lists.{take-more, all_append}
 use Rattle.pass_core.specs.declared.plan.PlanEdge.{PlanEdge}
 use Rattle.pass_core.specs.Plans.{in_edges, sources, predecessors}
 use Rattle.module_graph.specs.declared.graph.Edge.{Edge}
@@ -56,11 +56,6 @@ module _ {P : Type 0} where
       ap (λ l. arrivals l t) (take-more nodes n node lt is)
       ∙ one_more (λ d (x : Node P). from_node t d x.edges) (take n nodes) node
       ∙ ap (λ k. arrivals (take n nodes) t ++ from_node t k node.edges) (length-take-le n nodes (omega arith))
-
-all_append : {A : Type 0} (Q : A → Type 0) (xs ys : List A) → AllByRecursion Q xs → AllByRecursion Q ys
-    → AllByRecursion Q (xs ++ ys)
-all_append Q [] ys h k = k
-all_append Q (x ∷ xs) ys h k = (h.0, all_append Q xs ys h.1 k)
 
 module _ (count : ℕ) where
   abbrev IsFromNode : NodeId × EdgeKind → Type 0

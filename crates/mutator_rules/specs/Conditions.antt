@@ -15,6 +15,6 @@ module _ {P : Type 0} where
     pub may_run : MayRun accepts nodes
     pub inside : n < length nodes
 
--- A rule that reads the modules of a list accepts the places in the list.
-abbrev pub places_in : ℕ → ℕ → Type 0
-places_in count m = m < count
+-- A rule that reads the modules of a list accepts the indices in the list.
+abbrev pub indices_in : ℕ → ℕ → Type 0
+indices_in count m = m < count

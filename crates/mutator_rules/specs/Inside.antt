@@ -5,18 +5,18 @@ use Rattle.std.specs.List.{range_with_len}
 use Rattle.module_graph.specs.declared.graph.Node.{Node}
 use Rattle.mutator_rules.specs.Arrivals.{arrivals}
 
--- The lists into which places cut some items: each begins at a place and ends at the next.
+-- The lists into which indices cut some items: each begins at an index and ends at the next.
 abbrev pub pieces : {A : Type 0} → List ℕ → List A → List (List A)
 pieces starts items =
     map (λ n. slice_range items (slice_index starts n) (slice_index starts (n + 1)))
     (range_with_len 0 (length starts - 1))
 
--- Each place is no further than the next, which is within so many items.
+-- Each index is no further than the next, which is within so many items.
 pub record AreCuts (starts : List ℕ) (count : ℕ) : Type 0 where
   pub rise : (n : ℕ) → n + 1 < length starts → slice_index starts n ≤ slice_index starts (n + 1)
   pub within : (n : ℕ) → n + 1 < length starts → slice_index starts (n + 1) ≤ count
 
--- The lists of the numbers below a count stand among some items, each from its own place on.
+-- The lists of the numbers below a count stand among some items, each from its own index on.
 abbrev pub StandFrom : {A : Type 0} → ℕ → (ℕ → ℕ) → (ℕ → List A) → List A → Type 0
 StandFrom {A} count begins lists items =
     (t j : ℕ) (d : A) → t < count → j < length (lists t)

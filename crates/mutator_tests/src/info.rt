@@ -4,7 +4,7 @@ ghost use Rattle.std.specs.Prelude.{◌≡◌, ◌∷◌, [], IfOk, length};
 ghost use Rattle.module_graph.specs.declared.graph.EdgeKind.TheVariants.{Header, Shared, Whole};
 ghost use Rattle.module_graph.specs.Graphs.{targets};
 ghost use Rattle.mutator_rules.specs.Arrivals.{kinds_into};
-ghost use Rattle.mutator_rules.specs.Conditions.{MayVisit, places_in};
+ghost use Rattle.mutator_rules.specs.Conditions.{MayVisit, indices_in};
 
 use bp_faults::{FaultKind, Item, ModuleId, NodeId, OutOfMemory, Path, Payload, Place, Seq, Text};
 use bp_props::{Given, Module, ModuleKind, Props};
@@ -104,8 +104,8 @@ fn small_graph<'m>(
     app: Props,
     other: Props,
 ) -> Result<Graph<Record<'m>>, OutOfMemory>
-    ensures app { IfOk result (λ g. MayVisit (places_in 3) g.nodes 0) }
-    ensures other { IfOk result (λ g. MayVisit (places_in 3) g.nodes 2) }
+    ensures app { IfOk result (λ g. MayVisit (indices_in 3) g.nodes 0) }
+    ensures other { IfOk result (λ g. MayVisit (indices_in 3) g.nodes 2) }
     ensures four { IfOk result (λ g. length (targets g.nodes 0) ≡ 4) }
     ensures kinds { IfOk result (λ g. kinds_into g.nodes 2 ≡ Shared ∷ Header ∷ Whole ∷ []) }
 {
@@ -282,38 +282,75 @@ fn info_has_no_axis(rt: HostRuntime) {
     exports_are_included();
 }
 
-/// A library with a link line of the numbers from 0 on.
-fn with_line<'m>(alloc: Global, entries: u32) -> Result<Arc<Split<Record<'m>>>, OutOfMemory> {
-    let mut long = Props::empty(alloc);
-    for number in 0..entries {
-        long.line.push(NodeId(number))?;
+/// How many directories a library exports, how many nodes its link line has, and how many shared libraries it needs.
+type Lengths = (u32, u32, u32);
+
+/// The nodes from number 0 on.
+fn first_nodes(alloc: Global, count: u32) -> Result<Seq<NodeId>, OutOfMemory> {
+    let mut nodes = Seq::new(Vec::new(alloc));
+    for number in 0..count {
+        nodes.push(NodeId(number))?;
     }
+    Ok(nodes)
+}
+
+/// So many directories.
+fn directories(alloc: Global, count: u32) -> Result<Seq<Path>, OutOfMemory> {
+    let mut paths = Seq::new(Vec::new(alloc));
+    for number in 0..count {
+        let text = format!(in alloc; "d{number}")?;
+        paths.push(path(alloc, text.as_str())?)?;
+    }
+    Ok(paths)
+}
+
+/// A library with long lists.
+fn with_long_lists<'m>(
+    alloc: Global,
+    (exports, line, slibs): Lengths,
+) -> Result<Arc<Split<Record<'m>>>, OutOfMemory> {
+    let mut long = Props::empty(alloc);
+    long.exports = directories(alloc, exports)?;
+    long.line = first_nodes(alloc, line)?;
+    long.slibs = first_nodes(alloc, slibs)?;
     done(alloc, long)
 }
 
-/// A static library with a link line of its own: with the library it has one entry more.
-fn line_in<'m>(alloc: Global, world: &'m World, entries: u32) -> Result<String, OutOfMemory>
+/// A static library with such lists: the app's own are as long, since their nodes from 0 on have the app's libraries
+/// among them.
+fn long_lists_in<'m>(
+    alloc: Global,
+    world: &'m World,
+    lengths: Lengths,
+) -> Result<String, OutOfMemory>
     requires { length world.now.mods.items ≡ 3 }
 {
     let mut ins: Vec<Arc<Split<Record<'m>>>> = Vec::new(alloc);
-    ins.push(with_line(alloc, entries)?)?;
+    ins.push(with_long_lists(alloc, lengths)?)?;
     ins.push(made_empty(alloc)?)?;
     ins.push(made_empty(alloc)?)?;
     ins.push(made_empty(alloc)?)?;
     lists_of_app(alloc, world, Props::empty(alloc), &ins)
 }
 
-fn answer_with_line(alloc: Global, entries: u32) -> Result<String, OutOfMemory> {
+fn are_too_long(alloc: Global, lengths: Lengths) -> Result<bool, OutOfMemory> {
     let world = small_world(alloc)?;
-    line_in(alloc, &world, entries)
+    Ok(long_lists_in(alloc, &world, lengths)?.as_str() == "app is too long")
 }
 
+/// All three at the limit, then each one beyond it.
+const LENGTHS: &[(Lengths, bool)] = &[
+    ((1_024, 1_024, 1_024), false),
+    ((1_025, 1_024, 1_024), true),
+    ((1_024, 1_025, 1_024), true),
+    ((1_024, 1_024, 1_025), true),
+];
+
 #[test]
-fn how_long_a_line_may_be(rt: HostRuntime) -> Result<(), Fail> {
-    let alloc = rt.alloc();
-    // a number from 0 on is among them: the library itself, node 1
-    assert!(rt; answer_with_line(alloc, 1_024)?.as_str() != "app is too long");
-    assert_eq!(rt; answer_with_line(alloc, 1_025)?.as_str(), "app is too long");
+fn how_long_the_lists_may_be(rt: HostRuntime) -> Result<(), Fail> {
+    for (lengths, want) in LENGTHS {
+        assert_eq!(rt; are_too_long(rt.alloc(), *lengths)?, *want, "{lengths:?}");
+    }
     Ok(())
 }
 
@@ -422,8 +459,8 @@ fn what_is_sanitized(rt: HostRuntime) -> Result<(), Fail> {
 
 /// An app with the sanitizer, and a module that never has it.
 fn sanitized_graph<'m>(alloc: Global) -> Result<Graph<Record<'m>>, OutOfMemory>
-    ensures app { IfOk result (λ g. MayVisit (places_in 3) g.nodes 0) }
-    ensures other { IfOk result (λ g. MayVisit (places_in 3) g.nodes 2) }
+    ensures app { IfOk result (λ g. MayVisit (indices_in 3) g.nodes 0) }
+    ensures other { IfOk result (λ g. MayVisit (indices_in 3) g.nodes 2) }
 {
     let mut on = Props::empty(alloc);
     on.address = given(true);

@@ -424,6 +424,32 @@ fn too_many_edges(rt: HostRuntime) -> Result<(), Fail> {
     Ok(())
 }
 
+/// What each error of a rule's pass says of itself.
+fn kind_texts(alloc: Global) -> Result<String, OutOfMemory> {
+    let at = Place::start(1);
+    let node = KindError::At(NodeId(0), Fault::at(alloc, FaultKind::BadSource, at));
+    let (nodes, edges) = (KindError::Nodes(ModuleId(0)), KindError::Edges(at));
+    let memory = KindError::OutOfMemory;
+    Ok(format!(in alloc; "{node}; {nodes}; {edges}; {memory}")?)
+}
+
+/// What each error of a step says of itself.
+fn step_texts(alloc: Global) -> Result<String, OutOfMemory> {
+    let fault = Fault::at(alloc, FaultKind::NotReady, Place::start(1));
+    let refused = StepError::Refused(fault);
+    let kind = StepError::Kind(KindError::OutOfMemory);
+    Ok(format!(in alloc; "{refused}; {kind}")?)
+}
+
+#[test]
+fn texts_of_kind_errors(rt: HostRuntime) -> Result<(), Fail> {
+    let want = "a node has a fault; too many nodes; too many edges; out of memory";
+    assert_eq!(rt; kind_texts(rt.alloc())?.as_str(), want);
+    let want = "the way of a pass is refused; a pass gives no graph";
+    assert_eq!(rt; step_texts(rt.alloc())?.as_str(), want);
+    Ok(())
+}
+
 /// Whether requests are of wanted nodes, and stand in the files of these numbers.
 fn are_asked_by(asked: &[(NodeId, Request)], wanted: &[u32]) -> bool {
     let mut same = asked.len() == wanted.len();

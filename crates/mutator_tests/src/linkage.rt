@@ -1,7 +1,7 @@
 //! What each rule makes of one record, through the bound of a rule.
 ghost use Rattle.std.specs.Prelude.{◌≡◌, IfOk, [], length};
 ghost use Rattle.module_graph.specs.Graphs.{targets};
-ghost use Rattle.mutator_rules.specs.Conditions.{MayVisit, places_in};
+ghost use Rattle.mutator_rules.specs.Conditions.{MayVisit, indices_in};
 
 use bp_faults::{Item, ModuleId, NodeId, OutOfMemory, Path, Place, Seq, Target, Text};
 use bp_props::{Given, GroupId, GroupProps, Module, ModuleKind, Props, Source};
@@ -205,7 +205,7 @@ fn modules(alloc: Global, kind: ModuleKind) -> Result<Vec<Module>, OutOfMemory>
 
 /// A graph of one node, without edges, for a device's vendor image.
 fn graph<'m>(alloc: Global, link: Variation, own: Props) -> Result<Graph<Record<'m>>, OutOfMemory>
-    ensures may { IfOk result (λ g. MayVisit (places_in 5) g.nodes 0) }
+    ensures may { IfOk result (λ g. MayVisit (indices_in 5) g.nodes 0) }
     ensures targets { IfOk result (λ g. targets g.nodes 0 ≡ []) }
 {
     let mut vars = Variations::empty(alloc);
@@ -295,7 +295,7 @@ fn answer_of<'m>(
     g: &Graph<Record<'m>>,
 ) -> Result<Split<Record<'m>>, VisitError>
     requires five { length mods.now ≡ 5 }
-    requires may { MayVisit (places_in 5) g.now.nodes 0 }
+    requires may { MayVisit (indices_in 5) g.now.nodes 0 }
     requires targets { targets g.now.nodes 0 ≡ [] }
 {
     match rule {

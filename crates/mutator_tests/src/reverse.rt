@@ -1,6 +1,6 @@
 //! Which edges requests add, and which fault comes first.
 ghost use Rattle.std.specs.Prelude.{IsTrue, length};
-ghost use Rattle.mutator_rules.specs.Conditions.{MayRun, places_in};
+ghost use Rattle.mutator_rules.specs.Conditions.{MayRun, indices_in};
 ghost use Rattle.reverse_deps.specs.Applied.{AskInside};
 
 use bp_faults::{
@@ -205,7 +205,7 @@ fn requests(alloc: Global, asks: &[Ask]) -> Result<Vec<(NodeId, Request)>, OutOf
 
 /// Whether each node of a graph is of a module, and has no edge yet.
 fn may_run(mods: &[Module], g: &Graph<bool>) -> bool
-    ensures { IsTrue result → MayRun (places_in (length mods.now)) g.now.nodes }
+    ensures { IsTrue result → MayRun (indices_in (length mods.now)) g.now.nodes }
 {
     let nodes = g.nodes.as_slice();
     for node in nodes {

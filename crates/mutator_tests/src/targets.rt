@@ -2,7 +2,7 @@
 //! and the flags of its record, where each group has one flag.
 ghost use Rattle.std.specs.Prelude.{◌≡◌, [], IfOk, length};
 ghost use Rattle.module_graph.specs.Graphs.{targets};
-ghost use Rattle.mutator_rules.specs.Conditions.{MayVisit, places_in};
+ghost use Rattle.mutator_rules.specs.Conditions.{MayVisit, indices_in};
 
 use bp_faults::{ModuleId, NodeId, OutOfMemory, Path, Payload, Place, Seq, Target, Text};
 use bp_props::{Given, GroupId, GroupProps, Module, ModuleKind, Multi, Props};
@@ -133,7 +133,7 @@ fn graph<'m>(
     target: Variation,
     record: Props,
 ) -> Result<Graph<Record<'m>>, OutOfMemory>
-    ensures may { IfOk result (λ g. MayVisit (places_in 1) g.nodes 0) }
+    ensures may { IfOk result (λ g. MayVisit (indices_in 1) g.nodes 0) }
     ensures alone { IfOk result (λ g. targets g.nodes 0 ≡ []) }
 {
     let mut vars = Variations::empty(alloc);

@@ -7,7 +7,7 @@ use Rattle.std.specs.Option.{option_or}
 use Rattle.std.specs.Str.{bytes_eq}
 use Rattle.std.proofs.lemmas.Bool.{eqb-true, eqb-false}
 use Rattle.std.proofs.lemmas.Cmp.{nat_list_eq_equiv}
-use Rattle.bp_faults.proofs.Lists.{same_bytes}
+use Rattle.bp_faults.proofs.Lists.{same_bytes, get_else}
 use Rattle.bp_names.specs.Meaning.{number_of, number_for, LearnsNumber}
 use Rattle.name_index.specs.Keys.{key_of}
 use Rattle.name_index.specs.Slots.{is_free, by_owner, number_by, FindsBySlots}
@@ -23,18 +23,11 @@ none_of_first : (a b : Option ℕ) → option_or a b ≡ None → a ≡ None
 none_of_first None b is = refl
 none_of_first (Some n) b is = cc
 
--- a slot that is written, and the others
+-- a slot that is written
 get_set_here : (xs : List ℕ) (i v : ℕ) → is_free (slice_get xs i) ≡ true → slice_get (set xs i v) i ≡ Some v
 get_set_here [] i v e = cc
 get_set_here (y ∷ ys) zero v e = refl
 get_set_here (y ∷ ys) (suc i) v e = get_set_here ys i v e
-
-get_set_there : (xs : List ℕ) (i j v : ℕ) → j ≢ i → slice_get (set xs i v) j ≡ slice_get xs j
-get_set_there [] i j v ne = refl
-get_set_there (y ∷ ys) zero zero v ne = absurd (ne refl)
-get_set_there (y ∷ ys) zero (suc j) v ne = refl
-get_set_there (y ∷ ys) (suc i) zero v ne = refl
-get_set_there (y ∷ ys) (suc i) (suc j) v ne = get_set_there ys i j v (λ e. ne (ap suc e))
 
 pub free_inside : (xs : List ℕ) (i : ℕ) → is_free (slice_get xs i) ≡ true → i < length xs
 free_inside [] i e = cc
@@ -187,7 +180,7 @@ module _ (mask : ℕ) (marks : List ℕ) (names others : List Named) (finds : Fi
           let longer = one_longer names (name, number) in
           omega (arith, same, behind, longer)
       owned_by s m e false is =
-          owned_longer m (finds.owned s m (sym (get_set_there marks slot s mark (eqb-false s slot is)) ∙ e))
+          owned_longer m (finds.owned s m (sym (get_else marks slot s mark (eqb-false s slot is)) ∙ e))
 
       own : (query : List ℕ) → number_of names query ≡ None
           → number_for name number query ≡ number_by (Some mark) all others query
@@ -222,7 +215,7 @@ module _ (mask : ℕ) (marks : List ℕ) (names others : List Named) (finds : Fi
           ∙ finds.found query
           ∙ sym (more_names (slice_get marks (bit_and (key_of query) mask)) names others (name, number) query
           (finds.owned (bit_and (key_of query) mask)))
-          ∙ ap (λ o. number_by o all others query) (sym (get_set_there marks slot (bit_and (key_of query) mask) mark ne))
+          ∙ ap (λ o. number_by o all others query) (sym (get_else marks slot (bit_and (key_of query) mask) mark ne))
 
   -- its slot isn't free, and the others learn it
   pub finds_learnt : (new : List Named) → is_free (slice_get marks slot) ≡ false → LearnsNumber others name number new

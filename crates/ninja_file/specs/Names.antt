@@ -1,9 +1,10 @@
 -- The names, values and paths of a file for Ninja, byte by byte. Ninja manual, "Ninja file reference"; the profile is
 -- in docs/NINJA.md.
-use Rattle.std.specs.Prelude.{ℕ, Bool, List, ◌&&◌, ◌||◌, ◌==◌, not, nat_lt, length, codes}
+use Rattle.std.specs.Prelude.{ℕ, Bool, List, ◌&&◌, ◌||◌, ◌==◌, not, length, codes}
 use Rattle.std.specs.Char.{is_ascii_alphanumeric}
 use Rattle.std.specs.List.{list_all}
 use Rattle.std.specs.Str.{bytes_eq}
+use Rattle.bp_faults.specs.Characters.{is_control}
 
 -- A list without items.
 abbrev pub is_nil : {A : Type 0} → List A → Bool
@@ -17,9 +18,9 @@ is_name_byte b = is_ascii_alphanumeric b || b == 95
 abbrev pub is_name : List ℕ → Bool
 is_name name = not (is_nil name) && list_all is_name_byte name
 
--- A byte that is no control character, which are those below U+0020 and U+007F.
+-- A byte that is no control character.
 abbrev pub is_shown : ℕ → Bool
-is_shown b = not (nat_lt b 32 || b == 127)
+is_shown b = not (is_control b)
 
 -- A value isn't empty and holds no control character.
 abbrev pub is_value : List ℕ → Bool

@@ -2,6 +2,8 @@ ghost use Rattle.std.specs.Prelude.{◌≡◌, ◌==◌, not};
 ghost use Rattle.std.specs.List.{list_all};
 ghost use Rattle.ninja_file.specs.Names.{is_name_byte, is_name, is_shown, is_value, is_path, is_rule_key};
 
+use bp_faults::is_control;
+
 pub fn is_name_byte(byte: u8) -> bool
     ensures { result ≡ is_name_byte byte }
 {
@@ -20,11 +22,11 @@ pub fn is_name(text: &str) -> bool
     !text.is_empty() && are_name_bytes(text.as_bytes())
 }
 
-// Whether a byte is of no control character.
+// Whether a byte is no control character.
 fn is_shown(byte: u8) -> bool
     ensures { result ≡ is_shown byte }
 {
-    !(byte < b' ' || byte == 0x7f)
+    !is_control(char::from(byte))
 }
 
 fn are_shown(bytes: &[u8]) -> bool

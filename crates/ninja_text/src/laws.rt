@@ -1,5 +1,6 @@
 //! What ties writing to reading.
 ghost use Rattle.std.specs.Prelude.{◌≡◌, ◌≤◌, IfOk, IsErr, IsErrOf};
+ghost use Rattle.bp_faults.specs.declared.limits.TheConstants.{MOST_WORKERS};
 ghost use Rattle.ninja_file.specs.Meaning.{IsWellFormed};
 ghost use Rattle.ninja_text.specs.Meaning.{ReadBackMeans, WrittenIsReadBack};
 
@@ -38,7 +39,7 @@ pub fn written_alike<R: Threads + Sync>(
     f: &NinjaFile,
     workers: u32,
 ) -> (Result<Vec<u8>, WriteError>, Result<Vec<u8>, WriteError>)
-    requires workers { (1 ≤ workers) × (workers ≤ 64) }
+    requires workers { (1 ≤ workers) × (workers ≤ MOST_WORKERS) }
     ensures text { IfOk result.0 (λ text. IfOk result.1 (λ other. other.items ≡ text.items)) }
     ensures alone { IsErrOf result.0 WriteError.TooLarge → IsErr result.1 }
     ensures several { IsErrOf result.1 WriteError.TooLarge → IsErr result.0 }

@@ -1,5 +1,5 @@
 -- The text of statements, and those of parts of them.
-use Rattle.std.proofs.Common.{◌≡◌, ℕ, ◌+◌, ◌^◌, ◌<◌, List, ◌++◌, length, length-append, append_assoc, arith, ap, ◌∙◌, sym, Result, Ok, Err}
+use Rattle.std.proofs.Common.{◌≡◌, ℕ, ◌+◌, ◌<◌, List, ◌++◌, length, length-append, append_assoc, arith, ap, ◌∙◌, sym, Result, Ok, Err}
 use Rattle.std.proofs.lemmas.Grind.{flat_map-append}
 use Rattle.std.specs.Result.{IsErrAnd}
 use Rattle.ninja_file.specs.declared.file.NinjaFile.{NinjaFile}
@@ -9,6 +9,7 @@ use Rattle.ninja_write.specs.declared.output.WriteError.{WriteError}
 use Rattle.ninja_write.specs.declared.output.WriteError.TheVariants.{TooLarge}
 use Rattle.ninja_write.specs.Inside.{Puts, Prints, front_text, statements_text}
 use Rattle.ninja_write.specs.Meaning.{joined_text, head_line, statement_lines, default_lines, text_of}
+use Rattle.bp_faults.specs.declared.limits.TheConstants.{LARGEST_OUTPUT}
 use Rattle.bp_faults.specs.Characters.{ended_line}
 
 -- the text of statements in two parts
@@ -35,12 +36,12 @@ joined-shorter old first front back all e f limit h =
 -- a refusal of a part is one of the whole
 pub part_refused : (part all : List Statement) (before old : List ℕ) (e : WriteError) (one whole : Result (List ℕ) WriteError) → IsShorter before part old all → one ≡ Err e → IsErrAnd whole (λ x. x ≡ e) → Prints part before one → Prints all old whole
 part_refused part all before old e one (Ok x) shorter is same prints = absurd same
-part_refused part all before old e one (Err x) shorter is same prints = record { ok = tt; too_large = λ h. shorter (2 ^ 29) (prints.too_large (is ∙ ap Err (sym same) ∙ h)) }
+part_refused part all before old e one (Err x) shorter is same prints = record { ok = tt; too_large = λ h. shorter LARGEST_OUTPUT (prints.too_large (is ∙ ap Err (sym same) ∙ h)) }
 
 -- a refusal to put a part behind the one before it is one of the whole
 pub append_refused : (part all : List Statement) (before now old : List ℕ) (e : WriteError) (whole : Result (List ℕ) WriteError) → IsShorter before part old all → IsErrAnd whole (λ x. x ≡ e) → Puts (statements_text part) before now (Err e) → Prints all old whole
 append_refused part all before now old e (Ok x) shorter same puts = absurd same
-append_refused part all before now old e (Err x) shorter same puts = record { ok = tt; too_large = λ h. let large : x ≡ TooLarge = cc in shorter (2 ^ 29) (puts.too_large (ap Err (sym same ∙ large))) }
+append_refused part all before now old e (Err x) shorter same puts = record { ok = tt; too_large = λ h. let large : x ≡ TooLarge = cc in shorter LARGEST_OUTPUT (puts.too_large (ap Err (sym same ∙ large))) }
 
 -- the text of a file by what stands before the statements, the statements and the defaults
 pub text-thirds : (f : NinjaFile) → text_of f ≡ (front_text f ++ statements_text f.statements) ++ joined_text (default_lines f.defaults)

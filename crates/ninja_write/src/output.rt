@@ -1,7 +1,9 @@
-ghost use Rattle.std.specs.Prelude.{◌≡◌, ℕ, ◌≤◌, ◌<◌, ◌^◌, List, [], ◌∷◌, IsUtf8, length, string_bytes, string_len};
+ghost use Rattle.std.specs.Prelude.{◌≡◌, ℕ, ◌≤◌, ◌<◌, List, [], ◌∷◌, IsUtf8, length, string_bytes, string_len};
 ghost use Rattle.std.specs.List.{flat_map};
+ghost use Rattle.bp_faults.specs.declared.limits.TheConstants.{LARGEST_OUTPUT};
 ghost use Rattle.ninja_write.specs.Inside.{Puts};
 
+use bp_faults::limits::LARGEST_OUTPUT;
 use std::alloc::{AllocError, AllocFailed, Global};
 use std::marker::Model;
 use thiserror::Error;
@@ -9,7 +11,7 @@ use thiserror::Error;
 /// Why a file has no text.
 #[derive(Clone, Copy, Debug, Error, PartialEq, Eq)]
 pub enum WriteError {
-    /// The text is longer than 2^29 bytes.
+    /// The text has more than `LARGEST_OUTPUT` bytes.
     #[error("the text is too large")]
     TooLarge,
     #[error("out of memory")]
@@ -38,9 +40,6 @@ impl<T: Drop> From<AllocFailed<T>> for WriteError {
     }
 }
 
-/// The most bytes that a text may have.
-pub const LIMIT: usize = 1 << 29;
-
 /// A text that grows up to the limit. Contracts see it as its bytes.
 #[derive(Debug, Drop)]
 pub struct Output {
@@ -52,7 +51,7 @@ impl Model for Output {
 
     ghost view = { λ o. string_bytes o.text };
 
-    ghost invariant = { λ o. string_len o.text ≤ 2 ^ 29 };
+    ghost invariant = { λ o. string_len o.text ≤ LARGEST_OUTPUT };
 }
 
 impl Output {
@@ -74,7 +73,7 @@ impl Output {
     /// The text as bytes.
     pub fn into_bytes(self) -> Vec<u8>
         ensures bytes { result.items ≡ self }
-        ensures fits { length result.items ≤ 2 ^ 29 }
+        ensures fits { length result.items ≤ LARGEST_OUTPUT }
         ensures utf8 { IsUtf8 result.items }
     {
         let _text = self.text.as_str();
@@ -85,7 +84,7 @@ impl Output {
     pub fn put(&mut self, text: &str) -> Result<(), WriteError>
         ensures { Puts text.now self.old self.new result }
     {
-        if text.len() > LIMIT - self.text.len() {
+        if text.len() > LARGEST_OUTPUT - self.text.len() {
             return Err(WriteError::TooLarge);
         }
         self.text.push_str(text)?;
@@ -97,7 +96,7 @@ impl Output {
         requires { character < 128 }
         ensures { Puts (character ∷ []) self.old self.new result }
     {
-        if self.text.len() == LIMIT {
+        if self.text.len() == LARGEST_OUTPUT {
             return Err(WriteError::TooLarge);
         }
         self.text.push(character)?;
@@ -115,7 +114,7 @@ impl Output {
     pub fn make_room(&mut self, bytes: usize)
         ensures { self.new ≡ self.old }
     {
-        let left = LIMIT - self.text.len();
+        let left = LARGEST_OUTPUT - self.text.len();
         let _room = self.text.reserve(bytes.min(left));
     }
 }

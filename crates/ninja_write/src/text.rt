@@ -1,4 +1,4 @@
-ghost use Rattle.std.specs.Prelude.{◌≡◌, ℕ, ◌^◌, ◌<◌, ◌≤◌, List, [], ◌∷◌, ◌++◌, IfOk, IsErrOf, IsUtf8, map};
+ghost use Rattle.std.specs.Prelude.{◌≡◌, ℕ, ◌<◌, ◌≤◌, List, [], ◌∷◌, ◌++◌, IfOk, IsErrOf, IsUtf8, map};
 ghost use Rattle.std.specs.Prelude.{length, codes};
 ghost use Rattle.ninja_write.specs.Inside.{Puts, front_text};
 ghost use Rattle.ninja_write.specs.Escaped.{lead, value_text};
@@ -7,12 +7,14 @@ ghost use Rattle.ninja_write.specs.Meaning.{spaced_path, paths_behind, ins_text,
 ghost use Rattle.ninja_write.specs.Meaning.{statement_lines, default_lines, head_line, joined_text};
 ghost use Rattle.ninja_write.specs.Meaning.{text_of};
 ghost use Rattle.bp_faults.specs.Characters.{ended_line};
+ghost use Rattle.bp_faults.specs.declared.limits.TheConstants.{MOST_WORKERS};
 
 use crate::escaped::put_escaped;
-use crate::output::{LIMIT, Output, WriteError, Written, least_of_all, put_all};
+use crate::output::{Output, WriteError, Written, least_of_all, put_all};
 use crate::part::Part;
 use crate::parts::print_behind;
 use crate::weights::weights;
+use bp_faults::limits::LARGEST_OUTPUT;
 use bp_faults::{Seq, Text};
 use ninja_file::{Escape, NinjaFile, NinjaRule, Piece, Statement};
 use std::alloc::Global;
@@ -237,10 +239,10 @@ const MANY: usize = 1 << 20;
 
 // Refuses a text that is too large for certain before memory is taken for it, where there are many statements.
 fn check_size(f: &NinjaFile) -> Result<(), WriteError>
-    ensures { IsErrOf result WriteError.TooLarge → 2 ^ 29 < length (text_of f.now) }
+    ensures { IsErrOf result WriteError.TooLarge → LARGEST_OUTPUT < length (text_of f.now) }
 {
     let statements = f.statements.as_slice();
-    if statements.len() > MANY && least_of_all(statements) > LIMIT {
+    if statements.len() > MANY && least_of_all(statements) > LARGEST_OUTPUT {
         return Err(WriteError::TooLarge);
     }
     Ok(())
@@ -252,9 +254,9 @@ const USUAL: usize = 256;
 /// The text of a file. Any file has one; Ninja reads back only that of a well-formed file as it was meant.
 pub fn write(alloc: Global, f: &NinjaFile) -> Result<Vec<u8>, WriteError>
     ensures text { IfOk result (λ text. text.items ≡ text_of f.now) }
-    ensures fits { IfOk result (λ text. length text.items ≤ 2 ^ 29) }
+    ensures fits { IfOk result (λ text. length text.items ≤ LARGEST_OUTPUT) }
     ensures utf8 { IfOk result (λ text. IsUtf8 text.items) }
-    ensures too_large { IsErrOf result WriteError.TooLarge → 2 ^ 29 < length (text_of f.now) }
+    ensures too_large { IsErrOf result WriteError.TooLarge → LARGEST_OUTPUT < length (text_of f.now) }
 {
     check_size(f)?;
     let mut output = Output::new(alloc);
@@ -270,11 +272,11 @@ pub fn write_in<R: Threads + Sync>(
     f: &NinjaFile,
     workers: u32,
 ) -> Result<Vec<u8>, WriteError>
-    requires workers { (1 ≤ workers) × (workers ≤ 64) }
+    requires workers { (1 ≤ workers) × (workers ≤ MOST_WORKERS) }
     ensures text { IfOk result (λ text. text.items ≡ text_of f.now) }
-    ensures fits { IfOk result (λ text. length text.items ≤ 2 ^ 29) }
+    ensures fits { IfOk result (λ text. length text.items ≤ LARGEST_OUTPUT) }
     ensures utf8 { IfOk result (λ text. IsUtf8 text.items) }
-    ensures too_large { IsErrOf result WriteError.TooLarge → 2 ^ 29 < length (text_of f.now) }
+    ensures too_large { IsErrOf result WriteError.TooLarge → LARGEST_OUTPUT < length (text_of f.now) }
 {
     if workers == 1 {
         return write(alloc, f);

@@ -8,6 +8,7 @@ use Rattle.std.proofs.lemmas.Bool.{and_from, and_parts, or_cases, or_parts, or_f
 use Rattle.std.proofs.lemmas.Bool.Decides.{nat_tests}
 use Rattle.bp_faults.specs.Characters.{is_control, is_barred_in_paths}
 use Rattle.bp_faults.specs.Paths.{is_component}
+use Rattle.bp_faults.proofs.Lists.{all_append}
 use Rattle.bp_load.specs.Directories.{directories, directory_of}
 use Rattle.build_actions.specs.Laws.{has_slash}
 use Rattle.ninja_file.specs.Names.{is_shown, is_value, is_path}
@@ -15,7 +16,7 @@ use Rattle.property_tables.specs.Fits.{is_empty}
 use Rattle.property_tables.specs.Names.{is_module_name_byte, is_dots, is_module_name}
 use Rattle.property_tables.specs.Paths.{is_barred, parts, is_absolute, is_refused, components, path_below}
 use Rattle.output_forms.specs.Texts.{IsShown}
-use Rattle.output_forms.proofs.Each.{all_append, all_filtered}
+use Rattle.output_forms.proofs.Each.{all_filtered}
 
 -- A byte may stand in a path.
 abbrev pub IsFree : ℕ → Type 0

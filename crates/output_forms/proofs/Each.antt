@@ -1,9 +1,10 @@
 -- What holds of each item of a list, and of each item of what is made of it.
-use Rattle.std.proofs.Common.{◌≤◌, ◌+◌, ◌++◌, ℕ, zero, suc, Bool, true, false, cond, List, [], ◌∷◌, map, length}
-use Rattle.std.proofs.Common.{Option, Some, None, sym, subst, arith, reverse}
+use Rattle.std.proofs.Common.{◌≤◌, ◌+◌, ℕ, zero, suc, Bool, true, false, cond, List, [], ◌∷◌, map, length}
+use Rattle.std.proofs.Common.{Option, Some, None, arith}
 use Rattle.std.specs.Prelude.{slice_get, slice_index_or, ⊤}
-use Rattle.std.specs.List.{AllByRecursion, filter, flat_map}
-use Rattle.std.proofs.lemmas.List.{length-append, reverse-append}
+use Rattle.std.specs.List.{AllByRecursion, filter}
+use Rattle.std.proofs.lemmas.List.{length-append}
+use Rattle.bp_faults.proofs.Lists.{all_append}
 use Rattle.module_graph.specs.Numbered.{by_number}
 
 -- What holds of the value of an option, if there is one.
@@ -11,25 +12,10 @@ abbrev pub IfThere : {X : Type 0} → (X → Type 0) → Option X → Type 0
 IfThere P None = ⊤
 IfThere P (Some x) = P x
 
-pub all_append : {X : Type 0} (P : X → Type 0) (xs ys : List X) → AllByRecursion P xs → AllByRecursion P ys
-    → AllByRecursion P (xs ++ ys)
-all_append P [] ys h k = k
-all_append P (x ∷ xs) ys h k = (h.0, all_append P xs ys h.1 k)
-
-pub all_image : {X Y : Type 0} (P : X → Type 0) (Q : Y → Type 0) (f : X → Y) → ((x : X) → P x → Q (f x))
-    → (xs : List X) → AllByRecursion P xs → AllByRecursion Q (map f xs)
-all_image P Q f each [] h = tt
-all_image P Q f each (x ∷ xs) h = (each x h.0, all_image P Q f each xs h.1)
-
 pub all_made : {X Y : Type 0} (Q : Y → Type 0) (f : X → Y) → ((x : X) → Q (f x)) → (xs : List X)
     → AllByRecursion Q (map f xs)
 all_made Q f each [] = tt
 all_made Q f each (x ∷ xs) = (each x, all_made Q f each xs)
-
-pub all_behind : {X Y : Type 0} (Q : Y → Type 0) (f : X → Y) (xs : List X) → AllByRecursion Q (map f xs)
-    → AllByRecursion (λ x. Q (f x)) xs
-all_behind Q f [] h = tt
-all_behind Q f (x ∷ xs) h = (h.0, all_behind Q f xs h.1)
 
 pub all_filtered : {X : Type 0} (P : X → Type 0) (test : X → Bool) (xs : List X) → AllByRecursion P xs
     → AllByRecursion P (filter test xs)
@@ -56,11 +42,6 @@ got_or P [] n d h k = k
 got_or P (x ∷ xs) zero d h k = h.0
 got_or P (x ∷ xs) (suc n) d h k = got_or P xs n d h.1 k
 
-pub all_flat : {X Y : Type 0} (P : X → Type 0) (Q : Y → Type 0) (f : X → List Y)
-    → ((x : X) → P x → AllByRecursion Q (f x)) → (xs : List X) → AllByRecursion P xs → AllByRecursion Q (flat_map f xs)
-all_flat P Q f each [] h = tt
-all_flat P Q f each (x ∷ xs) h = all_append Q (f x) (flat_map f xs) (each x h.0) (all_flat P Q f each xs h.1)
-
 -- pieces that are made of numbered items, where all pieces together aren't more than some number
 pub all_numbered : {X Y : Type 0} (f : ℕ → X → List Y) (P : X → Type 0) (Q : Y → Type 0) (most : ℕ)
     → ((n : ℕ) (x : X) → P x → length (f n x) ≤ most → AllByRecursion Q (f n x)) → (k : ℕ) (xs : List X)
@@ -70,9 +51,3 @@ all_numbered f P Q most each k (x ∷ xs) h few =
     let both = length-append (f k x) (by_number f (k + 1) xs) in
     all_append Q (f k x) (by_number f (k + 1) xs) (each k x h.0 (omega (arith, both, few)))
     (all_numbered f P Q most each (k + 1) xs h.1 (omega (arith, both, few)))
-
-pub all_reversed : {X : Type 0} (P : X → Type 0) (xs : List X) → AllByRecursion P xs → AllByRecursion P (reverse xs)
-all_reversed P [] h = tt
-all_reversed P (x ∷ xs) h =
-    subst (AllByRecursion P) (sym (reverse-append (x ∷ []) xs))
-    (all_append P (reverse xs) (x ∷ []) (all_reversed P xs h.1) (h.0, tt))

@@ -9,6 +9,7 @@ use Rattle.std.proofs.lemmas.List.{length-map}
 use Rattle.std.proofs.lemmas.List.Quantifiers.{position-Some}
 use Rattle.bp_faults.specs.declared.fault.Fault.{Fault}
 use Rattle.bp_faults.specs.declared.ids.NodeId.{NodeId}
+use Rattle.bp_faults.proofs.Lists.{all_append, all_each}
 use Rattle.bp_props.specs.declared.module.Module.{Module}
 use Rattle.bp_props.specs.declared.props.Props.{Props}
 use Rattle.pass_core.specs.Laws.{OutsAreMany}
@@ -60,7 +61,6 @@ use Rattle.bp_pipeline.specs.First.{first_nodes}
 use Rattle.bp_pipeline.specs.Inside.{split_at}
 use Rattle.bp_pipeline.specs.Limits.{ComesTo}
 use Rattle.bp_pipeline.specs.Passes.{Answer, AskMeans, MakeMeans, StepMeans, pass_at}
-use Rattle.output_forms.proofs.Each.{all_append}
 use Rattle.output_forms.proofs.Linking.{Follows, applied_follows}
 use Rattle.output_forms.proofs.Outs.{IfResult, outs_have}
 use Rattle.output_forms.proofs.Starting.{IsGoodAt, started}
@@ -114,10 +114,6 @@ chosen_within v (w ∷ ws) place is = by (position (same v) (w ∷ ws)) refl
 chosen_none : (v : Variation) (ws : List Variation) → chosen v ws ≡ None → length ws ≡ 0
 chosen_none v [] is = refl
 chosen_none v (w ∷ ws) is = absurd (cc)
-
-all_each : {X : Type 0} (Q : X → Type 0) → ((x : X) → Q x) → (xs : List X) → AllByRecursion Q xs
-all_each Q h [] = tt
-all_each Q h (x ∷ xs) = (h x, all_each Q h xs)
 
 differ_all : (outs : List (Split Props)) → AllByRecursion (λ (made : Split Props). VariantsDiffer made.variants) outs
     → AllByRecursion VariantsDiffer (variants_of outs)

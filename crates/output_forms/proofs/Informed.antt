@@ -5,6 +5,7 @@ use Rattle.std.specs.List.{AllByRecursion, fold, list_any, flat_map}
 use Rattle.std.specs.Str.{bytes_eq}
 use Rattle.std.specs.Option.{unwrap_or}
 use Rattle.bp_faults.specs.declared.ids.NodeId.{NodeId}
+use Rattle.bp_faults.proofs.Lists.{all_append, all_image, all_flat, all_reversed}
 use Rattle.bp_props.specs.declared.listed.Listed.{Listed}
 use Rattle.bp_props.specs.declared.module.Module.{Module}
 use Rattle.bp_props.specs.declared.props.Props.{Props}
@@ -34,7 +35,7 @@ use Rattle.info_mutators.specs.SdkLevel.{level_meant}
 use Rattle.build_actions.specs.Variants.{stands_on}
 use Rattle.output_forms.specs.Texts.{IsShown, AreShown, HasSoundTexts}
 use Rattle.output_forms.specs.Forms.{HasForm, HaveForms}
-use Rattle.output_forms.proofs.Each.{all_append, all_image, all_flat, all_reversed, if_cond}
+use Rattle.output_forms.proofs.Each.{if_cond}
 use Rattle.output_forms.proofs.Fits.{IsFit, Keeps, at_nodes}
 use Rattle.output_forms.proofs.Outs.{IfResult}
 use Rattle.output_forms.proofs.Records.{empty_sound}

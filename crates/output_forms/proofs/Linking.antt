@@ -10,6 +10,7 @@ use Rattle.bp_faults.specs.declared.ids.NodeId.{NodeId}
 use Rattle.bp_faults.specs.declared.limits.TheConstants.{MOST_EDGES}
 use Rattle.bp_faults.specs.Answers.{then_do}
 use Rattle.bp_faults.specs.Phases.{GoesOn}
+use Rattle.bp_faults.proofs.Lists.{all_append, none_there, found_inside}
 use Rattle.bp_props.specs.declared.module.Module.{Module}
 use Rattle.bp_props.specs.declared.props.Props.{Props}
 use Rattle.module_graph.specs.declared.graph.Edge.{Edge}
@@ -24,7 +25,6 @@ use Rattle.reverse_deps.specs.Applied.{AskInside}
 use Rattle.reverse_deps.specs.Linked.{Link, edge_for, link_of, links_in, links, same_way, gained_edges, linked_from, linked_nodes}
 use Rattle.reverse_deps.specs.Resolved.{module_for, missing_variant, is_for, node_for, resolved_node}
 use Rattle.variant_graphs.specs.Splitting.{HasFreeAxis}
-use Rattle.output_forms.proofs.Each.{all_append}
 use Rattle.output_forms.proofs.Outs.{IfResult}
 
 -- Both ends of a link are below a number.
@@ -41,16 +41,6 @@ NodeLeadsBelow count x = AllByRecursion (LeadsBelow count) x.edges
 
 -- the node that is found
 
-place_below : {X : Type 0} (test : X → Bool) (k : ℕ) (xs : List X) (n : ℕ) → position_from test k xs ≡ Some n
-    → n < k + length xs
-place_below test k [] n is = absurd (cc)
-place_below test k (x ∷ xs) n is = by (test x) (place_below test (k + 1) xs n) is
-  where
-    by : (b : Bool) → (position_from test (k + 1) xs ≡ Some n → n < (k + 1) + length xs)
-        → cond b (Some k) (position_from test (k + 1) xs) ≡ Some n → n < k + suc (length xs)
-    by true rest h = let same : k ≡ n = cc in omega (arith, same)
-    by false rest h = let r = rest h in omega (arith, r)
-
 found_below : (count : ℕ) (o : Option ℕ) (fault : Fault) → ((k : ℕ) → o ≡ Some k → k < count)
     → IfResult (λ (n : NodeId). n.0 < count) (ok_or (option_map (λ k. record { 0 = k }) o) fault)
 found_below count None fault below = tt
@@ -65,7 +55,7 @@ resolved_below mods nodes r = by (module_for mods r)
         (then_do o (λ m. ok_or (node_for nodes m r.want) (missing_variant r)))
     by (Ok m) =
         found_below (length nodes) (position_from (is_for m r.want) 0 nodes) (missing_variant r)
-        (λ k is. let lt = place_below (is_for m r.want) 0 nodes k is in omega (arith, lt))
+        (λ k is. let lt = found_inside (is_for m r.want) 0 nodes k is in omega (arith, lt))
     by (Err fault) = tt
 
 all_below : (mods : List Module) (nodes : List (Node Props)) (asked : List (NodeId × Request))
@@ -145,12 +135,6 @@ many_edges k (x ∷ xs) =
     ∙ (λ i. length-map x.edges (outward k) i + many_edges (k + 1) xs i)
     ∙ sym (length-append x.edges (all_edges xs))
 
--- a list that has nothing at a place isn't longer
-not_past : {X : Type 0} (xs : List X) (n : ℕ) → slice_get xs n ≡ None → length xs ≤ n
-not_past [] n is = omega arith
-not_past (x ∷ xs) zero is = absurd (cc)
-not_past (x ∷ xs) (suc n) is = let le = not_past xs n is in omega (arith, le)
-
 few_edges : (nodes : List (Node Props)) (done : Unit {0}) → edges_counted nodes ≡ Ok done
     → length (all_edges nodes) ≤ MOST_EDGES
 few_edges nodes done is = by (slice_get (all_edges nodes) MOST_EDGES) refl is
@@ -158,7 +142,7 @@ few_edges nodes done is = by (slice_get (all_edges nodes) MOST_EDGES) refl is
     by : (o : Option Edge) → slice_get (all_edges nodes) MOST_EDGES ≡ o
         → option_map_or {U = Result (Unit {0}) Fault} (λ (e : Edge). Err (too_many e)) o (Ok tt) ≡ Ok done
         → length (all_edges nodes) ≤ MOST_EDGES
-    by None found h = not_past (all_edges nodes) MOST_EDGES found
+    by None found h = none_there (all_edges nodes) MOST_EDGES found
     by (Some e) found h = absurd (cc)
 
 -- each linked node stands for its old one

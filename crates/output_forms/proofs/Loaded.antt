@@ -14,6 +14,7 @@ use Rattle.bp_faults.specs.Answers.{then_do}
 use Rattle.bp_faults.specs.Characters.{is_barred_in_paths}
 use Rattle.bp_faults.specs.Paths.{is_normal}
 use Rattle.bp_faults.specs.Phases.{Each}
+use Rattle.bp_faults.proofs.Lists.{all_append}
 use Rattle.bp_load.specs.Inherited.{Finished, inherited_scope, in_directory, all_evaluated, RawMean}
 use Rattle.bp_load.specs.ListFile.{file_name, is_listed}
 use Rattle.bp_load.specs.Loaded.{all_typed, has_module_named, name_tested, names_tested, all_named, LoadMeans}
@@ -27,7 +28,7 @@ use Rattle.property_tables.specs.Meaning.{typed_module}
 use Rattle.output_forms.specs.Texts.{HasSoundTexts}
 use Rattle.output_forms.specs.Modules.{MayBeListed, AreFormed}
 use Rattle.output_forms.proofs.Bytes.{IsClear, none_of, directory_clear, name_fits}
-use Rattle.output_forms.proofs.Each.{IfThere, all_append, all_made}
+use Rattle.output_forms.proofs.Each.{IfThere, all_made}
 use Rattle.output_forms.proofs.Outs.{IfResult}
 use Rattle.output_forms.proofs.Typed.{then_if, then_any, IsTyped, typed_kept}
 use Rattle.output_forms.proofs.Ways.{then_came}

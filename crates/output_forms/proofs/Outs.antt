@@ -3,12 +3,13 @@ use Rattle.std.proofs.Common.{ℕ, zero, suc, List, [], ◌∷◌, map, Option, 
 use Rattle.std.specs.Prelude.{⊤}
 use Rattle.std.specs.List.{AllByRecursion, range_with_len}
 use Rattle.bp_faults.specs.declared.fault.Fault.{Fault}
+use Rattle.bp_faults.proofs.Lists.{all_before}
 use Rattle.pass_core.specs.declared.plan.Plan.{Plan}
 use Rattle.pass_core.specs.Heights.{unroll}
 use Rattle.pass_core.specs.Outcomes.{PassOutcomeMeans}
 use Rattle.pass_core.specs.Plans.{predecessors}
 use Rattle.pass_core.specs.Results.{NodeResult, Done, Bad, Poisoned, result_of_visit, cons_if, all_outs, judged_result, node_result}
-use Rattle.output_forms.proofs.Each.{IfThere, all_made, all_behind}
+use Rattle.output_forms.proofs.Each.{IfThere, all_made}
 
 -- An answer has a property, if it is a result.
 abbrev pub IfResult : {O : Type 0} → (O → Type 0) → Result O Fault → Type 0
@@ -57,6 +58,6 @@ module _ {O : Type 0} (P : O → Type 0) where
 
     pub outs_have : (plan : Plan) (outs : List O) → PassOutcomeMeans mean plan (Ok outs) → AllByRecursion P outs
     outs_have plan outs is =
-        all_behind IfDone Done outs
+        all_before Done IfDone outs
         (subst (AllByRecursion IfDone) (sym is)
         (all_made IfDone (node_result mean plan) (results_done plan) (range_with_len 0 plan.count)))

@@ -6,6 +6,7 @@ use Rattle.std.proofs.lemmas.List.{length-map}
 use Rattle.bp_faults.specs.declared.fault.Fault.{Fault}
 use Rattle.bp_faults.specs.declared.ids.NodeId.{NodeId}
 use Rattle.bp_faults.specs.declared.limits.TheConstants.{MOST_NODES}
+use Rattle.bp_faults.proofs.Lists.{all_image}
 use Rattle.bp_props.specs.declared.props.Props.{Props}
 use Rattle.build_actions.specs.Variants.{stands_on, AreOnAxes}
 use Rattle.module_graph.specs.declared.direction.Direction.TheVariants.{BottomUp}
@@ -25,7 +26,7 @@ use Rattle.variant_graphs.specs.Payloads.{with_payloads}
 use Rattle.variant_graphs.specs.Splitting.{Splitting, splitting, split_nodes, variants_at, variant_node}
 use Rattle.output_forms.specs.Texts.{HasSoundTexts}
 use Rattle.output_forms.specs.Forms.{HasForm, HaveForms}
-use Rattle.output_forms.proofs.Each.{all_image, all_numbered, got_or}
+use Rattle.output_forms.proofs.Each.{all_numbered, got_or}
 use Rattle.output_forms.proofs.Fits.{IsOn, IsFit, Keeps}
 use Rattle.output_forms.proofs.Outs.{outs_have}
 

@@ -7,6 +7,7 @@ use Rattle.std.specs.Prelude.{cond}
 use Rattle.std.specs.Ordering.{match_ordering}
 use Rattle.std.specs.declared.cmp.Ordering.{Ordering}
 use Rattle.std.specs.declared.cmp.Ordering.TheVariants.{Less, Equal, Greater}
+use Rattle.bp_faults.proofs.Lists.{all_append}
 use Rattle.bp_props.specs.Meaning.{kept_list}
 use Rattle.bp_props.specs.Kinds.{has_field}
 use Rattle.bp_props.specs.Group.{group_empty, group_merged, group_restricted}
@@ -20,7 +21,7 @@ use Rattle.bp_props.specs.declared.kind.ModuleKind.{ModuleKind}
 use Rattle.bp_props.specs.declared.listed.Listed.{Listed}
 use Rattle.bp_props.specs.declared.props.Props.{Props}
 use Rattle.output_forms.specs.Texts.{IsShown, IsWritable, HasTexts, HaveTexts, HasSoundTexts}
-use Rattle.output_forms.proofs.Each.{IfThere, all_append, all_filtered}
+use Rattle.output_forms.proofs.Each.{IfThere, all_filtered}
 
 pub empty_texts : HasTexts group_empty
 empty_texts = record {

@@ -7,6 +7,7 @@ use Rattle.std.specs.List.{AllByRecursion, cons_option}
 use Rattle.std.proofs.lemmas.Bool.{lt-ltb}
 use Rattle.bp_faults.specs.declared.limits.TheConstants.{MOST_NODES}
 use Rattle.bp_faults.specs.declared.target.Target.{Target}
+use Rattle.bp_faults.proofs.Lists.{all_append, all_image}
 use Rattle.bp_props.specs.declared.group.GroupProps.{GroupProps}
 use Rattle.bp_props.specs.declared.group_id.GroupId.{GroupId}
 use Rattle.bp_props.specs.declared.group_id.GroupId.TheVariants as G
@@ -48,7 +49,7 @@ use Rattle.linkage_mutator.specs.Sources.{with_sources, variant_of_source, each_
 use Rattle.build_actions.specs.Variants.{stands_on}
 use Rattle.output_forms.specs.Texts.{IsShown, IsWritable, HasTexts, HasSoundTexts}
 use Rattle.output_forms.specs.Forms.{HasForm}
-use Rattle.output_forms.proofs.Each.{IfThere, all_append, all_image, if_cond}
+use Rattle.output_forms.proofs.Each.{IfThere, if_cond}
 use Rattle.output_forms.proofs.Records.{appended, followed, over, restricted, group_texts}
 use Rattle.output_forms.proofs.Fits.{IsOn, IsFit}
 

@@ -2,6 +2,7 @@
 use Rattle.std.proofs.Common.{◌≡◌, ◌++◌, false, List, [], ◌∷◌}
 use Rattle.std.specs.Prelude.{IsTrue}
 use Rattle.std.specs.List.{AllByRecursion}
+use Rattle.bp_faults.proofs.Lists.{all_append}
 use Rattle.bp_props.specs.declared.module.Module.{Module}
 use Rattle.bp_props.specs.declared.props.Props.{Props}
 use Rattle.bp_props.specs.declared.source.Source.{Source}
@@ -13,7 +14,6 @@ use Rattle.ninja_file.specs.Names.{is_path}
 use Rattle.output_forms.specs.Texts.{IsShown, HasSoundTexts}
 use Rattle.output_forms.specs.Forms.{HaveForms}
 use Rattle.output_forms.specs.Modules.{AreFormed}
-use Rattle.output_forms.proofs.Each.{all_append}
 
 axes : (nodes : List (Node Props)) → HaveForms nodes
     → AllByRecursion (λ (x : Node Props). AreOnAxes x.vars) nodes

@@ -1,5 +1,5 @@
 -- A pass has one outcome, and its first node that isn't done is bad.
-use Rattle.std.proofs.Common.{◌≡◌, ◌+◌, ◌<◌, ℕ, zero, suc, List, [], ◌∷◌, map, refl, ap, arith, ◌∙◌, sym, subst, ◌⊎◌, inl, inr, ⊎_elim, Some, Result, Ok, Err, zero-add}
+use Rattle.std.proofs.Common.{◌≡◌, ◌+◌, ◌<◌, ℕ, zero, suc, List, [], ◌∷◌, map, refl, ap, arith, ◌∙◌, sym, subst, ◌⊎◌, inl, ⊎_elim, Some, Result, Ok, Err, zero-add}
 use Rattle.std.specs.List.{range_with_len, AllByRecursion}
 use Rattle.std.proofs.Math.Decide.{dec_lt}
 use Rattle.bp_faults.specs.declared.fault.Fault.{Fault}
@@ -10,16 +10,9 @@ use Rattle.pass_core.specs.Heights.{height, IsBefore}
 use Rattle.pass_core.specs.Results.{NodeResult, Done, Bad, Poisoned, IsDone, cons_if, all_outs, result_of_visit, judged_result, node_result}
 use Rattle.pass_core.specs.Outcomes.{IsFirstUndone, PassOutcomeMeans}
 use Rattle.pass_core.proofs.Unrolled.{height_rises, result_equation}
+use Rattle.bp_faults.proofs.Gathered.{by_height}
 use Rattle.bp_faults.proofs.Lists.{all_map, both}
 use Rattle.pass_core.proofs.Predecessors.{all_predecessors}
-
-by_height : (hm m hn n : ℕ) → Dec (hm < hn) → Dec (hn < hm) → Dec (m < n) → Dec (n < m)
-    → ((hm < hn) ⊎ ((hm ≡ hn) × (m < n))) ⊎ (((hn < hm) ⊎ ((hn ≡ hm) × (n < m))) ⊎ (m ≡ n))
-by_height hm m hn n (yes a) b c d = inl (inl a)
-by_height hm m hn n (no a) (yes b) c d = inr (inl (inl b))
-by_height hm m hn n (no a) (no b) (yes c) d = inl (inr (omega arith, c))
-by_height hm m hn n (no a) (no b) (no c) (yes d) = inr (inl (inr (omega arith, d)))
-by_height hm m hn n (no a) (no b) (no c) (no d) = inr (inr (omega arith))
 
 not_both : (hm m hn n : ℕ) → (hm < hn) ⊎ ((hm ≡ hn) × (m < n)) → (hn < hm) ⊎ ((hn ≡ hm) × (n < m)) → ⊥
 not_both hm m hn n x y = ⊎_elim (λ a. ⊎_elim (λ b. omega arith) (λ b. omega arith) y) (λ a. ⊎_elim (λ b. omega arith) (λ b. omega arith) y) x

@@ -48,7 +48,7 @@ marks [] = 0
 marks (true ∷ bs) = suc (marks bs)
 marks (false ∷ bs) = marks bs
 
--- How many places are filled.
+-- How many slots are filled.
 abbrev pub filled_count : {X : Type 0} → List (Option X) → ℕ
 filled_count xs = marks (map is_some xs)
 

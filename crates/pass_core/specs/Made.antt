@@ -28,7 +28,7 @@ all_of [] = Some []
 all_of (Some out ∷ rest) = cons_if out (all_of rest)
 all_of (None ∷ rest) = None
 
--- A visit of a node answers its result, or want of memory.
+-- A visit of a node answers its result, or that memory ran out.
 abbrev pub AnswersVisit : {O A : Type 0} → ℕ → NodeResult O → Result (Arc O A) PassError → Type 0
 AnswersVisit n is (Ok shared) = is ≡ Done (arc_value shared)
 AnswersVisit n is (Err (At m fault)) = (m.0 ≡ n) × (is ≡ Bad fault)

@@ -49,7 +49,7 @@ module _ {O : Type 0} where
   IsOrderOutcome mean plan order (Refused place) = IsFirstRefused plan order place
   IsOrderOutcome mean plan order (Short many) = IsShort plan order many
 
-  -- A run answers its outcome, where an `Arc` counts as what it holds, or want of memory.
+  -- A run answers its outcome, where an `Arc` counts as what it holds, or that memory ran out.
   abbrev pub AnswersOrder : (ℕ → List O → Result O Fault) → Plan → List ℕ
       → Result (Vec (Arc O Global) Global) OrderError → Type 0
   AnswersOrder mean plan order (Ok outs) = IsOrderOutcome mean plan order (Ran (Ok (map arc_value outs.items)))

@@ -35,7 +35,7 @@ module _ {O : Type 0} where
   PassMeans mean plan (Ok outs) = PassOutcomeMeans mean plan (Ok outs)
   PassMeans mean plan (Err fault) = (n : ℕ) × PassOutcomeMeans mean plan (Err (n, fault))
 
-  -- A pass answers its outcome, where an `Arc` counts as what it holds, or want of memory.
+  -- A pass answers its outcome, where an `Arc` counts as what it holds, or that memory ran out.
   abbrev pub AnswersPass : (ℕ → List O → Result O Fault) → Plan → Result (Vec (Arc O Global) Global) PassError → Type 0
   AnswersPass mean plan (Ok outs) = PassOutcomeMeans mean plan (Ok (map arc_value outs.items))
   AnswersPass mean plan (Err (At n fault)) = PassOutcomeMeans mean plan (Err (n.0, fault))

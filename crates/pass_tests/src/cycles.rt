@@ -180,12 +180,12 @@ fn labels_in_cycle(alloc: Global, g: &Graph<bool>) -> Result<usize, OutOfMemory>
 #[test]
 fn long_chains(rt: HostRuntime) -> Result<(), Fail> {
     let alloc = rt.alloc();
-    let count = 100_000;
+    let count = 200_000;
     for (forward, closed, labels) in [
         (true, false, 0),
         (false, false, 0),
-        (true, true, 100_001),
-        (false, true, 100_001),
+        (true, true, 200_001),
+        (false, true, 200_001),
     ] {
         let g = chain(alloc, count, forward, closed)?;
         assert_eq!(rt; labels_in_cycle(alloc, &g)?, labels);

@@ -338,7 +338,8 @@ fn laws_at_a_type() {
     laws::one_order_outcome::<u32>();
 }
 
-fn fault(alloc: Global) -> Fault {
+/// A fault at a place.
+pub fn fault(alloc: Global) -> Fault {
     let at = Place {
         file: 1,
         line: 1,
@@ -374,7 +375,12 @@ fn step_texts(alloc: Global) -> Result<String, OutOfMemory> {
     Ok(format!(in alloc; "{step}; {memory}")?)
 }
 
-fn check_text(rt: &impl Abort, text: Result<String, OutOfMemory>, want: &str) -> Result<(), Fail> {
+/// A text is what is wanted.
+pub fn check_text(
+    rt: &impl Abort,
+    text: Result<String, OutOfMemory>,
+    want: &str,
+) -> Result<(), Fail> {
     assert_eq!(rt; text?.as_str(), want);
     Ok(())
 }

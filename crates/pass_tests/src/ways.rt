@@ -4,7 +4,7 @@ ghost use Rattle.pass_tests.specs.Ways.{number_unless};
 ghost use Rattle.pass_ways.specs.Visits.{visits};
 ghost use Rattle.pass_ways.specs.Ways.{Follows, IsPassWay};
 
-use crate::visits::{falls, large};
+use crate::visits::{check_text, falls, fault, large};
 use bp_faults::{Fault, FaultKind, NodeId, OutOfMemory, Place, Seq, Text};
 use bp_ports::{Gate, OpenGate};
 use pass_core::{Plan, PlanEdge, Visit, VisitError};
@@ -341,6 +341,20 @@ fn two_passes_on_workers(rt: HostRuntime) {
 fn two_passes_along_lines(rt: HostRuntime) {
     let entries = [(1, 0), (1, 1), (2, 0), (2, 1)];
     assert!(rt; matches!(two_along(&rt, rt.alloc(), &entries), Ok((2, 2))));
+}
+
+/// What each error of a pass in some way says of itself.
+fn way_texts(alloc: Global) -> Result<String, OutOfMemory> {
+    let node = WayError::At(NodeId(0), fault(alloc));
+    let refused = WayError::Refused(fault(alloc));
+    let memory = WayError::OutOfMemory;
+    Ok(format!(in alloc; "{node}; {refused}; {memory}")?)
+}
+
+#[test]
+fn texts_of_way_errors(rt: HostRuntime) -> Result<(), Fail> {
+    let want = "a node has a fault; the pass is refused; out of memory";
+    check_text(&rt, way_texts(rt.alloc()), want)
 }
 
 #[test]

@@ -17,6 +17,7 @@ use mathlib.Core.Logic.{dite}
 use native.Mathlib.Decide.{ℕ_discrete}
 use Rattle.bp_faults.specs.declared.ids.NodeId.{NodeId}
 use Rattle.bp_faults.proofs.Lists.{all_map, all_contained, all_pushed, get_here, get_else, same_at}
+use Rattle.bp_faults.proofs.Lists.{all_append, all_before}
 use Rattle.pass_core.specs.declared.plan.Plan.{Plan}
 use Rattle.pass_core.specs.declared.plan.PlanEdge.{PlanEdge}
 use Rattle.pass_core.specs.CoreStates.{IsMarked}
@@ -37,11 +38,6 @@ still_marked bs j k h = dite (ℕ_discrete k j)
 pub now_marked : (bs : List Bool) (j : ℕ) → j < length bs → IsMarked (slice_set bs j true) j
 now_marked bs j lt = get_here bs j true lt
 
-all_appended : {X : Type 0} (P : X → Type 0) (xs ys : List X) → AllByRecursion P xs → AllByRecursion P ys →
-    AllByRecursion P (xs ++ ys)
-all_appended P [] ys h k = k
-all_appended P (x ∷ xs) ys h k = (h.0, all_appended P xs ys h.1 k)
-
 pub all_taken : {X : Type 0} (P : X → Type 0) (n : ℕ) (xs : List X) → AllByRecursion P xs → AllByRecursion P (take n xs)
 all_taken P zero xs h = tt
 all_taken P (suc n) [] h = tt
@@ -52,17 +48,12 @@ all_dropped P zero xs h = h
 all_dropped P (suc n) [] h = tt
 all_dropped P (suc n) (x ∷ xs) h = all_dropped P n xs h.1
 
-all_mapped : {X Y : Type 0} (f : X → Y) (P : Y → Type 0) (xs : List X) → AllByRecursion P (map f xs) → AllByRecursion
-    (λ x. P (f x)) xs
-all_mapped f P [] h = tt
-all_mapped f P (x ∷ xs) h = (h.0, all_mapped f P xs h.1)
-
 -- the nodes of a stretch are nodes of the plan
 pub nodes_inside : (count size k : ℕ) (order : List NodeId) → AllByRecursion (λ n. n < count) (numbers order) →
     AllByRecursion (λ (n : NodeId). n.0 < count) (stretch size k order)
 nodes_inside count size k order h =
     all_taken (λ (n : NodeId). n.0 < count) size (drop (k * size) order)
-    (all_dropped (λ (n : NodeId). n.0 < count) (k * size) order (all_mapped (λ (n : NodeId). n.0) (λ n. n < count)
+    (all_dropped (λ (n : NodeId). n.0 < count) (k * size) order (all_before (λ (n : NodeId). n.0) (λ n. n < count)
     order h))
 
 -- the node at a place is one of the plan
@@ -197,7 +188,7 @@ stand_appended [] more t s low high = stand_same more high
       stand_same es h.1,
     )
 stand_appended (e ∷ es) more t s low high = (
-  all_appended (λ (f : PlanEdge). e.to.0 ≤ f.to.0) es more s.0
+  all_append (λ (f : PlanEdge). e.to.0 ≤ f.to.0) es more s.0
       (all_map (λ (f : PlanEdge). (f.from.0 < t) × (f.to.0 ≡ t)) (λ (f : PlanEdge). e.to.0 ≤ f.to.0) (λ f g. let a =
       low.0.1 in let b = g.1 in omega arith) more high),
   stand_appended es more t s.1 low.1 high,
@@ -232,7 +223,7 @@ module _ (plan : Plan) (size : ℕ) (order table : List ℕ) (positive : 0 < siz
 
       links_appended : LinksStretches plan size order table (t + 1) (edges ++ added.more)
       links_appended = record {
-        rise = all_appended (λ (e : PlanEdge). (e.from.0 < e.to.0) × (e.to.0 < t + 1)) edges added.more
+        rise = all_append (λ (e : PlanEdge). (e.from.0 < e.to.0) × (e.to.0 < t + 1)) edges added.more
             (all_map (λ (e : PlanEdge). (e.from.0 < e.to.0) × (e.to.0 < t)) (λ (e : PlanEdge). (e.from.0 < e.to.0) ×
             (e.to.0 < t + 1)) (λ e h. (h.0, let a = h.1 in omega arith)) edges before.rise)
             (all_map (λ (e : PlanEdge). (e.from.0 < t) × (e.to.0 ≡ t)) (λ (e : PlanEdge). (e.from.0 < e.to.0) × (e.to.0 <

@@ -5,7 +5,7 @@ use Rattle.pass_ways.specs.declared.error.WayError.{WayError}
 use Rattle.pass_ways.specs.declared.error.WayError.TheVariants.{At, Refused, OutOfMemory}
 use Rattle.pass_ways.specs.Inside.{RefusesWith}
 
--- what holds of the refusal, and of want of memory, holds of the error
+-- what holds of the refusal, and of lack of memory, holds of the error
 pub by_refusal : (P : WayError → Type 0) (fault : Fault) (error : WayError) → RefusesWith fault error
     → P (Refused fault) → P OutOfMemory → P error
 by_refusal P fault (At n other) h refused want = absurd h

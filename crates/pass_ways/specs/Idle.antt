@@ -9,8 +9,8 @@ use Rattle.pass_ways.specs.declared.way.Way.{Way}
 use Rattle.pass_ways.specs.Ways.{Follows, RefusesPass, Runs}
 
 module _ (Follows : List (ℕ × NodeId) → Type 0) (Refuses : List (ℕ × NodeId) → ℕ → Plan → Fault → Type 0) where
-  -- Visits that make nothing answer the order that was followed, or a refusal of the way's own, or want of memory. No
-  -- node has a fault.
+  -- Visits that make nothing answer the order that was followed, or a refusal of the way's own, or that memory ran
+  -- out. No node has a fault.
   abbrev pub AnswersIdleBy : Plan → ℕ → List (ℕ × NodeId) → Result (List NodeId) WayError → Type 0
   AnswersIdleBy plan pass before (Ok order) = Runs Follows plan pass before order
   AnswersIdleBy plan pass before (Err (At n fault)) = ⊥

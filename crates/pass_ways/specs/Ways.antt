@@ -3,6 +3,7 @@ use Rattle.std.specs.Prelude.{◌≤◌, ◌<◌, ◌++◌, ℕ, List, length, m
 use Rattle.std.specs.Arc.{arc_value}
 use Rattle.bp_faults.specs.declared.fault.Fault.{Fault}
 use Rattle.bp_faults.specs.declared.ids.NodeId.{NodeId}
+use Rattle.bp_faults.specs.declared.limits.TheConstants.{MOST_WORKERS}
 use Rattle.pass_core.specs.declared.plan.Plan.{Plan}
 use Rattle.pass_core.specs.Orders.{IsLegal, numbers}
 use Rattle.pass_core.specs.Outcomes.{PassOutcomeMeans}
@@ -17,7 +18,7 @@ use Rattle.pass_ways.specs.Visits.{visits}
 module _ {G : Type 0} where
   -- There are 1 to 64 workers, and a `u32` counts the lines of an order file and one more.
   abbrev pub IsPassWay : Way G → Type 0
-  IsPassWay (Workers workers gate) = (1 ≤ workers) × (workers ≤ 64)
+  IsPassWay (Workers workers gate) = (1 ≤ workers) × (workers ≤ MOST_WORKERS)
   IsPassWay (Lines order_lines) = length order_lines.lines.now < 4294967295
 
   -- Some visits are such as the way makes: workers make any, and lines those that they say.

@@ -1,6 +1,7 @@
 //! Visits that make nothing of their nodes. They come to the order in which they were made.
 
 ghost use Rattle.std.specs.Prelude.{IfOk, IfSome, IsTrue, ◌≤◌, ◌<◌, length};
+ghost use Rattle.bp_faults.specs.declared.limits.TheConstants.{MOST_WORKERS};
 ghost use Rattle.pass_core.specs.InEdges.{AreStarts};
 ghost use Rattle.pass_core.specs.Orders.{IsLegal, numbers};
 ghost use Rattle.pass_core.specs.Plans.{IsPlan, HasNoCycle};
@@ -117,7 +118,7 @@ fn order_on_workers<R: Threads + Sync, G: Gate + Sync>(
 ) -> Result<Seq<NodeId>, OutOfMemory>
     requires plan { IsPlan plan.now }
     requires free { HasNoCycle plan.now.edges }
-    requires workers { (1 ≤ workers) × (workers ≤ 64) }
+    requires workers { (1 ≤ workers) × (workers ≤ MOST_WORKERS) }
     ensures { IfOk result (λ order. IsLegal plan.now (numbers order)) }
 {
     let starts = starts_of(alloc, plan)?;

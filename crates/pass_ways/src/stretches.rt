@@ -4,6 +4,7 @@
 ghost use Rattle.std.specs.Prelude.{◌≡◌, ◌≤◌, ◌<◌, ◌*◌, ℕ, IfOk, OnOk, Ok, ⊤, length, slice_index};
 ghost use Rattle.std.specs.List.{AllByRecursion};
 ghost use Rattle.bp_faults.specs.declared.ids.NodeId.{NodeId};
+ghost use Rattle.bp_faults.specs.declared.limits.TheConstants.{MOST_WORKERS};
 ghost use Rattle.pass_core.specs.declared.plan.PlanEdge.{PlanEdge};
 ghost use Rattle.pass_core.specs.CoreStates.{IsMarked};
 ghost use Rattle.pass_core.specs.InEdges.{AreStarts};
@@ -23,7 +24,7 @@ use visit_workers::visit_all;
 
 /// How many nodes a stretch has, and how many stretches there are: at most sixteen for each worker.
 fn sizes(count: u32, workers: u32) -> (usize, u32)
-    requires { (1 ≤ workers) × (workers ≤ 64) }
+    requires { (1 ≤ workers) × (workers ≤ MOST_WORKERS) }
     ensures positive { 0 < result.0 }
     ensures enough { count ≤ result.1 * result.0 }
     ensures few { result.1 ≤ 1024 }
@@ -186,7 +187,7 @@ fn turns_on_workers<R: Threads + Sync, G: Gate + Sync>(
 ) -> Result<Vec<NodeId>, OutOfMemory>
     requires plan { IsPlan stretches.now }
     requires free { HasNoCycle stretches.now.edges }
-    requires workers { (1 ≤ workers) × (workers ≤ 64) }
+    requires workers { (1 ≤ workers) × (workers ≤ MOST_WORKERS) }
     ensures { IfOk result (λ turns. IsLegal stretches.now (numbers turns.items)) }
 {
     results_meet_their_equation::<()>();
@@ -238,7 +239,7 @@ pub fn visit_stretches<R: Threads + Sync, G: Gate + Sync>(
 ) -> Result<Vec<NodeId>, OutOfMemory>
     requires plan { IsPlan plan.now }
     requires starts { AreStarts plan.now starts.now }
-    requires workers { (1 ≤ workers) × (workers ≤ 64) }
+    requires workers { (1 ≤ workers) × (workers ≤ MOST_WORKERS) }
     requires legal { IsLegal plan.now (numbers order.now) }
     ensures { IfOk result (λ nodes. IsLegal plan.now (numbers nodes.items)) }
 {

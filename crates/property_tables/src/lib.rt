@@ -1,7 +1,7 @@
 //! The property tables: which properties the modules of each type have, and what typing makes of a
 //! module.
 //!
-//! In flow the raw modules of a file and its directory; out flow modules with their records, or the
+//! The raw modules of a file and its directory flow in; modules with their records flow out, or the
 //! first fault. The layer is measured by `specs/Meaning.antt`, what a module is typed as, over
 //! `specs/Tables.antt`, one list of all properties with the kinds of module that have them.
 #![tactic(auto)]

@@ -100,6 +100,94 @@ const FAULTS: &[(&str, &str)] = &[
     ),
 ];
 
+/// Each two types that have no sum.
+const WITHOUT_A_SUM: &[(&str, &str)] = &[
+    (
+        "x = true + true",
+        ":1:10: error 14: cannot add: bool + bool\n",
+    ),
+    (
+        "x = true + 1",
+        ":1:10: error 14: cannot add: bool + integer\n",
+    ),
+    (
+        "x = true + \"a\"",
+        ":1:10: error 14: cannot add: bool + string\n",
+    ),
+    (
+        "x = true + [\"a\"]",
+        ":1:10: error 14: cannot add: bool + list\n",
+    ),
+    (
+        "x = true + {a: 1}",
+        ":1:10: error 14: cannot add: bool + map\n",
+    ),
+    (
+        "x = 1 + true",
+        ":1:7: error 14: cannot add: integer + bool\n",
+    ),
+    (
+        "x = 1 + \"a\"",
+        ":1:7: error 14: cannot add: integer + string\n",
+    ),
+    (
+        "x = 1 + [\"a\"]",
+        ":1:7: error 14: cannot add: integer + list\n",
+    ),
+    (
+        "x = 1 + {a: 1}",
+        ":1:7: error 14: cannot add: integer + map\n",
+    ),
+    (
+        "x = \"a\" + true",
+        ":1:9: error 14: cannot add: string + bool\n",
+    ),
+    (
+        "x = \"a\" + 1",
+        ":1:9: error 14: cannot add: string + integer\n",
+    ),
+    (
+        "x = \"a\" + [\"a\"]",
+        ":1:9: error 14: cannot add: string + list\n",
+    ),
+    (
+        "x = \"a\" + {a: 1}",
+        ":1:9: error 14: cannot add: string + map\n",
+    ),
+    (
+        "x = [\"a\"] + true",
+        ":1:11: error 14: cannot add: list + bool\n",
+    ),
+    (
+        "x = [\"a\"] + 1",
+        ":1:11: error 14: cannot add: list + integer\n",
+    ),
+    (
+        "x = [\"a\"] + \"a\"",
+        ":1:11: error 14: cannot add: list + string\n",
+    ),
+    (
+        "x = [\"a\"] + {a: 1}",
+        ":1:11: error 14: cannot add: list + map\n",
+    ),
+    (
+        "x = {a: 1} + true",
+        ":1:12: error 14: cannot add: map + bool\n",
+    ),
+    (
+        "x = {a: 1} + 1",
+        ":1:12: error 14: cannot add: map + integer\n",
+    ),
+    (
+        "x = {a: 1} + \"a\"",
+        ":1:12: error 14: cannot add: map + string\n",
+    ),
+    (
+        "x = {a: 1} + [\"a\"]",
+        ":1:12: error 14: cannot add: map + list\n",
+    ),
+];
+
 // The first text whose first fault is another.
 fn differing(
     alloc: Global,
@@ -118,6 +206,7 @@ fn differing(
 fn the_first_fault_is_reported(rt: HostRuntime) -> Result<(), Fail> {
     let nothing = Scope::empty(rt.alloc())?;
     assert_eq!(rt; differing(rt.alloc(), &nothing, FAULTS)?, None);
+    assert_eq!(rt; differing(rt.alloc(), &nothing, WITHOUT_A_SUM)?, None);
     Ok(())
 }
 

@@ -5,6 +5,7 @@ use Rattle.std.specs.declared.sync.Arc.{Arc}
 use mathlib.Core.Option.{some, some-injective, some-ne-none}
 use mathlib.Core.Logic.{dite}
 use native.Mathlib.Decide.{ℕ_discrete}
+use Rattle.bp_faults.proofs.Lists.{same_at}
 use lib.ListN.{get_elem?}
 use Rattle.atomic_table.specs.Table.{opening}
 use Rattle.pass_core.specs.declared.plan.PlanEdge.{PlanEdge}
@@ -133,11 +134,6 @@ first_small count many edges i n words first l = let a = first.1 n l in
       take_short (e ∷ es) zero = omega arith
       take_short (e ∷ es) (suc i) = let h = take_short es i in omega arith
 
-get_any : {X : Type 0} (xs : List X) (i : ℕ) (d e : X) → i < length xs → get_or xs i d ≡ get_or xs i e
-get_any [] i d e lt = absurd (omega arith)
-get_any (x ∷ xs) zero d e lt = refl
-get_any (x ∷ xs) (suc i) d e lt = get_any xs i d e (omega arith)
-
 pub found_small : (count many : ℕ) (edges xs : List PlanEdge) (words : List ℕ) (i found : ℕ) (d : PlanEdge)
     → xs ≡ edges → i < length xs → ((e : ℕ) → e < length edges → edge_target edges e < count)
     → AreFirst count many (take i edges) words
@@ -146,7 +142,7 @@ found_small count many edges xs words i found d is l ends first at =
     let inside : i < length edges = subst (λ ys. i < length ys) is l in
     let t = edge_to edges xs i d is inside in let n = ends i inside in let m = first.0 in
     let a = first_small count many edges i (get_or xs i d).to.0 words first (omega arith) in
-    let b = get_any words (get_or xs i d).to.0 found 0 (omega arith) in
+    let b = same_at words (get_or xs i d).to.0 found 0 (omega arith) in
     let c : found ≡ slice_index words (get_or xs i d).to.0 = at ∙ b in omega arith
 
 pub first_more_as : (count many : ℕ) (edges xs : List PlanEdge) (words : List ℕ) (i found : ℕ) (d : PlanEdge)
@@ -157,7 +153,7 @@ pub first_more_as : (count many : ℕ) (edges xs : List PlanEdge) (words : List 
 first_more_as count many edges xs words i found d is l ends first at =
     let inside : i < length edges = subst (λ ys. i < length ys) is l in
     let t = edge_to edges xs i d is inside in let n = ends i inside in let m = first.0 in
-    let b = get_any words (get_or xs i d).to.0 found 0 (omega arith) in
+    let b = same_at words (get_or xs i d).to.0 found 0 (omega arith) in
     let c : found + 1 ≡ suc (slice_index words (get_or xs i d).to.0) =
     let q : found ≡ slice_index words (get_or xs i d).to.0 = at ∙ b in omega arith in
     let e : get_or edges i (get_or xs i d) ≡ get_or xs i d =

@@ -1,24 +1,15 @@
 -- How many edges a graph has.
-use Rattle.std.proofs.Common.{◌≡◌, ◌<◌, ◌≤◌, ◌+◌, ◌-◌, ◌++◌, ℕ, zero, suc, List, [], ◌∷◌, Option, Some, None, Result, Ok, Err, length, drop, get_or, refl, sym, ap, ◌∙◌, arith}
+use Rattle.std.proofs.Common.{◌≡◌, ◌<◌, ◌≤◌, ◌+◌, ◌-◌, ◌++◌, ℕ, List, Option, Some, None, Result, Ok, Err, length, drop, get_or, refl, sym, ap, ◌∙◌}
 use Rattle.std.specs.Prelude.{slice_get}
 use Rattle.std.specs.Option.{option_map_or}
 use Rattle.std.proofs.lemmas.List.{drop_more}
 use Rattle.bp_faults.specs.declared.fault.Fault.{Fault}
 use Rattle.bp_faults.specs.declared.limits.TheConstants.{MOST_EDGES}
+use Rattle.bp_faults.proofs.Lists.{slice_get-append, slice_get-append_past, none_there}
 use Rattle.module_graph.specs.declared.graph.Edge.{Edge}
 use Rattle.module_graph.specs.declared.graph.Node.{Node}
 use Rattle.reverse_deps.specs.Applied.{too_many, edges_counted}
 use Rattle.module_graph.specs.Graphs.{all_edges}
-
-slice_get-append : {X : Type 0} (xs ys : List X) (n : ℕ) (x : X) → n < length xs → slice_get (xs ++ ys) n ≡ Some (get_or xs n x)
-slice_get-append [] ys n x lt = absurd (omega arith)
-slice_get-append (y ∷ xs) ys zero x lt = refl
-slice_get-append (y ∷ xs) ys (suc n) x lt = slice_get-append xs ys n x (omega arith)
-
-slice_get-append_past : {X : Type 0} (xs ys : List X) (n : ℕ) → length xs ≤ n → slice_get (xs ++ ys) n ≡ slice_get ys (n - length xs)
-slice_get-append_past [] ys n le = let s : n ≡ n - 0 = omega arith in ap (slice_get ys) s
-slice_get-append_past (x ∷ xs) ys zero le = absurd (omega arith)
-slice_get-append_past (x ∷ xs) ys (suc n) le = let s : n - length xs ≡ suc n - suc (length xs) = omega arith in slice_get-append_past xs ys n (omega arith) ∙ ap (slice_get ys) s
 
 module _ {P : Type 0} (nodes : List (Node P)) (k left : ℕ) (x : Node P) (edges : List Edge) (lt : k < length nodes) (x_is : x ≡ get_or nodes k x) (edges_are : edges ≡ x.edges) where
   -- the edges that are left begin with those of the next node
@@ -36,11 +27,6 @@ module _ {P : Type 0} (nodes : List (Node P)) (k left : ℕ) (x : Node P) (edges
   pub counted_beyond : (e : Edge) → left < length edges → e ≡ get_or edges left e → slice_get (all_edges (drop k nodes)) left ≡ slice_get (all_edges nodes) MOST_EDGES → edges_counted nodes ≡ Err (too_many e)
   counted_beyond e beyond e_is is =
       ap (λ o. option_map_or (λ (y : Edge). Err (too_many y)) o (Ok tt)) (sym is ∙ next_get ∙ slice_get-append edges (all_edges (drop (k + 1) nodes)) left e beyond ∙ ap Some (sym e_is))
-
-none_there : {X : Type 0} (xs : List X) (n : ℕ) → slice_get xs n ≡ None → length xs ≤ n
-none_there [] n is = omega arith
-none_there (x ∷ xs) zero is = cc
-none_there (x ∷ xs) (suc n) is = let rest = none_there xs n is in omega arith
 
 -- where they are counted there are no more than the limit
 pub few_edges : {P : Type 0} (nodes : List (Node P)) → edges_counted nodes ≡ Ok tt → length (all_edges nodes) ≤ MOST_EDGES

@@ -10,24 +10,15 @@ use Rattle.bp_faults.specs.declared.fault.Fault.{Fault}
 use Rattle.bp_faults.specs.declared.ids.NodeId.{NodeId}
 use Rattle.bp_faults.specs.declared.kind.FaultKind.{FaultKind}
 use Rattle.bp_faults.specs.declared.kind.FaultKind.TheVariants.{MissingModule}
+use Rattle.bp_faults.proofs.Lists.{all_append, found_inside}
 use Rattle.bp_names.specs.Meaning.{first_number_from}
 use Rattle.bp_props.specs.declared.module.Module.{Module}
 use Rattle.module_graph.specs.declared.graph.Node.{Node}
 use Rattle.mutator_rules.specs.declared.request.Request.{Request}
 use Rattle.reverse_deps.specs.Linked.{Link, link_of, links_in, links, same_way, edge_for}
 use Rattle.reverse_deps.specs.Resolved.{names_by_number, module_named, wrong_kind, request_fault, missing_variant, fitting, module_for, is_for, node_for, resolved_node}
-use Rattle.reverse_deps.proofs.Apart.{all_append}
 
--- a place that is found is one of the list
-place_inside : {X : Type 0} (test : X → Bool) (k : ℕ) (xs : List X) (n : ℕ) → position_from test k xs ≡ Some n → n < k + length xs
-place_inside test k [] n is = cc
-place_inside test k (x ∷ xs) n is = by (test x) (place_inside test (k + 1) xs n) is
-  where
-    by : (b : Bool) → (position_from test (k + 1) xs ≡ Some n → n < (k + 1) + length xs) → cond b (Some k) (position_from test (k + 1) xs) ≡ Some n → n < k + suc (length xs)
-    by true rest h = let same : k ≡ n = cc in omega arith
-    by false rest h = let r = rest h in omega arith
-
--- so is the number of a name
+-- the number of a name is one of the list
 number_inside_names : (k : ℕ) (names : List (List ℕ)) (name : List ℕ) (n : ℕ) → first_number_from k names name ≡ Some n
     → n < k + length names
 number_inside_names k [] name n is = cc
@@ -70,7 +61,7 @@ module _ {P : Type 0} where
   node_inside mods nodes r n is = by (module_for mods r) is
     where
       by : (o : Result ℕ Fault) → then_do o (λ m. ok_or (node_for nodes m r.want) (missing_variant r)) ≡ Ok n → n.0 < length nodes
-      by (Ok m) h = number_inside nodes (position_from (is_for m r.want) 0 nodes) (missing_variant r) n (λ k k_is. let lt = place_inside (is_for m r.want) 0 nodes k k_is in omega arith) h
+      by (Ok m) h = number_inside nodes (position_from (is_for m r.want) 0 nodes) (missing_variant r) n (λ k k_is. let lt = found_inside (is_for m r.want) 0 nodes k k_is in omega arith) h
       by (Err fault) h = cc
 
 module _ (count : ℕ) where

@@ -3,7 +3,7 @@ use Rattle.std.proofs.Common.{◌≡◌, ◌<◌, ◌+◌, ◌&&◌, ℕ, zero, 
 use Rattle.std.specs.Prelude.{slice_get}
 use Rattle.std.specs.Option.{option_map}
 use Rattle.std.specs.List.{position_from}
-use Rattle.std.proofs.lemmas.Bool.{eqb-true}
+use Rattle.std.proofs.lemmas.Bool.{eqb-true, and_parts, and_from}
 use Rattle.module_graph.specs.declared.graph.Node.{Node}
 use Rattle.module_graph.specs.declared.variations.Axis.TheVariants.{Target, Image, Link}
 use Rattle.module_graph.specs.Laws.{SameMeansEqual}
@@ -51,22 +51,13 @@ module _ {X : Type 0} (test : X → Bool) where
       by true is rest = (zero, omega arith, (x, refl, is), λ j lt p. absurd (omega arith))
       by false is rest = behind k x xs is (position_from test (k + 1) xs) rest
 
-both_so : (a b : Bool) → (a && b) ≡ true → (a ≡ true) × (b ≡ true)
-both_so true true h = (refl, refl)
-both_so true false h = cc
-both_so false b h = cc
-
-and_so : (a b : Bool) → a ≡ true → b ≡ true → (a && b) ≡ true
-and_so true b is so = so
-and_so false b is so = cc
-
 module _ {P : Type 0} (told : SameMeansEqual) (m : ℕ) (want : Wanted) where
   passed : (x : Node P) → is_for m want x ≡ true → IsFor m want x
   passed x is =
-      let own = both_so (nat_eq x.«module».0 m) (is_wanted want x.vars) is in
+      let own = and_parts (nat_eq x.«module».0 m) (is_wanted want x.vars) is in
       let first =
-      both_so (has_variation Target want.target x.vars) (has_variation Image want.image x.vars && has_variation Link want.link x.vars) own.1 in
-      let rest = both_so (has_variation Image want.image x.vars) (has_variation Link want.link x.vars) first.1 in
+      and_parts (has_variation Target want.target x.vars) (has_variation Image want.image x.vars && has_variation Link want.link x.vars) own.1 in
+      let rest = and_parts (has_variation Image want.image x.vars) (has_variation Link want.link x.vars) first.1 in
       record {
         of_module = eqb-true x.«module».0 m own.0;
         target = (told want.target (along Target x)).0 first.0;
@@ -76,10 +67,10 @@ module _ {P : Type 0} (told : SameMeansEqual) (m : ℕ) (want : Wanted) where
 
   passes : (x : Node P) → IsFor m want x → is_for m want x ≡ true
   passes x is =
-      and_so (nat_eq x.«module».0 m) (is_wanted want x.vars) (eq-eqb x.«module».0 m is.of_module)
-      (and_so (has_variation Target want.target x.vars) (has_variation Image want.image x.vars && has_variation Link want.link x.vars)
+      and_from (nat_eq x.«module».0 m) (is_wanted want x.vars) (eq-eqb x.«module».0 m is.of_module)
+      (and_from (has_variation Target want.target x.vars) (has_variation Image want.image x.vars && has_variation Link want.link x.vars)
       ((told want.target (along Target x)).1 is.target)
-      (and_so (has_variation Image want.image x.vars) (has_variation Link want.link x.vars)
+      (and_from (has_variation Image want.image x.vars) (has_variation Link want.link x.vars)
       ((told want.image (along Image x)).1 is.image) ((told want.link (along Link x)).1 is.link)))
 
   -- the node that is found is the least

@@ -1,4 +1,3 @@
-pub mod Apart
 pub mod Counted
 pub mod Each
 pub mod Gained

@@ -2,6 +2,7 @@
 use Rattle.std.proofs.Common.{◌≡◌, ◌<◌, ◌≤◌, ◌+◌, ◌^◌, ℕ, Bool, true, false, cond, List, [], ◌∷◌, Some, None, Ok, length, map, nat_eq, refl, sym, ◌∙◌, subst, arith, length-append}
 use Rattle.std.specs.List.{AllByRecursion, cons_option}
 use Rattle.std.proofs.lemmas.List.{length-map}
+use Rattle.bp_faults.proofs.Lists.{all_append, Apart, apart_pairs, pairs_apart}
 use Rattle.module_graph.specs.declared.graph.Edge.{Edge}
 use Rattle.module_graph.specs.declared.graph.Node.{Node}
 use Rattle.module_graph.specs.Numbered.{by_number}
@@ -10,7 +11,6 @@ use Rattle.module_graph.specs.Walks.{NoneReturns}
 use Rattle.mutator_rules.specs.Conditions.{MayRun}
 use Rattle.reverse_deps.specs.Applied.{edges_counted}
 use Rattle.reverse_deps.specs.Linked.{Link, gained_edges, linked_from, linked_nodes}
-use Rattle.reverse_deps.proofs.Apart.{all_append, Apart, apart_pairs, pairs_apart}
 use Rattle.reverse_deps.proofs.Counted.{few_edges}
 use Rattle.reverse_deps.proofs.Gained.{many_linked}
 use Rattle.reverse_deps.proofs.Inside.{LinksInside}

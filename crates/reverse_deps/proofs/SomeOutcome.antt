@@ -9,7 +9,7 @@ use Rattle.module_graph.specs.Cycles.{CycleMeans}
 use Rattle.module_graph.specs.Graphs.{IsValid, NameNodes}
 use Rattle.module_graph.specs.Laws.{OneCycleMeaning}
 use Rattle.mutator_rules.specs.declared.request.Request.{Request}
-use Rattle.mutator_rules.specs.Conditions.{MayRun, places_in}
+use Rattle.mutator_rules.specs.Conditions.{MayRun, indices_in}
 use Rattle.reverse_deps.specs.Applied.{AskInside, labels_of, edges_counted, AcyclicMeans, CountedMeans, found_for, ApplyMeans}
 use Rattle.reverse_deps.specs.Laws.{IsFitStill}
 use Rattle.reverse_deps.specs.Linked.{links, linked_nodes}
@@ -52,7 +52,7 @@ module _ {P : Type 0} (mods : List Module) where
         (links_inside (length nodes) asked found asking (found_inside mods nodes asked found is)) ends))
 
   pub applied_keeps : (nodes : List (Node P)) (asked : List (NodeId × Request)) (new : List (Node P))
-      → IsValid nodes → MayRun (places_in (length mods)) nodes → AskInside (length nodes) asked
+      → IsValid nodes → MayRun (indices_in (length mods)) nodes → AskInside (length nodes) asked
       → ApplyMeans mods nodes asked (Ok new) → IsFitStill (length mods) nodes new
   applied_keeps nodes asked new valid may asking applied =
       let (found, found_is, rest) =

@@ -12,7 +12,7 @@ use Rattle.module_graph.specs.declared.graph.Node.{Node}
 use Rattle.module_graph.specs.declared.graph.Edge.{Edge}
 use Rattle.module_graph.specs.Graphs.{all_edges, edges_of, IsValid}
 use Rattle.module_graph.specs.Walks.{NoneReturns}
-use Rattle.mutator_rules.specs.Conditions.{MayRun, places_in}
+use Rattle.mutator_rules.specs.Conditions.{MayRun, indices_in}
 use Rattle.mutator_rules.specs.declared.request.Request.{Request}
 use Rattle.reverse_deps.specs.Applied.{AskInside, too_many, edges_counted, found_for, AcyclicMeans, CountedMeans, ApplyMeans}
 use Rattle.reverse_deps.specs.Linked.{without_edges, links, linked_nodes}
@@ -40,8 +40,8 @@ module _ {P : Type 0} (mods : List Module) (nodes : List (Node P)) (asked : List
       as_linked : edges_counted (linked_nodes nodes (links asked found)) ≡ Ok tt
       as_linked = subst (λ (xs : List (Node P)). edges_counted xs ≡ Ok tt) made_is counted
 
-      pub may_made : MayRun (places_in (length mods)) nodes → MayRun (places_in (length mods)) made
-      may_made may = subst (MayRun (places_in (length mods))) (sym made_is) (may_linked (places_in (length mods)) nodes (links asked found) may inside as_linked)
+      pub may_made : MayRun (indices_in (length mods)) nodes → MayRun (indices_in (length mods)) made
+      may_made may = subst (MayRun (indices_in (length mods))) (sym made_is) (may_linked (indices_in (length mods)) nodes (links asked found) may inside as_linked)
 
       module _ (acyclic : NoneReturns (edges_of made)) where
         linked_acyclic : NoneReturns (edges_of (linked_nodes nodes (links asked found)))

@@ -14,7 +14,7 @@ use Rattle.module_graph.specs.Axes.{axis_index}
 use Rattle.module_graph.specs.Graphs.{IsValid, NameNodes, all_edges}
 use Rattle.mutator_rules.specs.declared.request.Request.{Request}
 use Rattle.mutator_rules.specs.declared.request.Wanted.{Wanted}
-use Rattle.mutator_rules.specs.Conditions.{MayRun, places_in}
+use Rattle.mutator_rules.specs.Conditions.{MayRun, indices_in}
 use Rattle.reverse_deps.specs.Applied.{AskInside, ApplyMeans}
 use Rattle.reverse_deps.specs.Linked.{without_edges}
 use Rattle.reverse_deps.specs.Resolved.{node_for}
@@ -45,7 +45,7 @@ module _ {P : Type 0} where
 -- are the same but for their edges.
 pub record IsFitStill {P : Type 0} (count : ℕ) (old new : List (Node P)) : Type 0 where
   pub valid : IsValid new
-  pub may : MayRun (places_in count) new
+  pub may : MayRun (indices_in count) new
   pub same : map without_edges new ≡ map without_edges old
 
 module _ (P : Type 0) where
@@ -71,7 +71,7 @@ module _ (P : Type 0) where
   abbrev pub AppliedKeeps : Type 0
   AppliedKeeps =
       (mods : List Module) (nodes : List (Node P)) (asked : List (NodeId × Request)) (new : List (Node P))
-      → IsValid nodes → MayRun (places_in (length mods)) nodes → AskInside (length nodes) asked
+      → IsValid nodes → MayRun (indices_in (length mods)) nodes → AskInside (length nodes) asked
       → ApplyMeans mods nodes asked (Ok new) → IsFitStill (length mods) nodes new
 
   -- Where nothing is asked, a valid graph within the limit on edges stays as it is.

@@ -4,7 +4,7 @@ ghost use Rattle.bp_faults.specs.Answers.{Answers, Tells};
 ghost use Rattle.bp_faults.specs.declared.ids.NodeId.{NodeId};
 ghost use Rattle.module_graph.specs.Cycles.{CycleMeans};
 ghost use Rattle.module_graph.specs.Graphs.{IsValid};
-ghost use Rattle.mutator_rules.specs.Conditions.{MayRun, places_in};
+ghost use Rattle.mutator_rules.specs.Conditions.{MayRun, indices_in};
 ghost use Rattle.reverse_deps.specs.Applied.{labels_of, found_for, AskInside, ApplyMeans};
 ghost use Rattle.reverse_deps.specs.Linked.{links, linked_nodes, without_edges};
 
@@ -27,7 +27,7 @@ fn find_all<P>(
     asked: &[(NodeId, Request)],
 ) -> Result<Vec<NodeId>, Refusal>
     requires few { length mods.now < 2 ^ 32 }
-    requires may { MayRun (places_in (length mods.now)) g.now.nodes }
+    requires may { MayRun (indices_in (length mods.now)) g.now.nodes }
     ensures { Answers (λ found. found.items) result (found_for mods.now g.now.nodes asked.now) }
 {
     if asked.is_empty() {
@@ -63,7 +63,7 @@ fn with_links<P: Drop>(
 
 /// No walk in a graph returns to its start. Labels are made only where one does.
 fn refuse_cycle<P>(alloc: Global, mods: &[Module], g: &Graph<P>) -> Result<(), GraphError>
-    requires { MayRun (places_in (length mods.now)) g.now.nodes }
+    requires { MayRun (indices_in (length mods.now)) g.now.nodes }
     ensures { Tells (λ done. done) (CycleMeans g.now.nodes (labels_of mods.now g.now.nodes)) result }
 {
     match check_cycle(alloc, g, &[]) {
@@ -87,11 +87,11 @@ pub fn apply<P: Drop>(
     asked: &[(NodeId, Request)],
 ) -> Result<Graph<P>, GraphError>
     requires few { length mods.now < 2 ^ 32 }
-    requires may { MayRun (places_in (length mods.now)) g.nodes }
+    requires may { MayRun (indices_in (length mods.now)) g.nodes }
     requires asking { AskInside (length g.nodes) asked.now }
     ensures means { Tells (λ made. made.nodes) (ApplyMeans mods.now g.nodes asked.now) result }
     ensures bare { IfOk result (λ made. map without_edges made.nodes ≡ map without_edges g.nodes) }
-    ensures may { IfOk result (λ made. MayRun (places_in (length mods.now)) made.nodes) }
+    ensures may { IfOk result (λ made. MayRun (indices_in (length mods.now)) made.nodes) }
     ensures valid { IsValid g.nodes → IfOk result (λ made. IsValid made.nodes) }
 {
     let found = find_all(alloc, mods, &g, asked)?;

@@ -1,7 +1,7 @@
 ghost use Rattle.std.specs.Prelude.{◌≡◌, ◌<◌, ◌^◌, [], IfOk, length, replicate};
 ghost use Rattle.std.specs.List.{find};
 ghost use Rattle.bp_names.specs.Meaning.{number_of, NumbersFirst};
-ghost use Rattle.mutator_rules.specs.Conditions.{MayRun, places_in};
+ghost use Rattle.mutator_rules.specs.Conditions.{MayRun, indices_in};
 ghost use Rattle.reverse_deps.specs.Inside.{IsDirectory, ListsNodes, is_wanted_at};
 ghost use Rattle.reverse_deps.specs.Resolved.{has_variation, is_wanted, names_by_number, node_for};
 
@@ -51,7 +51,7 @@ fn nodes_by_module<P>(
     mods: &[Module],
     g: &Graph<P>,
 ) -> Result<Vec<NodeList>, OutOfMemory>
-    requires { MayRun (places_in (length mods.now)) g.now.nodes }
+    requires { MayRun (indices_in (length mods.now)) g.now.nodes }
     ensures many { IfOk result (λ lists. length lists.items ≡ length mods.now) }
     ensures each { IfOk result (λ lists. ListsNodes g.now.nodes (length mods.now) lists.items) }
 {
@@ -106,7 +106,7 @@ impl<'a> Directory<'a> {
         g: &Graph<P>,
     ) -> Result<Directory<'a>, OutOfMemory>
         requires few { length mods.now < 2 ^ 32 }
-        requires may { MayRun (places_in (length mods.now)) g.now.nodes }
+        requires may { MayRun (indices_in (length mods.now)) g.now.nodes }
         ensures { IfOk result (λ d. IsDirectory mods.now g.now.nodes d.names d.nodes.items) }
     {
         Ok(Directory {

@@ -1,6 +1,6 @@
 ghost use Rattle.std.specs.Prelude.{◌≡◌, ◌<◌, ◌^◌, IfOk, length};
 ghost use Rattle.bp_faults.specs.Answers.{Answers};
-ghost use Rattle.mutator_rules.specs.Conditions.{MayRun, places_in};
+ghost use Rattle.mutator_rules.specs.Conditions.{MayRun, indices_in};
 ghost use Rattle.reverse_deps.specs.Inside.{IsDirectory};
 ghost use Rattle.reverse_deps.specs.Resolved.{wrong_kind, request_fault, missing_variant, fitting};
 ghost use Rattle.reverse_deps.specs.Resolved.{module_for, resolved_node};
@@ -103,7 +103,7 @@ pub fn resolve<P>(
     r: &Request,
 ) -> Result<NodeId, GraphError>
     requires few { length mods.now < 2 ^ 32 }
-    requires may { MayRun (places_in (length mods.now)) g.now.nodes }
+    requires may { MayRun (indices_in (length mods.now)) g.now.nodes }
     ensures { Answers (λ n. n) result (resolved_node mods.now g.now.nodes r.now) }
 {
     let directory = Directory::new(alloc, mods, g)?;

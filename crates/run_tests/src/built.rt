@@ -8,7 +8,7 @@ use std::test::Fail;
 use std::thread::Threads;
 
 /// The fixed head, and the statements of *plain_start*.
-const WRITTEN: &str = "# build.ninja written by bpgen
+pub const WRITTEN: &str = "# build.ninja written by bpgen
 rule cc
   command = clang ${target} ${cflags} ${includes} -MD -MF ${out}.d -c ${in} -o ${out}
   description = CC ${out}

@@ -17,6 +17,14 @@ const FAULTS: &[(&str, &str)] = &[
         "list:2:1: error 33: bad path in list: é\n",
     ),
     (
+        "@Android.bp\nb = \"x",
+        "Android.bp:1:5: error 3: unterminated string\n",
+    ),
+    (
+        "@Android.bp\nb = \"x\\q\"",
+        "Android.bp:1:7: error 5: bad escape: q\n",
+    ),
+    (
         "@Android.bp\nb = 9223372036854775808",
         "Android.bp:1:5: error 6: number out of range: 9223372036854775808\n",
     ),
@@ -79,6 +87,14 @@ const FAULTS: &[(&str, &str)] = &[
     (
         "@Android.bp\ncc_binary { srcs: \"x.c\" }",
         "Android.bp:1:13: error 17: wrong type: srcs\n",
+    ),
+    (
+        "@Android.bp\ncc_binary { name: \"a\", compile_multilib: \"all\" }",
+        "Android.bp:1:24: error 26: bad value: compile_multilib\n",
+    ),
+    (
+        "@Android.bp\ncc_binary { name: \"a\", srcs: [\"../x.c\"] }",
+        "Android.bp:1:31: error 27: bad path: ../x.c\n",
     ),
     (
         "@Android.bp\ncc_binary { }",

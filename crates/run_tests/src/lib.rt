@@ -1,5 +1,5 @@
-//! The tests of whole runs: trees that are built, trees with faults, graphs, and passes on several workers. The crate
-//! has no code of its own.
+//! The tests of whole runs: trees that are built, also over the files of the system, trees with faults, graphs, and
+//! passes on several workers. The crate has no code of its own.
 #![tactic(auto)]
 
 #[cfg(test)]
@@ -10,5 +10,7 @@ mod examples;
 mod faults;
 #[cfg(test)]
 mod graphs;
+#[cfg(test)]
+mod real_files;
 #[cfg(test)]
 mod workers;

@@ -7,7 +7,8 @@ use Rattle.std.proofs.lemmas.Fmt.{length-decimal-le}
 use Rattle.synthetic_tree.specs.Modules.{near_dependency, far_dependency, place_in_file, dependencies, names_text, quoted_name, type_text, end_text, is_sanitized, module_text}
 use Rattle.synthetic_tree.specs.Blocks.{block_text, block_size}
 
-at_if : {X : Type 0} (P : X → Type 0) (b : Bool) (x y : X) → P x → P y → P (if b then x else y)
+-- What holds of both branches holds of either.
+pub at_if : {X : Type 0} (P : X → Type 0) (b : Bool) (x y : X) → P x → P y → P (if b then x else y)
 at_if P true x y p q = p
 at_if P false x y p q = q
 

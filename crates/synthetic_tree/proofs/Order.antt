@@ -35,7 +35,8 @@ directories_differ a b small_a small_b apart = is_eq-slice_cmp (block_directory 
     let numbers : decimal a ≡ decimal b = cc in
     apart (decimal_injective a b small_a small_b numbers))
 
-range_differs : (n : ℕ) → n ≤ 2 ^ 64 → IsDistinct (eq_by_cmp block_cmp) (range_with_len 0 n)
+-- So the first n blocks differ by their directories.
+pub range_differs : (n : ℕ) → n ≤ 2 ^ 64 → IsDistinct (eq_by_cmp block_cmp) (range_with_len 0 n)
 range_differs n small = IsDistinct-from_apart (eq_by_cmp block_cmp) (range_with_len 0 n) (λ i j d less below.
     let within : j < n = omega (arith, length-range_with_len 0 n) in
     let first : get_or (range_with_len 0 n) i d ≡ 0 + i = get_or-range_with_len 0 n i d (omega arith) in

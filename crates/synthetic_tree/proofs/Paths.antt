@@ -4,6 +4,7 @@ use Rattle.std.specs.Prelude.{codes, decimal, ◌==◌, ◌&&◌, nat_le}
 use Rattle.std.specs.List.{list_all, slice_split, onto_first}
 use Rattle.std.specs.Str.Parse.{digits_value}
 use Rattle.std.proofs.lemmas.Fmt.{digits_decimal}
+use Rattle.std.proofs.lemmas.Bool.{and_parts}
 use Rattle.std.proofs.lemmas.Str.Parse.{IsNumeralModel, numerals_by_value}
 use Rattle.std.proofs.lemmas.Grind.{common_steps}
 use Rattle.bp_faults.specs.Paths.{is_component, is_normal}
@@ -21,14 +22,10 @@ is_slash b = b == 47
 no_slash : (d : ℕ) → is_digit d ≡ true → is_slash d ≡ false
 no_slash d h = grind (arith, common_steps)
 
-both : (a b : Bool) → (a && b) ≡ true → (a ≡ true) × (b ≡ true)
-both true b e = (refl, e)
-both false b e = absurd (cc)
-
 digits_split : (ds more : List ℕ) → list_all is_digit ds ≡ true → slice_split is_slash (ds ++ 47 ∷ more) ≡ ds ∷ slice_split is_slash more
 digits_split [] more h = refl
 digits_split (d ∷ ds) more h =
-    let k = both (is_digit d) (list_all is_digit ds) h in
+    let k = and_parts (is_digit d) (list_all is_digit ds) h in
     rw (no_slash d k.0, digits_split ds more k.1) refl
 
 -- A path has two components: the directory, and the file's name.

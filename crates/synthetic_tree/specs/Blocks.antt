@@ -1,11 +1,12 @@
 -- The files of a synthetic tree: blocks of 64 modules, in file order.
-use Rattle.std.specs.Prelude.{◌≡◌, ℕ, ◌+◌, ◌*◌, ◌/◌, ◌-◌, ◌≤◌, ◌^◌, List, ◌++◌, map, min, length}
+use Rattle.std.specs.Prelude.{◌≡◌, ℕ, ◌+◌, ◌*◌, ◌/◌, ◌-◌, ◌≤◌, List, ◌++◌, map, min, length}
 use Rattle.std.specs.Prelude.{codes, decimal}
 use Rattle.std.specs.List.{All, flat_map, range_with_len}
 use Rattle.std.specs.List.Sorted.{IsPermutation, IsStrictlySortedBy}
 use Rattle.std.specs.Ordering.{nat_cmp}
 use Rattle.std.specs.Cmp.Lexicographic.{slice_cmp}
 use Rattle.std.specs.declared.cmp.Ordering.{Ordering}
+use Rattle.bp_faults.specs.declared.limits.TheConstants.{LARGEST_FILE, MOST_FILES}
 use Rattle.bp_load.specs.Directories.{AreInFileOrder}
 use Rattle.synthetic_tree.specs.Modules.{module_text}
 
@@ -49,6 +50,6 @@ AreTree seed modules files =
 
 -- What loading asks of files: there are few, in file order, and each is short.
 pub record CanLoad (files : List TreeFile) : Type 0 where
-  pub few : length files ≤ 2 ^ 14
+  pub few : length files ≤ MOST_FILES
   pub order : AreInFileOrder (map (λ f. f.0) files)
-  pub short : All (λ f. length f.1 ≤ 2 ^ 20) files
+  pub short : All (λ f. length f.1 ≤ LARGEST_FILE) files

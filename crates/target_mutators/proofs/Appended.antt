@@ -1,5 +1,5 @@
 -- Groups are appended one after another.
-use Rattle.std.proofs.Common.{◌≡◌, ◌<◌, ◌+◌, ℕ, List, [], ◌∷◌, length, drop, get_or, refl, ap, sym, ◌∙◌, arith}
+use Rattle.std.proofs.Common.{◌≡◌, ◌<◌, ◌+◌, ℕ, List, [], ◌∷◌, length, drop, get_or, refl, ap, sym, ◌∙◌}
 use Rattle.bp_faults.proofs.Lists.{drop-here}
 use Rattle.std.specs.Option.{option_map_or}
 use Rattle.bp_props.specs.declared.group.GroupProps.{GroupProps}
@@ -27,7 +27,3 @@ no_group p id none = ap (λ (groups : List (GroupId × GroupProps)). option_map_
 pub no_groups : (p : Props) (ids : List GroupId) → p.groups ≡ [] → with_groups p ids ≡ p
 no_groups p [] none = refl
 no_groups p (id ∷ ids) none = ap (λ (q : Props). with_groups q ids) (no_group p id none) ∙ no_groups p ids none
-
-pub no_items : {A : Type 0} (items : List A) → length items ≡ 0 → items ≡ []
-no_items [] none = refl
-no_items (x ∷ items) none = absurd (omega arith)

@@ -5,7 +5,7 @@ ghost use Rattle.module_graph.specs.declared.variations.Axis.TheVariants.{Target
 ghost use Rattle.module_rules.specs.Rules.{splits};
 ghost use Rattle.module_rules.specs.Shaped.{splits_shaped};
 ghost use Rattle.module_rules.specs.Variants.{if_enabled};
-ghost use Rattle.mutator_rules.specs.Conditions.{places_in};
+ghost use Rattle.mutator_rules.specs.Conditions.{indices_in};
 ghost use Rattle.target_mutators.specs.Arch.{is_supported, default_multilib, multilib_of, is_of_class, is_narrow};
 ghost use Rattle.target_mutators.specs.Arch.{is_taken, is_built, target_variant, target_variants, variants_for_targets};
 ghost use Rattle.target_mutators.specs.Arch.{arch_variants};
@@ -200,7 +200,7 @@ impl<'a> BottomUp<Record<'a>> for ArchSplit<'a> {
 
     ghost meaning = { λ rule. splits (arch_variants rule.1) rule.0 };
 
-    ghost accepts = { λ rule. places_in (length rule.0) };
+    ghost accepts = { λ rule. indices_in (length rule.0) };
 
     fn axis(&self) -> Option<Axis> {
         Some(Axis::Target)

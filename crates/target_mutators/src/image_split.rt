@@ -4,7 +4,7 @@ ghost use Rattle.module_graph.specs.declared.variation.Variation.TheVariants.{Em
 ghost use Rattle.module_graph.specs.declared.variations.Axis.TheVariants.{Image};
 ghost use Rattle.module_rules.specs.Rules.{splits};
 ghost use Rattle.module_rules.specs.Shaped.{splits_shaped};
-ghost use Rattle.mutator_rules.specs.Conditions.{MayRun, places_in};
+ghost use Rattle.mutator_rules.specs.Conditions.{MayRun, indices_in};
 ghost use Rattle.mutator_rules.specs.Idle.{LeavesAll};
 ghost use Rattle.target_mutators.specs.Idle.{is_in_system_alone};
 ghost use Rattle.target_mutators.specs.Images.{image_variant, device_images, image_variants};
@@ -135,7 +135,7 @@ impl<'a> ImageSplit<'a> {
 
     /// Whether the rule leaves every node of a graph as it is: each for a device is in the system's own image alone.
     pub fn leaves_all(&self, g: &Graph<Record<'a>>) -> bool
-        requires { MayRun (places_in (length self.now)) g.now.nodes }
+        requires { MayRun (indices_in (length self.now)) g.now.nodes }
         ensures alone { IsTrue result → LeavesAll (splits image_variants self.now) g.now.nodes }
         ensures exact { result ≡ list_all is_in_system_alone g.now.nodes }
     {
@@ -149,7 +149,7 @@ impl<'a> BottomUp<Record<'a>> for ImageSplit<'a> {
 
     ghost meaning = { λ rule. splits image_variants rule };
 
-    ghost accepts = { λ rule. places_in (length rule) };
+    ghost accepts = { λ rule. indices_in (length rule) };
 
     fn axis(&self) -> Option<Axis> {
         Some(Axis::Image)

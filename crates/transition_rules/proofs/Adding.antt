@@ -1,11 +1,10 @@
 -- What the other variations of a node are: each wanted one is there or is the node's own, and all differ.
 use Rattle.std.proofs.Common.{◌≡◌, ◌≢◌, ◌++◌, ◌||◌, ◌⊎◌, inl, inr, Bool, true, false, cond, List, [], ◌∷◌, fold, refl, sym, subst}
 use Rattle.std.specs.List.{AllByRecursion, list_any}
-use Rattle.bp_faults.proofs.Lists.{all_map}
+use Rattle.bp_faults.proofs.Lists.{all_map, Apart, apart_append}
 use Rattle.module_graph.specs.Laws.{SameMeansEqual}
 use Rattle.module_graph.specs.declared.variation.Variation.{Variation}
 use Rattle.module_graph.specs.Same.{same}
-use Rattle.transition_rules.proofs.Pairs.{Apart, apart_append}
 use Rattle.transition_rules.specs.Spelled.{is_spelled_before, list_with}
 use Rattle.transition_rules.specs.Wants.{wants_with, others_of}
 use Rattle.transition_rules.proofs.Members.{Has, none_same, any_same}

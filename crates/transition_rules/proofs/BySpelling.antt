@@ -5,11 +5,10 @@ use Rattle.std.specs.Ordering.{nat_cmp, is_lt, ordering_reverse}
 use Rattle.std.specs.Cmp.Lexicographic.{slice_cmp, nat_list_cmp_total}
 use Rattle.std.specs.declared.cmp.Ordering.{Ordering}
 use Rattle.std.specs.declared.cmp.Ordering.TheVariants.{Less, Equal, Greater}
-use Rattle.bp_faults.proofs.Lists.{all_map}
+use Rattle.bp_faults.proofs.Lists.{all_map, Apart}
 use Rattle.module_graph.specs.declared.variation.Variation.{Variation}
 use Rattle.module_graph.specs.Names.{spelling}
 use Rattle.module_graph.specs.Same.{same}
-use Rattle.transition_rules.proofs.Pairs.{Apart}
 use Rattle.transition_rules.specs.Spelled.{is_spelled_before, list_with}
 use Rattle.transition_rules.specs.Wants.{wants_with}
 use Rattle.transition_rules.proofs.Adding.{all_inserted}

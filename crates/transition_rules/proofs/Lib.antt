@@ -1,4 +1,4 @@
-pub mod Pairs
+pub mod Pieces
 pub mod Members
 pub mod Adding
 pub mod Along

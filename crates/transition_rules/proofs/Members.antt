@@ -16,7 +16,7 @@ use Rattle.module_graph.specs.Numbered.{by_number}
 use Rattle.module_graph.specs.Laws.{SameMeansEqual}
 use Rattle.mutator_rules.specs.Arrivals.{edges_to, from_node, arrivals}
 use Rattle.module_graph.specs.Same.{same}
-use Rattle.transition_rules.proofs.Pairs.{by_number_at}
+use Rattle.transition_rules.proofs.Pieces.{by_number_at}
 
 module _ {A : Type 0} where
   abbrev pub Has : List A → A → Type 0

@@ -8,7 +8,7 @@ use Rattle.std.proofs.lemmas.Map.Text.{is_eq-slice_cmp}
 use Rattle.std.specs.Cmp.Lexicographic.{slice_cmp, nat_list_cmp_total}
 use Rattle.std.specs.declared.cmp.Ordering.{Ordering}
 use Rattle.std.specs.declared.cmp.Ordering.TheVariants.{Less, Equal, Greater}
-use Rattle.bp_faults.proofs.Lists.{same_bytes}
+use Rattle.bp_faults.proofs.Lists.{same_bytes, Apart, pairs_apart}
 use Rattle.module_graph.specs.declared.variation.Variation.{Variation}
 use Rattle.module_graph.specs.Laws.{SameMeansEqual}
 use Rattle.module_graph.specs.Names.{spelling}
@@ -18,7 +18,6 @@ use Rattle.transition_rules.specs.Wants.{wants_with, others_of}
 use Rattle.transition_rules.proofs.Adding.{all_inserted, all_added_differ, has_wanted}
 use Rattle.transition_rules.proofs.BySpelling.{all_stand}
 use Rattle.transition_rules.proofs.Members.{Has, has_all, all_have}
-use Rattle.transition_rules.proofs.Pairs.{Apart, pairs_apart}
 use Rattle.transition_rules.proofs.Spellings.{same_spelled}
 
 -- what holds of the variations so far and of all that are wanted holds of all

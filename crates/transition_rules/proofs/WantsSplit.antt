@@ -5,7 +5,7 @@ use Rattle.std.proofs.lemmas.List.{get_or_default}
 use Rattle.std.proofs.lemmas.List.Elements.{recursion_from_All, All-from_recursion}
 use Rattle.std.proofs.lemmas.List.Quantifiers.{position-Some}
 use Rattle.bp_faults.specs.declared.ids.NodeId.{NodeId}
-use Rattle.bp_faults.proofs.Lists.{all_map}
+use Rattle.bp_faults.proofs.Lists.{all_map, apart_pairs, pairs_apart}
 use Rattle.pass_core.specs.Laws.{OutsAreMany}
 use Rattle.module_graph.specs.declared.direction.Direction.TheVariants.{TopDown}
 use Rattle.module_graph.specs.declared.graph.Edge.{Edge}
@@ -27,7 +27,6 @@ use Rattle.transition_rules.specs.Passes.{WantsMeans, wanted_variants, SplitsDif
 use Rattle.transition_rules.specs.Wants.{others_of, handed_variation, wanted_variations, variations_meant}
 use Rattle.transition_rules.proofs.Adding.{variations_differ, has_wanted}
 use Rattle.transition_rules.proofs.Members.{Has, has_all, has_left, has_right, has_image, all_have, none_at_position, edges_arrive, edges_at_is}
-use Rattle.transition_rules.proofs.Pairs.{apart_pairs, pairs_apart}
 
 map_id : {A : Type 0} (xs : List A) → map (λ x. x) xs ≡ xs
 map_id [] = refl

@@ -13,7 +13,7 @@ use Rattle.variant_graphs.specs.Splits.{IsSplitting}
 use Rattle.variant_graphs.specs.Laws.{IsKept}
 use Rattle.variant_graphs.specs.Splitting.{splitting, HasFreeAxis}
 use Rattle.transition_rules.specs.Wants.{others_of, wanted_variations}
-use Rattle.mutator_rules.specs.Conditions.{MayRun, places_in}
+use Rattle.mutator_rules.specs.Conditions.{MayRun, indices_in}
 use Rattle.mutator_rules.specs.Outcomes.{KindOutcome, Made}
 use Rattle.transition_rules.specs.Passes.{WantsMeans, wanted_variants, MutateMeans, SplitsDiffer, TransitionMeans}
 use Rattle.transition_rules.specs.Passes.{WantsMean}
@@ -72,15 +72,15 @@ module _ (P : Type 0) where
   -- The graph of the variants is fit for the next rule.
   abbrev pub WantsKeep : Type 0
   WantsKeep =
-      (m : TransitionMeaning P) (nodes new : List (Node P)) (count : ℕ) → IsValid nodes → MayRun (places_in count) nodes
-      → HasFreeAxis m.axis nodes → SplitsDiffer m nodes → WantsMean m nodes (Made new)
+      (m : TransitionMeaning P) (nodes new : List (Node P)) (count : ℕ) → IsValid nodes
+      → MayRun (indices_in count) nodes → HasFreeAxis m.axis nodes → SplitsDiffer m nodes → WantsMean m nodes (Made new)
       → IsKept count (Some m.axis) nodes new
 
   -- So is the graph with the new payloads.
   abbrev pub MutateKeeps : Type 0
   MutateKeeps =
-      (m : TransitionMeaning P) (nodes new : List (Node P)) (count : ℕ) → IsValid nodes → MayRun (places_in count) nodes
-      → MutateMeans m nodes (Made new) → IsKept count None nodes new
+      (m : TransitionMeaning P) (nodes new : List (Node P)) (count : ℕ) → IsValid nodes
+      → MayRun (indices_in count) nodes → MutateMeans m nodes (Made new) → IsKept count None nodes new
 
 -- The other variations of a node stand by their spelling: none is spelled before an earlier one.
 abbrev pub OthersStandBySpelling : Type 0

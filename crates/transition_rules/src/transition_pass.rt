@@ -1,4 +1,5 @@
 ghost use Rattle.std.specs.Prelude.{◌≤◌, ◌<◌, IfOk, Some};
+ghost use Rattle.bp_faults.specs.declared.limits.TheConstants.{MOST_WORKERS};
 ghost use Rattle.pass_core.specs.Orders.{IsLegal, numbers};
 ghost use Rattle.module_graph.specs.declared.direction.Direction.TheVariants.{BottomUp, TopDown};
 ghost use Rattle.module_graph.specs.Graphs.{IsValid};
@@ -52,7 +53,7 @@ where
     requires may { MayRun (M.accepts m.now) g.nodes }
     requires free { HasFreeAxis (M.meaning m.now).axis g.nodes }
     requires differ { SplitsDiffer (M.meaning m.now) g.nodes }
-    requires workers { (1 ≤ workers) × (workers ≤ 64) }
+    requires workers { (1 ≤ workers) × (workers ≤ MOST_WORKERS) }
     ensures means { AnswersKind (λ made. made.graph.nodes) (TransitionMeans (M.meaning m.now) g.nodes) result }
     ensures wants { IfOk result (λ made. IsLegal (plan_of TopDown g.nodes) (numbers made.wants)) }
     ensures mutated { IfOk result (λ made. IsLegal (plan_of BottomUp made.graph.nodes) (numbers made.mutated)) }

@@ -1,26 +1,12 @@
--- What holds of each item of a list that is made of numbered items.
-use Rattle.std.proofs.Common.{◌≡◌, ◌+◌, ◌<◌, ◌++◌, ℕ, zero, suc, List, [], ◌∷◌, map, length, get_or, take, refl}
-use Rattle.std.proofs.Common.{ap, ◌∙◌, sym, arith, append-nil, append_assoc, add-zero, zero-add}
-use Rattle.std.specs.List.{AllByRecursion}
+-- What holds of each item of a list that is made of numbered items, or of those of which something is made.
+use Rattle.std.proofs.Common.{◌≡◌, ◌+◌, ◌<◌, ◌++◌, ℕ, zero, suc, List, [], ◌∷◌, length, get_or, take, refl}
+use Rattle.std.proofs.Common.{ap, ◌∙◌, sym, arith, append-nil, append_assoc, add-zero, zero-add, Option, Some, None}
+use Rattle.std.specs.List.{AllByRecursion, filter_map, cons_option}
 use Rattle.std.proofs.lemmas.List.{take_more, length-take-le}
+use Rattle.bp_faults.proofs.Lists.{all_append}
 use Rattle.module_graph.specs.declared.graph.Node.{Node}
 use Rattle.module_graph.specs.Cycles.{edges_at}
 use Rattle.module_graph.specs.Numbered.{by_number}
-
-pub all_append : {A : Type 0} (P : A → Type 0) (xs ys : List A) → AllByRecursion P xs → AllByRecursion P ys
-    → AllByRecursion P (xs ++ ys)
-all_append P [] ys h k = k
-all_append P (x ∷ xs) ys h k = (h.0, all_append P xs ys h.1 k)
-
-pub all_image : {A B : Type 0} (P : A → Type 0) (Q : B → Type 0) (f : A → B) → ((x : A) → P x → Q (f x))
-    → (xs : List A) → AllByRecursion P xs → AllByRecursion Q (map f xs)
-all_image P Q f imp [] h = tt
-all_image P Q f imp (x ∷ xs) h = (imp x h.0, all_image P Q f imp xs h.1)
-
-pub all_before : {A B : Type 0} (f : A → B) (Q : B → Type 0) (xs : List A) → AllByRecursion Q (map f xs)
-    → AllByRecursion (λ x. Q (f x)) xs
-all_before f Q [] h = tt
-all_before f Q (x ∷ xs) h = (h.0, all_before f Q xs h.1)
 
 pub all_by_number : {X A : Type 0} (P : X → Type 0) (Q : A → Type 0) (bound : ℕ) (f : ℕ → X → List A)
     → ((n : ℕ) (x : X) → n < bound → P x → AllByRecursion Q (f n x))
@@ -35,6 +21,19 @@ all_by_number {X} P Q bound f imp k (x ∷ xs) e h =
 
     next : (k n bound : ℕ) → k + suc n ≡ bound → (k + 1) + n ≡ bound
     next k n bound e = omega arith
+
+module _ {A B : Type 0} where
+  -- where a function makes something of an element, or nothing
+  pub all_kept : (P : A → Type 0) (Q : B → Type 0) (f : A → Option B)
+      → ((x : A) (y : B) → P x → f x ≡ Some y → Q y) → (xs : List A) → AllByRecursion P xs
+      → AllByRecursion Q (filter_map f xs)
+  all_kept P Q f imp [] h = tt
+  all_kept P Q f imp (x ∷ xs) h = one (f x) (λ y. imp x y h.0) (all_kept P Q f imp xs h.1)
+    where
+      one : (o : Option B) → ((y : B) → o ≡ Some y → Q y) → AllByRecursion Q (filter_map f xs)
+          → AllByRecursion Q (cons_option o (filter_map f xs))
+      one None g rest = rest
+      one (Some y) g rest = (g y (λ i. Some y), rest)
 
 module _ {X A : Type 0} where
   by_number_more : (f : ℕ → X → List A) (k : ℕ) (xs : List X) (x : X)

@@ -1,7 +1,6 @@
 -- Where the variants of each node begin.
 use Rattle.std.proofs.Common.{◌≡◌, ◌+◌, ◌<◌, ◌≤◌, ℕ, zero, suc, List, [], ◌∷◌, map, length, take, get_or, refl}
 use Rattle.std.proofs.Common.{ap, ◌∙◌, sym, subst, arith, zero-add, Some}
-use Rattle.variant_graphs.proofs.Apart.{apart_pairs, pairs_apart, apart_image}
 use Rattle.variant_graphs.proofs.Pieces.{flat_map_at}
 use Rattle.std.specs.List.{AllByRecursion, AllPairs, filter_map, flat_map, cons_option, sum_by}
 use Rattle.std.specs.Prelude.{◌≢◌, slice_range}
@@ -19,7 +18,7 @@ use Rattle.module_graph.specs.Axes.{axis_index}
 use Rattle.module_graph.specs.declared.graph.Node.{Node}
 use Rattle.std.specs.Option.{option_map}
 use Rattle.std.specs.Prelude.{Option, slice_set}
-use Rattle.bp_faults.proofs.Lists.{all_map}
+use Rattle.bp_faults.proofs.Lists.{all_map, apart_pairs, pairs_apart, apart_image}
 use Rattle.variant_graphs.specs.Inside.{counts_of}
 
 pub get_lengths : {B : Type 0} (ls : List (List B)) (t : ℕ) → get_or (map length ls) t 0 ≡ length (get_or ls t [])

@@ -1,22 +1,13 @@
 -- The first edge beyond a limit.
-use Rattle.std.proofs.Common.{◌≡◌, ◌<◌, ◌≤◌, ◌+◌, ◌-◌, ◌++◌, ℕ, zero, suc, List, [], ◌∷◌, Option, Some, None, length, drop, get_or, refl, sym, ap, ◌∙◌, arith}
+use Rattle.std.proofs.Common.{◌≡◌, ◌<◌, ◌≤◌, ◌+◌, ◌-◌, ◌++◌, ℕ, List, Option, Some, length, drop, get_or, sym, ap, ◌∙◌}
 use Rattle.std.specs.Prelude.{slice_get}
 use Rattle.std.specs.Option.{option_map}
 use Rattle.std.proofs.lemmas.List.{drop_more}
 use Rattle.bp_faults.specs.declared.limits.TheConstants.{MOST_EDGES}
+use Rattle.bp_faults.proofs.Lists.{slice_get-append, slice_get-append_past}
 use Rattle.module_graph.specs.declared.graph.Edge.{Edge}
 use Rattle.module_graph.specs.declared.graph.Node.{Node}
 use Rattle.module_graph.specs.Graphs.{all_edges}
-
-slice_get-append : {X : Type 0} (xs ys : List X) (n : ℕ) (x : X) → n < length xs → slice_get (xs ++ ys) n ≡ Some (get_or xs n x)
-slice_get-append [] ys n x lt = absurd (omega arith)
-slice_get-append (y ∷ xs) ys zero x lt = refl
-slice_get-append (y ∷ xs) ys (suc n) x lt = slice_get-append xs ys n x (omega arith)
-
-slice_get-append_past : {X : Type 0} (xs ys : List X) (n : ℕ) → length xs ≤ n → slice_get (xs ++ ys) n ≡ slice_get ys (n - length xs)
-slice_get-append_past [] ys n le = let s : n ≡ n - 0 = omega arith in ap (slice_get ys) s
-slice_get-append_past (x ∷ xs) ys zero le = absurd (omega arith)
-slice_get-append_past (x ∷ xs) ys (suc n) le = let s : n - length xs ≡ suc n - suc (length xs) = omega arith in slice_get-append_past xs ys n (omega arith) ∙ ap (slice_get ys) s
 
 module _ {P : Type 0} (nodes : List (Node P)) (k left : ℕ) (x : Node P) (edges : List Edge) (lt : k < length nodes) (x_is : x ≡ get_or nodes k x) (edges_are : edges ≡ x.edges) where
   -- the edges that are left begin with those of the next node
@@ -34,8 +25,3 @@ module _ {P : Type 0} (nodes : List (Node P)) (k left : ℕ) (x : Node P) (edges
   pub counted_beyond : (e : Edge) → left < length edges → e ≡ get_or edges left e → slice_get (all_edges (drop k nodes)) left ≡ slice_get (all_edges nodes) MOST_EDGES → Some e.at ≡ option_map (λ (y : Edge). y.at) (slice_get (all_edges nodes) MOST_EDGES)
   counted_beyond e beyond e_is is =
       ap (option_map (λ (y : Edge). y.at)) (sym (sym is ∙ next_get ∙ slice_get-append edges (all_edges (drop (k + 1) nodes)) left e beyond ∙ ap Some (sym e_is)))
-
-pub none_there : {X : Type 0} (xs : List X) (n : ℕ) → slice_get xs n ≡ None → length xs ≤ n
-none_there [] n is = omega arith
-none_there (x ∷ xs) zero is = cc
-none_there (x ∷ xs) (suc n) is = let rest = none_there xs n is in omega arith

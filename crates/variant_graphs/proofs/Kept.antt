@@ -14,19 +14,18 @@ use Rattle.module_graph.specs.Numbered.{by_number}
 use Rattle.module_graph.specs.Graphs.{outward, edges_of, NameNodes, IsNumbered, IsValid, all_edges}
 use Rattle.module_graph.specs.Planned.{turned_edge, by_target, plan_of}
 use Rattle.module_graph.specs.Walks.{NoneReturns}
-use Rattle.variant_graphs.proofs.Alls.{all_image, all_before, all_by_number}
+use Rattle.variant_graphs.proofs.Alls.{all_by_number}
 use Rattle.variant_graphs.specs.Laws.{HasModulesOf}
 use Rattle.variant_graphs.specs.Limits.{IsWithinLimits}
 use Rattle.variant_graphs.specs.Payloads.{with_payloads}
 use Rattle.variant_graphs.specs.Splitting.{Splitting, variants_at, variant_node, split_nodes, HasFreeAxis}
 use Rattle.variant_graphs.specs.Splits.{IsSplitting}
-use Rattle.bp_faults.proofs.Lists.{get_else}
+use Rattle.bp_faults.proofs.Lists.{get_else, all_image, all_before, Apart, apart_pairs, pairs_apart, all_each}
 use Rattle.module_graph.specs.declared.variation.Variation.TheVariants.{Empty}
 use Rattle.module_graph.specs.declared.variations.Axis.{Axis}
 use Rattle.module_graph.specs.declared.variations.Axis.TheVariants.{Target, Image, Link, PerSource, Sanitize}
 use Rattle.module_graph.specs.Axes.{axis_index}
 use Rattle.std.specs.Prelude.{◌≢◌, slice_get, Some}
-use Rattle.variant_graphs.proofs.Apart.{Apart, apart_pairs, pairs_apart, all_each}
 use Rattle.variant_graphs.proofs.Valid.{Differ, ends_stay}
 
 module _ {P : Type 0} where

@@ -1,7 +1,6 @@
 pub mod Alls
 pub mod Pieces
 pub mod Beyond
-pub mod Apart
 pub mod NewNodes
 pub mod Owners
 pub mod Valid

@@ -5,7 +5,8 @@ use Rattle.std.specs.List.{AllByRecursion, range_with_len}
 use Rattle.std.proofs.lemmas.List.{length-map, same_lists}
 use Rattle.std.proofs.lemmas.List.Elements.{Contains-get_or}
 use Rattle.std.proofs.lemmas.List.FromFn.{length-map-range_with_len, get_or-map-range_with_len}
-use Rattle.bp_faults.proofs.Lists.{same_at}
+use Rattle.std.proofs.lemmas.Option.{slice_get_within}
+use Rattle.bp_faults.proofs.Lists.{same_at, some_there}
 use Rattle.bp_faults.specs.declared.fault.Fault.{Fault}
 use Rattle.pass_core.specs.Laws.{OneSolution, PredecessorsAreNodes}
 use Rattle.pass_core.specs.Outcomes.{PassOutcomeMeans}
@@ -14,16 +15,6 @@ use Rattle.pass_core.specs.Results.{NodeResult, Done, Poisoned, all_outs, cons_i
 use Rattle.module_graph.specs.declared.direction.Direction.{Direction}
 use Rattle.module_graph.specs.declared.graph.Node.{Node}
 use Rattle.module_graph.specs.Planned.{plan_edges, plan_of}
-
-pub at_place : {X : Type 0} (xs : List X) (n : ℕ) → n < length xs → (x : X) × (slice_get xs n ≡ Some x)
-at_place [] n lt = absurd (omega arith)
-at_place (x ∷ xs) zero lt = (x, refl)
-at_place (x ∷ xs) (suc n) lt = at_place xs n (omega arith)
-
-pub within : {X : Type 0} (xs : List X) (n : ℕ) (x : X) → slice_get xs n ≡ Some x → n < length xs
-within [] n x is = cc
-within (y ∷ ys) zero x is = omega arith
-within (y ∷ ys) (suc n) x is = let rest = within ys n x is in omega arith
 
 module _ {P O : Type 0} (own : Node P → O) where
   own_here : (nodes : List (Node P)) (n : ℕ) (x : Node P) → slice_get nodes n ≡ Some x
@@ -36,7 +27,7 @@ module _ {P O : Type 0} (own : Node P → O) where
       → Contains (map own nodes) (own x)
   has_own nodes n x is =
       let long = length-map nodes own in
-      let lt = within nodes n x is in
+      let lt = slice_get_within nodes n x is in
       subst (Contains (map own nodes)) (own_here nodes n x is)
       (Contains-get_or (map own nodes) n (own x) (omega arith))
 
@@ -56,7 +47,7 @@ module _ {P O : Type 0} (own : Node P → O) where
       × AllByRecursion (Contains (map own nodes)) ins
   all_own nodes [] h = ([], refl, tt)
   all_own nodes (m ∷ ms) h =
-      let x = at_place nodes m h.0 in
+      let x = some_there nodes m h.0 in
       let rest = all_own nodes ms h.1 in (
         own x.0 ∷ rest.0,
         ap (λ (r : NodeResult O). all_outs (r ∷ map (own_result nodes) ms)) (own_at nodes m x.0 x.1)
@@ -73,7 +64,7 @@ module _ {P O : Type 0} (own : Node P → O) where
         → own_result nodes n
         ≡ judged_result (mean n) (all_outs (map (own_result nodes) (predecessors (plan_edges dir nodes) n)))
     equation n lt =
-        let x = at_place nodes n lt in
+        let x = some_there nodes n lt in
         let ins = all_own nodes (predecessors (plan_edges dir nodes) n)
         (inside (length nodes) (plan_edges dir nodes) n is_plan.ends) in
         own_at nodes n x.0 x.1 ∙ ap result_of_visit (sym (keeps n ins.0 x.0 x.1 ins.2))

@@ -3,6 +3,8 @@ use Rattle.std.proofs.Common.{◌≡◌, ◌∙◌, ◌<◌, ◌≤◌, ◌+◌,
 use Rattle.std.specs.Prelude.{slice_get, slice_set}
 use Rattle.std.specs.Option.{option_map}
 use Rattle.std.specs.List.{AllByRecursion, cons_option, filter_map}
+use Rattle.std.proofs.lemmas.Option.{slice_get_within}
+use Rattle.bp_faults.proofs.Lists.{some_there}
 use Rattle.module_graph.specs.declared.graph.Edge.{Edge}
 use Rattle.module_graph.specs.declared.graph.Node.{Node}
 use Rattle.module_graph.specs.declared.variation.Variation.{Variation}
@@ -12,7 +14,6 @@ use Rattle.module_graph.specs.Graphs.{NameNodes}
 use Rattle.module_graph.specs.Numbered.{by_number}
 use Rattle.variant_graphs.specs.Splitting.{Splitting, first_of, led_edge, split_nodes, variant_node, variants_at, HasFreeAxis}
 use Rattle.variant_graphs.proofs.NewNodes.{first_more, piece}
-use Rattle.variant_graphs.proofs.OwnResults.{at_place, within}
 
 -- an item is set where it stands
 set_own : {X : Type 0} (xs : List X) (i : ℕ) (x : X) → slice_get xs i ≡ Some x → slice_set xs i x ≡ xs
@@ -31,7 +32,7 @@ module _ {P B : Type 0} (s : Splitting P B) (nodes : List (Node P)) (many : leng
   EndsBelow es = AllByRecursion (λ (e : Edge). e.to.0 < length nodes) es
 
   one_at : (n : ℕ) → n < length nodes → length (variants_at s n) ≡ 1
-  one_at n lt = let x = at_place nodes n lt in ap length (one n x.0 x.1).1
+  one_at n lt = let x = some_there nodes n lt in ap length (one n x.0 x.1).1
 
   -- the variant of each node has the node's number
   first_is : (t : ℕ) → t ≤ length nodes → first_of s t ≡ t
@@ -70,7 +71,7 @@ module _ {P B : Type 0} (s : Splitting P B) (nodes : List (Node P)) (many : leng
       ∙ ap (λ vars. node_with x vars (s.payload x b.0) (filter_map (led_edge s n Empty) x.edges) ∷ [])
       (set_own x.vars axis Empty free)
       ∙ ap (λ p. node_with x x.vars p (filter_map (led_edge s n Empty) x.edges) ∷ []) b.3
-      ∙ ap (λ es. node_with x x.vars x.payload es ∷ []) (edges_stay n x.edges (within nodes n x at) ends)
+      ∙ ap (λ es. node_with x x.vars x.payload es ∷ []) (edges_stay n x.edges (slice_get_within nodes n x at) ends)
 
   -- from number k on
   kept_from : (k : ℕ) (xs : List (Node P))

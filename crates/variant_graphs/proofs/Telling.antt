@@ -1,22 +1,17 @@
 -- A graph is within the limits, or something in it is the first beyond.
-use Rattle.std.proofs.Common.{◌≡◌, ◌≤◌, ◌⊎◌, inl, inr, ℕ, zero, suc, List, [], ◌∷◌, Option, Some, None, length}
-use Rattle.std.proofs.Common.{refl, ap, arith}
+use Rattle.std.proofs.Common.{◌≡◌, ◌≤◌, ◌⊎◌, inl, inr, List, Option, Some, None, length}
+use Rattle.std.proofs.Common.{refl, ap}
 use Rattle.std.specs.Prelude.{slice_get}
 use Rattle.std.specs.Option.{option_map}
 use Rattle.bp_faults.specs.declared.ids.ModuleId.{ModuleId}
 use Rattle.bp_faults.specs.declared.limits.TheConstants.{MOST_EDGES, MOST_NODES}
 use Rattle.bp_faults.specs.declared.place.Place.{Place}
+use Rattle.bp_faults.proofs.Lists.{none_there}
 use Rattle.module_graph.specs.declared.graph.Edge.{Edge}
 use Rattle.module_graph.specs.declared.graph.Node.{Node}
 use Rattle.variant_graphs.specs.Laws.{LimitsTell}
 use Rattle.variant_graphs.specs.Limits.{IsWithinLimits, IsFirstNodeBeyond, IsFirstEdgeBeyond}
 use Rattle.module_graph.specs.Graphs.{all_edges}
-
--- where nothing stands at a place, there are no more items than that
-none_there : {X : Type 0} (xs : List X) (n : ℕ) → slice_get xs n ≡ None → length xs ≤ n
-none_there [] n is = omega arith
-none_there (x ∷ xs) zero is = cc
-none_there (x ∷ xs) (suc n) is = let rest = none_there xs n is in omega arith
 
 module _ {P : Type 0} (nodes : List (Node P)) where
   abbrev Told : Type 0

@@ -8,7 +8,9 @@ use Rattle.std.proofs.lemmas.List.Elements.{All-from_recursion}
 use Rattle.std.proofs.lemmas.Option.{get_or_from_slice_get, slice_get_within}
 use Rattle.pass_core.specs.declared.plan.PlanEdge.{PlanEdge}
 use Rattle.pass_core.specs.Plans.{HasNoCycle}
-use Rattle.bp_faults.proofs.Lists.{all_with}
+use Rattle.bp_faults.proofs.Lists.{all_with, all_append, all_image}
+use Rattle.bp_faults.proofs.Lists.{all_split, Apart, apart_pairs, pairs_apart, apart_append, apart_image, all_each}
+use Rattle.bp_faults.proofs.Lists.{all_before}
 use Rattle.module_graph.specs.declared.graph.Edge.{Edge}
 use Rattle.module_graph.specs.declared.graph.Node.{Node}
 use Rattle.module_graph.specs.declared.variation.Variation.{Variation}
@@ -16,11 +18,10 @@ use Rattle.module_graph.specs.declared.variation.Variation.TheVariants.{Empty}
 use Rattle.module_graph.specs.Axes.{axis_index}
 use Rattle.module_graph.specs.Numbered.{by_number}
 use Rattle.module_graph.specs.Graphs.{outward, edges_of, NameNodes, IsValid}
-use Rattle.variant_graphs.proofs.Alls.{all_append, all_image, all_by_number}
+use Rattle.variant_graphs.proofs.Alls.{all_by_number, all_kept}
 use Rattle.module_graph.specs.Laws.{NoneReturnsWhereNumberingRises, EdgesJoinNodes}
 use Rattle.variant_graphs.specs.Splitting.{Splitting, variants_at, first_of, led_edge, variant_node, split_nodes, HasFreeAxis}
 use Rattle.variant_graphs.specs.Splits.{IsSplitting}
-use Rattle.variant_graphs.proofs.Apart.{all_split, Apart, apart_pairs, pairs_apart, apart_append, apart_image, all_each, all_kept}
 use Rattle.variant_graphs.proofs.NewNodes.{piece, first_more, variant_inside}
 use Rattle.variant_graphs.proofs.Owners.{owner_from, owner_is}
 
@@ -97,10 +98,6 @@ module _ {P B : Type 0} (join : EdgesJoinNodes P) (rising : NoneReturnsWhereNumb
   abbrev OldRises : PlanEdge → Type 0
   OldRises e = old_free.rank e.from.0 < old_free.rank e.to.0
 
-  unmapped : {A C : Type 0} (Q : C → Type 0) (f : A → C) (xs : List A) → AllByRecursion Q (map f xs) → AllByRecursion (λ x. Q (f x)) xs
-  unmapped Q f [] h = tt
-  unmapped Q f (x ∷ xs) h = (h.0, unmapped Q f xs h.1)
-
   -- the edges of one variant rise
   variant_rises : (n place : ℕ) (v : Variation) (es : List Edge) → n < length nodes → place < length (variants_at s n) → AllByRecursion (λ (e : Edge). e.to.0 < length nodes) es → AllByRecursion (λ (e : Edge). old_free.rank n < old_free.rank e.to.0) es
       → AllByRecursion Rises (map (outward (first_of s n + place)) (filter_map (led_edge s n v) es))
@@ -137,7 +134,7 @@ module _ {P B : Type 0} (join : EdgesJoinNodes P) (rising : NoneReturnsWhereNumb
       let next : first_of s k + length here ≡ first_of s (k + 1) = ap (λ j. first_of s k + j) (length-map (variants_at s k) (variant_node s k x)) ∙ sym (first_more s nodes splits.many k lt) in
       subst (λ (l : List PlanEdge). AllByRecursion Rises l) (sym (by_number_append out (first_of s k) here rest ∙ ap (λ j. by_number out (first_of s k) here ++ by_number out j rest) next))
       (all_append Rises (by_number out (first_of s k) here) (by_number out (first_of s (k + 1)) rest)
-      (subst (λ j. AllByRecursion Rises (by_number out j here)) (add-zero (first_of s k)) (variants_rise k 0 x (variants_at s k) lt (omega arith) inside.0 (unmapped OldRises (outward k) x.edges old.0)))
+      (subst (λ j. AllByRecursion Rises (by_number out j here)) (add-zero (first_of s k)) (variants_rise k 0 x (variants_at s k) lt (omega arith) inside.0 (all_before (outward k) OldRises x.edges old.0)))
       (rises_from (k + 1) xs (omega arith) inside.1 old.1))
 
   pub stays_valid : IsValid (split_nodes s nodes)

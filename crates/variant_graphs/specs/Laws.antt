@@ -13,7 +13,7 @@ use Rattle.module_graph.specs.declared.variation.Variation.TheVariants.{Empty}
 use Rattle.module_graph.specs.declared.variations.Axis.{Axis}
 use Rattle.module_graph.specs.Graphs.{IsNumbered, IsValid, NameNodes}
 use Rattle.module_graph.specs.Planned.{plan_of}
-use Rattle.mutator_rules.specs.Conditions.{MayRun, places_in}
+use Rattle.mutator_rules.specs.Conditions.{MayRun, indices_in}
 use Rattle.variant_graphs.specs.Limits.{IsWithinLimits, IsFirstNodeBeyond, IsFirstEdgeBeyond}
 use Rattle.variant_graphs.specs.Payloads.{with_payloads}
 use Rattle.variant_graphs.specs.Splits.{IsSplitting}
@@ -29,7 +29,7 @@ pub record HasModulesOf {P : Type 0} (old new : List (Node P)) : Type 0 where
 -- and the axes that were free are free, but for that along which the old one is split, if it is.
 pub record IsKept {P : Type 0} (count : ℕ) (along : Option Axis) (old new : List (Node P)) : Type 0 where
   pub valid : IsValid new
-  pub may : MayRun (places_in count) new
+  pub may : MayRun (indices_in count) new
   pub free : StayFree along old new
 
 module _ (P B : Type 0) where

@@ -1,12 +1,11 @@
 -- What was made, as more is made and taken in.
 use Rattle.std.proofs.Common.{◌≡◌, ◌<◌, ◌≤◌, ◌++◌, ℕ, List, [], ◌∷◌, refl, ap, arith, ◌∙◌, sym, subst, Result, Some}
-use Rattle.std.specs.List.{AllByRecursion}
 use Rattle.std.specs.Prelude.{slice_get}
 use Rattle.std.proofs.lemmas.List.{map-append}
 use Rattle.bp_faults.specs.declared.fault.Fault.{Fault}
 use Rattle.pass_core.specs.declared.plan.Plan.{Plan}
 use Rattle.pass_core.specs.Results.{NodeResult, node_result}
-use Rattle.bp_faults.proofs.Lists.{all_pushed}
+use Rattle.bp_faults.proofs.Lists.{all_pushed, all_append}
 use Rattle.ready_counters.specs.declared.view.View.{View}
 use Rattle.ready_counters.specs.Views.{times, together, tickets_for, ticket_number, tickets_with}
 use Rattle.visit_workers.proofs.Counting.{tickets_append, number_append, with_append}
@@ -14,11 +13,6 @@ use Rattle.visit_workers.specs.declared.made.Made.{Made}
 use Rattle.visit_workers.specs.Making.{pairs, IsRight, IsMadeBy, IsWorking}
 use Rattle.ready_counters.specs.Views.{lighter, one}
 use Rattle.visit_workers.proofs.Settling.{settled_both, settled_lighter, settled_one}
-
-pub all_append : {X : Type 0} (P : X → Type 0) (xs ys : List X) → AllByRecursion P xs → AllByRecursion P ys
-    → AllByRecursion P (xs ++ ys)
-all_append P [] ys h k = k
-all_append P (x ∷ xs) ys h k = (h.0, all_append P xs ys h.1 k)
 
 module _ {O : Type 0} where
   pairs_append : (made more : List (Made O)) → pairs (made ++ more) ≡ pairs made ++ pairs more

@@ -1,4 +1,4 @@
--- The edges out of each node, by their numbers.
+-- The edges out of each node, by their numbers. No public contract speaks of it.
 use Rattle.std.specs.Prelude.{◌≡◌, ◌<◌, ◌==◌, ℕ, suc, List, [], ◌∷◌, length, slice_index, if◌then◌else◌}
 use Rattle.pass_core.specs.declared.plan.PlanEdge.{PlanEdge}
 use Rattle.visit_workers.specs.declared.links.Outs.{Outs}

@@ -1,4 +1,4 @@
--- What a worker has made, beside what its seat has done.
+-- What a worker has made, beside what its seat has done. No public contract speaks of it.
 use Rattle.std.specs.Prelude.{◌≡◌, ◌<◌, ℕ, List, map, slice_get, Some, Result, Ok, Err}
 use Rattle.std.specs.List.{AllByRecursion}
 use Rattle.bp_faults.specs.declared.fault.Fault.{Fault}

@@ -1,4 +1,4 @@
--- A pass under way, as its workers see it.
+-- A pass under way, as its workers see it. No public contract speaks of it.
 use Rattle.std.specs.Prelude.{◌≡◌, ◌+◌, ℕ, List, map, slice_index, Result}
 use Rattle.std.specs.List.{AllByRecursion, range_with_len}
 use Rattle.std.specs.declared.sync.Arc.{Arc}

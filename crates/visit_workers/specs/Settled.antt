@@ -1,4 +1,4 @@
--- What a worker's seat keeps between two nodes: whatever it claimed it has done.
+-- What a worker's seat keeps between two nodes: whatever it claimed it has done. No public contract speaks of it.
 use Rattle.std.specs.Prelude.{◌≡◌, ◌<◌, ◌≤◌, ◌+◌, ℕ, suc, List, length, map}
 use Rattle.std.specs.declared.sync.Arc.{Arc}
 use Rattle.std.specs.Arc.{arc_value}

@@ -1,4 +1,4 @@
--- What a worker's task keeps.
+-- What a worker's task keeps. No public contract speaks of it.
 use Rattle.std.specs.Prelude.{◌≡◌, ℕ, List, Result, false}
 use Rattle.bp_faults.specs.declared.fault.Fault.{Fault}
 use Rattle.pass_core.specs.declared.visit.Visit.{Ghosts}

@@ -1,4 +1,4 @@
--- What workers find of nodes, as results.
+-- What workers find of nodes, as results. No public contract speaks of it.
 use Rattle.std.specs.Prelude.{List, map}
 use Rattle.std.specs.Arc.{arc_value}
 use Rattle.pass_core.specs.Results.{NodeResult, Done, Bad, Poisoned}

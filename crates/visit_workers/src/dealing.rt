@@ -1,4 +1,5 @@
 ghost use Rattle.std.specs.Prelude.{◌≡◌, ◌<◌, ◌≤◌, ◌+◌, All, [], length, IfOk};
+ghost use Rattle.bp_faults.specs.declared.limits.TheConstants.{MOST_WORKERS};
 ghost use Rattle.ready_counters.specs.Seen.{view_of, IsSeatOf};
 ghost use Rattle.ready_counters.specs.Views.{whole, all_of_it};
 ghost use Rattle.visit_workers.specs.Passes.{IsPass, Works};
@@ -45,7 +46,7 @@ pub fn stealers(
 pub fn deal<V: Visit, G: Gate>(pass: &Pass<V, G>, deques: &mut [Worker<NodeId>])
     requires pass { IsPass (V.takes pass.now.visitor.now) pass.now }
     requires some { 0 < length deques.old }
-    requires few { length deques.old ≤ 64 }
+    requires few { length deques.old ≤ MOST_WORKERS }
     ensures { length deques.new ≡ length deques.old }
 {
     let many = deques.len();
@@ -66,7 +67,7 @@ pub fn tasks_of<V: Visit, G: Gate>(
 ) -> Result<Vec<Task<V>>, OutOfMemory>
     requires seat { IsSeatOf pass.now.board.now seat.old }
     requires first { view_of seat.old ≡ all_of_it }
-    requires few { length deques.items ≤ 64 }
+    requires few { length deques.items ≤ MOST_WORKERS }
     ensures seat { IsSeatOf pass.now.board.now seat.new }
     ensures many { IfOk result (λ tasks. length tasks.items ≡ length deques.items) }
     ensures weight { IfOk result (λ tasks. (view_of seat.new).weight + length tasks.items ≡ whole) }

@@ -1,4 +1,5 @@
 ghost use Rattle.std.specs.Prelude.{◌≡◌, ◌<◌, ◌≤◌, ℕ, IfOk, OnOk};
+ghost use Rattle.bp_faults.specs.declared.limits.TheConstants.{MOST_WORKERS};
 ghost use Rattle.pass_core.specs.Outcomes.{TakesPlan};
 ghost use Rattle.pass_core.specs.Plans.{IsPlan, HasNoCycle};
 ghost use Rattle.ready_counters.specs.Seen.{view_of, IsSeatOf};
@@ -65,7 +66,7 @@ fn run_crew<R: Threads + Sync, V: Visit<Out: Send + Sync> + Sync, G: Gate + Sync
     workers: u32,
 ) -> Result<Vec<Made<V::Out>>, OutOfMemory>
     requires pass { IsPass (V.takes pass.now.visitor.now) pass.now }
-    requires workers { (1 ≤ workers) × (workers ≤ 64) }
+    requires workers { (1 ≤ workers) × (workers ≤ MOST_WORKERS) }
     requires seat { IsSeatOf pass.now.board.now seat.old }
     requires first { view_of seat.old ≡ all_of_it }
     ensures seat { OnOk result (IsSeatOf pass.now.board.now seat.new) }
@@ -88,7 +89,7 @@ fn visit_each<R: Threads + Sync, V: Visit<Out: Send + Sync> + Sync, G: Gate + Sy
     workers: u32,
 ) -> Result<Vec<Made<V::Out>>, OutOfMemory>
     requires pass { IsPass (V.takes pass.now.visitor.now) pass.now }
-    requires workers { (1 ≤ workers) × (workers ≤ 64) }
+    requires workers { (1 ≤ workers) × (workers ≤ MOST_WORKERS) }
     requires seat { IsSeatOf pass.now.board.now seat.old }
     requires first { view_of seat.old ≡ all_of_it }
     ensures seat { OnOk result (IsSeatOf pass.now.board.now seat.new) }
@@ -135,7 +136,7 @@ pub fn visit_all<R: Threads + Sync, V: Visit<Out: Send + Sync> + Sync, G: Gate +
     requires plan { IsPlan plan.now }
     requires free { HasNoCycle plan.now.edges }
     requires takes { TakesPlan (V.takes v.now) plan.now }
-    requires workers { (1 ≤ workers) × (workers ≤ 64) }
+    requires workers { (1 ≤ workers) × (workers ≤ MOST_WORKERS) }
     ensures { AnswersRun (V.meaning v.now) plan.now result }
 {
     let starts = starts_of(alloc, plan)?;

@@ -2,7 +2,9 @@ ghost use Rattle.std.specs.Prelude.{◌≤◌};
 
 use bp_faults::{OutOfMemory, Seq, Text};
 use ninja_text::laws::{written_alike, written_and_read};
-use ninja_text::{NinjaError, NinjaFile, Statement, is_well_formed, read, write, write_in};
+use ninja_text::{
+    NinjaError, NinjaFile, Statement, WriteError, is_well_formed, read, write, write_in,
+};
 use std::alloc::Global;
 use std::process::Abort;
 use std::test::Fail;
@@ -372,5 +374,19 @@ fn short_prints<R: Threads + Sync>(rt: &R, alloc: Global, text: &[u8]) -> Result
 #[test]
 fn parallel_printing_of_a_short_file(rt: HostRuntime) -> Result<(), Fail> {
     assert!(rt; short_prints(&rt, rt.alloc(), SHORT)?);
+    Ok(())
+}
+
+// What the errors of writing and of reading say of themselves.
+fn error_texts(alloc: Global) -> Result<String, OutOfMemory> {
+    let (large, unwritten) = (WriteError::TooLarge, WriteError::OutOfMemory);
+    let (line, unread) = (NinjaError::BadLine(7), NinjaError::OutOfMemory);
+    Ok(format!(in alloc; "{large}; {unwritten}; {line}; {unread}")?)
+}
+
+#[test]
+fn texts_of_errors(rt: HostRuntime) -> Result<(), Fail> {
+    let want = "the text is too large; out of memory; line 7 is refused; out of memory";
+    assert_eq!(rt; error_texts(rt.alloc())?.as_str(), want);
     Ok(())
 }

@@ -17,7 +17,7 @@ pub loop-at-init : goal.loop-at-init
 loop-at-init c = record {
   within = omega arith;
   covered = rw c.in_ok-tokens.ensures.items (blank_none c.as_bytes-bytes.result.now 0);
-  here = sym (place_start c.args.file c.as_bytes-bytes.result.now);
+  here = place_start c.args.file c.as_bytes-bytes.result.now c.start-place.result c.start-place.ensures;
 }
 
 pub place_after-place-requires-clause-line : goal.place_after-place-requires-clause-line

@@ -6,7 +6,7 @@ use Rattle.module_graph.specs.declared.graph.Graph.{Graph}
 use Rattle.module_graph.specs.declared.graph.Node.{Node}
 use Rattle.module_graph.specs.Planned.{plan_of}
 use Rattle.module_rules.specs.Rules.{asks}
-use Rattle.mutator_rules.specs.Conditions.{MayRun, places_in}
+use Rattle.mutator_rules.specs.Conditions.{MayRun, indices_in}
 use Rattle.linkage_mutator.specs.Plugins.{plugins_asked}
 use Rattle.bp_pipeline.specs.Passes.{AskMeans}
 use Rattle.bp_pipeline.specs.Runs.{TellsPass}
@@ -14,7 +14,7 @@ use Rattle.bp_pipeline.proofs.steps.ask_plugins.Goals as goal
 
 pub leaves_all-idle-requires : goal.leaves_all-idle-requires
 leaves_all-idle-requires g c =
-    subst (λ (ms : List Module). MayRun (places_in (length ms)) c.args.graph.nodes) (sym c.new-rule.ensures)
+    subst (λ (ms : List Module). MayRun (indices_in (length ms)) c.args.graph.nodes) (sym c.new-rule.ensures)
     c.requires.may.usable.may
 
 pub ask-requires-clause-alone : goal.ask-requires-clause-alone

@@ -6,7 +6,7 @@ use Rattle.module_graph.specs.declared.graph.Graph.{Graph}
 use Rattle.module_graph.specs.declared.graph.Node.{Node}
 use Rattle.module_graph.specs.Planned.{plan_of}
 use Rattle.module_rules.specs.Rules.{renews}
-use Rattle.mutator_rules.specs.Conditions.{MayRun, places_in}
+use Rattle.mutator_rules.specs.Conditions.{MayRun, indices_in}
 use Rattle.defaults_mutator.specs.Merged.{defaults_merged}
 use Rattle.bp_pipeline.specs.Passes.{MakeMeans}
 use Rattle.bp_pipeline.specs.Runs.{TellsPass}
@@ -14,7 +14,7 @@ use Rattle.bp_pipeline.proofs.steps.merge_defaults.Goals as goal
 
 pub leaves_all-idle-requires : goal.leaves_all-idle-requires
 leaves_all-idle-requires g c =
-    subst (λ (ms : List Module). MayRun (places_in (length ms)) c.args.graph.nodes) (sym c.new-rule.ensures)
+    subst (λ (ms : List Module). MayRun (indices_in (length ms)) c.args.graph.nodes) (sym c.new-rule.ensures)
     c.requires.may.usable.may
 
 pub make-requires-clause-alone : goal.make-requires-clause-alone

@@ -8,7 +8,7 @@ use Rattle.module_graph.specs.declared.variations.Axis.TheVariants.{Image}
 use Rattle.module_graph.specs.Planned.{plan_of}
 use Rattle.module_rules.specs.Rules.{splits}
 use Rattle.mutator_kinds.specs.BottomUp.{ResultsDiffer}
-use Rattle.mutator_rules.specs.Conditions.{MayRun, places_in}
+use Rattle.mutator_rules.specs.Conditions.{MayRun, indices_in}
 use Rattle.target_mutators.specs.Images.{image_variants}
 use Rattle.bp_pipeline.specs.Passes.{MakeMeans}
 use Rattle.bp_pipeline.specs.Runs.{TellsPass}
@@ -16,7 +16,7 @@ use Rattle.bp_pipeline.proofs.steps.split_images.Goals as goal
 
 pub leaves_all-idle-requires : goal.leaves_all-idle-requires
 leaves_all-idle-requires g c =
-    subst (λ (ms : List Module). MayRun (places_in (length ms)) c.args.graph.nodes) (sym c.new-rule.ensures)
+    subst (λ (ms : List Module). MayRun (indices_in (length ms)) c.args.graph.nodes) (sym c.new-rule.ensures)
     c.requires.may.usable.may
 
 pub make-requires-clause-differ : goal.make-requires-clause-differ

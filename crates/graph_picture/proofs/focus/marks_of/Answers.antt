@@ -1,8 +1,9 @@
 use Rattle.std.proofs.Common.{◌≡◌, ◌∙◌, ◌↔◌, ℕ, List, Bool, Contains, Some, length, drop, sym, ap, subst, arith}
 use Rattle.std.proofs.lemmas.Bool.{eqb-true}
+use Rattle.std.proofs.lemmas.List.{nil_from_length}
 use Rattle.graph_picture.specs.Growing.{MarkWithin, AreTurned, Joins}
 use Rattle.graph_picture.specs.Reach.{IsOf, AreMarks}
-use Rattle.graph_picture.proofs.Levels.{empty_is, lent_back}
+use Rattle.graph_picture.proofs.Levels.{lent_back}
 use Rattle.graph_picture.proofs.Focused.{none_of, starts_inside, ahead_size, ahead_inside, back_inside, joined}
 use Rattle.graph_picture.proofs.focus.marks_of.Goals as goal
 
@@ -12,7 +13,7 @@ returns-then-is_empty c =
     let starts = c.in_ok-starts.starts in
     let Of : List ℕ → Type 0 = λ o. (k : ℕ) → Contains starts.items k ↔ IsOf variants o k in
     none_of variants c.args.focus.now starts.items (subst Of c.as_str.ensures c.in_ok-starts.ensures)
-    (empty_is starts.items (omega (arith, starts.ok.0, eqb-true _ _ (sym c.if-is_empty.ensures))))
+    (nil_from_length starts.items (omega (arith, starts.ok.0, eqb-true _ _ (sym c.if-is_empty.ensures))))
 
 pub turned_lists-requires-clause-few : goal.turned_lists-requires-clause-few
 turned_lists-requires-clause-few c =

@@ -3,7 +3,8 @@ use Rattle.graph_picture.specs.Growing.{Grows, IsLevel, IsNext}
 use Rattle.graph_picture.specs.Reach.{mark_at}
 use Rattle.std.specs.Prelude.{Contains}
 use Rattle.std.proofs.lemmas.Bool.{eqb-true}
-use Rattle.graph_picture.proofs.Levels.{level_starts, level_more, level_ends, lent_back, empty_is, unset}
+use Rattle.std.proofs.lemmas.List.{nil_from_length}
+use Rattle.graph_picture.proofs.Levels.{level_starts, level_more, level_ends, lent_back, unset}
 use Rattle.graph_picture.proofs.reach.mark_within.Goals as goal
 
 pub mark_all-requires : goal.mark_all-requires
@@ -33,7 +34,7 @@ returns-then-is_empty c =
     let front = c.loop-level.front in
     level_ends c.args.lists.now c.args.starts.now c.loop-level.level c.loop-level.marks.items front.items
     c.loop-level.invariant
-    (empty_is front.items (omega (arith, front.ok.0, eqb-true _ _ (sym c.if-is_empty.ensures))))
+    (nil_from_length front.items (omega (arith, front.ok.0, eqb-true _ _ (sym c.if-is_empty.ensures))))
     c.args.depth (let lt = c.loop-level-test.true in omega arith)
 
 pub next_front-requires : goal.next_front-requires

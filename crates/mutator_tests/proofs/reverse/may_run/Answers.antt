@@ -6,7 +6,7 @@ use Rattle.module_graph.specs.declared.graph.Edge.{Edge}
 use Rattle.module_graph.specs.declared.graph.Node.{Node}
 use Rattle.module_graph.specs.Graphs.{outward, edges_of}
 use Rattle.module_graph.specs.Numbered.{by_number}
-use Rattle.mutator_rules.specs.Conditions.{MayRun, places_in}
+use Rattle.mutator_rules.specs.Conditions.{MayRun, indices_in}
 use Rattle.mutator_tests.proofs.reverse.may_run.Invariants.{IsBare}
 use Rattle.mutator_tests.proofs.reverse.may_run.Goals as goal
 
@@ -23,7 +23,7 @@ module _ {P : Type 0} (places : ℕ) where
       ∙ no_edges (k + 1) xs all.1
 
   bare_run : (nodes : List (Node P)) → length nodes < 2 ^ 32 → AllByRecursion (IsBare places) nodes
-      → MayRun (places_in places) nodes
+      → MayRun (indices_in places) nodes
   bare_run nodes few all = record {
     numbered = record {
       few_nodes = few;
@@ -46,7 +46,7 @@ loop-node-preserved c =
 
 pub returns : goal.returns
 returns c told =
-    subst (MayRun (places_in (length c.args.mods.now))) c.as_slice-nodes.ensures
+    subst (MayRun (indices_in (length c.args.mods.now))) c.as_slice-nodes.ensures
     (bare_run (length c.args.mods.now) c.as_slice-nodes.result.now (grind (arith, nat_tests, told))
     (subst (AllByRecursion (IsBare (length c.args.mods.now)))
     (take-past c.loop-node.node-index c.as_slice-nodes.result.now c.loop-node-test.false)

@@ -4,11 +4,11 @@ use Rattle.ninja_write.specs.Inside.{statements_text}
 use Rattle.ninja_write.proofs.Least.{file_has}
 use Rattle.ninja_write.proofs.text.check_size.Goals as goal
 
-pub returns-then-least_of_all-gt-LIMIT : goal.returns-then-least_of_all-gt-LIMIT
-returns-then-least_of_all-gt-LIMIT c is =
+pub returns-then-least_of_all-gt-LARGEST_OUTPUT : goal.returns-then-least_of_all-gt-LARGEST_OUTPUT
+returns-then-least_of_all-gt-LARGEST_OUTPUT c is =
     omega (
       arith,
-      c.if-least_of_all-gt-LIMIT.true,
+      c.if-least_of_all-gt-LARGEST_OUTPUT.true,
       file_has c.args.f.now,
       subst (λ (all : List Statement). c.least_of_all.result ≤ length (statements_text all)) c.as_slice-statements.ensures c.least_of_all.ensures,
     )

@@ -1,7 +1,7 @@
 use Rattle.std.proofs.Common.{◌≡◌, ◌<◌, ◌∙◌, ap, sym, subst, [], ◌∷◌, ◌++◌, length, length-set, get_or, arith}
 use Rattle.std.proofs.lemmas.List.{get_or_read}
+use Rattle.std.proofs.lemmas.List.Elements.{All-from_recursion}
 use Rattle.module_graph.specs.declared.graph.Node.{Node}
-use Rattle.reverse_deps.proofs.Apart.{all_at}
 use Rattle.reverse_deps.proofs.Listed.{one_more_node}
 use Rattle.reverse_deps.proofs.directory.nodes_by_module.Goals as goal
 
@@ -14,7 +14,7 @@ loop-n-preserved g c =
     let lt : n < length nodes = omega arith in
     let is : node ≡ get_or nodes n node = c.node-item.is ∙ ap (λ l. get_or l n node) c.as_slice-node-items.ensures in
     let many = c.loop-n.invariant.many in
-    let accepted = subst (λ (x : Node _). x.«module».0 < length c.args.mods.now) (sym is) (all_at (λ (x : Node _). x.«module».0 < length c.args.mods.now) nodes n node lt c.requires.accepted) in
+    let accepted = subst (λ (x : Node _). x.«module».0 < length c.args.mods.now) (sym is) (All-from_recursion (λ (x : Node _). x.«module».0 < length c.args.mods.now) nodes c.requires.accepted n node lt) in
     let has_list : node.«module».0 < length c.loop-n.lists.items = omega (arith, accepted) in
     record {
       many = length-set c.loop-n.lists.items node.«module».0 c.push.new.self ∙ many;

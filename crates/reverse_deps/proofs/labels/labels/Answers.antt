@@ -2,11 +2,11 @@ use Rattle.std.proofs.Common.{◌≡◌, ◌<◌, [], ◌∷◌, ◌∙◌, ◌+
 use Rattle.std.specs.Option.{option_map_or}
 use Rattle.std.proofs.lemmas.List.{take_more, map-append}
 use Rattle.std.proofs.lemmas.Option.{slice_get_read}
+use Rattle.std.proofs.lemmas.List.Elements.{All-from_recursion}
 use Rattle.bp_props.specs.declared.module.Module.{Module}
 use Rattle.module_graph.specs.declared.graph.Node.{Node}
 use Rattle.module_graph.specs.Names.{label_of}
 use Rattle.reverse_deps.specs.Applied.{name_of}
-use Rattle.reverse_deps.proofs.Apart.{all_at}
 use Rattle.reverse_deps.proofs.labels.labels.Goals as goal
 
 pub loop-node-preserved : goal.loop-node-preserved
@@ -19,7 +19,7 @@ loop-node-preserved g c =
     let count = ap length c.as_slice-node-items.ensures in
     let lt : i < length nodes = omega arith in
     let is : node ≡ get_or nodes i node = c.node-item.is ∙ ap (λ l. get_or l i node) c.as_slice-node-items.ensures in
-    let accepted = subst (λ (x : Node _). x.«module».0 < length mods) (sym is) (all_at (λ (x : Node _). x.«module».0 < length mods) nodes i node lt c.requires.accepted) in
+    let accepted = subst (λ (x : Node _). x.«module».0 < length mods) (sym is) (All-from_recursion (λ (x : Node _). x.«module».0 < length mods) nodes c.requires.accepted i node lt) in
     let named : name_of mods node.«module».0 ≡ it.name = ap (λ o. option_map_or (λ (m : Module). m.name) o []) (slice_get_read mods _ node.«module».0 it refl accepted c.index-mods-node.is) in
     let label = λ (x : Node _). label_of (name_of mods x.«module».0) x.vars in
     c.in_ok-push.ensures.items

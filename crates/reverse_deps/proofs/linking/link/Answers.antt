@@ -1,8 +1,8 @@
 use Rattle.std.proofs.Common.{◌<◌, ◌+◌, length, set, drop, get_or, ap, sym, subst, ◌∙◌, length-set, arith}
 use Rattle.std.proofs.lemmas.List.{drop_more, drop_all}
+use Rattle.std.proofs.lemmas.List.Elements.{All-from_recursion}
 use Rattle.module_graph.specs.declared.graph.EdgeKind.TheVariants.{Defaults}
 use Rattle.reverse_deps.specs.Linked.{Link, linked_nodes}
-use Rattle.reverse_deps.proofs.Apart.{all_at}
 use Rattle.reverse_deps.proofs.Gained.{one_link, no_links}
 use Rattle.reverse_deps.proofs.linking.link.Goals as goal
 
@@ -18,7 +18,7 @@ loop-holder-preserved g c =
     let l : Link = get_or links i none in
     let d = c.index-nodes-holder.result in
     let many = c.loop-holder.invariant.many in
-    let inside : l.0.0 < length nodes = subst (λ n. l.0.0 < n) (sym many) (all_at (λ (x : Link). x.0.0 < length c.args.nodes.now) links i none c.loop-holder-test.true c.requires) in
+    let inside : l.0.0 < length nodes = subst (λ n. l.0.0 < n) (sym many) (All-from_recursion (λ (x : Link). x.0.0 < length c.args.nodes.now) links c.requires i none c.loop-holder-test.true) in
     record {
       many = length-set nodes l.0.0 _ ∙ many;
       rest =

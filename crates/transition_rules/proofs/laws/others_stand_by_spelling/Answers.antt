@@ -1,6 +1,6 @@
-use Rattle.transition_rules.proofs.Pairs.{pairs_apart}
 use Rattle.transition_rules.specs.Spelled.{is_spelled_before}
 use Rattle.std.proofs.Common.{◌≡◌, false, []}
+use Rattle.bp_faults.proofs.Lists.{pairs_apart}
 use Rattle.transition_rules.specs.Wants.{others_of}
 use Rattle.transition_rules.proofs.BySpelling.{all_stand}
 use Rattle.transition_rules.proofs.laws.others_stand_by_spelling.Goals as goal
