@@ -32,7 +32,7 @@ fn suffix(number: usize) -> &'static str
 fn path_beside(path: &str, number: usize) -> Option<ArrayString<LONGEST>>
     requires { number < 3 }
     ensures path { IfSome result (λ beside. beside.bytes ≡ new_path path.now number) }
-    ensures long { IfNone result (4096 < length (new_path path.now number)) }
+    ensures long { IfNone result (LONGEST < length (new_path path.now number)) }
 {
     let mut beside = ArrayString::from(path).ok()?;
     beside.try_push_str(suffix(number)).ok()?;
