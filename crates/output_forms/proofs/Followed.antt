@@ -9,6 +9,7 @@ use Rattle.std.proofs.lemmas.List.{length-map}
 use Rattle.std.proofs.lemmas.List.Quantifiers.{position-Some}
 use Rattle.bp_faults.specs.declared.fault.Fault.{Fault}
 use Rattle.bp_faults.specs.declared.ids.NodeId.{NodeId}
+use Rattle.bp_faults.specs.declared.limits.TheConstants.{MOST_MODULES}
 use Rattle.bp_faults.proofs.Lists.{all_append, all_each}
 use Rattle.bp_props.specs.declared.module.Module.{Module}
 use Rattle.bp_props.specs.declared.props.Props.{Props}
@@ -320,7 +321,7 @@ module _ (laws : LowerLaws) (mods : List Module) where
         means
 
     -- the passes so far
-    pub course_good : length mods ≤ 2 ^ 17 → (p : ℕ) (nodes : List (Node Props)) → CourseMeans mods c p (Ok nodes)
+    pub course_good : length mods ≤ MOST_MODULES → (p : ℕ) (nodes : List (Node Props)) → CourseMeans mods c p (Ok nodes)
         → IsGoodAt p nodes
     course_good few zero nodes is = let same : first_nodes mods ≡ nodes = cc in
         subst (IsGoodAt 0) same (started mods few)

@@ -222,7 +222,7 @@ numbered_on p k (s ∷ sources) h w few = (
 )
 
 sources_on : (split : Bool) (p : Props) (sources : List Source) → HasSoundTexts p → AllByRecursion IsWritable sources
-    → length (each_source split p sources) ≤ 262144
+    → length (each_source split p sources) ≤ MOST_NODES
     → AllByRecursion (IsOn A.PerSource) (each_source split p sources)
 sources_on true p (s ∷ sources) h w few = numbered_on p 1 (s ∷ sources) h w (omega (arith, few))
 sources_on split p sources h w few = ((refl, h), tt)

@@ -4,6 +4,7 @@ use Rattle.std.proofs.Common.{sym, subst, arith, add-zero}
 use Rattle.std.specs.Prelude.{slice_index_or, slice_get, replicate}
 use Rattle.std.specs.List.{AllByRecursion}
 use Rattle.bp_faults.specs.declared.ids.ModuleId.{ModuleId}
+use Rattle.bp_faults.specs.declared.limits.TheConstants.{MOST_MODULES}
 use Rattle.bp_props.specs.declared.module.Module.{Module}
 use Rattle.bp_props.specs.declared.props.Props.{Props}
 use Rattle.pass_core.specs.declared.plan.PlanEdge.{PlanEdge}
@@ -62,7 +63,7 @@ all_free : (axis : Axis) (k : ℕ) (ms : List Module) → HasFreeAxis axis (firs
 all_free axis k [] = tt
 all_free axis k (m ∷ ms) = (free_here axis, all_free axis (k + 1) ms)
 
-pub started : (ms : List Module) → length ms ≤ 2 ^ 17 → IsGoodAt 0 (first_nodes ms)
+pub started : (ms : List Module) → length ms ≤ MOST_MODULES → IsGoodAt 0 (first_nodes ms)
 started ms few =
     let many = length-first_from 0 ms in
     let bare : edges_of (first_nodes ms) ≡ [] = no_edges 0 ms in

@@ -2,6 +2,7 @@
 use Rattle.std.proofs.Common.{◌≡◌, ◌<◌, ◌≤◌, ◌+◌, ◌^◌, ℕ, Bool, true, false, cond, List, [], ◌∷◌, Some, None, Ok, length, map, nat_eq, refl, sym, ◌∙◌, subst, arith, length-append}
 use Rattle.std.specs.List.{AllByRecursion, cons_option}
 use Rattle.std.proofs.lemmas.List.{length-map}
+use Rattle.bp_faults.specs.declared.limits.TheConstants.{MOST_EDGES}
 use Rattle.bp_faults.proofs.Lists.{all_append, Apart, apart_pairs, pairs_apart}
 use Rattle.module_graph.specs.declared.graph.Edge.{Edge}
 use Rattle.module_graph.specs.declared.graph.Node.{Node}
@@ -50,7 +51,7 @@ module _ {P : Type 0} where
   may_linked accepts nodes ls may inside counted =
       let many = many_linked nodes ls in
       let as_many = many_edges 0 (linked_nodes nodes ls) in
-      let few : length (all_edges (linked_nodes nodes ls)) ≤ 2 ^ 22 = few_edges (linked_nodes nodes ls) counted in
+      let few : length (all_edges (linked_nodes nodes ls)) ≤ MOST_EDGES = few_edges (linked_nodes nodes ls) counted in
       let few_nodes = may.numbered.few_nodes in
       record {
         numbered = record { few_nodes = subst (λ n. n < 2 ^ 32) (sym many) few_nodes; few_edges = subst (λ n. n < 2 ^ 32) (sym as_many) (omega arith); ends = ends_linked nodes ls inside may.numbered.ends };
