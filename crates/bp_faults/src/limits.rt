@@ -27,6 +27,9 @@ pub const MOST_LIST_ITEMS: usize = 65_536;
 /// Modules of a tree; beyond them there are too many `modules` (30).
 pub const MOST_MODULES: usize = 131_072;
 
+/// Bytes of a module's name, of which there is at least one; beyond them it is a bad module name (19).
+pub const LONGEST_MODULE_NAME: usize = 255;
+
 /// Nodes of one graph; beyond them there are too many `variants` (30).
 pub const MOST_NODES: usize = 262_144;
 
@@ -41,3 +44,6 @@ pub const LARGEST_OUTPUT: usize = 536_870_912;
 
 /// Workers at once, of which there is at least one; beyond them the command line is wrong.
 pub const MOST_WORKERS: u32 = 64;
+
+/// Modules of a synthetic tree, of which there is at least one; beyond them the command line is wrong.
+pub const MOST_SYNTHETIC_MODULES: u32 = 100_000;

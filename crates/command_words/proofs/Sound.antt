@@ -11,7 +11,7 @@ use Rattle.std.proofs.lemmas.List.Elements.{All-nil, All-cons}
 use Rattle.std.proofs.lemmas.Slice.Eq.{bytes_eq-Decides}
 use Rattle.bp_faults.specs.Targets.{target_name}
 use Rattle.bp_faults.specs.declared.target.Target.{Target}
-use Rattle.bp_faults.specs.declared.limits.TheConstants.{MOST_WORKERS}
+use Rattle.bp_faults.specs.declared.limits.TheConstants.{MOST_SYNTHETIC_MODULES, MOST_WORKERS}
 use Rattle.command_words.specs.declared.command.CommandName.{CommandName}
 use Rattle.command_words.specs.declared.command.CommandName.TheVariants.{Build, Replay, Graph, Synth, Format, Edit}
 use Rattle.command_words.specs.declared.option.OptionName.TheVariants as option
@@ -164,8 +164,10 @@ graph_sound given =
 synth_sound : (given : Given) → IfSome (synth_of given) IsSoundConfiguration
 synth_sound given =
     with_any IsSoundConfiguration (and_then (given option.Seed) (number_in 0 4294967295)) _ (λ seed.
-    and_then-holds (λ n. (1 ≤ n) × (n ≤ 100000)) IsSoundConfiguration (and_then (given option.Modules) (number_in 1 100000)) _
-    (with_any (λ n. (1 ≤ n) × (n ≤ 100000)) (given option.Modules) (number_in 1 100000) (number_within 1 100000))
+    and_then-holds (λ n. (1 ≤ n) × (n ≤ MOST_SYNTHETIC_MODULES)) IsSoundConfiguration
+    (and_then (given option.Modules) (number_in 1 MOST_SYNTHETIC_MODULES)) _
+    (with_any (λ n. (1 ≤ n) × (n ≤ MOST_SYNTHETIC_MODULES)) (given option.Modules)
+    (number_in 1 MOST_SYNTHETIC_MODULES) (number_within 1 MOST_SYNTHETIC_MODULES))
     (λ modules within.
     and_then-holds AreWorkers IsSoundConfiguration (workers_of (given option.Jobs)) _ (workers_sound (given option.Jobs))
     (λ workers few. record { some = within.0; few = within.1; workers = few })))

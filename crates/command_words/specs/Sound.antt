@@ -1,7 +1,7 @@
 -- What every configuration keeps, so that a caller need not know how words give one.
 use Rattle.std.specs.Prelude.{◌≡◌, ◌≢◌, ◌≤◌, ℕ, List, ◌∷◌, true, IfSome, ⊤}
 use Rattle.std.specs.List.{AllPairs, list_all}
-use Rattle.bp_faults.specs.declared.limits.TheConstants.{MOST_WORKERS}
+use Rattle.bp_faults.specs.declared.limits.TheConstants.{MOST_SYNTHETIC_MODULES, MOST_WORKERS}
 use Rattle.bp_faults.specs.declared.target.Target.{Target}
 use Rattle.command_words.specs.declared.configuration.Build.{Build}
 use Rattle.command_words.specs.declared.configuration.Configuration.{Configuration}
@@ -48,7 +48,7 @@ pub record IsSoundGraph (c : Graph) : Type 0 where
 -- There are 1 to 100,000 modules.
 pub record IsSoundSynth (c : Synth) : Type 0 where
   pub some : 1 ≤ c.modules
-  pub few : c.modules ≤ 100000
+  pub few : c.modules ≤ MOST_SYNTHETIC_MODULES
   pub workers : AreWorkers c.workers
 
 -- The property is an identifier.

@@ -3,7 +3,7 @@ use Rattle.std.specs.Prelude.{ℕ, List, [], ◌∷◌, Bool, true, ◌&&◌, �
 use Rattle.std.specs.Prelude.{Option, Some, None, find, option_map, option_and_then}
 use Rattle.std.specs.List.{list_all, list_any}
 use Rattle.std.specs.Str.{bytes_eq}
-use Rattle.bp_faults.specs.declared.limits.TheConstants.{MOST_WORKERS}
+use Rattle.bp_faults.specs.declared.limits.TheConstants.{MOST_SYNTHETIC_MODULES, MOST_WORKERS}
 use Rattle.bp_faults.specs.declared.target.Target.{Target}
 use Rattle.bp_faults.specs.declared.target.Target.TheVariants.{AndroidArm64, AndroidArm, LinuxGlibcX86_64}
 use Rattle.command_words.specs.declared.command.CommandName.{CommandName}
@@ -139,7 +139,7 @@ graph_of given =
 abbrev pub synth_of : Given → Option Configuration
 synth_of given =
     and_then (and_then (given option.Seed) (number_in 0 4294967295)) (λ seed.
-    and_then (and_then (given option.Modules) (number_in 1 100000)) (λ modules.
+    and_then (and_then (given option.Modules) (number_in 1 MOST_SYNTHETIC_MODULES)) (λ modules.
     and_then (workers_of (given option.Jobs)) (λ workers.
     Some (configuration.Synth (record { seed = seed; modules = modules; workers = workers })))))
 

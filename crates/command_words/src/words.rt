@@ -16,7 +16,7 @@ use crate::parser::matches;
 use crate::plain::plain;
 use crate::targets::targets;
 use crate::{Build, CommandName, Configuration, Edit, Format, Graph, OptionName, Replay, Synth};
-use bp_faults::limits::MOST_WORKERS;
+use bp_faults::limits::{MOST_SYNTHETIC_MODULES, MOST_WORKERS};
 use bp_faults::{OutOfMemory, Seq, Target, Text};
 use clap::ArgMatches;
 use std::alloc::Global;
@@ -187,7 +187,7 @@ fn synth(matches: &ArgMatches<'_>) -> Option<Configuration>
 {
     Some(Configuration::Synth(Synth {
         seed: number_given(matches, OptionName::Seed, 0, u32::MAX)?,
-        modules: number_given(matches, OptionName::Modules, 1, 100000)?,
+        modules: number_given(matches, OptionName::Modules, 1, MOST_SYNTHETIC_MODULES)?,
         workers: workers_given(matches)?,
     }))
 }

@@ -1,5 +1,6 @@
 -- What holds of all synthetic trees.
 use Rattle.std.specs.Prelude.{◌≡◌, ℕ, ◌≤◌, List}
+use Rattle.bp_faults.specs.declared.limits.TheConstants.{MOST_SYNTHETIC_MODULES}
 use Rattle.synthetic_tree.specs.Blocks.{AreTree, TreeFile}
 
 -- A seed and a number of modules have one tree.
@@ -9,4 +10,5 @@ OneTree = (seed modules : ℕ) (first second : List TreeFile) → AreTree seed m
 
 -- A seed has a tree of each number of modules that `synth_tree` takes.
 abbrev pub SomeTree : Type 0
-SomeTree = (seed modules : ℕ) → modules ≤ 100000 → (files : List TreeFile) × AreTree seed modules files
+SomeTree =
+    (seed modules : ℕ) → modules ≤ MOST_SYNTHETIC_MODULES → (files : List TreeFile) × AreTree seed modules files

@@ -1,6 +1,7 @@
 ghost use Rattle.std.specs.Prelude.{◌≡◌, ◌<◌, ◌≤◌, ◌*◌, IfOk, OnOk};
 ghost use Rattle.std.specs.List.{All, range_with_len};
 ghost use Rattle.std.specs.List.Sorted.{IsPermutation, IsStrictlySortedBy};
+ghost use Rattle.bp_faults.specs.declared.limits.TheConstants.{MOST_SYNTHETIC_MODULES};
 ghost use Rattle.synthetic_tree.specs.Blocks.{block_cmp, block_count, block_text, block_path};
 
 use crate::module::module_text;
@@ -19,7 +20,7 @@ pub fn path(alloc: Global, block: u32) -> Result<Path, OutOfMemory>
 
 /// The text of a block's file. Each text is put at the end, so the work is linear in the whole.
 pub fn bytes(alloc: Global, seed: u32, modules: u32, block: u32) -> Result<Vec<u8>, AllocError>
-    requires few { modules ≤ 100000 }
+    requires few { modules ≤ MOST_SYNTHETIC_MODULES }
     requires there { 64 * block < modules }
     ensures { IfOk result (λ bytes. bytes.items ≡ block_text seed modules block) }
 {
@@ -43,7 +44,7 @@ fn compare(a: u32, b: u32) -> Ordering
 
 /// The numbers of all blocks, in the order of their directories.
 pub fn blocks(alloc: Global, modules: u32) -> Result<Vec<u32>, AllocError>
-    requires { modules ≤ 100000 }
+    requires { modules ≤ MOST_SYNTHETIC_MODULES }
     ensures all { IfOk result (λ blocks. IsPermutation (range_with_len 0 (block_count modules)) blocks.items) }
     ensures within { IfOk result (λ blocks. All (λ block. 64 * block < modules) blocks.items) }
     ensures order { IfOk result (λ blocks. IsStrictlySortedBy block_cmp blocks.items) }

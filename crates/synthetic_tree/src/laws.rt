@@ -7,7 +7,7 @@ pub fn one_tree()
     ensures { OneTree }
 {}
 
-/// A seed has a tree of each number of modules up to 100,000.
+/// A seed has a tree of each number of modules up to `MOST_SYNTHETIC_MODULES`.
 pub fn some_tree()
     ensures { SomeTree }
 {}

@@ -1,4 +1,5 @@
 ghost use Rattle.std.specs.Prelude.{◌≡◌, ◌<◌, ◌^◌, IfOk, string_bytes};
+ghost use Rattle.bp_faults.specs.declared.limits.TheConstants.{MOST_SYNTHETIC_MODULES};
 ghost use Rattle.synthetic_tree.specs.Modules.{first_in_file, near_dependency, far_dependency, place_in_file};
 ghost use Rattle.synthetic_tree.specs.Modules.{dependencies, names_text, type_text, end_text, module_text};
 
@@ -12,7 +13,7 @@ fn first_in_file(i: u32) -> u32
 
 // `i` isn't the first module of its file.
 fn near_dependency(seed: u32, i: u32) -> u32
-    requires small { i < 100000 }
+    requires small { i < MOST_SYNTHETIC_MODULES }
     requires later { 0 < place_in_file i }
     ensures { result ≡ near_dependency seed i }
 {
@@ -20,7 +21,7 @@ fn near_dependency(seed: u32, i: u32) -> u32
 }
 
 fn far_dependency(seed: u32, i: u32) -> u32
-    requires small { i < 100000 }
+    requires small { i < MOST_SYNTHETIC_MODULES }
     requires later { 0 < place_in_file i }
     ensures { result ≡ far_dependency seed i }
 {
@@ -28,7 +29,7 @@ fn far_dependency(seed: u32, i: u32) -> u32
 }
 
 fn dependencies_text(alloc: Global, seed: u32, i: u32) -> Result<String, AllocError>
-    requires { i < 100000 }
+    requires { i < MOST_SYNTHETIC_MODULES }
     ensures { IfOk result (λ text. string_bytes text ≡ names_text (dependencies seed i)) }
 {
     let place = i % 64;
@@ -55,7 +56,7 @@ fn type_text(i: u32) -> &'static str
 }
 
 fn end_text(seed: u32, i: u32) -> &'static str
-    requires { i < 100000 }
+    requires { i < MOST_SYNTHETIC_MODULES }
     ensures { result.now ≡ end_text seed i }
 {
     if i % 64 == 63 && (u64::from(seed) + u64::from(i / 64)) % 4 == 0 {
@@ -67,7 +68,7 @@ fn end_text(seed: u32, i: u32) -> &'static str
 
 /// The text of a module, by its number.
 pub fn module_text(alloc: Global, seed: u32, i: u32) -> Result<String, AllocError>
-    requires { i < 100000 }
+    requires { i < MOST_SYNTHETIC_MODULES }
     ensures { IfOk result (λ text. string_bytes text ≡ module_text seed i) }
 {
     let kind = type_text(i);
