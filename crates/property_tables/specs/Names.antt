@@ -6,6 +6,7 @@ use Rattle.std.specs.Char.{is_ascii_alphanumeric}
 use Rattle.std.specs.List.{list_all}
 use Rattle.bp_faults.specs.declared.fault.Fault.{Fault}
 use Rattle.bp_faults.specs.declared.kind.FaultKind.TheVariants.{MissingName, BadName}
+use Rattle.bp_faults.specs.declared.limits.TheConstants.{LONGEST_MODULE_NAME}
 use Rattle.bp_faults.specs.Faults.{fault_on}
 use Rattle.bp_props.specs.declared.given.Given.{Given}
 use Rattle.bp_values.specs.Meaning.{Raw}
@@ -20,8 +21,9 @@ is_dots name = bytes_eq name (codes ".") || bytes_eq name (codes "..")
 
 -- The name of a module has 1 to 255 such bytes, and isn't `.` or `..`.
 abbrev pub is_module_name : List ℕ → Bool
-is_module_name name = nat_le 1 (length name) && nat_le (length name) 255 && list_all is_module_name_byte name && not
-    (is_dots name)
+is_module_name name =
+    nat_le 1 (length name) && nat_le (length name) LONGEST_MODULE_NAME && list_all is_module_name_byte name
+    && not (is_dots name)
 
 -- A module is named by its property `name`, or refused.
 abbrev pub name_in : Raw → Option (Given (List ℕ)) → Result (List ℕ) Fault

@@ -2,6 +2,8 @@ ghost use Rattle.std.specs.Prelude.{◌≡◌};
 ghost use Rattle.std.specs.List.{list_all};
 ghost use Rattle.property_tables.specs.Names.{is_module_name_byte as name_byte, is_module_name as module_name};
 
+use bp_faults::limits::LONGEST_MODULE_NAME;
+
 fn is_name_byte(byte: u8) -> bool
     ensures { result ≡ name_byte byte }
 {
@@ -18,5 +20,8 @@ fn has_name_bytes(name: &str) -> bool
 pub(crate) fn is_module_name(name: &str) -> bool
     ensures { result ≡ module_name name.now }
 {
-    1 <= name.len() && name.len() <= 255 && has_name_bytes(name) && !matches!(name, "." | "..")
+    1 <= name.len()
+        && name.len() <= LONGEST_MODULE_NAME
+        && has_name_bytes(name)
+        && !matches!(name, "." | "..")
 }
