@@ -39,7 +39,7 @@ HEAD = re.compile(rf"( *)({WORD}(?: {WORD})*) ([^\s:]+)(.*)")
 IRREGULAR = set("bound built cut drawn found given held kept known left made met put read seen sent set shown sought "
                 "spelt taken told within written".split())
 # The files of lemmas in bp_faults that every crate may cite.
-SHARED = {"Lists", "Phases", "Gathered", "Refusals"}
+SHARED = {"Lists", "Phases", "Gathered", "Refusals", "Paths"}
 # Words that end in -ed and are nouns.
 NOUNS = set("bed feed head need seed speed thread".split())
 NUMBERED = re.compile(r"\b(?:[Dd]ocument|[Pp]aper|[Ii]ssue|[Rr]equest|[Rr]ow) #?\d+\b|\bissues show\b|"

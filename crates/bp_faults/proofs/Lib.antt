@@ -2,3 +2,4 @@ pub mod Lists
 pub mod Phases
 pub mod Gathered
 pub mod Refusals
+pub mod Paths

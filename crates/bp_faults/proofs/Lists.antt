@@ -3,12 +3,13 @@ use Rattle.std.proofs.Common.{◌≡◌, ◌≢◌, ◌<◌, ◌≤◌, ◌+◌,
 use Rattle.std.proofs.Common.{get_or, set, take, drop, append_assoc, refl, ap, sym, ◌∙◌, arith, subst, Some, None}
 use Rattle.std.proofs.Common.{Bool, false, cond, length, reverse, Result, Ok, Err}
 use Rattle.std.specs.Prelude.{slice_get, ⊤}
-use Rattle.std.specs.List.{AllByRecursion, AllPairs, Contains, flat_map, position_from}
+use Rattle.std.specs.List.{AllByRecursion, AllPairs, Contains, flat_map, list_all, position_from}
 use Rattle.std.specs.Str.{bytes_eq}
 use Rattle.std.specs.Cmp.Lexicographic.{same_text}
 use Rattle.std.proofs.Math.Seq.{drop-cons, take-suc}
 use Rattle.std.proofs.lemmas.List.{get_or-take, length-take-le, drop_all, map-append, reverse-append}
 use Rattle.std.proofs.lemmas.List.Elements.{All-from_recursion, recursion_from_All}
+use Rattle.std.proofs.lemmas.List.Sums.{AllPass-from_list_all}
 use Rattle.bp_faults.specs.Answers.{then_do}
 use Rattle.bp_faults.specs.Phases.{each_in_turn}
 use Rattle.bp_faults.specs.Order.{above_all}
@@ -87,6 +88,11 @@ all_before f Q (x ∷ xs) h = (h.0, all_before f Q xs h.1)
 -- What holds of each element holds of one that a list contains.
 pub all_contained : {X : Type 0} (P : X → Type 0) (xs : List X) (x : X) → AllByRecursion P xs → Contains xs x → P x
 all_contained P xs x h c = subst P c.2 (All-from_recursion P xs h c.0 x c.1)
+
+-- What each element passes, one that a list contains passes.
+pub contained_passes : {X : Type 0} (test : X → Bool) (xs : List X) (x : X) → list_all test xs ≡ true → Contains xs x
+    → test x ≡ true
+contained_passes test xs x h held = ap test (sym held.2) ∙ AllPass-from_list_all test xs h held.0 x held.1
 
 module _ {A : Type 0} where
   -- A relation holds of each element and each later one.

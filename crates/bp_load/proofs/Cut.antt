@@ -7,6 +7,7 @@ use Rattle.std.proofs.lemmas.List.{get_or-drop, get_or_default, take-append-drop
 use Rattle.std.proofs.lemmas.List.Folds.{list_all-append}
 use Rattle.std.proofs.lemmas.List.Splits.{slice_split_none, length-slice_split, join_with_byte-slice_split}
 use Rattle.bp_faults.specs.Paths.{is_component, is_normal}
+use Rattle.bp_faults.proofs.Paths.{normal_of_parts}
 use Rattle.property_tables.specs.Paths.{parts}
 use Rattle.bp_load.specs.Directories.{directory_of}
 
@@ -51,10 +52,6 @@ cut_directory path k within here last =
 
 pub whole_directory : (path : List ℕ) → ((i : ℕ) → i < length path → get_or path i 0 ≡ 47 → ⊥) → directory_of path ≡ []
 whole_directory path none = ap (λ ps. join_with_byte 47 (take (length ps - 1) ps)) (slice_split_none slash path (λ i d within. ne_eqb (get_or path i d) 47 (λ is. none i within (get_or_default path i 0 d within ∙ is))))
-
-normal_of_parts : (text : List ℕ) → list_all is_component (parts text) ≡ true → is_normal text ≡ true
-normal_of_parts [] all = refl
-normal_of_parts (b ∷ bs) all = all
 
 parts_of_normal : (text : List ℕ) → 0 < length text → is_normal text ≡ true → list_all is_component (parts text) ≡ true
 parts_of_normal [] some all = absurd (omega arith)

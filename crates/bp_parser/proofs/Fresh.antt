@@ -23,7 +23,7 @@ use Rattle.bp_parser.specs.Meaning.{IsTree, number_of_file}
 use Rattle.bp_parser.specs.Machine.{Part, an_expr, more_terms, items, more_items, a_colon, entries, more_entries, a_value, with_rest, behind_all, is_among}
 use Rattle.bp_parser.proofs.Firsts.{none_some, some_same}
 use Rattle.bp_parser.proofs.Language.{atom_alone}
-use Rattle.bp_parser.proofs.PartsRead.{same_bytes}
+use Rattle.bp_faults.proofs.Lists.{same_bytes}
 use Rattle.bp_parser.proofs.Runs.{Reaches, stay as stands, one_state, shrinks, run_first}
 
 -- the word is a name that the map has

@@ -7,7 +7,7 @@ use Rattle.std.specs.Str.{bytes_eq}
 use Rattle.std.proofs.lemmas.List.Folds.{list_any-append}
 use Rattle.bp_names.specs.Meaning.{knows, Learns}
 use Rattle.bp_parser.proofs.Steps.{has_name_push}
-use Rattle.bp_parser.proofs.PartsRead.{same_bytes}
+use Rattle.bp_faults.proofs.Lists.{same_bytes}
 
 -- some slices
 abbrev pub Slices : Type 0

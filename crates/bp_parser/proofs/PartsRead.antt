@@ -1,11 +1,10 @@
 -- What the functions that read lists and maps owe, on lists.
 use Rattle.std.specs.List.{Contains}
-use Rattle.std.specs.Str.{bytes_eq}
-use Rattle.std.proofs.Common.{◌≡◌, ℕ, ◌+◌, ◌≤◌, length, drop, arith, List, [], ◌∷◌, map, Bool, true, false, not, Some, sym, refl, ap, ◌∙◌, subst, inl, inr, rules}
+use Rattle.std.proofs.Common.{◌≡◌, ℕ, ◌+◌, ◌≤◌, length, drop, arith, List, [], ◌∷◌, map, Bool, true, false, not, Some, sym, refl, ap, ◌∙◌, subst, inl, inr}
 use Rattle.std.proofs.lemmas.Map.Views.{Contains-from_any}
-use Rattle.std.proofs.lemmas.Slice.Eq.{bytes_eq-Decides}
 use Rattle.bp_faults.specs.declared.place.Place.{Place}
 use Rattle.bp_faults.specs.declared.limits.TheConstants.{DEEPEST_NESTING}
+use Rattle.bp_faults.proofs.Lists.{same_bytes}
 use Rattle.bp_lexer.specs.declared.token.Punct.{Punct}
 use Rattle.bp_lexer.specs.declared.token.Punct.TheVariants.{OpenBrace, CloseBrace, CloseBracket, Comma}
 use Rattle.bp_lexer.specs.declared.token.Token.{Token}
@@ -99,9 +98,6 @@ new_from new true is fresh = absurd (true_false (sym fresh ∙ is))
 new_from new false is fresh = refl
 
 -- a name again
-pub same_bytes : (x y : List ℕ) → bytes_eq x y ≡ true → x ≡ y
-same_bytes x y e = search (rules, bytes_eq-Decides)
-
 pub repeated : (ws inner : List Word) (brace k : ℕ) (es : List EntryExpr) (place : Place) (name : List ℕ) → IsMark OpenBrace (drop brace ws) inner → SpellsFirst (entries_then (map entry_of es) no_entry) inner (drop k ws) → IsWord Ident place name (drop k ws) (drop (k + 1) ws) → is_among name (names_in es) ≡ true → IsRepeated ws k
 repeated ws inner brace k es place name opened spelled here again = record {
   brace = brace;

@@ -19,7 +19,7 @@ use Rattle.bp_parser.specs.Flaws.{SpellsFirst, IsRepeated}
 use Rattle.bp_parser.specs.Machine.{Part, an_expr, more_terms, items, more_items, a_colon, entries, more_entries, a_value, is_plus, begin_def, behind_all, at_end, go_behind, stuck, flaw_at, name_flaw, depth_of, is_among}
 use Rattle.bp_parser.proofs.Firsts.{none_some, some_same, starts_not, true_false}
 use Rattle.bp_parser.proofs.Language.{Spelled, SpelledExpr, leaf_expr, list_expr, map_expr, item, after_comma_items, after_comma_entries, join_expr, plus_kind}
-use Rattle.bp_parser.proofs.PartsRead.{same_bytes}
+use Rattle.bp_faults.proofs.Lists.{same_bytes}
 
 -- behind a map's brace stand entries with these names, each with a comma behind it, and then `here`
 pub record InMap (whole : List Word) (names : List (List ℕ)) (here : List Word) : Type 0 where

@@ -1,4 +1,3 @@
-pub mod Firsts
 pub mod ValueRead
 pub mod SignRead
 pub mod FormRead

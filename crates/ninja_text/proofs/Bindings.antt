@@ -1,8 +1,7 @@
 -- Written bindings are read back.
 use Rattle.std.proofs.Common.{◌≡◌, ℕ, zero, suc, length-append, ◌<◌, Bool, true, false, cond, not, ◌&&◌, ◌||◌, List, [], ◌∷◌, ◌++◌, eqb, length, take, drop, get_or, Option, Some, None, codes, append_assoc, ap, sym, ◌∙◌, refl, arith}
-use Rattle.std.specs.List.{Contains, flat_map, list_all, list_any}
+use Rattle.std.specs.List.{flat_map, list_all, list_any}
 use Rattle.std.specs.Str.{bytes_eq}
-use Rattle.std.proofs.lemmas.List.Sums.{AllPass-from_list_all}
 use Rattle.std.proofs.Math.Seq.{get_or-append_seam}
 use Rattle.std.proofs.lemmas.Slice.Eq.{bytes_eq-Decides}
 use Rattle.ninja_lines.specs.Meaning.{drop_spaces}
@@ -111,7 +110,3 @@ pub has_at : (test : List ℕ → List ℕ → Bool) → ((y x : List ℕ) → y
 has_at test is [] x k h at = absurd (omega arith)
 has_at test is (y ∷ ys) x zero h at = ap (λ e. e || list_any (λ z. test z x) ys) (is y x at)
 has_at test is (y ∷ ys) x (suc k) h at = or_true (test y x) (list_any (λ z. test z x) ys) (has_at test is ys x k (omega arith) at)
-
--- what every text of a list passes, each that it holds passes
-pub contained_passes : (test : List ℕ → Bool) (texts : List (List ℕ)) (text : List ℕ) → list_all test texts ≡ true → Contains texts text → test text ≡ true
-contained_passes test texts text h held = ap test (sym held.2) ∙ AllPass-from_list_all test texts h held.0 text held.1

@@ -18,7 +18,8 @@ use Rattle.ninja_read.specs.Meaning.{repeats, repeated_out, stray, or_line, refu
 use Rattle.ninja_file.specs.Meaning.{AllDiffer, IsRule, IsStatement, IsWellFormed, rule_names, outs_of}
 use Rattle.ninja_file.specs.Names.{is_name, is_path}
 use Rattle.std.proofs.lemmas.Bool.{and_parts, and_from}
-use Rattle.ninja_text.proofs.Bindings.{fresh, has_at, contained_passes}
+use Rattle.bp_faults.proofs.Lists.{contained_passes}
+use Rattle.ninja_text.proofs.Bindings.{fresh, has_at}
 use Rattle.ninja_text.proofs.Blocks.{Reads, step, with_vars, variables_read, rule_read, same_texts}
 use Rattle.ninja_text.proofs.Lines.{plain, lines_joined, joined_plain, utf8_lines}
 use Rattle.ninja_text.proofs.Whole.{whole_lines, names_are_names, rule_is_name}

@@ -15,7 +15,8 @@ use Rattle.ninja_write.specs.Meaning.{piece_text, pieces_text, line_of_binding, 
 use Rattle.ninja_file.specs.Names.{is_nil, is_name, is_name_byte, is_rule_key}
 use Rattle.ninja_file.specs.Meaning.{is_piece, are_apart, is_rule_value, IsRule, IsStatement, IsWellFormed, rule_names}
 use Rattle.std.proofs.lemmas.Bool.{and_parts, and_from}
-use Rattle.ninja_text.proofs.Bindings.{rule_key_name, contained_passes}
+use Rattle.bp_faults.proofs.Lists.{contained_passes}
+use Rattle.ninja_text.proofs.Bindings.{rule_key_name}
 use Rattle.ninja_text.proofs.Bytes.{IsClosed, closed_beside, closed_test, closed_escaped, closed_all}
 use Rattle.ninja_text.proofs.Lines.{AreWhole}
 

@@ -3,7 +3,7 @@ use Rattle.std.proofs.Common.{◌≡◌, ℕ, suc, Bool, true, false, cond, List
 use Rattle.std.proofs.lemmas.List.Folds.{list_all-append}
 use Rattle.std.proofs.lemmas.List.Sums.{AllPass-from_list_all, list_all-from_AllPass}
 use Rattle.std.proofs.lemmas.Slice.Eq.{bytes_eq-Decides}
-use Rattle.std.specs.List.{All, Contains, flat_map, list_all}
+use Rattle.std.specs.List.{All, flat_map, list_all}
 use Rattle.std.specs.Map.{keys_of, values_of}
 use Rattle.std.specs.Str.{bytes_eq}
 use Rattle.std.proofs.lemmas.Bool.{and_parts, and_from}
@@ -22,6 +22,7 @@ use Rattle.ninja_write.specs.Meaning.{piece_text, lead_of, pieces_text, line_of_
 use Rattle.ninja_file.specs.Names.{is_name_byte, is_name, is_shown, is_value, is_path, is_rule_key}
 use Rattle.ninja_file.specs.Meaning.{is_piece, are_apart, is_rule_value, IsRule, IsStatement, IsWellFormed, rule_names, outs_of}
 use Rattle.bp_faults.specs.Characters.{dollar, space}
+use Rattle.bp_faults.proofs.Lists.{contained_passes}
 
 abbrev stays : ℕ → Bool
 stays b = not (eqb b 10)
@@ -118,10 +119,6 @@ binding_lines (b ∷ bindings) h k = and_from _ _ (bound_line b.0 (pieces_text b
 variable_lines : (variables : List (List ℕ × List ℕ)) → list_all is_name (keys_of variables) ≡ true → list_all is_value (values_of variables) ≡ true → AreLines (map variable_line variables)
 variable_lines [] h k = refl
 variable_lines (v ∷ variables) h k = and_from _ _ (bound_line v.0 (value_text v.1) (named v.0 ((and_parts _ _ h).0)) (value_line v.1 ((and_parts _ _ k).0))) (variable_lines variables ((and_parts _ _ h).1) ((and_parts _ _ k).1))
-
--- what every text of a list passes, each that it holds passes
-pub contained_passes : (test : List ℕ → Bool) (texts : List (List ℕ)) (text : List ℕ) → list_all test texts ≡ true → Contains texts text → test text ≡ true
-contained_passes test texts text h held = ap test (sym held.2) ∙ AllPass-from_list_all test texts h held.0 text held.1
 
 names_of : (rules : List NinjaRule) → All IsRule rules → AreLines (map (λ rule. rule.name) rules)
 names_of [] h = refl

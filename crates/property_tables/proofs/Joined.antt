@@ -7,6 +7,7 @@ use Rattle.std.proofs.lemmas.Bool.{and_parts, and_from}
 use Rattle.std.proofs.lemmas.List.{append-nil}
 use Rattle.std.proofs.lemmas.List.Splits.{join_with_byte-slice_split, slice_split-cons_no}
 use Rattle.bp_faults.specs.Paths.{is_component, is_normal}
+use Rattle.bp_faults.proofs.Paths.{normal_of_parts}
 use Rattle.property_tables.specs.Paths.{parts, components, path_below}
 use Rattle.property_tables.specs.Inside.{behind, path_and}
 use Rattle.property_tables.specs.Fits.{is_empty}
@@ -76,10 +77,6 @@ split_join c (d ∷ ds) all = split_at c (join (d ∷ ds)) all.0.1 ∙ ap (λ re
 all_components : (cs : List (List ℕ)) → Solid cs → list_all is_component cs ≡ true
 all_components [] all = refl
 all_components (c ∷ cs) all = and_from (is_component c) (list_all is_component cs) all.0.0 (all_components cs all.1)
-
-normal_of_parts : (text : List ℕ) → list_all is_component (parts text) ≡ true → is_normal text ≡ true
-normal_of_parts [] all = refl
-normal_of_parts (b ∷ bs) all = all
 
 normal_join : (cs : List (List ℕ)) → Solid cs → is_normal (join cs) ≡ true
 normal_join [] all = refl
