@@ -1,3 +1,3 @@
 pub mod Each
 pub mod Ids
-pub mod Places
+pub mod Indices

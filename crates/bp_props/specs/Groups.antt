@@ -31,7 +31,7 @@ abbrev pub put_behind : Winner → Option GroupProps → GroupProps → GroupPro
 put_behind winner (Some old) group = group_merged winner old group
 put_behind winner None group = group
 
--- A group is merged into the one of its id, which keeps its place.
+-- A group is merged into the one of its id, which stays where it is.
 abbrev pub group_put : Winner → List (GroupId × GroupProps) → GroupId → GroupProps → List (GroupId × GroupProps)
 group_put winner groups id group = groups_with groups id (put_behind winner (group_of groups id) group)
 

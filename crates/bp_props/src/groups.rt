@@ -1,7 +1,7 @@
 ghost use Rattle.std.specs.Prelude.{◌≡◌, OnOk, OnErr, option_copied};
 
 use crate::merge::Winner;
-use crate::pairs::{copy_pairs, insert_at, merge_all, place};
+use crate::pairs::{copy_pairs, index_of_id, insert_at, merge_all};
 use crate::{Field, GroupId, GroupProps, ModuleKind};
 use bp_faults::{OutOfMemory, Payload};
 use std::alloc::Global;
@@ -47,8 +47,8 @@ impl Groups {
     pub fn group(&self, id: GroupId) -> Option<&GroupProps>
         ensures { option_copied result ≡ group_of self.now id }
     {
-        match place(self.pairs.as_slice(), id) {
-            Ok(place) => Some(&self.pairs[place].1),
+        match index_of_id(self.pairs.as_slice(), id) {
+            Ok(index) => Some(&self.pairs[index].1),
             Err(_) => None,
         }
     }
@@ -65,9 +65,9 @@ impl Groups {
         ensures ok { OnOk result (self.new ≡ groups_with self.old id group) }
         ensures err { OnErr result (self.new ≡ self.old) }
     {
-        match place(self.pairs.as_slice(), id) {
-            Ok(place) => self.pairs[place].1 = group,
-            Err(place) => insert_at(&mut self.pairs, place, (id, group))?,
+        match index_of_id(self.pairs.as_slice(), id) {
+            Ok(index) => self.pairs[index].1 = group,
+            Err(index) => insert_at(&mut self.pairs, index, (id, group))?,
         }
         Ok(())
     }

@@ -4,7 +4,7 @@ ghost use Rattle.std.specs.List.{insert};
 ghost use Rattle.bp_props.specs.Group.{group_merged};
 ghost use Rattle.bp_props.specs.Undo.{group_cut};
 ghost use Rattle.bp_props.specs.Groups.{Ascends, group_put, groups_merged};
-ghost use Rattle.bp_props.specs.Inside.{place_of, place_in, taken_back, updated_at};
+ghost use Rattle.bp_props.specs.Inside.{index_of, index_in, taken_back, updated_at};
 
 use crate::mark::GroupMark;
 use crate::merge::Winner;
@@ -12,17 +12,17 @@ use crate::{GroupId, GroupProps};
 use bp_faults::{OutOfMemory, Payload};
 use std::alloc::Global;
 
-/// What was done to the pairs: a pair was inserted at a place, or the group of the pair there was merged into.
+/// What was done to the pairs: a pair was inserted at an index, or the group of the pair there was merged into.
 #[derive(Clone, Copy, Debug)]
 pub(crate) enum Change {
     Inserted(usize),
     Merged(usize, GroupMark),
 }
 
-/// The place of the pair of an id, or the place at which a pair of this id goes.
-pub(crate) fn place(pairs: &[(GroupId, GroupProps)], id: GroupId) -> Result<usize, usize>
+/// The index of the pair of an id, or the index at which a pair of this id goes.
+pub(crate) fn index_of_id(pairs: &[(GroupId, GroupProps)], id: GroupId) -> Result<usize, usize>
     requires { Ascends pairs.now }
-    ensures { result ≡ place_of pairs.now id }
+    ensures { result ≡ index_of pairs.now id }
 {
     pairs.binary_search_by(|pair| pair.0.cmp(&id))
 }
@@ -41,35 +41,35 @@ pub(crate) fn copy_pairs(
     Ok(copies)
 }
 
-/// Puts a pair at a place. It takes the room of one pair.
+/// Puts a pair at an index. It takes the room of one pair.
 pub(crate) fn insert_at(
     pairs: &mut Vec<(GroupId, GroupProps)>,
-    place: usize,
+    index: usize,
     pair: (GroupId, GroupProps),
 ) -> Result<(), OutOfMemory>
-    requires { place ≤ length pairs.old.items }
-    ensures ok { OnOk result (pairs.new.items ≡ insert pairs.old.items place pair) }
+    requires { index ≤ length pairs.old.items }
+    ensures ok { OnOk result (pairs.new.items ≡ insert pairs.old.items index pair) }
     ensures err { OnErr result (pairs.new.items ≡ pairs.old.items) }
 {
     pairs.reserve_exact(1)?;
-    pairs.insert(place, pair)?;
+    pairs.insert(index, pair)?;
     Ok(())
 }
 
 fn merge_at(
     pairs: &mut Vec<(GroupId, GroupProps)>,
     alloc: Global,
-    place: usize,
+    index: usize,
     group: &GroupProps,
     winner: Winner,
 ) -> Result<GroupMark, OutOfMemory>
-    requires { place < length pairs.old.items }
+    requires { index < length pairs.old.items }
     ensures ok { OnOk result
-        (pairs.new.items ≡ updated_at place (λ g. group_merged winner g group.now) pairs.old.items) }
-    ensures back { IfOk result (λ mark. updated_at place (group_cut mark) pairs.new.items ≡ pairs.old.items) }
+        (pairs.new.items ≡ updated_at index (λ g. group_merged winner g group.now) pairs.old.items) }
+    ensures back { IfOk result (λ mark. updated_at index (group_cut mark) pairs.new.items ≡ pairs.old.items) }
     ensures err { OnErr result (pairs.new.items ≡ pairs.old.items) }
 {
-    let merged = &mut pairs[place].1;
+    let merged = &mut pairs[index].1;
     let mark = merged.mark();
     merged.merge(alloc, group, winner)?;
     Ok(mark)
@@ -85,32 +85,32 @@ fn put(
     requires { Ascends pairs.old.items }
     ensures ok { OnOk result (pairs.new.items ≡ group_put winner pairs.old.items pair.now.0 pair.now.1) }
     ensures ascends { OnOk result (Ascends pairs.new.items) }
-    ensures within { IfOk result (λ change. place_in change < length pairs.new.items) }
+    ensures within { IfOk result (λ change. index_in change < length pairs.new.items) }
     ensures back { IfOk result (λ change. taken_back change pairs.new.items ≡ pairs.old.items) }
     ensures err { OnErr result (pairs.new.items ≡ pairs.old.items) }
 {
-    match place(pairs.as_slice(), pair.0) {
-        Ok(place) => {
-            let mark = merge_at(pairs, alloc, place, &pair.1, winner)?;
-            Ok(Change::Merged(place, mark))
+    match index_of_id(pairs.as_slice(), pair.0) {
+        Ok(index) => {
+            let mark = merge_at(pairs, alloc, index, &pair.1, winner)?;
+            Ok(Change::Merged(index, mark))
         }
-        Err(place) => {
-            insert_at(pairs, place, (pair.0, pair.1.copy(alloc)?))?;
-            Ok(Change::Inserted(place))
+        Err(index) => {
+            insert_at(pairs, index, (pair.0, pair.1.copy(alloc)?))?;
+            Ok(Change::Inserted(index))
         }
     }
 }
 
 // Makes the pairs what they were before the change.
 fn take_back(pairs: &mut Vec<(GroupId, GroupProps)>, change: Change)
-    requires { place_in change < length pairs.old.items }
+    requires { index_in change < length pairs.old.items }
     ensures { pairs.new.items ≡ taken_back change pairs.old.items }
 {
     match change {
-        Change::Inserted(place) => {
-            pairs.remove(place);
+        Change::Inserted(index) => {
+            pairs.remove(index);
         }
-        Change::Merged(place, mark) => pairs[place].1.cut(mark),
+        Change::Merged(index, mark) => pairs[index].1.cut(mark),
     }
 }
 

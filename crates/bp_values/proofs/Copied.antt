@@ -11,7 +11,7 @@ use Rattle.bp_values.specs.declared.value.Value.{Value}
 use Rattle.bp_values.specs.Values.{Meaning, meaning}
 use Rattle.bp_values.specs.Scopes.{Pairs, pair_of, value_in}
 use Rattle.bp_values.specs.Meaning.{with_new}
-use Rattle.bp_values.proofs.Scopes.{value_at_place}
+use Rattle.bp_values.proofs.Scopes.{value_at_index}
 
 -- the first entry that is left stands behind those that aren't
 next_entry : (es : List (List ℕ × Value)) (n : ℕ) (e : List ℕ × Value) (rest : List (List ℕ × Value)) → drop n es ≡ e ∷ rest → slice_get es n ≡ Some e
@@ -41,7 +41,7 @@ pub not_yet : (es : List (List ℕ × Value)) (done : Pairs) (e : List ℕ × Va
     → done ≡ take (length done) (map pair_of es) → value_in done e.0 ≡ None
 not_yet es done e rest apart left copied =
     let first = own_first bytes_eq nat_list_eq_equiv es (length done) e.0 e.1 apart (next_entry es (length done) e rest left) in
-    ap (λ ps. value_in ps e.0) copied ∙ has_none _ ((value_at_place es e.0 (length done) (length done) first).1 (omega arith))
+    ap (λ ps. value_in ps e.0) copied ∙ has_none _ ((value_at_index es e.0 (length done) (length done) first).1 (omega arith))
 
 -- one name more is copied
 pub one_copied : (es : List (List ℕ × Value)) (done now : Pairs) (e : List ℕ × Value) (rest : List (List ℕ × Value)) (m : Meaning) → drop (length done) es ≡ e ∷ rest

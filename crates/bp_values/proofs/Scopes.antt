@@ -28,7 +28,7 @@ inserted_new (e ∷ es) name v none = by (bytes_eq name e.0) none (inserted_new 
     by true none rest = cc
     by false none rest = ap (λ l. pair_of e ∷ l) (rest none)
 
--- a name that is there keeps its place
+-- a name that is there keeps its index
 pub inserted_other : (es : List (List ℕ × Value)) (name : List ℕ) (v : Value) → is_some (value_in (map pair_of es) name) ≡ true
     → map pair_of (insert_entry bytes_eq es name v) ≡ with_other (map pair_of es) name (meaning v)
 inserted_other [] name v there = cc
@@ -40,35 +40,35 @@ inserted_other (e ∷ es) name v there = by (bytes_eq name e.0) there (inserted_
     by true there rest = refl
     by false there rest = ap (λ l. pair_of e ∷ l) (rest there)
 
--- a name stands first at a place
+-- a name stands first at an index
 abbrev pub IsFirst : List ℕ → List (List ℕ × Value) → ℕ → Type 0
-IsFirst name [] place = ⊥
+IsFirst name [] index = ⊥
 IsFirst name (e ∷ es) zero = bytes_eq name e.0 ≡ true
-IsFirst name (e ∷ es) (suc place) = (bytes_eq name e.0 ≡ false) × IsFirst name es place
+IsFirst name (e ∷ es) (suc index) = (bytes_eq name e.0 ≡ false) × IsFirst name es index
 
--- one that does is one of so many first, if the place is
-pub value_at_place : (es : List (List ℕ × Value)) (name : List ℕ) (place count : ℕ) → IsFirst name es place
-    → ((place < count → is_some (value_in (take count (map pair_of es)) name) ≡ true) × (count ≤ place → is_some (value_in (take count (map pair_of es)) name) ≡ false))
-value_at_place [] name place count at = absurd at
-value_at_place (e ∷ es) name zero zero at = (λ less. absurd (omega arith), λ most. refl)
-value_at_place (e ∷ es) name zero (suc count) at = (λ less. ap (λ b. is_some (cond b (Some (meaning e.1)) (value_in (take count (map pair_of es)) name))) at, λ most. absurd (omega arith))
-value_at_place (e ∷ es) name (suc place) zero at = (λ less. absurd (omega arith), λ most. refl)
-value_at_place (e ∷ es) name (suc place) (suc count) at =
-    let rest = value_at_place es name place count at.1 in
+-- one that does is one of so many first, if the index is
+pub value_at_index : (es : List (List ℕ × Value)) (name : List ℕ) (index count : ℕ) → IsFirst name es index
+    → ((index < count → is_some (value_in (take count (map pair_of es)) name) ≡ true) × (count ≤ index → is_some (value_in (take count (map pair_of es)) name) ≡ false))
+value_at_index [] name index count at = absurd at
+value_at_index (e ∷ es) name zero zero at = (λ less. absurd (omega arith), λ most. refl)
+value_at_index (e ∷ es) name zero (suc count) at = (λ less. ap (λ b. is_some (cond b (Some (meaning e.1)) (value_in (take count (map pair_of es)) name))) at, λ most. absurd (omega arith))
+value_at_index (e ∷ es) name (suc index) zero at = (λ less. absurd (omega arith), λ most. refl)
+value_at_index (e ∷ es) name (suc index) (suc count) at =
+    let rest = value_at_index es name index count at.1 in
     let skip : is_some (value_in (take (suc count) (map pair_of (e ∷ es))) name) ≡ is_some (value_in (take count (map pair_of es)) name) =
     ap (λ b. is_some (cond b (Some (meaning e.1)) (value_in (take count (map pair_of es)) name))) at.0 in
     (λ less. skip ∙ rest.0 (omega arith), λ most. skip ∙ rest.1 (omega arith))
 
-pub outer_at : (es : List (List ℕ × Value)) (name : List ℕ) (place count : ℕ) → position (bytes_eq name) (keys_of es) ≡ Some place
-    → nat_lt place count ≡ is_some (value_in (take count (map pair_of es)) name)
-outer_at es name place count at = by (nat_lt place count) refl
+pub outer_at : (es : List (List ℕ × Value)) (name : List ℕ) (index count : ℕ) → position (bytes_eq name) (keys_of es) ≡ Some index
+    → nat_lt index count ≡ is_some (value_in (take count (map pair_of es)) name)
+outer_at es name index count at = by (nat_lt index count) refl
   where
-    there : (place < count → is_some (value_in (take count (map pair_of es)) name) ≡ true) × (count ≤ place → is_some (value_in (take count (map pair_of es)) name) ≡ false)
-    there = value_at_place es name place count (Found-position (bytes_eq name) es place at).first
+    there : (index < count → is_some (value_in (take count (map pair_of es)) name) ≡ true) × (count ≤ index → is_some (value_in (take count (map pair_of es)) name) ≡ false)
+    there = value_at_index es name index count (Found-position (bytes_eq name) es index at).first
 
-    by : (b : Bool) → nat_lt place count ≡ b → b ≡ is_some (value_in (take count (map pair_of es)) name)
-    by true less = sym (there.0 (ltb-true place count less))
-    by false most = sym (there.1 (ltb-false place count most))
+    by : (b : Bool) → nat_lt index count ≡ b → b ≡ is_some (value_in (take count (map pair_of es)) name)
+    by true less = sym (there.0 (ltb-true index count less))
+    by false most = sym (there.1 (ltb-false index count most))
 
 -- one that stands nowhere is none of them
 pub outer_nowhere : (es : List (List ℕ × Value)) (name : List ℕ) (count : ℕ) → position (bytes_eq name) (keys_of es) ≡ None

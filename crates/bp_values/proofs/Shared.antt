@@ -7,7 +7,7 @@ use Rattle.bp_names.specs.Meaning.{number_of}
 use Rattle.bp_values.specs.Values.{Field}
 use Rattle.bp_values.specs.Sums.{has_name, others}
 use Rattle.bp_values.specs.Inside.{not_among, IsIndex, HasMet}
-use Rattle.bp_values.proofs.Index.{has_place}
+use Rattle.bp_values.proofs.Index.{has_index}
 
 or_more : (a b c : Bool) → (a || (b || c)) ≡ ((a || b) || c)
 or_more true b c = refl
@@ -41,7 +41,7 @@ others_left keys first whole (f ∷ fs) met within =
 -- The same, by the index of the second list.
 pub others_of : (table : List (List ℕ × ℕ)) (keys : List (List ℕ)) (first second : List Field) → IsIndex table second → HasMet keys table first → not_among keys second ≡ others second first
 others_of table keys first second index met =
-    others_left keys first second second (λ q. met.met q ∙ ap (λ b. has_name first q && b) (ap is_some (index.places q) ∙ sym (has_place q second))) (λ q has. has)
+    others_left keys first second second (λ q. met.met q ∙ ap (λ b. has_name first q && b) (ap is_some (index.indices q) ∙ sym (has_index q second))) (λ q has. has)
 
 -- names that one list has met, another with the same names has met
 pub met_alike : (table : List (List ℕ × ℕ)) (keys : List (List ℕ)) (fs gs : List Field) → ((q : List ℕ) → has_name fs q ≡ has_name gs q) → HasMet keys table fs → HasMet keys table gs

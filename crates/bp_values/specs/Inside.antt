@@ -13,8 +13,8 @@ use Rattle.bp_values.specs.declared.map_sum.MapSum.{MapSum}
 use Rattle.bp_values.specs.Values.{Meaning, Field, field_of, body}
 use Rattle.bp_values.specs.Scopes.{Pairs, pairs_of, outer_pairs, count_of, value_in}
 use Rattle.bp_values.specs.Sums.{has_name}
-use Rattle.bp_values.specs.MapPlaces.{PlacesOf}
-use Rattle.bp_values.specs.KeptPlaces.{kept_for}
+use Rattle.bp_values.specs.MapIndices.{IndicesOf}
+use Rattle.bp_values.specs.KeptIndices.{kept_for}
 use Rattle.bp_values.specs.Meaning.{Known, raw_of}
 
 -- A name is noted where the file has referred to it, and also where the file never extends it.
@@ -40,19 +40,19 @@ inherited_by s = outer_pairs s.inherited s.scope
 pub record IsConsistent (s : State) : Type 0 where
   -- The scope has the names that are inherited.
   pub within : s.inherited ≤ count_of s.scope
-  -- The places that are kept are those of the names of the file's variables.
-  pub places : (name : List ℕ) → PlacesOf (kept_for s.kept name) (value_in (pairs_of s.scope) name)
+  -- The indices that are kept are those of the names of the file's variables.
+  pub indices : (name : List ℕ) → IndicesOf (kept_for s.kept name) (value_in (pairs_of s.scope) name)
 
--- The place of the first entry of that name.
-abbrev pub place_of : List ℕ → List Field → Option ℕ
-place_of name [] = None
-place_of name (f ∷ fs) = if bytes_eq name f.name then Some 0 else option_map suc (place_of name fs)
+-- The index of the first entry of that name.
+abbrev pub index_of : List ℕ → List Field → Option ℕ
+index_of name [] = None
+index_of name (f ∷ fs) = if bytes_eq name f.name then Some 0 else option_map suc (index_of name fs)
 
--- The table gives each name's first place in the list.
+-- The table gives each name's first index in the list.
 pub record IsIndex (table : List (List ℕ × ℕ)) (fs : List Field) : Type 0 where
-  pub places : (name : List ℕ) → number_of table name ≡ place_of name fs
+  pub indices : (name : List ℕ) → number_of table name ≡ index_of name fs
 
--- The names are those of the list that have a place.
+-- The names are those of the list that have an index.
 pub record HasMet (names : List (List ℕ)) (table : List (List ℕ × ℕ)) (fs : List Field) : Type 0 where
   pub met : (name : List ℕ) → knows names name ≡ (has_name fs name && is_some (number_of table name))
 
@@ -64,9 +64,9 @@ not_among names fs = filter (λ f. not (knows names f.name)) fs
 abbrev pub sum_so_far : MapSum → Meaning
 sum_so_far total = body (map field_of total.entries.items)
 
--- The places that it knows are those of that map.
-abbrev pub HasPlaces : MapSum → Type 0
-HasPlaces total = PlacesOf total.places (Some (sum_so_far total))
+-- The indices that it knows are those of that map.
+abbrev pub HasIndices : MapSum → Type 0
+HasIndices total = IndicesOf total.indices (Some (sum_so_far total))
 
 abbrev mutual
   -- A name is noted once those in an expression are, where it was noted before or is one of them.

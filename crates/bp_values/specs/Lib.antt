@@ -1,10 +1,10 @@
 pub mod Values
 pub mod Depths
 pub mod Sums
-pub mod PlaceTable
-pub mod Places
-pub mod MapPlaces
-pub mod KeptPlaces
+pub mod IndexTable
+pub mod Indices
+pub mod MapIndices
+pub mod KeptIndices
 pub mod Scopes
 pub mod Expressions
 pub mod References

@@ -6,7 +6,7 @@ ghost use Rattle.bp_values.specs.Values.{meaning, field_of, Items, body};
 ghost use Rattle.bp_faults.specs.Answers.{Answers, then_do};
 ghost use Rattle.bp_values.specs.Sums.{list_within, sum as sum_of};
 ghost use Rattle.bp_values.specs.Scopes.{pairs_of, value_in};
-ghost use Rattle.bp_values.specs.Inside.{sum_so_far, HasPlaces};
+ghost use Rattle.bp_values.specs.Inside.{sum_so_far, HasIndices};
 ghost use Rattle.bp_values.specs.Expressions.{val, val_items, val_terms, val_entries, val_map, item_of};
 ghost use Rattle.bp_values.specs.Expressions.{known_value as known_as};
 
@@ -179,7 +179,7 @@ fn add_term(
     add(alloc, total, other, at)
 }
 
-/// The sum of a map and the terms, in turn, with the places of the sum's names kept beside it.
+/// The sum of a map and the terms, in turn, with the indices of the sum's names kept beside it.
 #[cycle(expressions)]
 fn add_maps(
     alloc: Global,
@@ -205,10 +205,10 @@ fn add_map(
     at: Place,
     total: MapSum,
 ) -> Result<MapSum, EvalError>
-    requires { HasPlaces total }
+    requires { HasIndices total }
     ensures total { Answers sum_so_far result
         (then_do (val (pairs_of scope.now) (tree_of term.now)) (sum_of at (sum_so_far total))) }
-    ensures places { IfOk result HasPlaces }
+    ensures indices { IfOk result HasIndices }
 {
     let other = value_of(alloc, scope, term)?;
     total.add(alloc, other, at)

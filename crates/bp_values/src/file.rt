@@ -7,7 +7,7 @@ ghost use Rattle.bp_values.specs.Meaning.{raw_of, after_assignment, after_extens
 ghost use Rattle.bp_values.specs.Meaning.{after_definitions, file_evaluation};
 
 use crate::expression::{entries_of, value_of};
-use crate::kept_places::KeptPlaces;
+use crate::kept_indices::KeptIndices;
 use crate::map_sum::add_to;
 use crate::marks::{Marks, mark, mark_entries};
 use crate::{Entry, EvalError, Scope, Value};
@@ -31,7 +31,7 @@ pub struct State<'a> {
     // How many names of the scope are inherited. They are the first.
     inherited: usize,
     // Those of the names of maps that were extended, so that the next `+=` looks its keys up.
-    kept: KeptPlaces<'a>,
+    kept: KeptIndices<'a>,
     used: Marks<'a>,
     modules: Vec<RawModule>,
 }
@@ -89,9 +89,9 @@ fn extend<'a>(
     mark(&mut state.used, term)?;
     let variable = name.as_str();
     let old = state.scope.replace(alloc, name, Value::Bool(false))?;
-    let places = state.kept.keep(variable, None)?;
-    let (new, places) = add_to(alloc, old, places, other, at)?;
-    state.kept.keep(variable, places)?;
+    let indices = state.kept.keep(variable, None)?;
+    let (new, indices) = add_to(alloc, old, indices, other, at)?;
+    state.kept.keep(variable, indices)?;
     state.scope.replace(alloc, name, new)?;
     Ok(())
 }
@@ -190,7 +190,7 @@ pub fn evaluate_from(
     let mut state = State {
         inherited: inherited.len(),
         scope: inherited,
-        kept: KeptPlaces::new(alloc),
+        kept: KeptIndices::new(alloc),
         used,
         modules: Vec::new(alloc),
     };

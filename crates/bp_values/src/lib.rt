@@ -9,12 +9,12 @@
 mod depth;
 mod expression;
 mod file;
-mod kept_places;
+mod index_table;
+mod kept_indices;
 pub mod laws;
-mod map_places;
+mod map_indices;
 mod map_sum;
 mod marks;
-mod place_table;
 mod scope;
 mod seed;
 mod sums;

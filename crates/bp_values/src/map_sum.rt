@@ -3,16 +3,16 @@ ghost use Rattle.std.specs.Prelude.{OnOk, if◌then◌else◌, option_map};
 ghost use Rattle.std.specs.Option.{option_or};
 ghost use Rattle.bp_values.specs.Values.{meaning, field_of, body};
 ghost use Rattle.bp_values.specs.Sums.{sum as sum_of};
-ghost use Rattle.bp_values.specs.PlaceTable.{found_place};
-ghost use Rattle.bp_values.specs.Places.{IsPlaced, Places, names_in, value_for, unplaced_fields, is_place};
-ghost use Rattle.bp_values.specs.Places.{value_at_place};
-ghost use Rattle.bp_values.specs.Places.{sum_place};
-ghost use Rattle.bp_values.specs.MapPlaces.{PlacesOf, AreKnown};
-ghost use Rattle.bp_values.specs.Inside.{sum_so_far, HasPlaces};
+ghost use Rattle.bp_values.specs.IndexTable.{found_index};
+ghost use Rattle.bp_values.specs.Indices.{IsIndexed, Indices, names_in, value_for, unindexed_fields, is_index};
+ghost use Rattle.bp_values.specs.Indices.{value_at_index};
+ghost use Rattle.bp_values.specs.Indices.{sum_at};
+ghost use Rattle.bp_values.specs.MapIndices.{IndicesOf, AreKnown};
+ghost use Rattle.bp_values.specs.Inside.{sum_so_far, HasIndices};
 ghost use Rattle.bp_faults.specs.Answers.{Answers, Leaves};
 
-use crate::map_places::{MapPlaces, keep_below};
-use crate::place_table::PlaceTable;
+use crate::index_table::IndexTable;
+use crate::map_indices::{MapIndices, keep_below};
 use crate::sums::{add, cannot_add, unite};
 use crate::value::{make_entry, map_value};
 use crate::{Entry, EvalError, Value};
@@ -25,32 +25,32 @@ use std::mem;
 #[derive(Drop)]
 pub struct MapSum {
     entries: Vec<Entry>,
-    // The places of its names, once another map was added, unless two names are equal.
-    places: Option<MapPlaces>,
+    // The indices of its names, once another map was added, unless two names are equal.
+    indices: Option<MapIndices>,
 }
 
 impl MapSum {
     pub fn of(entries: Vec<Entry>) -> MapSum
         ensures total { sum_so_far result ≡ body (map field_of entries.items) }
-        ensures places { HasPlaces result }
+        ensures indices { HasIndices result }
     {
         MapSum {
             entries,
-            places: None,
+            indices: None,
         }
     }
 
     /// The sum with one value more.
     #[cycle(map_sums)]
     pub fn add(self, alloc: Global, other: Value, at: Place) -> Result<MapSum, EvalError>
-        requires { HasPlaces self }
+        requires { HasIndices self }
         ensures total { Answers sum_so_far result (sum_of at (sum_so_far self) (meaning other)) }
-        ensures places { IfOk result HasPlaces }
+        ensures indices { IfOk result HasIndices }
     {
-        let MapSum { entries, places } = self;
+        let MapSum { entries, indices } = self;
         match other {
-            Value::Map(second) => match known(alloc, places, entries.as_slice())? {
-                Some(places) => add_placed(alloc, at, entries, places, second),
+            Value::Map(second) => match known(alloc, indices, entries.as_slice())? {
+                Some(indices) => add_indexed(alloc, at, entries, indices, second),
                 None => Ok(MapSum::of(unite(alloc, at, entries, second)?)),
             },
             other => {
@@ -67,42 +67,42 @@ impl MapSum {
     }
 }
 
-/// The sum of a value and one more, from the places of the first one's names to those of the sum's.
+/// The sum of a value and one more, from the indices of the first one's names to those of the sum's.
 #[cycle(map_sums)]
 pub fn add_to(
     alloc: Global,
     first: Value,
-    places: Option<MapPlaces>,
+    indices: Option<MapIndices>,
     other: Value,
     at: Place,
-) -> Result<(Value, Option<MapPlaces>), EvalError>
-    requires { PlacesOf places (Some (meaning first)) }
+) -> Result<(Value, Option<MapIndices>), EvalError>
+    requires { IndicesOf indices (Some (meaning first)) }
     ensures value { Answers (λ r. meaning r.0) result (sum_of at (meaning first) (meaning other)) }
-    ensures places { IfOk result (λ r. PlacesOf r.1 (Some (meaning r.0))) }
+    ensures indices { IfOk result (λ r. IndicesOf r.1 (Some (meaning r.0))) }
 {
     match first {
         Value::Map(entries) => {
-            let MapSum { entries, places } = MapSum { entries, places }.add(alloc, other, at)?;
-            Ok((map_value(entries), places))
+            let MapSum { entries, indices } = MapSum { entries, indices }.add(alloc, other, at)?;
+            Ok((map_value(entries), indices))
         }
         first => Ok((add(alloc, first, other, at)?, None)),
     }
 }
 
-/// The places of the names of the entries, unless two of them are equal.
+/// The indices of the names of the entries, unless two of them are equal.
 fn known(
     alloc: Global,
-    places: Option<MapPlaces>,
+    indices: Option<MapIndices>,
     entries: &[Entry],
-) -> Result<Option<MapPlaces>, OutOfMemory>
-    requires { PlacesOf places (Some (body (map field_of entries.now))) }
-    ensures { IfOk result (λ all. PlacesOf all (Some (body (map field_of entries.now)))) }
+) -> Result<Option<MapIndices>, OutOfMemory>
+    requires { IndicesOf indices (Some (body (map field_of entries.now))) }
+    ensures { IfOk result (λ all. IndicesOf all (Some (body (map field_of entries.now)))) }
 {
-    if let Some(places) = places {
-        return Ok(Some(places));
+    if let Some(indices) = indices {
+        return Ok(Some(indices));
     }
-    match with_names(alloc, PlaceTable::new(alloc), entries, 0)? {
-        Some(names) => Ok(Some(MapPlaces {
+    match with_names(alloc, IndexTable::new(alloc), entries, 0)? {
+        Some(names) => Ok(Some(MapIndices {
             names,
             below: BTreeMap::new(alloc),
         })),
@@ -110,67 +110,67 @@ fn known(
     }
 }
 
-/// The places of the names, those of the entries from one on put to the others, unless two names are
+/// The indices of the names, those of the entries from one on put to the others, unless two names are
 /// equal.
 fn with_names(
     alloc: Global,
-    names: PlaceTable,
+    names: IndexTable,
     entries: &[Entry],
     from: usize,
-) -> Result<Option<PlaceTable>, OutOfMemory>
+) -> Result<Option<IndexTable>, OutOfMemory>
     requires within { from ≤ length entries.now }
-    requires placed { IsPlaced (found_place names) (names_in (map field_of (take from entries.now))) }
-    ensures { IfOk result (λ all. Places all (names_in (map field_of entries.now))) }
+    requires indexed { IsIndexed (found_index names) (names_in (map field_of (take from entries.now))) }
+    ensures { IfOk result (λ all. Indices all (names_in (map field_of entries.now))) }
 {
     let mut all = names;
-    for place in from..entries.len() {
-        let entry = &entries[place];
-        if all.place_of(&entry.name).is_some() {
+    for index in from..entries.len() {
+        let entry = &entries[index];
+        if all.index_of(&entry.name).is_some() {
             return Ok(None);
         }
-        all.put(alloc, &entry.name, place)?;
+        all.put(alloc, &entry.name, index)?;
     }
     Ok(Some(all))
 }
 
-/// The sum of two maps, by the places of the first one's names.
+/// The sum of two maps, by the indices of the first one's names.
 ///
-/// Shared names are added in the order of their places, as the first fault is that of the first place.
+/// Shared names are added in the order of their indices, as the first fault is that of the least index.
 #[cycle(map_sums)]
-fn add_placed(
+fn add_indexed(
     alloc: Global,
     at: Place,
     first: Vec<Entry>,
-    places: MapPlaces,
+    indices: MapIndices,
     second: Vec<Entry>,
 ) -> Result<MapSum, EvalError>
-    requires { PlacesOf (Some places) (Some (body (map field_of first.items))) }
+    requires { IndicesOf (Some indices) (Some (body (map field_of first.items))) }
     ensures total { Answers sum_so_far result
         (sum_of at (body (map field_of first.items)) (body (map field_of second.items))) }
-    ensures places { IfOk result HasPlaces }
+    ensures indices { IfOk result HasIndices }
 {
-    let MapPlaces { names, mut below } = places;
+    let MapIndices { names, mut below } = indices;
     let (shared, others) = split(alloc, &names, second)?;
     let mut entries = first;
-    for (place, value) in shared {
-        add_at(alloc, at, &mut entries, &mut below, place, value)?;
+    for (index, value) in shared {
+        add_at(alloc, at, &mut entries, &mut below, index, value)?;
     }
     Ok(with_others(alloc, entries, names, below, others)?)
 }
 
-/// The sum of a map whose places are known and of entries with other names.
+/// The sum of a map whose indices are known and of entries with other names.
 fn with_others(
     alloc: Global,
     entries: Vec<Entry>,
-    names: PlaceTable,
-    below: BTreeMap<usize, MapPlaces>,
+    names: IndexTable,
+    below: BTreeMap<usize, MapIndices>,
     others: Vec<Entry>,
 ) -> Result<MapSum, OutOfMemory>
-    requires placed { IsPlaced (found_place names) (names_in (map field_of entries.items)) }
+    requires indexed { IsIndexed (found_index names) (names_in (map field_of entries.items)) }
     requires known { AreKnown below (map field_of entries.items) }
     ensures total { IfOk result
         (λ sum. sum_so_far sum ≡ body (map field_of entries.items ++ map field_of others.items)) }
-    ensures places { IfOk result HasPlaces }
+    ensures indices { IfOk result HasIndices }
 {
     let (mut all, mut others) = (entries, others);
     let from = all.len();
@@ -178,45 +178,45 @@ fn with_others(
     match with_names(alloc, names, all.as_slice(), from)? {
         Some(names) => Ok(MapSum {
             entries: all,
-            places: Some(MapPlaces { names, below }),
+            indices: Some(MapIndices { names, below }),
         }),
         None => Ok(MapSum::of(all)),
     }
 }
 
-/// The values whose names have places, by their places, and the other entries.
+/// The values whose names have indices, by their indices, and the other entries.
 fn split(
     alloc: Global,
-    names: &PlaceTable,
+    names: &IndexTable,
     second: Vec<Entry>,
 ) -> Result<(BTreeMap<usize, Value>, Vec<Entry>), OutOfMemory>
     ensures shared { IfOk result
-        (λ r. (i : ℕ) → value_at_place r.0 i ≡ value_for (found_place names.now) i (map field_of second.items)) }
+        (λ r. (i : ℕ) → value_at_index r.0 i ≡ value_for (found_index names.now) i (map field_of second.items)) }
     ensures others { IfOk result
-        (λ r. map field_of r.1.items ≡ unplaced_fields (found_place names.now) (map field_of second.items)) }
+        (λ r. map field_of r.1.items ≡ unindexed_fields (found_index names.now) (map field_of second.items)) }
 {
     let mut shared = BTreeMap::new(alloc);
     let mut others = Vec::new(alloc);
     for entry in second {
-        match names.place_of(&entry.name) {
-            Some(place) => put_first(&mut shared, place, entry.value)?,
+        match names.index_of(&entry.name) {
+            Some(index) => put_first(&mut shared, index, entry.value)?,
             None => others.push(entry)?,
         }
     }
     Ok((shared, others))
 }
 
-/// Puts a value at a place, unless there is one.
+/// Puts a value at an index, unless there is one.
 fn put_first(
     shared: &mut BTreeMap<usize, Value>,
-    place: usize,
+    index: usize,
     value: Value,
 ) -> Result<(), OutOfMemory>
-    ensures { OnOk result ((i : ℕ) → value_at_place shared.new i
-        ≡ option_or (value_at_place shared.old i) (if is_place (Some place) i then Some (meaning value) else None)) }
+    ensures { OnOk result ((i : ℕ) → value_at_index shared.new i
+        ≡ option_or (value_at_index shared.old i) (if is_index (Some index) i then Some (meaning value) else None)) }
 {
-    if !shared.contains_key(&place) {
-        shared.insert(place, value)?;
+    if !shared.contains_key(&index) {
+        shared.insert(index, value)?;
     }
     Ok(())
 }
@@ -227,15 +227,15 @@ fn add_at(
     alloc: Global,
     at: Place,
     entries: &mut Vec<Entry>,
-    below: &mut BTreeMap<usize, MapPlaces>,
-    place: usize,
+    below: &mut BTreeMap<usize, MapIndices>,
+    index: usize,
     other: Value,
 ) -> Result<(), EvalError>
-    requires within { place < length entries.old.items }
+    requires within { index < length entries.old.items }
     requires known { AreKnown below.old (map field_of entries.old.items) }
     ensures len { length entries.new.items ≡ length entries.old.items }
     ensures sum { Leaves (λ es. map field_of es.items) entries.new result
-        (sum_place at (map field_of entries.old.items) place (meaning other)) }
+        (sum_at at (map field_of entries.old.items) index (meaning other)) }
     ensures known { OnOk result (AreKnown below.new (map field_of entries.new.items)) }
 {
     let blank = make_entry(Text::new(String::new(alloc)), at, Value::Bool(false));
@@ -243,10 +243,10 @@ fn add_at(
         name,
         at: named_at,
         value,
-    } = mem::replace(&mut entries[place], blank);
-    let places = below.remove(&place);
-    let (value, places) = add_to(alloc, value, places, other, at)?;
-    entries[place] = make_entry(name, named_at, value);
-    keep_below(below, place, places)?;
+    } = mem::replace(&mut entries[index], blank);
+    let indices = below.remove(&index);
+    let (value, indices) = add_to(alloc, value, indices, other, at)?;
+    entries[index] = make_entry(name, named_at, value);
+    keep_below(below, index, indices)?;
     Ok(())
 }

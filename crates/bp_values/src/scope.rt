@@ -89,7 +89,7 @@ impl Scope {
         ensures { result ≡ is_some (value_in (outer_pairs count self.now) name.now) }
     {
         match self.values.get_index_of(name) {
-            Some(place) => place < count,
+            Some(index) => index < count,
             None => false,
         }
     }

@@ -92,7 +92,7 @@ fn added(a: i64, b: i64) -> Option<i64>
     }
 }
 
-/// The first place of each name.
+/// The first index of each name.
 fn index<'a>(alloc: Global, entries: &'a [Entry]) -> Result<NameTable<'a>, OutOfMemory>
     ensures { IfOk result (λ table. IsIndex table (map field_of entries.now)) }
 {
@@ -104,12 +104,12 @@ fn index<'a>(alloc: Global, entries: &'a [Entry]) -> Result<NameTable<'a>, OutOf
 }
 
 /// The entry of a name.
-fn find<'a>(places: &NameTable<'_>, entries: &'a [Entry], name: &Text) -> Option<&'a Entry>
-    requires { IsIndex places.now (map field_of entries.now) }
+fn find<'a>(table: &NameTable<'_>, entries: &'a [Entry], name: &Text) -> Option<&'a Entry>
+    requires { IsIndex table.now (map field_of entries.now) }
     ensures { option_map (λ e. (field_of e.now).value) result ≡ value_at name.now (map field_of entries.now) }
 {
-    match places.number_of(name.as_str()) {
-        Some(place) => Some(&entries[place as usize]),
+    match table.number_of(name.as_str()) {
+        Some(number) => Some(&entries[number as usize]),
         None => None,
     }
 }
@@ -166,9 +166,9 @@ fn unite_copy(
 ) -> Result<Value, EvalError>
     ensures { Answers meaning result (sum_of at (body (map field_of first.items)) (body (map field_of second.now))) }
 {
-    let places = index(alloc, second)?;
-    let mut entries = sum_each(alloc, at, first, second, &places)?;
-    let met = names_met(alloc, entries.as_slice(), &places)?;
+    let table = index(alloc, second)?;
+    let mut entries = sum_each(alloc, at, first, second, &table)?;
+    let met = names_met(alloc, entries.as_slice(), &table)?;
     let mut others = copy_others(alloc, second, &met)?;
     drop(met);
     entries.append(&mut others)?;
@@ -185,10 +185,10 @@ pub(crate) fn unite(
     ensures { Answers (λ es. body (map field_of es.items)) result
         (sum_of at (body (map field_of first.items)) (body (map field_of second.items))) }
 {
-    let places = index(alloc, second.as_slice())?;
-    let mut entries = sum_each(alloc, at, first, second.as_slice(), &places)?;
-    let met = names_met(alloc, entries.as_slice(), &places)?;
-    drop(places);
+    let table = index(alloc, second.as_slice())?;
+    let mut entries = sum_each(alloc, at, first, second.as_slice(), &table)?;
+    let met = names_met(alloc, entries.as_slice(), &table)?;
+    drop(table);
     let mut others = move_others(alloc, second, &met)?;
     drop(met);
     entries.append(&mut others)?;
@@ -202,15 +202,15 @@ fn sum_each(
     at: Place,
     first: Vec<Entry>,
     second: &[Entry],
-    places: &NameTable<'_>,
+    table: &NameTable<'_>,
 ) -> Result<Vec<Entry>, EvalError>
-    requires { IsIndex places.now (map field_of second.now) }
+    requires { IsIndex table.now (map field_of second.now) }
     ensures { Answers (λ es. map field_of es.items) result
         (sum_fields at (fields_then (map field_of first.items) no_field) (map field_of second.now)) }
 {
     let mut entries = Vec::with_capacity(alloc, first.len())?;
     for entry in first {
-        let value = meet(alloc, entry.value, find(places, second, &entry.name), at)?;
+        let value = meet(alloc, entry.value, find(table, second, &entry.name), at)?;
         entries.push(make_entry(entry.name, entry.at, value))?;
     }
     Ok(entries)
@@ -229,32 +229,32 @@ fn meet(alloc: Global, value: Value, other: Option<&Entry>, at: Place) -> Result
     }
 }
 
-/// Notes a name where it has a place.
+/// Notes a name where the table has it.
 fn meet_name<'a>(
     met: &mut NameSet<'a>,
     name: &'a Text,
-    places: &NameTable<'_>,
+    table: &NameTable<'_>,
 ) -> Result<(), OutOfMemory>
     ensures { OnOk result ((q : List ℕ) → knows met.new q
-        ≡ (knows met.old q || (bytes_eq q name.now && is_some (number_of places.now q)))) }
+        ≡ (knows met.old q || (bytes_eq q name.now && is_some (number_of table.now q)))) }
 {
-    if places.number_of(name.as_str()).is_some() {
+    if table.number_of(name.as_str()).is_some() {
         met.learn(name.as_str())?;
     }
     Ok(())
 }
 
-/// The names of the entries that have a place.
+/// The names of the entries that the table has.
 fn names_met<'a>(
     alloc: Global,
     entries: &'a [Entry],
-    places: &NameTable<'_>,
+    table: &NameTable<'_>,
 ) -> Result<NameSet<'a>, OutOfMemory>
-    ensures { IfOk result (λ met. HasMet met places.now (map field_of entries.now)) }
+    ensures { IfOk result (λ met. HasMet met table.now (map field_of entries.now)) }
 {
     let mut met = NameSet::new(alloc);
     for entry in entries {
-        meet_name(&mut met, &entry.name, places)?;
+        meet_name(&mut met, &entry.name, table)?;
     }
     Ok(met)
 }

@@ -3,7 +3,7 @@ use Rattle.std.specs.Prelude.{ℕ}
 use Rattle.module_graph.specs.declared.variations.Axis.{Axis}
 use Rattle.module_graph.specs.declared.variations.Axis.TheVariants.{Target, Image, Link, PerSource, Sanitize}
 
--- The place of an axis in the list of a node's variations.
+-- The index of an axis in the list of a node's variations.
 abbrev pub axis_index : Axis → ℕ
 axis_index Target = 0
 axis_index Image = 1

@@ -7,7 +7,7 @@ use smallvec::SmallVec;
 use std::alloc::Global;
 use std::marker::Model;
 
-/// A place in the list of a node's variations.
+/// An index in the list of a node's variations.
 #[derive(Clone, Copy, Debug, PartialEq, Eq)]
 pub enum Axis {
     Target,
@@ -18,7 +18,7 @@ pub enum Axis {
 }
 
 impl Axis {
-    fn place(self) -> usize
+    fn index(self) -> usize
         ensures { result ≡ axis_index self }
     {
         match self {
@@ -70,14 +70,14 @@ impl Variations {
     pub fn get(&self, axis: Axis) -> Variation
         ensures { result ≡ slice_index_or self.now (axis_index axis) Empty }
     {
-        self.variations.as_slice()[axis.place()]
+        self.variations.as_slice()[axis.index()]
     }
 
     /// Gives an axis another variation. Those along the other axes stay.
     pub fn set(&mut self, axis: Axis, variation: Variation)
         ensures { self.new ≡ slice_set self.old (axis_index axis) variation }
     {
-        self.variations.as_mut_slice()[axis.place()] = variation;
+        self.variations.as_mut_slice()[axis.index()] = variation;
     }
 
     /// The same variations once more.

@@ -35,14 +35,14 @@ use Rattle.variant_graphs.specs.Splitting.{splitting, StayFree}
 use Rattle.mutator_kinds.specs.BottomUp.{chosen, rule_along, variants_of, first_payloads, asked_of, new_nodes, ResultsMean, DifferFor, IsFreeFor}
 use Rattle.mutator_kinds.specs.Inside.{AreFit, VariantsDiffer}
 
-pub chosen_within : (v : Variation) (ws : List Variation) (place : ℕ) → chosen v ws ≡ Some place → place < length ws
-chosen_within v [] place is = cc
-chosen_within v (w ∷ ws) place is = by (position (same v) (w ∷ ws)) refl
+pub chosen_within : (v : Variation) (ws : List Variation) (index : ℕ) → chosen v ws ≡ Some index → index < length ws
+chosen_within v [] index is = cc
+chosen_within v (w ∷ ws) index is = by (position (same v) (w ∷ ws)) refl
   where
-    by : (o : Option ℕ) → position (same v) (w ∷ ws) ≡ o → place < length (w ∷ ws)
-    by None found = let z : 0 ≡ place = (let t : Some 0 ≡ Some place = ap (λ o. Some (unwrap_or o 0)) (sym found) ∙ is in cc) in omega arith
+    by : (o : Option ℕ) → position (same v) (w ∷ ws) ≡ o → index < length (w ∷ ws)
+    by None found = let z : 0 ≡ index = (let t : Some 0 ≡ Some index = ap (λ o. Some (unwrap_or o 0)) (sym found) ∙ is in cc) in omega arith
     by (Some i) found =
-        let z : i ≡ place = (let t : Some i ≡ Some place = ap (λ o. Some (unwrap_or o 0)) (sym found) ∙ is in cc) in
+        let z : i ≡ index = (let t : Some i ≡ Some index = ap (λ o. Some (unwrap_or o 0)) (sym found) ∙ is in cc) in
         let within = (position-Some (same v) (w ∷ ws) i w found).0 in omega arith
 
 pub chosen_none : (v : Variation) (ws : List Variation) → chosen v ws ≡ None → length ws ≡ 0
@@ -70,8 +70,8 @@ module _ {P : Type 0} (axis : Axis) (nodes : List (Node P)) (outs : List (Split 
   is_splitting = record {
     many = length-map outs (λ (made : Split P). made.variants) ∙ many;
     differ = differ_all outs differ;
-    within = λ n v e place is.
-        let within = chosen_within v (map (λ (b : Variation × P). b.0) (theirs e.to.0)) place is in
+    within = λ n v e index is.
+        let within = chosen_within v (map (λ (b : Variation × P). b.0) (theirs e.to.0)) index is in
         let same_length = length-map (theirs e.to.0) (λ (b : Variation × P). b.0) in
         omega (arith, within, same_length);
     led = λ n lt. all_each (λ (b : Variation × P). AllByRecursion (λ (e : Edge). chosen b.0 (map (λ (c : Variation × P). c.0) (theirs e.to.0)) ≡ None → length (theirs e.to.0) ≡ 0) (edges_at nodes n))

@@ -35,8 +35,8 @@ chosen_of_one v ws one = by (chosen v ws) refl
   where
     by : (o : Option ℕ) → chosen v ws ≡ o → chosen v ws ≡ Some 0
     by None is = let none = chosen_none v ws is in absurd (omega arith)
-    by (Some place) is =
-        let within = chosen_within v ws place is in let first : place ≡ 0 = omega arith in is ∙ ap Some first
+    by (Some index) is =
+        let within = chosen_within v ws index is in let first : index ≡ 0 = omega arith in is ∙ ap Some first
 
 abbrev EndsBelow : ℕ → List Edge → Type 0
 EndsBelow count es = AllByRecursion (λ (e : Edge). e.to.0 < count) es
@@ -78,7 +78,7 @@ module _ {P : Type 0} (axis : Axis) (lists : List (List (Variation × P))) (sing
       length-map (get_or lists e.to.0 []) (λ (b : Variation × P). b.0) ∙ single_at lists e.to.0 single lt in
       let before = single_before lists e.to.0 single (omega arith) in
       let own : first_of along_axis e.to.0 + 0 ≡ e.to.0 = omega arith in
-      ap (option_map (λ place. edge_to e (first_of along_axis e.to.0 + place)))
+      ap (option_map (λ index. edge_to e (first_of along_axis e.to.0 + index)))
       (chosen_of_one v (variations_at e.to.0) one)
       ∙ ap (λ t. Some (edge_to e t)) own
 

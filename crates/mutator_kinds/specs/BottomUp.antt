@@ -19,7 +19,7 @@ use Rattle.variant_graphs.specs.Limits.{IsWithinLimits, IsFirstNodeBeyond, IsFir
 use Rattle.variant_graphs.specs.Payloads.{with_payloads}
 use Rattle.variant_graphs.specs.Splitting.{SplitRule, splitting, split_nodes, HasFreeAxis}
 
--- The place of the same variation, else the first, if there is one.
+-- The index of the same variation, else the first, if there is one.
 abbrev pub chosen : Variation → List Variation → Option ℕ
 chosen v [] = None
 chosen v (w ∷ ws) = Some (unwrap_or (position (same v) (w ∷ ws)) 0)

@@ -4,7 +4,7 @@ ghost use Rattle.mutator_kinds.specs.BottomUp.{rule_along};
 use bp_faults::{NodeId, OutOfMemory};
 use module_graph::{Axis, Edge, Node, Variation};
 use std::alloc::Global;
-use variant_graphs::{Splitter, place_in};
+use variant_graphs::{Splitter, index_in};
 
 /// Each node gets the variants of its result.
 #[derive(Clone, Copy, Debug)]
@@ -42,11 +42,11 @@ impl<P: Drop> Splitter<P> for SplitVariants {
         v: Variation,
         _edge: Edge,
         theirs: &[Variation],
-        place: usize,
+        index: usize,
     ) -> Option<usize> {
         if theirs.is_empty() {
             return None;
         }
-        Some(place_in(theirs, v, place).unwrap_or(0))
+        Some(index_in(theirs, v, index).unwrap_or(0))
     }
 }

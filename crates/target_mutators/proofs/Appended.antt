@@ -10,15 +10,15 @@ use Rattle.bp_props.specs.Records.{props_appended}
 use Rattle.module_rules.specs.Groups.{with_group}
 use Rattle.target_mutators.specs.Groups.{with_groups}
 
-same_place : (ids : List GroupId) (i : ℕ) (d : GroupId) → get_or ids i d ≡ get_or ids i (get_or ids i d)
-same_place [] i d = refl
-same_place (x ∷ xs) Prim.Native.Nat.zero d = refl
-same_place (x ∷ xs) (Prim.Native.Nat.suc i) d = same_place xs i d
+same_item : (ids : List GroupId) (i : ℕ) (d : GroupId) → get_or ids i d ≡ get_or ids i (get_or ids i d)
+same_item [] i d = refl
+same_item (x ∷ xs) Prim.Native.Nat.zero d = refl
+same_item (x ∷ xs) (Prim.Native.Nat.suc i) d = same_item xs i d
 
 -- one group more
 pub groups_next : (made new : Props) (ids : List GroupId) (i : ℕ) (d : GroupId) → i < length ids → new ≡ with_group made (get_or ids i d)
     → with_groups new (drop (i + 1) ids) ≡ with_groups made (drop i ids)
-groups_next made new ids i d lt is = ap (λ (p : Props). with_groups p (drop (i + 1) ids)) is ∙ sym (ap (with_groups made) (drop-here ids i (get_or ids i d) lt (same_place ids i d)))
+groups_next made new ids i d lt is = ap (λ (p : Props). with_groups p (drop (i + 1) ids)) is ∙ sym (ap (with_groups made) (drop-here ids i (get_or ids i d) lt (same_item ids i d)))
 
 -- without groups a record stays as it is
 no_group : (p : Props) (id : GroupId) → p.groups ≡ [] → with_group p id ≡ p

@@ -135,8 +135,8 @@ fn target_variants<'m>(
     ensures { IfOk result (λ variants. variants ≡ target_variants kind own.now [] targets.now) }
 {
     let mut variants = Seq::new(Vec::with_capacity(alloc, targets.len())?);
-    for (place, target) in targets.iter().enumerate() {
-        add_target(alloc, &mut variants, kind, own, &targets[..place], *target)?;
+    for (index, target) in targets.iter().enumerate() {
+        add_target(alloc, &mut variants, kind, own, &targets[..index], *target)?;
     }
     Ok(variants)
 }

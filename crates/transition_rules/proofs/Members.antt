@@ -41,7 +41,7 @@ module _ {A : Type 0} where
   all_have [] = tt
   all_have (x ∷ xs) = (inl refl, all_map (Has xs) (Has (x ∷ xs)) (λ y has. inr has) xs (all_have xs))
 
-  -- where no place is found, no item passes
+  -- where no index is found, no item passes
   position_fails : (p : A → Bool) (xs : List A) → position p xs ≡ None → (x : A) → Contains xs x → p x ≡ false
   position_fails p xs none x has = by (nat_lt (position_or_len p xs) (length xs)) refl none
     where

@@ -32,9 +32,9 @@ map_id : {A : Type 0} (xs : List A) → map (λ x. x) xs ≡ xs
 map_id [] = refl
 map_id (x ∷ xs) = ap (λ l. x ∷ l) (map_id xs)
 
--- a place that is found is one of the list
-place_within : {X : Type 0} (p : X → Bool) (xs : List X) (i : ℕ) (d : X) → position p xs ≡ Some i → i < length xs
-place_within p xs i d is = (position-Some p xs i d is).0
+-- an index that is found is one of the list
+index_within : {X : Type 0} (p : X → Bool) (xs : List X) (i : ℕ) (d : X) → position p xs ≡ Some i → i < length xs
+index_within p xs i d is = (position-Some p xs i d is).0
 
 module _ {P : Type 0} (many : OutsAreMany (List Variation)) (equations : WantsMeetTheirEquation P)
     (means : SameMeansEqual) (m : TransitionMeaning P) (nodes : List (Node P)) (lists : List (List Variation))
@@ -97,8 +97,8 @@ module _ {P : Type 0} (many : OutsAreMany (List Variation)) (equations : WantsMe
     wants_split = record {
       many = many_lists;
       differ = recursion_from_All (AllPairs (λ v w. v ≢ w)) lists (λ n d lt. subst (λ (l : List Variation). AllPairs (λ v w. v ≢ w) l) (sym (default_same n d lt)) (differ_at n (let k = many_lists in omega arith)));
-      within = λ n v e place is.
-          place_within (same (m.incoming nodes e.to.0 (m.outgoing nodes n e.kind v))) (get_or lists e.to.0 []) place Empty
+      within = λ n v e index is.
+          index_within (same (m.incoming nodes e.to.0 (m.outgoing nodes n e.kind v))) (get_or lists e.to.0 []) index Empty
           (ap (position (same (m.incoming nodes e.to.0 (m.outgoing nodes n e.kind v)))) (sym (map_id (get_or lists e.to.0 [])))
           ∙ is);
       led = λ n lt. all_map (Has (get_or lists n [])) (λ v. AllByRecursion (λ (e : Edge). position (same (m.incoming nodes e.to.0 (m.outgoing nodes n e.kind v))) (map (λ x. x) (get_or lists e.to.0 [])) ≡ None → length (get_or lists e.to.0 []) ≡ 0) (edges_at nodes n))

@@ -8,7 +8,7 @@ use module_graph::{Axis, Edge, Graph, Node, Variation};
 use mutator_rules::Transition;
 use std::alloc::Global;
 use std::sync::Arc;
-use variant_graphs::{Splitter, place_in};
+use variant_graphs::{Splitter, index_in};
 
 /// How variants are made by the variations of the nodes: each has its node's payload, and its edges lead to the
 /// variants that are wanted along them.
@@ -54,13 +54,13 @@ impl<'a, 'b, P: Payload, M: Transition<P>> Splitter<P> for WantedVariants<'a, 'b
         v: Variation,
         edge: Edge,
         theirs: &[Variation],
-        place: usize,
+        index: usize,
     ) -> Option<usize> {
         let handed = self.rule.outgoing(self.graph, n, edge.kind, v);
-        place_in(
+        index_in(
             theirs,
             self.rule.incoming(self.graph, edge.to, handed),
-            place,
+            index,
         )
     }
 }

@@ -96,12 +96,12 @@ module _ {P B : Type 0} (s : Splitting P B) (nodes : List (Node P)) (splits : Is
           let none = h.0 is in
           let count = get_lengths s.variants e.to.0 in
           let t : is_kept (counts_of s) e ≡ false = grind (arith, nat_tests) in
-          ap (λ o. map at_of (cons_option (option_map (λ place. record { kind = e.kind; to = record { 0 = first_of s e.to.0 + place }; at = e.at }) o) (filter_map (led_edge s n v) es))) is ∙ rest ∙ sym (kept_one e false t es)
-      by (Some place) is rest =
-          let within = splits.within n v e place is in
+          ap (λ o. map at_of (cons_option (option_map (λ index. record { kind = e.kind; to = record { 0 = first_of s e.to.0 + index }; at = e.at }) o) (filter_map (led_edge s n v) es))) is ∙ rest ∙ sym (kept_one e false t es)
+      by (Some index) is rest =
+          let within = splits.within n v e index is in
           let count = get_lengths s.variants e.to.0 in
           let t : is_kept (counts_of s) e ≡ true = grind (arith, nat_tests) in
-          ap (λ o. map at_of (cons_option (option_map (λ place. record { kind = e.kind; to = record { 0 = first_of s e.to.0 + place }; at = e.at }) o) (filter_map (led_edge s n v) es))) is ∙ ap (λ l. e.at ∷ l) rest ∙ sym (kept_one e true t es)
+          ap (λ o. map at_of (cons_option (option_map (λ index. record { kind = e.kind; to = record { 0 = first_of s e.to.0 + index }; at = e.at }) o) (filter_map (led_edge s n v) es))) is ∙ ap (λ l. e.at ∷ l) rest ∙ sym (kept_one e true t es)
 
   variants_places : (n : ℕ) (x : Node P) (bs : List B) → AllByRecursion (λ (b : B). AllByRecursion (λ (e : Edge). s.lead n (s.variation b) e ≡ None → length (variants_at s e.to.0) ≡ 0) x.edges) bs
       → map at_of (flat_map edges_in (map (variant_node s n x) bs)) ≡ copies_of (length bs) (kept_places (counts_of s) x.edges)

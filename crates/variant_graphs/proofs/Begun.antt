@@ -11,6 +11,7 @@ use Rattle.std.proofs.lemmas.List.Sums.{sum-map, sum_by-take-le, sum_by_more, su
 use Rattle.std.proofs.lemmas.List.FromFn.{get_or-map-range_with_len, length-map-range_with_len}
 use Rattle.module_graph.specs.declared.graph.Edge.{Edge}
 use Rattle.module_graph.specs.declared.variation.Variation.{Variation}
+use Rattle.bp_faults.specs.declared.limits.TheConstants.{MOST_NODES}
 use Rattle.variant_graphs.specs.Inside.{total, before, begun, theirs, IsNumbering, IsFit, led_by, node_by}
 use Rattle.variant_graphs.specs.declared.numbering.Numbering.{Numbering}
 use Rattle.variant_graphs.specs.Splitting.{SplitRule, Splitting, splitting, variants_at, first_of, led_edge, variant_node}
@@ -81,10 +82,10 @@ module _ {P B : Type 0} (s : Splitting P B) where
         Other : B → B → Type 0
         Other b c = s.variation b ≢ s.variation c
 
-    pub place_few : (n : ℕ) (v : Variation) (e : Edge) (place : ℕ) → e.to.0 ≡ t → s.lead n v e ≡ Some place
-        → begun numbering t + place < 262144
-    place_few n v e place same is =
-        let within = subst (λ k. place < length (variants_at s k)) same (h.within n v e place is) in
+    pub index_few : (n : ℕ) (v : Variation) (e : Edge) (index : ℕ) → e.to.0 ≡ t → s.lead n v e ≡ Some index
+        → begun numbering t + index < MOST_NODES
+    index_few n v e index same is =
+        let within = subst (λ k. index < length (variants_at s k)) same (h.within n v e index is) in
         let sum = sum_by_more_le length s.variants t [] inside in
         let few = h.few in let all = total_is in let at = begun_at numbering h t (omega arith) in omega arith
 
@@ -101,8 +102,8 @@ module _ {P B : Type 0} (rule : SplitRule P B) (lists : List (List B)) (numberin
     rises = λ t lt. rises (splitting rule lists) numbering h t (inside t lt);
     ends = λ t lt. ends_within (splitting rule lists) numbering h t (inside t lt);
     differ = λ t lt. theirs_differ (splitting rule lists) numbering h t (inside t lt);
-    few = λ n v e place lt is.
-        place_few (splitting rule lists) numbering h e.to.0 (inside e.to.0 lt) n v e place refl
+    few = λ n v e index lt is.
+        index_few (splitting rule lists) numbering h e.to.0 (inside e.to.0 lt) n v e index refl
         (ap (rule.lead n v e) (sym (theirs_at (splitting rule lists) numbering h e.to.0 (inside e.to.0 lt))) ∙ is);
   }
     where
@@ -112,9 +113,9 @@ module _ {P B : Type 0} (rule : SplitRule P B) (lists : List (List B)) (numberin
   same_edge : (n : ℕ) (v : Variation) (e : Edge) → e.to.0 < length lists
       → led_by rule numbering n v e ≡ led_edge (splitting rule lists) n v e
   same_edge n v e lt = λ i.
-      option_map (λ place. record {
+      option_map (λ index. record {
         kind = e.kind;
-        to = record { 0 = begun_at (splitting rule lists) numbering h e.to.0 (omega arith) i + place };
+        to = record { 0 = begun_at (splitting rule lists) numbering h e.to.0 (omega arith) i + index };
         at = e.at;
       }) (rule.lead n v e (theirs_at (splitting rule lists) numbering h e.to.0 lt i))
 

@@ -138,9 +138,9 @@ axis_back Link = refl
 axis_back PerSource = refl
 axis_back Sanitize = refl
 
--- axes that differ have places that differ
-places_differ : (axis other : Axis) → axis ≢ other → axis_index axis ≢ axis_index other
-places_differ axis other differs same =
+-- axes that differ have indices that differ
+indices_differ : (axis other : Axis) → axis ≢ other → axis_index axis ≢ axis_index other
+indices_differ axis other differs same =
     differs (sym (axis_back axis) ∙ ap axis_at same ∙ axis_back other)
 
 module _ {P B : Type 0} (s : Splitting P B) where
@@ -149,7 +149,7 @@ module _ {P B : Type 0} (s : Splitting P B) where
   free_stays nodes axis differs free =
       all_by_number Free Free (0 + length nodes) (λ n x. map (variant_node s n x) (variants_at s n))
       (λ n x lt q. all_image (λ (b : B). ⊤) Free (variant_node s n x)
-      (λ b _. get_else x.vars (axis_index s.axis) (axis_index axis) (s.variation b) (places_differ axis s.axis differs) ∙ q)
+      (λ b _. get_else x.vars (axis_index s.axis) (axis_index axis) (s.variation b) (indices_differ axis s.axis differs) ∙ q)
       (variants_at s n) (all_each (λ (b : B). ⊤) (λ b. tt) (variants_at s n))) 0 nodes refl free
     where
       Free : Node P → Type 0

@@ -34,5 +34,5 @@ module _ {P B : Type 0} (s : Splitting P B) (nodes : List (Node P)) (many : leng
   length-split = ap (λ l. length (by_number piece 0 l)) (sym (take_all (length nodes) nodes (omega arith))) ∙ length-before (length nodes) (omega arith) ∙ ap (sum_by length) (take_all (length nodes) s.variants (omega arith))
 
   -- a variant that a node has is a new node
-  pub variant_inside : (n place : ℕ) → n < length nodes → place < length (variants_at s n) → first_of s n + place < length (split_nodes s nodes)
-  variant_inside n place lt within = let a = sum_by_more_le length s.variants n [] (omega arith) in let b = length-split in omega arith
+  pub variant_inside : (n index : ℕ) → n < length nodes → index < length (variants_at s n) → first_of s n + index < length (split_nodes s nodes)
+  variant_inside n index lt within = let a = sum_by_more_le length s.variants n [] (omega arith) in let b = length-split in omega arith

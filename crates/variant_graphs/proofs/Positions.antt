@@ -1,4 +1,4 @@
--- The first place of an item.
+-- The first index of an item.
 use Rattle.std.proofs.Common.{◌≡◌, ◌<◌, ◌≤◌, ℕ, Bool, true, false, cond, List, length, get_or, ap, ◌∙◌, sym, refl, arith, Option, Some, None, nat_lt}
 use Rattle.std.specs.Prelude.{◌≢◌}
 use Rattle.std.specs.List.{AllPairs}
@@ -27,7 +27,7 @@ not_true : (b : Bool) → (b ≡ true → ⊥) → b ≡ false
 not_true true h = absurd (h refl)
 not_true false h = refl
 
--- where variations differ, a place of one is its first
+-- where variations differ, an index of one is its first
 pub position_only : SameMeansEqual → (v : Variation) (list : List Variation) (guess : ℕ)
     → AllPairs (λ (x y : Variation). x ≢ y) list → guess < length list → same v (get_or list guess Empty) ≡ true
     → Some guess ≡ position (same v) list

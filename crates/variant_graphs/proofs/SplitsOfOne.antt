@@ -49,7 +49,7 @@ module _ {P B : Type 0} (s : Splitting P B) (nodes : List (Node P)) (many : leng
   led-own n e lt below =
       let before = first_is e.to.0 (omega arith) in
       let own : first_of s e.to.0 + 0 ≡ e.to.0 = omega arith in
-      ap (option_map (λ place. edge_to e (first_of s e.to.0 + place))) (led n e lt below)
+      ap (option_map (λ index. edge_to e (first_of s e.to.0 + index))) (led n e lt below)
       ∙ ap (λ t. Some (edge_to e t)) own
 
   edges_stay : (n : ℕ) (es : List Edge) → n < length nodes → EndsBelow es → filter_map (led_edge s n Empty) es ≡ es

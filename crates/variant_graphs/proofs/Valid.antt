@@ -31,17 +31,17 @@ by_number_append f k (x ∷ xs) ys =
     let e : (k + 1) + length xs ≡ k + suc (length xs) = omega arith in
     ap (λ l. f k x ++ l) (by_number_append f (k + 1) xs ys ∙ ap (λ n. by_number f (k + 1) xs ++ by_number f n ys) e) ∙ sym (append_assoc (f k x) (by_number f (k + 1) xs) (by_number f (k + suc (length xs)) ys))
 
--- variations that were free at a place are the same where they are the same after one is set there
-pub same_but_set : (vars other : List Variation) (place : ℕ) (v w : Variation) → slice_get vars place ≡ Some Empty → slice_get other place ≡ Some Empty → slice_set vars place v ≡ slice_set other place w → vars ≡ other
-same_but_set vars other place v w free free2 e =
-    let a = get_or_from_slice_get vars place Empty Empty free in
-    let b = get_or_from_slice_get other place Empty Empty free2 in
-    sym (set-get_or vars place Empty) ∙ ap (λ z. set vars place z) a ∙ sym (set-set vars place v Empty) ∙ ap (λ l. set l place Empty) e ∙ set-set other place w Empty ∙ ap (λ z. set other place z) (sym b) ∙ set-get_or other place Empty
+-- variations that were free at an index are the same where they are the same after one is set there
+pub same_but_set : (vars other : List Variation) (index : ℕ) (v w : Variation) → slice_get vars index ≡ Some Empty → slice_get other index ≡ Some Empty → slice_set vars index v ≡ slice_set other index w → vars ≡ other
+same_but_set vars other index v w free free2 e =
+    let a = get_or_from_slice_get vars index Empty Empty free in
+    let b = get_or_from_slice_get other index Empty Empty free2 in
+    sym (set-get_or vars index Empty) ∙ ap (λ z. set vars index z) a ∙ sym (set-set vars index v Empty) ∙ ap (λ l. set l index Empty) e ∙ set-set other index w Empty ∙ ap (λ z. set other index z) (sym b) ∙ set-get_or other index Empty
 
-pub same_set : (vars : List Variation) (place : ℕ) (v w : Variation) → slice_get vars place ≡ Some Empty → slice_set vars place v ≡ slice_set vars place w → v ≡ w
-same_set vars place v w free e =
-    let lt = slice_get_within vars place Empty free in
-    sym (get_or-set_same vars place v Empty lt) ∙ ap (λ l. get_or l place Empty) e ∙ get_or-set_same vars place w Empty lt
+pub same_set : (vars : List Variation) (index : ℕ) (v w : Variation) → slice_get vars index ≡ Some Empty → slice_set vars index v ≡ slice_set vars index w → v ≡ w
+same_set vars index v w free e =
+    let lt = slice_get_within vars index Empty free in
+    sym (get_or-set_same vars index v Empty lt) ∙ ap (λ l. get_or l index Empty) e ∙ get_or-set_same vars index w Empty lt
 
 module _ {P : Type 0} where
   abbrev pub Differ : Node P → Node P → Type 0
@@ -55,11 +55,11 @@ module _ {P B : Type 0} (s : Splitting P B) (nodes : List (Node P)) (named : Nam
       (λ b _. all_kept (λ (e : Edge). e.to.0 < length nodes) (λ (e : Edge). e.to.0 < length (split_nodes s nodes)) (led_edge s n (s.variation b)) (λ e y inside is. one n (s.variation b) e y inside (s.lead n (s.variation b) e) refl is) x.edges h)
       (variants_at s n) (all_each (λ (b : B). ⊤) (λ b. tt) (variants_at s n))) 0 nodes (zero-add (length nodes)) named
     where
-      one : (n : ℕ) (v : Variation) (e y : Edge) → e.to.0 < length nodes → (o : Option ℕ) → s.lead n v e ≡ o → option_map (λ place. record { kind = e.kind; to = record { 0 = first_of s e.to.0 + place }; at = e.at }) o ≡ Some y → y.to.0 < length (split_nodes s nodes)
+      one : (n : ℕ) (v : Variation) (e y : Edge) → e.to.0 < length nodes → (o : Option ℕ) → s.lead n v e ≡ o → option_map (λ index. record { kind = e.kind; to = record { 0 = first_of s e.to.0 + index }; at = e.at }) o ≡ Some y → y.to.0 < length (split_nodes s nodes)
       one n v e y inside None is h = cc
-      one n v e y inside (Some place) is h =
-          let same : first_of s e.to.0 + place ≡ y.to.0 = (let t : Some (first_of s e.to.0 + place) ≡ Some y.to.0 = ap (option_map (λ (z : Edge). z.to.0)) h in cc) in
-          subst (λ k. k < length (split_nodes s nodes)) same (variant_inside s nodes splits.many e.to.0 place inside (splits.within n v e place is))
+      one n v e y inside (Some index) is h =
+          let same : first_of s e.to.0 + index ≡ y.to.0 = (let t : Some (first_of s e.to.0 + index) ≡ Some y.to.0 = ap (option_map (λ (z : Edge). z.to.0)) h in cc) in
+          subst (λ k. k < length (split_nodes s nodes)) same (variant_inside s nodes splits.many e.to.0 index inside (splits.within n v e index is))
 
 module _ {P B : Type 0} (join : EdgesJoinNodes P) (rising : NoneReturnsWhereNumberingRises) (s : Splitting P B) (nodes : List (Node P)) (valid : IsValid nodes) (free : HasFreeAxis s.axis nodes) (splits : IsSplitting s nodes) where
   abbrev Free : Node P → Type 0
@@ -89,8 +89,8 @@ module _ {P B : Type 0} (join : EdgesJoinNodes P) (rising : NoneReturnsWhereNumb
   abbrev level : ℕ → ℕ
   level i = old_free.rank (owner_from 0 s.variants i)
 
-  level_is : (n place : ℕ) → n < length nodes → place < length (variants_at s n) → level (first_of s n + place) ≡ old_free.rank n
-  level_is n place lt within = ap old_free.rank (owner_is 0 s.variants n place (let e = splits.many in omega arith) within ∙ zero-add n)
+  level_is : (n index : ℕ) → n < length nodes → index < length (variants_at s n) → level (first_of s n + index) ≡ old_free.rank n
+  level_is n index lt within = ap old_free.rank (owner_is 0 s.variants n index (let e = splits.many in omega arith) within ∙ zero-add n)
 
   abbrev Rises : PlanEdge → Type 0
   Rises e = level e.from.0 < level e.to.0
@@ -99,28 +99,28 @@ module _ {P B : Type 0} (join : EdgesJoinNodes P) (rising : NoneReturnsWhereNumb
   OldRises e = old_free.rank e.from.0 < old_free.rank e.to.0
 
   -- the edges of one variant rise
-  variant_rises : (n place : ℕ) (v : Variation) (es : List Edge) → n < length nodes → place < length (variants_at s n) → AllByRecursion (λ (e : Edge). e.to.0 < length nodes) es → AllByRecursion (λ (e : Edge). old_free.rank n < old_free.rank e.to.0) es
-      → AllByRecursion Rises (map (outward (first_of s n + place)) (filter_map (led_edge s n v) es))
-  variant_rises n place v es lt within inside rise =
-      all_image (λ (e : Edge). old_free.rank n < level e.to.0) Rises (outward (first_of s n + place)) (λ e h. let a = level_is n place lt within in omega arith) (filter_map (led_edge s n v) es)
+  variant_rises : (n index : ℕ) (v : Variation) (es : List Edge) → n < length nodes → index < length (variants_at s n) → AllByRecursion (λ (e : Edge). e.to.0 < length nodes) es → AllByRecursion (λ (e : Edge). old_free.rank n < old_free.rank e.to.0) es
+      → AllByRecursion Rises (map (outward (first_of s n + index)) (filter_map (led_edge s n v) es))
+  variant_rises n index v es lt within inside rise =
+      all_image (λ (e : Edge). old_free.rank n < level e.to.0) Rises (outward (first_of s n + index)) (λ e h. let a = level_is n index lt within in omega arith) (filter_map (led_edge s n v) es)
       (all_kept (λ (e : Edge). (e.to.0 < length nodes) × (old_free.rank n < old_free.rank e.to.0)) (λ (e : Edge). old_free.rank n < level e.to.0) (led_edge s n v) (λ e y h is. one e y h.0 h.1 (s.lead n v e) refl is) es
       (all_with (λ (e : Edge). e.to.0 < length nodes) (λ (e : Edge). old_free.rank n < old_free.rank e.to.0) (λ (e : Edge). (e.to.0 < length nodes) × (old_free.rank n < old_free.rank e.to.0)) (λ e a b. (a, b)) es inside rise))
     where
-      one : (e y : Edge) → e.to.0 < length nodes → old_free.rank n < old_free.rank e.to.0 → (o : Option ℕ) → s.lead n v e ≡ o → option_map (λ place. record { kind = e.kind; to = record { 0 = first_of s e.to.0 + place }; at = e.at }) o ≡ Some y → old_free.rank n < level y.to.0
+      one : (e y : Edge) → e.to.0 < length nodes → old_free.rank n < old_free.rank e.to.0 → (o : Option ℕ) → s.lead n v e ≡ o → option_map (λ index. record { kind = e.kind; to = record { 0 = first_of s e.to.0 + index }; at = e.at }) o ≡ Some y → old_free.rank n < level y.to.0
       one e y inside rise None is h = cc
-      one e y inside rise (Some place) is h =
-          let same : first_of s e.to.0 + place ≡ y.to.0 = (let t : Some (first_of s e.to.0 + place) ≡ Some y.to.0 = ap (option_map (λ (z : Edge). z.to.0)) h in cc) in
-          subst (λ k. old_free.rank n < level k) same (let a = level_is e.to.0 place inside (splits.within n v e place is) in omega arith)
+      one e y inside rise (Some index) is h =
+          let same : first_of s e.to.0 + index ≡ y.to.0 = (let t : Some (first_of s e.to.0 + index) ≡ Some y.to.0 = ap (option_map (λ (z : Edge). z.to.0)) h in cc) in
+          subst (λ k. old_free.rank n < level k) same (let a = level_is e.to.0 index inside (splits.within n v e index is) in omega arith)
 
   -- and those of some variants of a node
-  variants_rise : (n place : ℕ) (x : Node P) (bs : List B) → n < length nodes → place + length bs ≤ length (variants_at s n) → AllByRecursion (λ (e : Edge). e.to.0 < length nodes) x.edges → AllByRecursion (λ (e : Edge). old_free.rank n < old_free.rank e.to.0) x.edges
-      → AllByRecursion Rises (by_number (λ i (y : Node P). map (outward i) y.edges) (first_of s n + place) (map (variant_node s n x) bs))
-  variants_rise n place x [] lt within inside rise = tt
-  variants_rise n place x (b ∷ bs) lt within inside rise =
-      let e : first_of s n + (place + 1) ≡ (first_of s n + place) + 1 = omega arith in
-      all_append Rises (map (outward (first_of s n + place)) (filter_map (led_edge s n (s.variation b)) x.edges)) (by_number (λ i (y : Node P). map (outward i) y.edges) ((first_of s n + place) + 1) (map (variant_node s n x) bs))
-      (variant_rises n place (s.variation b) x.edges lt (omega arith) inside rise)
-      (subst (λ k. AllByRecursion Rises (by_number (λ i (y : Node P). map (outward i) y.edges) k (map (variant_node s n x) bs))) e (variants_rise n (place + 1) x bs lt (omega arith) inside rise))
+  variants_rise : (n index : ℕ) (x : Node P) (bs : List B) → n < length nodes → index + length bs ≤ length (variants_at s n) → AllByRecursion (λ (e : Edge). e.to.0 < length nodes) x.edges → AllByRecursion (λ (e : Edge). old_free.rank n < old_free.rank e.to.0) x.edges
+      → AllByRecursion Rises (by_number (λ i (y : Node P). map (outward i) y.edges) (first_of s n + index) (map (variant_node s n x) bs))
+  variants_rise n index x [] lt within inside rise = tt
+  variants_rise n index x (b ∷ bs) lt within inside rise =
+      let e : first_of s n + (index + 1) ≡ (first_of s n + index) + 1 = omega arith in
+      all_append Rises (map (outward (first_of s n + index)) (filter_map (led_edge s n (s.variation b)) x.edges)) (by_number (λ i (y : Node P). map (outward i) y.edges) ((first_of s n + index) + 1) (map (variant_node s n x) bs))
+      (variant_rises n index (s.variation b) x.edges lt (omega arith) inside rise)
+      (subst (λ k. AllByRecursion Rises (by_number (λ i (y : Node P). map (outward i) y.edges) k (map (variant_node s n x) bs))) e (variants_rise n (index + 1) x bs lt (omega arith) inside rise))
 
   rises_from : (k : ℕ) (xs : List (Node P)) → k + length xs ≡ length nodes → AllByRecursion (λ (x : Node P). AllByRecursion (λ (e : Edge). e.to.0 < length nodes) x.edges) xs
       → AllByRecursion OldRises (by_number (λ n (x : Node P). map (outward n) x.edges) k xs) → AllByRecursion Rises (by_number (λ i (y : Node P). map (outward i) y.edges) (first_of s k) (by_number (piece s nodes splits.many) k xs))

@@ -76,8 +76,8 @@ module _ {P B : Type 0} (s : Splitting P B) where
     pub few : total counts_of ≤ MOST_NODES
     pub variations : numbering.variations.items ≡ flat_map (map s.variation) s.variants
     pub differ : AllByRecursion (AllPairs (λ (b c : B). s.variation b ≢ s.variation c)) s.variants
-    pub within : (n : ℕ) (v : Variation) (e : Edge) (place : ℕ) → s.lead n v e ≡ Some place
-        → place < length (variants_at s e.to.0)
+    pub within : (n : ℕ) (v : Variation) (e : Edge) (index : ℕ) → s.lead n v e ≡ Some index
+        → index < length (variants_at s e.to.0)
 
 -- Where the variants of a node begin, by a numbering.
 abbrev pub begun : Numbering → ℕ → ℕ
@@ -88,23 +88,23 @@ abbrev pub theirs : Numbering → ℕ → List Variation
 theirs numbering t = slice_range numbering.variations.items (begun numbering t) (begun numbering (t + 1))
 
 -- The numbers and the variations of a numbering fit a rule: the variations of each node stand in the list and differ,
--- and each place to which an edge leads gives a number of a node.
+-- and each index to which an edge leads gives a number of a node.
 pub record IsFit {P B : Type 0} (rule : SplitRule P B) (numbering : Numbering) : Type 0 where
   pub rises : (t : ℕ) → t + 1 < length numbering.begins.items → begun numbering t ≤ begun numbering (t + 1)
   pub ends : (t : ℕ) → t + 1 < length numbering.begins.items
       → begun numbering (t + 1) ≤ length numbering.variations.items
   pub differ : (t : ℕ) → t + 1 < length numbering.begins.items
       → AllPairs (λ (v w : Variation). v ≢ w) (theirs numbering t)
-  pub few : (n : ℕ) (v : Variation) (e : Edge) (place : ℕ) → e.to.0 + 1 < length numbering.begins.items
-      → rule.lead n v e (theirs numbering e.to.0) ≡ Some place → begun numbering e.to.0 + place < MOST_NODES
+  pub few : (n : ℕ) (v : Variation) (e : Edge) (index : ℕ) → e.to.0 + 1 < length numbering.begins.items
+      → rule.lead n v e (theirs numbering e.to.0) ≡ Some index → begun numbering e.to.0 + index < MOST_NODES
 
 module _ {P B : Type 0} (rule : SplitRule P B) (numbering : Numbering) where
   -- The edge of a variant of node n with variation v, by a numbering.
   abbrev pub led_by : ℕ → Variation → Edge → Option Edge
   led_by n v e =
-      option_map (λ place. record {
+      option_map (λ index. record {
         kind = e.kind;
-        to = record { 0 = begun numbering e.to.0 + place };
+        to = record { 0 = begun numbering e.to.0 + index };
         at = e.at;
       }) (rule.lead n v e (theirs numbering e.to.0))
 

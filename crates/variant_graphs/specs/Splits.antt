@@ -17,8 +17,8 @@ module _ {P B : Type 0} where
   pub record IsSplitting (s : Splitting P B) (nodes : List (Node P)) : Type 0 where
     pub many : length s.variants ≡ length nodes
     pub differ : AllByRecursion (AllPairs (λ (b c : B). s.variation b ≢ s.variation c)) s.variants
-    pub within : (n : ℕ) (v : Variation) (e : Edge) (place : ℕ) → s.lead n v e ≡ Some place
-        → place < length (variants_at s e.to.0)
+    pub within : (n : ℕ) (v : Variation) (e : Edge) (index : ℕ) → s.lead n v e ≡ Some index
+        → index < length (variants_at s e.to.0)
     pub led : (n : ℕ) → n < length nodes
         → AllByRecursion
         (λ b. AllByRecursion (λ (e : Edge). s.lead n (s.variation b) e ≡ None → length (variants_at s e.to.0) ≡ 0)

@@ -18,7 +18,7 @@ pub record SplitRule (P B : Type 0) : Type 0 where
   -- the variation of a variant, and its payload by its old node
   pub variation : B → Variation
   pub payload : Node P → B → P
-  -- the place, among the variants of its target with these variations, to which an edge leads from the variant of
+  -- the index, among the variants of its target with these variations, to which an edge leads from the variant of
   -- node n with variation v
   pub lead : ℕ → Variation → Edge → List Variation → Option ℕ
 
@@ -29,7 +29,7 @@ pub record Splitting (P B : Type 0) : Type 0 where
   -- the variation of a variant, and its payload by its old node
   pub variation : B → Variation
   pub payload : Node P → B → P
-  -- the place, among the variants of its target, to which an edge leads from the variant of node n with variation v
+  -- the index, among the variants of its target, to which an edge leads from the variant of node n with variation v
   pub lead : ℕ → Variation → Edge → Option ℕ
 
 -- The split of some lists of variants by a rule.
@@ -54,7 +54,7 @@ module _ {P B : Type 0} (s : Splitting P B) where
   -- The edge of a variant of node n with variation v.
   abbrev pub led_edge : ℕ → Variation → Edge → Option Edge
   led_edge n v e =
-      option_map (λ place. record { kind = e.kind; to = record { 0 = first_of e.to.0 + place }; at = e.at })
+      option_map (λ index. record { kind = e.kind; to = record { 0 = first_of e.to.0 + index }; at = e.at })
       (s.lead n v e)
 
   -- A variant of node n: its variation is set on the axis, and it has the edges of the old node, in order.
@@ -66,7 +66,7 @@ module _ {P B : Type 0} (s : Splitting P B) where
     edges = filter_map (led_edge n (s.variation b)) x.edges;
   }
 
-  -- The new nodes stand by old number, and then by place among the variants.
+  -- The new nodes stand by old number, and then by index among the variants.
   abbrev pub split_nodes : List (Node P) → List (Node P)
   split_nodes nodes = by_number (λ n x. map (variant_node n x) (variants_at n)) 0 nodes
 

@@ -25,13 +25,13 @@ fn varied(alloc: Global, old: &Variations, axis: Axis, variation: Variation) -> 
     vars
 }
 
-/// An edge of the variant of node `n` with `v`, which stands at a place among the node's variants.
+/// An edge of the variant of node `n` with `v`, which stands at an index among the node's variants.
 fn lead_edge<P, S: Splitter<P>>(
     s: &S,
     numbering: &Numbering,
     n: NodeId,
     v: Variation,
-    place: usize,
+    index: usize,
     edge: Edge,
 ) -> Option<Edge>
     requires fit { IsFit (S.rule s.now) numbering.now }
@@ -43,7 +43,7 @@ fn lead_edge<P, S: Splitter<P>>(
     let first = numbering.begins[target];
     let end = numbering.begins[target + 1];
     let theirs = &numbering.variations[first as usize..end as usize];
-    match s.lead(n, v, edge, theirs, place) {
+    match s.lead(n, v, edge, theirs, index) {
         Some(chosen) => Some(Edge {
             kind: edge.kind,
             to: NodeId(first + chosen as u32),
@@ -60,7 +60,7 @@ fn lead_edges<P, S: Splitter<P>>(
     numbering: &Numbering,
     n: NodeId,
     v: Variation,
-    place: usize,
+    index: usize,
     edges: &[Edge],
 ) -> Result<Vec<Edge>, OutOfMemory>
     requires fit { IsFit (S.rule s.now) numbering.now }
@@ -70,21 +70,21 @@ fn lead_edges<P, S: Splitter<P>>(
 {
     let mut made = Vec::with_capacity(alloc, edges.len())?;
     for edge in edges {
-        if let Some(new) = lead_edge(s, numbering, n, v, place, *edge) {
+        if let Some(new) = lead_edge(s, numbering, n, v, index, *edge) {
             made.push(new)?;
         }
     }
     Ok(made)
 }
 
-/// A variant of node `n`, which stands at a place among the node's variants.
+/// A variant of node `n`, which stands at an index among the node's variants.
 fn make_variant<P: Drop, S: Splitter<P>>(
     alloc: Global,
     s: &S,
     numbering: &Numbering,
     n: NodeId,
     node: &Node<P>,
-    place: usize,
+    index: usize,
     variant: S::Variant,
 ) -> Result<Node<P>, OutOfMemory>
     requires fit { IsFit (S.rule s.now) numbering.now }
@@ -93,7 +93,7 @@ fn make_variant<P: Drop, S: Splitter<P>>(
     ensures { IfOk result (λ made. made ≡ node_by (S.rule s.now) numbering.now n.0 node.now variant) }
 {
     let v = s.variation(&variant);
-    let edges = lead_edges(alloc, s, numbering, n, v, place, node.edges.as_slice())?;
+    let edges = lead_edges(alloc, s, numbering, n, v, index, node.edges.as_slice())?;
     let payload = s.payload(alloc, node, variant)?;
     Ok(Node {
         module: node.module,
@@ -119,10 +119,10 @@ fn add_variants<P: Drop, S: Splitter<P>>(
     ensures { OnOk result (made.new.items
         ≡ made.old.items ++ map (node_by (S.rule s.now) numbering.now n.0 node.now) variants) }
 {
-    let mut place = 0;
+    let mut index = 0;
     for variant in variants.into_vec() {
-        made.push(make_variant(alloc, s, numbering, n, node, place, variant)?)?;
-        place += 1;
+        made.push(make_variant(alloc, s, numbering, n, node, index, variant)?)?;
+        index += 1;
     }
     Ok(())
 }

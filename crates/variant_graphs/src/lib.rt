@@ -8,18 +8,18 @@
 mod assembly;
 mod error;
 mod idle;
+mod indices;
 pub mod laws;
 mod limit_check;
 mod limits;
 mod numbering;
 mod payloads;
-mod places;
 mod splitter;
 
 pub use assembly::split_graph;
 pub use error::StepError;
 pub use idle::visit_idle;
+pub use indices::{holds, index_in};
 pub use limit_check::check_limits;
 pub use payloads::{renew, value_of};
-pub use places::{holds, place_in};
 pub use splitter::Splitter;

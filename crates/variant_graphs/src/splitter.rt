@@ -33,9 +33,9 @@ pub trait Splitter<P> {
     ) -> Result<P, OutOfMemory>
         ensures { IfOk result (λ payload. payload ≡ (rule self.now).payload node.now variant) };
 
-    /// The place, among the variants of its target, to which an edge leads from the variant of node `n` with `v`.
+    /// The index, among the variants of its target, to which an edge leads from the variant of node `n` with `v`.
     ///
-    /// `theirs` has the variations of the target. `place` is that of the variant among those of `n`: a good first
+    /// `theirs` has the variations of the target. `index` is that of the variant among those of `n`: a good first
     /// guess.
     fn lead(
         &self,
@@ -43,7 +43,7 @@ pub trait Splitter<P> {
         v: Variation,
         edge: Edge,
         theirs: &[Variation],
-        place: usize,
+        index: usize,
     ) -> Option<usize>
         requires may { may_lead self.now n.0 edge }
         requires differ { AllPairs (λ v w. v ≢ w) theirs.now }

@@ -1,7 +1,7 @@
 use Rattle.bp_props.specs.Group.{group_merged}
 use Rattle.bp_props.specs.Undo.{group_cut}
 use Rattle.std.proofs.Common.{ap, ◌∙◌}
-use Rattle.bp_props.proofs.Places.{set_changed, changed_back}
+use Rattle.bp_props.proofs.Indices.{set_changed, changed_back}
 use Rattle.bp_props.proofs.pairs.merge_at.Goals as goal
 
 pub returns-clause-ok : goal.returns-clause-ok

@@ -2,7 +2,7 @@ use Rattle.std.proofs.Common.{◌≡◌, map, drop, ◌++◌, Ok}
 use Rattle.bp_parser.specs.Trees.{tree_of, entry_of, trees_then, terms_then, entries_then, no_tree, no_term, no_entry}
 use Rattle.bp_values.specs.Values.{meaning, field_of, body}
 use Rattle.bp_faults.specs.Answers.{then_do}
-use Rattle.bp_values.specs.Inside.{sum_so_far, HasPlaces}
+use Rattle.bp_values.specs.Inside.{sum_so_far, HasIndices}
 use Rattle.bp_values.specs.Scopes.{pairs_of}
 use Rattle.bp_values.specs.Expressions.{val_items, val_terms, val_entries}
 use Rattle.bp_parser.specs.Trees.{term_of}
@@ -25,6 +25,6 @@ invariant-all_entries-entries l =
 
 abbrev pub invariant-add_maps-terms : goal.invariant-add_maps-terms
 invariant-add_maps-terms l =
-    HasPlaces l.total
+    HasIndices l.total
     × (val_terms (pairs_of l.scope) (body (map field_of l.fn.first.items)) (terms_then (map term_of l.terms) no_term)
     ≡ val_terms (pairs_of l.scope) (sum_so_far l.total) (terms_then (map term_of (drop l.at-index l.terms)) no_term))

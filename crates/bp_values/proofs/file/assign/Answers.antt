@@ -4,7 +4,7 @@ use Rattle.bp_parser.specs.Trees.{tree_of}
 use Rattle.bp_values.specs.Values.{meaning}
 use Rattle.bp_values.specs.Scopes.{pairs_of}
 use Rattle.bp_values.specs.Inside.{known_of, is_noted}
-use Rattle.bp_values.specs.KeptPlaces.{kept_for}
+use Rattle.bp_values.specs.KeptIndices.{kept_for}
 use Rattle.bp_values.proofs.Noted.{noted_is}
 use Rattle.bp_values.proofs.Kept.{kept_assigned}
 use Rattle.bp_values.proofs.Scopes.{length_with_new}
@@ -31,6 +31,6 @@ returns-clause-consistent c =
     let absent : is_some c.get.result ≡ false = search rules in
     record {
       within = length_with_new c.args.state.now.inherited scope (pairs_of c.set.new.self) c.args.name.now (meaning c.in_ok-new.new) c.in_ok-set.ensures c.requires.consistent.within;
-      places = kept_assigned (kept_for c.args.state.now.kept) scope (pairs_of c.set.new.self) c.args.name.now (meaning c.in_ok-new.new)
-          (is_absent (λ v. meaning v.now) c.get.result _ absent c.get.ensures) c.in_ok-set.ensures c.requires.consistent.places;
+      indices = kept_assigned (kept_for c.args.state.now.kept) scope (pairs_of c.set.new.self) c.args.name.now (meaning c.in_ok-new.new)
+          (is_absent (λ v. meaning v.now) c.get.result _ absent c.get.ensures) c.in_ok-set.ensures c.requires.consistent.indices;
     }

@@ -4,11 +4,11 @@ use Rattle.bp_faults.specs.Answers.{Refuses, then_do}
 use Rattle.bp_faults.proofs.Refusals.{answered}
 use Rattle.bp_parser.specs.Trees.{Definition, definition_of}
 use Rattle.bp_values.specs.declared.file.RawModule.{RawModule}
-use Rattle.bp_values.specs.declared.map_places.MapPlaces.{MapPlaces}
+use Rattle.bp_values.specs.declared.map_indices.MapIndices.{MapIndices}
 use Rattle.bp_values.specs.declared.scope.Scope.{Scope}
 use Rattle.bp_values.specs.Inside.{known_of, is_noted, is_extended_or}
 use Rattle.bp_values.specs.Meaning.{Known, after_definitions, file_evaluation, raw_of}
-use Rattle.bp_values.specs.MapPlaces.{PlacesOf}
+use Rattle.bp_values.specs.MapIndices.{IndicesOf}
 use Rattle.bp_values.specs.Scopes.{Pairs, pairs_of, count_of, value_in}
 use Rattle.bp_values.proofs.Extended.{marks_at_first}
 use Rattle.bp_values.proofs.Scopes.{outer_whole, outer_again, outer_count}
@@ -28,7 +28,7 @@ pub define_all-requires : goal.define_all-requires
 define_all-requires c = record {
   consistent = record {
     within = let all : c.len.result ≡ count_of c.args.inherited = c.len.ensures in omega (arith, all);
-    places = λ name. subst (λ (o : Option MapPlaces). PlacesOf o (value_in (pairs_of c.args.inherited) name)) (sym (c.new.ensures name)) (λ way. tt);
+    indices = λ name. subst (λ (o : Option MapIndices). IndicesOf o (value_in (pairs_of c.args.inherited) name)) (sym (c.new.ensures name)) (λ way. tt);
   };
 }
 

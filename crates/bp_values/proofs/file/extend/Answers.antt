@@ -6,7 +6,7 @@ use Rattle.bp_values.specs.Values.{meaning}
 use Rattle.bp_values.specs.Scopes.{pairs_of}
 use Rattle.bp_values.specs.Inside.{known_of, is_noted}
 use Rattle.bp_values.specs.Meaning.{with_other}
-use Rattle.bp_values.specs.KeptPlaces.{kept_for}
+use Rattle.bp_values.specs.KeptIndices.{kept_for}
 use Rattle.bp_values.proofs.Noted.{noted_is}
 use Rattle.bp_values.proofs.Pairs.{other_again}
 use Rattle.bp_values.proofs.Kept.{kept_extended}
@@ -50,9 +50,9 @@ returns-clause-consistent c =
     let put = c.in_ok-replace.ensures.pairs ∙ ap (λ l. with_other l name v) c.in_ok-old.ensures.pairs ∙ other_again name _ v scope in
     record {
       within = subst (λ l. c.args.state.now.inherited ≤ l) (sym (ap length put ∙ length_with_other scope name v)) c.requires.consistent.within;
-      places = kept_extended kept (kept_for c.keep.new.self) (kept_for c.keep-2.new.self) scope (pairs_of c.replace-2.new.self) name v (meaning c.in_ok-old.old) c.in_ok-new.places
+      indices = kept_extended kept (kept_for c.keep.new.self) (kept_for c.keep-2.new.self) scope (pairs_of c.replace-2.new.self) name v (meaning c.in_ok-old.old) c.in_ok-new.indices
           (sym c.in_ok-old.ensures.old)
-          (λ q. c.in_ok-places.ensures.kept q ∙ ap (λ n. cond (bytes_eq n q) None (kept q)) c.as_str-variable.ensures)
-          (λ q. c.in_ok-keep.ensures.kept q ∙ ap (λ n. cond (bytes_eq n q) c.in_ok-new.places (kept_for c.keep.new.self q)) c.as_str-variable.ensures)
-          put c.in_ok-new.ensures.places c.requires.consistent.places;
+          (λ q. c.in_ok-indices.ensures.kept q ∙ ap (λ n. cond (bytes_eq n q) None (kept q)) c.as_str-variable.ensures)
+          (λ q. c.in_ok-keep.ensures.kept q ∙ ap (λ n. cond (bytes_eq n q) c.in_ok-new.indices (kept_for c.keep.new.self q)) c.as_str-variable.ensures)
+          put c.in_ok-new.ensures.indices c.requires.consistent.indices;
     }

@@ -4,4 +4,4 @@ use Rattle.bp_values.specs.Inside.{HasMet}
 use Rattle.bp_values.proofs.sums.names_met.Given as goal
 
 abbrev pub invariant-loop-entry : goal.invariant-loop-entry
-invariant-loop-entry l = HasMet l.met l.places (map field_of (take l.entry-index l.entries))
+invariant-loop-entry l = HasMet l.met l.table (map field_of (take l.entry-index l.entries))

@@ -1,4 +1,5 @@
 use Rattle.std.proofs.Common.{◌≡◌, ◌∙◌, ◌<◌, ◌+◌, ◌-◌, ap, get_or, length, arith, sym, slice_get, take}
+use Rattle.bp_faults.specs.declared.limits.TheConstants.{MOST_EDGES}
 use Rattle.module_graph.specs.declared.graph.Node.{Node}
 use Rattle.variant_graphs.specs.Inside.{copies_of, kept_places, new_places}
 use Rattle.variant_graphs.proofs.Beyond.{places_more, place_beyond, length-repeated_more, beyond_is}
@@ -14,12 +15,12 @@ returns-then-kept-total g c =
     let total : c.loop-copy.total ≡ front + times = c.loop-copy.invariant.0 ∙ ap (λ l. front + length (copies_of c.loop-copy._copy l)) kept_are in
     let many : c.count_kept-kept.result ≡ length (kept_places counts (get_or nodes n x).edges) = c.count_kept-kept.ensures ∙ ap length kept_are in
     let few = c.loop-copy.invariant.1 in
-    let within : 4194304 - c.loop-copy.total < length (kept_places counts (get_or nodes n x).edges) = omega arith in
-    let same : (front + times) + (4194304 - c.loop-copy.total) ≡ 4194304 = omega arith in
+    let within : MOST_EDGES - c.loop-copy.total < length (kept_places counts (get_or nodes n x).edges) = omega arith in
+    let same : (front + times) + (MOST_EDGES - c.loop-copy.total) ≡ MOST_EDGES = omega arith in
     let e = ap length c.as_slice-node-items.ensures in
     let lt : n < length nodes = omega arith in
-    beyond_is counts nodes (kept_places counts (get_or nodes n x).edges) (4194304 - c.loop-copy.total) c.kept_at.result (c.kept_at.ensures ∙ ap (λ l. slice_get l (4194304 - c.loop-copy.total)) kept_are) within
-    (ap (slice_get (new_places counts nodes)) (sym same) ∙ place_beyond counts nodes n x c.loop-copy._copy (4194304 - c.loop-copy.total) lt (omega arith) within)
+    beyond_is counts nodes (kept_places counts (get_or nodes n x).edges) (MOST_EDGES - c.loop-copy.total) c.kept_at.result (c.kept_at.ensures ∙ ap (λ l. slice_get l (MOST_EDGES - c.loop-copy.total)) kept_are) within
+    (ap (slice_get (new_places counts nodes)) (sym same) ∙ place_beyond counts nodes n x c.loop-copy._copy (MOST_EDGES - c.loop-copy.total) lt (omega arith) within)
 
 pub loop-copy-preserved : goal.loop-copy-preserved
 loop-copy-preserved g c =

@@ -1,7 +1,7 @@
 use Rattle.std.proofs.Common.{rules, ◌≡◌, sym, subst}
 use Rattle.bp_props.specs.Groups.{Ascends, groups_merged, EachMerged}
 use Rattle.bp_props.proofs.Each.{each_merged}
-use Rattle.bp_props.proofs.Places.{ascends_merged}
+use Rattle.bp_props.proofs.Indices.{ascends_merged}
 use Rattle.bp_props.proofs.groups.Groups.merge.Goals as goal
 
 pub invariant_of-self-2 : goal.invariant_of-self-2

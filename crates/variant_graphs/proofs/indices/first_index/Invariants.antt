@@ -1,0 +1,7 @@
+use Rattle.std.proofs.Common.{◌≡◌, ◌<◌, ℕ, false, get_or}
+use Rattle.module_graph.specs.declared.variation.Variation.TheVariants.{Empty}
+use Rattle.module_graph.specs.Same.{same}
+use Rattle.variant_graphs.proofs.indices.first_index.Given as goal
+
+abbrev pub invariant-loop-i : goal.invariant-loop-i
+invariant-loop-i l = (k : ℕ) → k < l.i → same l.v (get_or l.list k Empty) ≡ false

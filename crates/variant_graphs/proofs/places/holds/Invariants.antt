@@ -1,7 +1,0 @@
-use Rattle.std.proofs.Common.{◌≡◌, drop}
-use Rattle.std.specs.List.{list_any}
-use Rattle.module_graph.specs.Same.{same}
-use Rattle.variant_graphs.proofs.places.holds.Given as goal
-
-abbrev pub invariant-loop-other : goal.invariant-loop-other
-invariant-loop-other l = list_any (same l.v) (drop l.other-index l.list) ≡ list_any (same l.v) l.list
