@@ -1,14 +1,14 @@
 #!/usr/bin/env python3
 """Checks what a script can of the naming page in docs/CONTRIBUTING.md. It is no part of the gate.
 
-    tools/check_names.py [--counts] [--proofs] [--top DIRECTORY] [CRATE ..]
+    tools/check_names.py [--counts] [--top DIRECTORY] [CRATE ..]
 
 It prints a line `PATH:LINE: RULE: WHAT` for each place and ends with status 1 where there is one; with --counts it also
 prints a table by crate and rule. With names of crates it prints the places in these crates alone. DIRECTORY is the top of
 the repository, by default the one in which this script is. The rules:
 
-    width       a line of more than 120 columns in a .rt, .antt or .md file; imports, and tables and quoted blocks of
-                .md, may be wider, and files of proofs/ are looked at with --proofs alone
+    width       a line of more than 120 columns in a .rt, .antt or .md file; imports of .rt, and tables and quoted
+                blocks of .md, may be wider; tools/wrap_proofs.py wraps those of .antt
     comment     a definition in specs/ has no comment of its own, or one that isn't a sentence with a full stop
     meanings    one name is defined in specs/ of two crates, in files of which public contracts speak; laws aside
     bool        a name that begins with is_ or has_ is no Bool in specs/, or no bool in the code, where a call that
@@ -130,16 +130,16 @@ def is_participle(name):
     return "_" not in name and name not in NOUNS and (name in IRREGULAR or name.endswith("ed"))
 
 
-def may_be_wide(path, line, quoted, proofs):
+def may_be_wide(path, line, quoted):
     """Lines whose width isn't looked at."""
     if path.endswith(".md"):
         return quoted or line.startswith("|")
-    if "/proofs/" in path and not proofs:
-        return True
-    return not path.endswith((".rt", ".antt")) or re.match(r" *(pub )?(ghost )?use ", line)
+    if path.endswith(".rt"):
+        return re.match(r" *(pub )?(ghost )?use ", line)
+    return not path.endswith(".antt")
 
 
-def check_texts(paths, proofs, tell):
+def check_texts(paths, tell):
     """Widths and numbers, line by line."""
     for path in paths:
         if not path.endswith((".rt", ".antt", ".md", ".sh", ".py", ".edit", ".txt")):
@@ -147,7 +147,7 @@ def check_texts(paths, proofs, tell):
         quoted = False
         for number, line in enumerate(lines_of(path), 1):
             quoted ^= path.endswith(".md") and line.lstrip().startswith("```")
-            if len(line) > WIDEST and not may_be_wide(path, line, quoted, proofs):
+            if len(line) > WIDEST and not may_be_wide(path, line, quoted):
                 tell(path, number, "width", f"{len(line)} columns")
             cited = NUMBERED.search(line)
             if cited and not path.endswith("check_names.py"):
@@ -239,7 +239,6 @@ def check_meanings(found, private, tell):
 def main():
     parser = argparse.ArgumentParser(description="Checks the names and texts of the repository.")
     parser.add_argument("--counts", action="store_true", help="print a table by crate and rule too")
-    parser.add_argument("--proofs", action="store_true", help="look at the widths of proofs too")
     parser.add_argument("--top", default=HERE, metavar="DIRECTORY")
     parser.add_argument("crates", nargs="*", metavar="CRATE")
     options = parser.parse_args()
@@ -258,7 +257,7 @@ def main():
             found += definitions_of(crate_of(path), path, lines)
             if re.search(r"/specs/(Inside|Laws)", path) or (lines and PRIVATE in lines[0]):
                 private.add(path)
-    check_texts(paths, options.proofs, tell)
+    check_texts(paths, tell)
     check_links(paths, tell)
     check_code(paths, tell)
     check_citations(paths, tell)
