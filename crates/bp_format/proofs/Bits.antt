@@ -1,5 +1,7 @@
 -- The tokens of what is put into a text.
-use Rattle.std.proofs.Common.{◌≡◌, ℕ, zero, suc, ◌+◌, ◌-◌, ◌≤◌, false, List, [], ◌∷◌, ◌++◌, length, take, drop, map, Some, sym, refl, ap, ◌∙◌, subst, inl, inr, arith, append_assoc, length-append, length-drop, IsUtf8}
+use Rattle.std.proofs.Common.{◌≡◌, ℕ, zero, suc, ◌+◌, ◌-◌, ◌≤◌, false, List, [], ◌∷◌, ◌++◌, length, take, drop, map}
+use Rattle.std.proofs.Common.{Some, sym, refl, ap, ◌∙◌, subst, inl, inr, arith, append_assoc, length-append}
+use Rattle.std.proofs.Common.{length-drop, IsUtf8}
 use Rattle.std.specs.Prelude.{⊤, All, codes}
 use Rattle.std.proofs.Math.Seq.{take-append_seam, drop-append_seam}
 use Rattle.std.proofs.lemmas.List.{drop-drop}
@@ -58,19 +60,26 @@ pub record AreTold (file : ℕ) (text : List ℕ) (from to : ℕ) (bits : List B
   pub covered : Covers file text from to tokens
   pub alike : Alike (bit_words bits) (words_of text tokens)
 
-pub told : Lexing → (file : ℕ) (text : List ℕ) (j : ℕ) (g : List ℕ) (bits : List Bit) (tail : List ℕ) → White g → AreBits bits tail → j ≤ length text → drop j text ≡ g ++ (bits_text bits ++ tail) → AreTold file text j (j + (length g + length (bits_text bits))) bits
+pub told : Lexing → (file : ℕ) (text : List ℕ) (j : ℕ) (g : List ℕ) (bits : List Bit) (tail : List ℕ) → White g
+    → AreBits bits tail → j ≤ length text → drop j text ≡ g ++ (bits_text bits ++ tail)
+    → AreTold file text j (j + (length g + length (bits_text bits))) bits
 told lex file text j g [] tail white are inside is = record {
   tokens = [];
-  covered = let same : j + length g ≡ j + (length g + 0) = omega arith in subst (IsBlank text j) same (blank_gap text j g tail is white);
+  covered =
+      let same : j + length g ≡ j + (length g + 0) = omega arith in
+      subst (IsBlank text j) same (blank_gap text j g tail is white);
   alike = refl;
 }
 told lex file text j g (b ∷ bs) tail white are inside is =
     let at = j + length g in
     let end = at + length b.text in
     let rest = b.gap ++ (bits_text bs ++ tail) in
-    let whole : (b.text ++ (b.gap ++ bits_text bs)) ++ tail ≡ b.text ++ rest = append_assoc b.text (b.gap ++ bits_text bs) tail ∙ ap (λ l. b.text ++ l) (append_assoc b.gap (bits_text bs) tail) in
-    let here : drop at text ≡ b.text ++ rest = sym (drop-drop (length g) j text) ∙ ap (drop (length g)) is ∙ drop-append_seam g _ ∙ whole in
-    let later : drop end text ≡ rest = sym (drop-drop (length b.text) at text) ∙ ap (drop (length b.text)) here ∙ drop-append_seam b.text rest in
+    let whole : (b.text ++ (b.gap ++ bits_text bs)) ++ tail ≡ b.text ++ rest =
+    append_assoc b.text (b.gap ++ bits_text bs) tail ∙ ap (λ l. b.text ++ l) (append_assoc b.gap (bits_text bs) tail) in
+    let here : drop at text ≡ b.text ++ rest =
+    sym (drop-drop (length g) j text) ∙ ap (drop (length g)) is ∙ drop-append_seam g _ ∙ whole in
+    let later : drop end text ≡ rest =
+    sym (drop-drop (length b.text) at text) ∙ ap (drop (length b.text)) here ∙ drop-append_seam b.text rest in
     let wide = length-append g ((b.text ++ (b.gap ++ bits_text bs)) ++ tail) in
     let deep = length-append b.text rest in
     let bound : at ≤ length text = omega (arith, length-drop j text, ap length is, wide) in
@@ -79,15 +88,19 @@ told lex file text j g (b ∷ bs) tail white are inside is =
     let r = told lex file text end b.gap bs tail are.0.white are.1 past later in
     let span : end - at ≡ length b.text = omega arith in
     let word : take (end - at) (drop at text) ≡ b.text = (λ i. take (span i) (here i)) ∙ take-append_seam b.text rest in
-    let to : end + (length b.gap + length (bits_text bs)) ≡ j + (length g + length (b.text ++ (b.gap ++ bits_text bs))) = omega (arith, length-append b.text (b.gap ++ bits_text bs), length-append b.gap (bits_text bs)) in
+    let to : end + (length b.gap + length (bits_text bs))
+    ≡ j + (length g + length (b.text ++ (b.gap ++ bits_text bs))) =
+    omega (arith, length-append b.text (b.gap ++ bits_text bs), length-append b.gap (bits_text bs)) in
     record {
       tokens = t ∷ r.tokens;
       covered = (
         blank_gap text j g _ is white,
-        token_where lex file text b.kind at end b.text rest are.0.form are.0.stops (λ int. absurd (are.0.no_number int)) bound refl here,
+        token_where lex file text b.kind at end b.text rest are.0.form are.0.stops
+            (λ int. absurd (are.0.no_number int)) bound refl here,
         subst (λ n. Covers file text end n r.tokens) to r.covered,
       );
-      alike = (λ i. (b.kind, sym word i) ∷ r.alike i) ∙ sym (ap (map word_content) (word_alone text t r.tokens are.0.word));
+      alike =
+          (λ i. (b.kind, sym word i) ∷ r.alike i) ∙ sym (ap (map word_content) (word_alone text t r.tokens are.0.word));
     }
 
 -- a form that ends by itself
@@ -122,7 +135,8 @@ list_bits items = mark OpenBracket [] ∷ inner_bits items
 
 -- what is put behind a name
 abbrev pub lead_bits : List ℕ → List Bit → List Bit
-lead_bits property more = mark Comma (codes " ") ∷ record { kind = Ident; text = property; gap = [] } ∷ mark Colon (codes " ") ∷ more
+lead_bits property more =
+    mark Comma (codes " ") ∷ record { kind = Ident; text = property; gap = [] } ∷ mark Colon (codes " ") ∷ more
 
 -- a word that was there
 abbrev pub kept_bit : Token → List ℕ → Bit
@@ -130,20 +144,35 @@ kept_bit t text = record { kind = t.kind; text = text; gap = [] }
 
 more_text : (xs : List (List ℕ)) → bits_text (more_bits xs) ≡ more_items_text xs ++ codes "]"
 more_text [] = refl
-more_text (x ∷ xs) = ap (λ l. codes ", " ++ (quotation x ++ l)) (more_text xs) ∙ ap (λ l. codes ", " ++ l) (sym (append_assoc (quotation x) (more_items_text xs) (codes "]")))
+more_text (x ∷ xs) =
+    ap (λ l. codes ", " ++ (quotation x ++ l)) (more_text xs)
+    ∙ ap (λ l. codes ", " ++ l) (sym (append_assoc (quotation x) (more_items_text xs) (codes "]")))
 
 inner_text : (xs : List (List ℕ)) → bits_text (inner_bits xs) ≡ items_text xs ++ codes "]"
 inner_text [] = refl
-inner_text (x ∷ xs) = ap (λ l. quotation x ++ l) (more_text xs) ∙ sym (append_assoc (quotation x) (more_items_text xs) (codes "]"))
+inner_text (x ∷ xs) =
+    ap (λ l. quotation x ++ l) (more_text xs) ∙ sym (append_assoc (quotation x) (more_items_text xs) (codes "]"))
 
 pub text_of_list : (xs : List (List ℕ)) → bits_text (list_bits xs) ≡ list_text xs
 text_of_list xs = ap (λ l. codes "[" ++ l) (inner_text xs)
 
 is_mark : (m : Punct) (gap tail : List ℕ) → ((b : ℕ) → goes_on (Mark m) b ≡ false) → White gap → IsBit (mark m gap) tail
-is_mark m gap tail never white = record { form = refl; stops = ends_itself (Mark m) tail never; white = white; no_number = λ e. cc; word = refl }
+is_mark m gap tail never white = record {
+  form = refl;
+  stops = ends_itself (Mark m) tail never;
+  white = white;
+  no_number = λ e. cc;
+  word = refl;
+}
 
 is_string : (x tail : List ℕ) → IsBit (string x) tail
-is_string x tail = record { form = quoted_form x; stops = ends_itself Quoted tail (λ b. refl); white = no_gap; no_number = λ e. cc; word = refl }
+is_string x tail = record {
+  form = quoted_form x;
+  stops = ends_itself Quoted tail (λ b. refl);
+  white = no_gap;
+  no_number = λ e. cc;
+  word = refl;
+}
 
 more_are : (xs : List (List ℕ)) (tail : List ℕ) → AreBits (more_bits xs) tail
 more_are [] tail = (is_mark CloseBracket [] _ (λ b. refl) no_gap, tt)
@@ -156,7 +185,8 @@ inner_are (x ∷ xs) tail = (is_string x _, more_are xs tail)
 pub list_are : (xs : List (List ℕ)) (tail : List ℕ) → AreBits (list_bits xs) tail
 list_are xs tail = (is_mark OpenBracket [] _ (λ b. refl) no_gap, inner_are xs tail)
 
-pub lead_are : (property : List ℕ) (more : List Bit) (tail : List ℕ) → IsForm Ident property → AreBits more tail → AreBits (lead_bits property more) tail
+pub lead_are : (property : List ℕ) (more : List Bit) (tail : List ℕ) → IsForm Ident property → AreBits more tail
+    → AreBits (lead_bits property more) tail
 lead_are property more tail form are = (
   is_mark Comma (codes " ") _ (λ b. refl) one_space,
   (
@@ -166,20 +196,29 @@ lead_are property more tail form are = (
 )
 
 -- the words of a list spell it
-leaf : (x : List ℕ) (rest : List Word) → IsUtf8 x → Spells (Leaf origin (Str x)) (plain_word Quoted (quotation x) ∷ rest) rest
+leaf : (x : List ℕ) (rest : List Word) → IsUtf8 x
+    → Spells (Leaf origin (Str x)) (plain_word Quoted (quotation x) ∷ rest) rest
 leaf x rest utf8 = (Quoted, quotation x, refl, ap (λ s. Some (Str s)) (quoted_string x utf8))
 
-more_spelled : (xs : List (List ℕ)) (rest : List Word) → All IsUtf8 xs → SpellsMoreItems (string_items xs) (bit_words (more_bits xs) ++ rest) rest
+more_spelled : (xs : List (List ℕ)) (rest : List Word) → All IsUtf8 xs
+    → SpellsMoreItems (string_items xs) (bit_words (more_bits xs) ++ rest) rest
 more_spelled [] rest utf8 = inl (origin, (codes "]", refl))
 more_spelled (x ∷ xs) rest utf8 =
-    let behind = bit_words (more_bits xs) ++ rest in
-    (plain_word Quoted (quotation x) ∷ behind, behind, (origin, (codes ",", refl)), leaf x behind (utf8 0 x (omega arith)), more_spelled xs rest (λ i d within. utf8 (suc i) d (omega arith)))
+    let behind = bit_words (more_bits xs) ++ rest in (
+      plain_word Quoted (quotation x) ∷ behind,
+      behind,
+      (origin, (codes ",", refl)),
+      leaf x behind (utf8 0 x (omega arith)),
+      more_spelled xs rest (λ i d within. utf8 (suc i) d (omega arith)),
+    )
 
-inner_spelled : (xs : List (List ℕ)) (rest : List Word) → All IsUtf8 xs → SpellsItems (string_items xs) (bit_words (inner_bits xs) ++ rest) rest
+inner_spelled : (xs : List (List ℕ)) (rest : List Word) → All IsUtf8 xs
+    → SpellsItems (string_items xs) (bit_words (inner_bits xs) ++ rest) rest
 inner_spelled [] rest utf8 = (origin, (codes "]", refl))
 inner_spelled (x ∷ xs) rest utf8 =
     let behind = bit_words (more_bits xs) ++ rest in
     (behind, leaf x behind (utf8 0 x (omega arith)), more_spelled xs rest (λ i d within. utf8 (suc i) d (omega arith)))
 
-pub list_spelled : (xs : List (List ℕ)) (rest : List Word) → All IsUtf8 xs → Spells (list_expression xs) (bit_words (list_bits xs) ++ rest) rest
+pub list_spelled : (xs : List (List ℕ)) (rest : List Word) → All IsUtf8 xs
+    → Spells (list_expression xs) (bit_words (list_bits xs) ++ rest) rest
 list_spelled xs rest utf8 = (bit_words (inner_bits xs) ++ rest, (codes "[", refl), inner_spelled xs rest utf8)

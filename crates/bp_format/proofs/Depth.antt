@@ -1,5 +1,7 @@
 -- What is spelled opens and closes its own brackets, and no definition begins inside of another.
-use Rattle.std.proofs.Common.{◌≡◌, ℕ, ◌+◌, ◌-◌, ◌<◌, ◌≤◌, Bool, true, false, List, [], ◌∷◌, ◌++◌, length, take, Some, sym, refl, ap, ◌∙◌, subst, ⊎_elim, inl, inr, append_assoc, append-nil, arith, length-append}
+use Rattle.std.proofs.Common.{◌≡◌, ℕ, ◌+◌, ◌-◌, ◌<◌, ◌≤◌, Bool, true, false, List, [], ◌∷◌, ◌++◌, length, take, Some}
+use Rattle.std.proofs.Common.{sym, refl, ap, ◌∙◌, subst, ⊎_elim, inl, inr, append_assoc, append-nil, arith}
+use Rattle.std.proofs.Common.{length-append}
 use Rattle.std.specs.Prelude.{◌⊎◌, ⊤, cond}
 use Rattle.std.specs.List.{count_by}
 use Rattle.std.proofs.Math.Seq.{take-append_seam}
@@ -7,13 +9,16 @@ use Rattle.std.proofs.lemmas.List.Sums.{sum_by-append, sum_by-cons}
 use Rattle.std.proofs.lemmas.Bool.{cond-true, cond-false, false≢true}
 use Rattle.bp_faults.specs.declared.place.Place.{Place}
 use Rattle.bp_lexer.specs.declared.token.Punct.{Punct}
-use Rattle.bp_lexer.specs.declared.token.Punct.TheVariants.{OpenBrace, CloseBrace, OpenBracket, CloseBracket, Colon, Comma, Equal, PlusEqual, Plus}
+use Rattle.bp_lexer.specs.declared.token.Punct.TheVariants.{OpenBrace, CloseBrace, OpenBracket, CloseBracket, Colon}
+use Rattle.bp_lexer.specs.declared.token.Punct.TheVariants.{Comma, Equal, PlusEqual, Plus}
 use Rattle.bp_lexer.specs.declared.token.TokenKind.{TokenKind}
 use Rattle.bp_lexer.specs.declared.token.TokenKind.TheVariants.{Ident, Int, Quoted, Raw, Punct as Mark}
-use Rattle.bp_parser.specs.Trees.{Atom, Tree, Leaf, Items, Body, Sum, Trees, no_tree, tree_and, Terms, no_term, term_and, Entries, no_entry, entry_and, Definition, Assigns, Extends, Declares}
+use Rattle.bp_parser.specs.Trees.{Atom, Tree, Leaf, Items, Body, Sum, Trees, no_tree, tree_and, Terms, no_term}
+use Rattle.bp_parser.specs.Trees.{term_and, Entries, no_entry, entry_and, Definition, Assigns, Extends, Declares}
 use Rattle.bp_parser.specs.Words.{Word, atom_of}
 use Rattle.bp_parser.specs.Flaws.{is_opening as opens_bracket, closes as closes_bracket}
-use Rattle.bp_parser.specs.Grammar.{IsWord, IsMark, Spells, SpellsTerms, SpellsItems, SpellsMoreItems, SpellsEntries, SpellsMoreEntries, SpellsDef}
+use Rattle.bp_parser.specs.Grammar.{IsWord, IsMark, Spells, SpellsTerms, SpellsItems, SpellsMoreItems, SpellsEntries}
+use Rattle.bp_parser.specs.Grammar.{SpellsMoreEntries, SpellsDef}
 use Rattle.bp_format.specs.Kinds.{is_ident, wants_value}
 use Rattle.bp_format.specs.Layout.{opens_any, closes_any, nest_behind}
 
@@ -62,12 +67,17 @@ plain_closes (Mark CloseBrace) is = absurd cc
 plain_closes (Mark CloseBracket) is = absurd cc
 plain_closes _ is = refl
 
-pub plain_counts : (w : Word) → opens_any w.kind ≡ false → closes_any w.kind ≡ false → (opens_word w ≡ 0) × (closes_word w ≡ 0)
-plain_counts w o c = (cond-false (opens_bracket w.kind) 1 0 (plain_opens w.kind o), cond-false (closes_bracket w.kind) 1 0 (plain_closes w.kind c))
+pub plain_counts : (w : Word) → opens_any w.kind ≡ false → closes_any w.kind ≡ false
+    → (opens_word w ≡ 0) × (closes_word w ≡ 0)
+plain_counts w o c = (
+  cond-false (opens_bracket w.kind) 1 0 (plain_opens w.kind o),
+  cond-false (closes_bracket w.kind) 1 0 (plain_closes w.kind c),
+)
 
 -- a bracket that opens and one that closes are counted
 abbrev IsPair : TokenKind → TokenKind → Type 0
-IsPair j k = (opens_bracket j ≡ true) × (closes_bracket j ≡ false) × (opens_bracket k ≡ false) × (closes_bracket k ≡ true)
+IsPair j k =
+    (opens_bracket j ≡ true) × (closes_bracket j ≡ false) × (opens_bracket k ≡ false) × (closes_bracket k ≡ true)
 
 -- words that close what they open, and nothing else
 pub record Keeps (front : List Word) : Type 0 where
@@ -86,7 +96,8 @@ keeps_nil = record {
   within_nil n (w ∷ b) c is = absurd cc
 
 -- two ways to cut one list
-pub two_cuts : (f g b c : List Word) → f ++ g ≡ b ++ c → ((d : List Word) × (f ≡ b ++ d) × (c ≡ d ++ g)) ⊎ ((d : List Word) × (b ≡ f ++ d) × (g ≡ d ++ c))
+pub two_cuts : (f g b c : List Word) → f ++ g ≡ b ++ c
+    → ((d : List Word) × (f ≡ b ++ d) × (c ≡ d ++ g)) ⊎ ((d : List Word) × (b ≡ f ++ d) × (g ≡ d ++ c))
 two_cuts [] g b c is = inr (b, refl, is)
 two_cuts (x ∷ f) g [] c is = inl (x ∷ f, refl, sym is)
 two_cuts (x ∷ f) g (y ∷ b) c is =
@@ -103,11 +114,16 @@ keeps_append f g k l = record {
   whole = λ n. nest_append n f g ∙ ap (λ m. nest_of m g) (k.whole n) ∙ l.whole n;
   within = λ n b c is. ⊎_elim
       (λ p. k.within n b p.0 p.1)
-      (λ p. omega (arith, l.within n p.0 c p.2, ap length (ap (nest_of n) p.1 ∙ nest_append n f p.0 ∙ ap (λ m. nest_of m p.0) (k.whole n))))
+      (λ p. omega (
+        arith,
+        l.within n p.0 c p.2,
+        ap length (ap (nest_of n) p.1 ∙ nest_append n f p.0 ∙ ap (λ m. nest_of m p.0) (k.whole n)),
+      ))
       (two_cuts f g b c is);
 }
 
-pub turned_plain : (n : List TokenKind) (k : TokenKind) → opens_any k ≡ false → closes_any k ≡ false → nest_behind n k ≡ n
+pub turned_plain : (n : List TokenKind) (k : TokenKind) → opens_any k ≡ false → closes_any k ≡ false
+    → nest_behind n k ≡ n
 turned_plain n k o c = cond-false (opens_any k) _ _ o ∙ cond-false (closes_any k) _ _ c
 
 keeps_word : (w : Word) → opens_any w.kind ≡ false → closes_any w.kind ≡ false → Keeps (w ∷ [])
@@ -126,19 +142,25 @@ keeps_word w o c = record {
 pub turned_open : (n : List TokenKind) (k : TokenKind) → opens_any k ≡ true → nest_behind n k ≡ n ++ k ∷ []
 turned_open n k o = cond-true (opens_any k) _ _ o
 
-turned_close : (n : List TokenKind) (j k : TokenKind) → opens_any k ≡ false → closes_any k ≡ true → nest_behind (n ++ j ∷ []) k ≡ n
+turned_close : (n : List TokenKind) (j k : TokenKind) → opens_any k ≡ false → closes_any k ≡ true
+    → nest_behind (n ++ j ∷ []) k ≡ n
 turned_close n j k o c =
     let len : length (n ++ j ∷ []) - 1 ≡ length n = omega (arith, length-append n (j ∷ [])) in
-    cond-false (opens_any k) _ _ o ∙ cond-true (closes_any k) _ _ c ∙ ap (λ i. take i (n ++ j ∷ [])) len ∙ take-append_seam n (j ∷ [])
+    cond-false (opens_any k) _ _ o
+    ∙ cond-true (closes_any k) _ _ c
+    ∙ ap (λ i. take i (n ++ j ∷ [])) len
+    ∙ take-append_seam n (j ∷ [])
 
 -- a bracket, what is inside, and the bracket that closes
 abbrev pub bracket : Word → List Word → Word → List Word
 bracket o inner e = o ∷ (inner ++ e ∷ [])
 
 -- what begins with the bracket and isn't all of it is within
-pub inside_bracket : (n : List TokenKind) (o e : Word) (inner b c : List Word) → opens_any o.kind ≡ true → Keeps inner → inner ++ e ∷ [] ≡ b ++ c → 0 < length c → length n < length (nest_of (nest_behind n o.kind) b)
+pub inside_bracket : (n : List TokenKind) (o e : Word) (inner b c : List Word) → opens_any o.kind ≡ true → Keeps inner
+    → inner ++ e ∷ [] ≡ b ++ c → 0 < length c → length n < length (nest_of (nest_behind n o.kind) b)
 inside_bracket n o e inner b c opening k is some =
-    let deeper : length (nest_behind n o.kind) ≡ length n + 1 = ap length (turned_open n o.kind opening) ∙ length-append n (o.kind ∷ []) in
+    let deeper : length (nest_behind n o.kind) ≡ length n + 1 =
+    ap length (turned_open n o.kind opening) ∙ length-append n (o.kind ∷ []) in
     ⊎_elim
     (λ p. omega (arith, k.within (nest_behind n o.kind) b p.0 p.1, deeper))
     (λ p.
@@ -151,7 +173,8 @@ inside_bracket n o e inner b c opening k is some =
     ends_there [] c e is some = refl
     ends_there (x ∷ d) c e is some = absurd (omega (arith, ap length is, length-append d c))
 
-keeps_bracket : (o e : Word) (inner : List Word) → IsPair o.kind e.kind → opens_any o.kind ≡ true → opens_any e.kind ≡ false → closes_any e.kind ≡ true → Keeps inner → Keeps (bracket o inner e)
+keeps_bracket : (o e : Word) (inner : List Word) → IsPair o.kind e.kind → opens_any o.kind ≡ true
+    → opens_any e.kind ≡ false → closes_any e.kind ≡ true → Keeps inner → Keeps (bracket o inner e)
 keeps_bracket o e inner pair opening shut_one closing k = record {
   counts = counted;
   whole = all;
@@ -180,7 +203,9 @@ keeps_bracket o e inner pair opening shut_one closing k = record {
 
   all : (n : List TokenKind) → nest_of n (bracket o inner e) ≡ n
   all n =
-      nest_append (nest_behind n o.kind) inner (e ∷ []) ∙ ap (λ m. nest_behind m e.kind) (k.whole (nest_behind n o.kind) ∙ turned_open n o.kind opening) ∙ turned_close n o.kind e.kind shut_one closing
+      nest_append (nest_behind n o.kind) inner (e ∷ [])
+      ∙ ap (λ m. nest_behind m e.kind) (k.whole (nest_behind n o.kind) ∙ turned_open n o.kind opening)
+      ∙ turned_close n o.kind e.kind shut_one closing
 
   at : (n : List TokenKind) (b c : List Word) → bracket o inner e ≡ b ++ c → length n ≤ length (nest_of n b)
   at n [] c is = omega arith
@@ -188,7 +213,11 @@ keeps_bracket o e inner pair opening shut_one closing k = record {
   at n (x ∷ b) (y ∷ c) is =
       let head : o ≡ x = cc in
       let rest : inner ++ e ∷ [] ≡ b ++ (y ∷ c) = cc in
-      omega (arith, inside_bracket n o e inner b (y ∷ c) opening k rest (omega arith), ap length (ap (λ (v : Word). nest_of (nest_behind n v.kind) b) (sym head)))
+      omega (
+        arith,
+        inside_bracket n o e inner b (y ∷ c) opening k rest (omega arith),
+        ap length (ap (λ (v : Word). nest_of (nest_behind n v.kind) b) (sym head)),
+      )
 
 -- a value has to follow the last of the words
 abbrev pub wants_more : List Word → Bool
@@ -203,7 +232,8 @@ wants_append (x ∷ y ∷ a) w b = wants_append (y ∷ a) w b
 
 -- within the words no definition begins where no bracket is open, but behind `=`, `+=` and `+`
 pub record IsQuiet (front : List Word) : Type 0 where
-  pub quiet : (b : List Word) (x : Word) (c : List Word) → front ≡ b ++ x ∷ c → 0 < length b → nest_of [] b ≡ [] → wants_more b ≡ false → is_ident x.kind ≡ true → ⊥
+  pub quiet : (b : List Word) (x : Word) (c : List Word) → front ≡ b ++ x ∷ c → 0 < length b → nest_of [] b ≡ []
+      → wants_more b ≡ false → is_ident x.kind ≡ true → ⊥
 
 -- no definition begins with the words
 abbrev pub NoIdent : List Word → Type 0
@@ -211,21 +241,30 @@ NoIdent [] = ⊤
 NoIdent (w ∷ ws) = is_ident w.kind ≡ false
 
 quiet_word : (w : Word) → IsQuiet (w ∷ [])
-quiet_word w = record { quiet = λ b x c is some none wants ident. absurd (omega (arith, ap length is, length-append b (x ∷ c))) }
+quiet_word w = record {
+  quiet = λ b x c is some none wants ident. absurd (omega (arith, ap length is, length-append b (x ∷ c)));
+}
 
 quiet_bracket : (o e : Word) (inner : List Word) → opens_any o.kind ≡ true → Keeps inner → IsQuiet (bracket o inner e)
 quiet_bracket o e inner opening k = record { quiet = at } where
-  at : (b : List Word) (x : Word) (c : List Word) → bracket o inner e ≡ b ++ x ∷ c → 0 < length b → nest_of [] b ≡ [] → wants_more b ≡ false → is_ident x.kind ≡ true → ⊥
+  at : (b : List Word) (x : Word) (c : List Word) → bracket o inner e ≡ b ++ x ∷ c → 0 < length b → nest_of [] b ≡ []
+      → wants_more b ≡ false → is_ident x.kind ≡ true → ⊥
   at [] x c is some none wants ident = absurd (omega arith)
   at (y ∷ b) x c is some none wants ident =
       let head : o ≡ y = cc in
       let rest : inner ++ e ∷ [] ≡ b ++ (x ∷ c) = cc in
-      omega (arith, inside_bracket [] o e inner b (x ∷ c) opening k rest (omega arith), ap length (ap (λ (v : Word). nest_of (nest_behind [] v.kind) b) head ∙ none))
+      omega (
+        arith,
+        inside_bracket [] o e inner b (x ∷ c) opening k rest (omega arith),
+        ap length (ap (λ (v : Word). nest_of (nest_behind [] v.kind) b) head ∙ none),
+      )
 
 -- behind `=`, `+=` and `+`
-quiet_wanting : (w : Word) (g : List Word) → wants_value w.kind ≡ true → opens_any w.kind ≡ false → closes_any w.kind ≡ false → IsQuiet g → IsQuiet (w ∷ g)
+quiet_wanting : (w : Word) (g : List Word) → wants_value w.kind ≡ true → opens_any w.kind ≡ false
+    → closes_any w.kind ≡ false → IsQuiet g → IsQuiet (w ∷ g)
 quiet_wanting w g wants_one no_open no_close q = record { quiet = at } where
-  at : (b : List Word) (x : Word) (c : List Word) → w ∷ g ≡ b ++ x ∷ c → 0 < length b → nest_of [] b ≡ [] → wants_more b ≡ false → is_ident x.kind ≡ true → ⊥
+  at : (b : List Word) (x : Word) (c : List Word) → w ∷ g ≡ b ++ x ∷ c → 0 < length b → nest_of [] b ≡ []
+      → wants_more b ≡ false → is_ident x.kind ≡ true → ⊥
   at [] x c is some none wants ident = absurd (omega arith)
   at (y ∷ []) x c is some none wants ident =
       let head : w ≡ y = cc in
@@ -233,24 +272,32 @@ quiet_wanting w g wants_one no_open no_close q = record { quiet = at } where
   at (y ∷ z ∷ b) x c is some none wants ident =
       let head : w ≡ y = cc in
       let rest : g ≡ z ∷ (b ++ x ∷ c) = cc in
-      q.quiet (z ∷ b) x c rest (omega arith) (ap (λ n. nest_of n (z ∷ b)) (sym (turned_plain [] w.kind no_open no_close)) ∙ ap (λ (v : Word). nest_of (nest_behind [] v.kind) (z ∷ b)) head ∙ none) wants ident
+      q.quiet (z ∷ b) x c rest (omega arith)
+      (ap (λ n. nest_of n (z ∷ b)) (sym (turned_plain [] w.kind no_open no_close))
+      ∙ ap (λ (v : Word). nest_of (nest_behind [] v.kind) (z ∷ b)) head ∙ none) wants ident
 
 quiet_append : (f g : List Word) → Keeps f → IsQuiet f → IsQuiet g → NoIdent g → IsQuiet (f ++ g)
 quiet_append f g k q r starts = record { quiet = at } where
-  left : (b : List Word) (x : Word) (c d : List Word) → f ≡ b ++ d → x ∷ c ≡ d ++ g → 0 < length b → nest_of [] b ≡ [] → wants_more b ≡ false → is_ident x.kind ≡ true → ⊥
+  left : (b : List Word) (x : Word) (c d : List Word) → f ≡ b ++ d → x ∷ c ≡ d ++ g → 0 < length b → nest_of [] b ≡ []
+      → wants_more b ≡ false → is_ident x.kind ≡ true → ⊥
   left b x c [] here behind some none wants ident = false≢true (sym (subst NoIdent (sym behind) starts) ∙ ident)
   left b x c (y ∷ d) here behind some none wants ident =
       let head : x ≡ y = cc in
       q.quiet b y d here some none wants (ap (λ (v : Word). is_ident v.kind) (sym head) ∙ ident)
 
-  right : (b : List Word) (x : Word) (c d : List Word) → b ≡ f ++ d → g ≡ d ++ x ∷ c → 0 < length b → nest_of [] b ≡ [] → wants_more b ≡ false → is_ident x.kind ≡ true → ⊥
+  right : (b : List Word) (x : Word) (c d : List Word) → b ≡ f ++ d → g ≡ d ++ x ∷ c → 0 < length b → nest_of [] b ≡ []
+      → wants_more b ≡ false → is_ident x.kind ≡ true → ⊥
   right b x c [] here behind some none wants ident = false≢true (sym (subst NoIdent behind starts) ∙ ident)
   right b x c (y ∷ d) here behind some none wants ident =
       r.quiet (y ∷ d) x c behind (omega arith)
-      (ap (λ n. nest_of n (y ∷ d)) (sym (k.whole [])) ∙ sym (nest_append [] f (y ∷ d)) ∙ ap (nest_of []) (sym here) ∙ none)
+      (ap (λ n. nest_of n (y ∷ d)) (sym (k.whole []))
+      ∙ sym (nest_append [] f (y ∷ d))
+      ∙ ap (nest_of []) (sym here)
+      ∙ none)
       (sym (wants_append f y d) ∙ ap wants_more (sym here) ∙ wants) ident
 
-  at : (b : List Word) (x : Word) (c : List Word) → f ++ g ≡ b ++ x ∷ c → 0 < length b → nest_of [] b ≡ [] → wants_more b ≡ false → is_ident x.kind ≡ true → ⊥
+  at : (b : List Word) (x : Word) (c : List Word) → f ++ g ≡ b ++ x ∷ c → 0 < length b → nest_of [] b ≡ []
+      → wants_more b ≡ false → is_ident x.kind ≡ true → ⊥
   at b x c is some none wants ident = ⊎_elim
       (λ p. left b x c p.0 p.1 p.2 some none wants ident)
       (λ p. right b x c p.0 p.1 p.2 some none wants ident)
@@ -291,14 +338,16 @@ wants_behind w [] some ends = absurd (omega arith)
 wants_behind w (v ∷ g) some ends = ends
 
 -- one word that is no bracket
-pub plain_atom : (k : TokenKind) (text : List ℕ) (atom : Atom) → atom_of k text ≡ Some atom → (opens_any k ≡ false) × (closes_any k ≡ false) × (wants_value k ≡ false)
+pub plain_atom : (k : TokenKind) (text : List ℕ) (atom : Atom) → atom_of k text ≡ Some atom
+    → (opens_any k ≡ false) × (closes_any k ≡ false) × (wants_value k ≡ false)
 plain_atom Ident text atom is = (refl, refl, refl)
 plain_atom Int text atom is = (refl, refl, refl)
 plain_atom Quoted text atom is = (refl, refl, refl)
 plain_atom Raw text atom is = (refl, refl, refl)
 plain_atom _ text atom is = absurd cc
 
-framed_word : (w : Word) (ts rest : List Word) → ts ≡ w ∷ rest → (opens_any w.kind ≡ false) × (closes_any w.kind ≡ false) × (wants_value w.kind ≡ false) → IsFramed ts rest
+framed_word : (w : Word) (ts rest : List Word) → ts ≡ w ∷ rest
+    → (opens_any w.kind ≡ false) × (closes_any w.kind ≡ false) × (wants_value w.kind ≡ false) → IsFramed ts rest
 framed_word w ts rest is plain = record {
   front = w ∷ [];
   split = is;
@@ -308,21 +357,26 @@ framed_word w ts rest is plain = record {
   ends = plain.2;
 }
 
-framed_bracket : (j k : Punct) (at : Place) (text : List ℕ) (ts inner rest : List Word) → IsPair (Mark j) (Mark k) → opens_any (Mark j) ≡ true → opens_any (Mark k) ≡ false → closes_any (Mark k) ≡ true → wants_value (Mark k) ≡ false → ts ≡ record { kind = Mark j; at = at; text = text } ∷ inner → IsWithin k inner rest → IsFramed ts rest
+framed_bracket : (j k : Punct) (at : Place) (text : List ℕ) (ts inner rest : List Word) → IsPair (Mark j) (Mark k)
+    → opens_any (Mark j) ≡ true → opens_any (Mark k) ≡ false → closes_any (Mark k) ≡ true → wants_value (Mark k) ≡ false
+    → ts ≡ record { kind = Mark j; at = at; text = text } ∷ inner → IsWithin k inner rest → IsFramed ts rest
 framed_bracket j k at text ts inner rest pair opening shut_one closing ends is w =
     let o : Word = record { kind = Mark j; at = at; text = text } in
     let front = bracket o w.inner w.end in
     record {
       front = front;
       split = is ∙ ap (λ l. o ∷ l) (w.split ∙ sym (append_assoc w.inner (w.end ∷ []) rest));
-      keeps = keeps_bracket o w.end w.inner (subst (IsPair (Mark j)) (sym w.kind) pair) opening (ap opens_any w.kind ∙ shut_one) (ap closes_any w.kind ∙ closing) w.keeps;
+      keeps =
+          keeps_bracket o w.end w.inner (subst (IsPair (Mark j)) (sym w.kind) pair) opening
+          (ap opens_any w.kind ∙ shut_one) (ap closes_any w.kind ∙ closing) w.keeps;
       quiet = quiet_bracket o w.end w.inner opening w.keeps;
       some = omega arith;
       ends = wants_append (o ∷ w.inner) w.end [] ∙ ap wants_value w.kind ∙ ends;
     }
 
 -- a front, and then what is within
-within_more : (close : Punct) (ts mid rest front : List Word) → ts ≡ front ++ mid → Keeps front → IsWithin close mid rest → IsWithin close ts rest
+within_more : (close : Punct) (ts mid rest front : List Word) → ts ≡ front ++ mid → Keeps front
+    → IsWithin close mid rest → IsWithin close ts rest
 within_more close ts mid rest front split k w = record {
   inner = front ++ w.inner;
   end = w.end;
@@ -332,26 +386,40 @@ within_more close ts mid rest front split k w = record {
 }
 
 within_end : (close : Punct) (ts rest : List Word) → IsMark close ts rest → IsWithin close ts rest
-within_end close ts rest m = record { inner = []; end = record { kind = Mark close; at = m.0; text = m.1.0 }; split = m.1.1; keeps = keeps_nil; kind = refl }
+within_end close ts rest m = record {
+  inner = [];
+  end = record { kind = Mark close; at = m.0; text = m.1.0 };
+  split = m.1.1;
+  keeps = keeps_nil;
+  kind = refl;
+}
 
-within_mark : (close m : Punct) (ts mid rest : List Word) → opens_any (Mark m) ≡ false → closes_any (Mark m) ≡ false → IsMark m ts mid → IsWithin close mid rest → IsWithin close ts rest
+within_mark : (close m : Punct) (ts mid rest : List Word) → opens_any (Mark m) ≡ false → closes_any (Mark m) ≡ false
+    → IsMark m ts mid → IsWithin close mid rest → IsWithin close ts rest
 within_mark close m ts mid rest o c s w =
     let x : Word = record { kind = Mark m; at = s.0; text = s.1.0 } in
     within_more close ts mid rest (x ∷ []) s.1.1 (keeps_word x o c) w
 
-within_name : (close : Punct) (at : Place) (name : List ℕ) (ts mid rest : List Word) → IsWord Ident at name ts mid → IsWithin close mid rest → IsWithin close ts rest
+within_name : (close : Punct) (at : Place) (name : List ℕ) (ts mid rest : List Word) → IsWord Ident at name ts mid
+    → IsWithin close mid rest → IsWithin close ts rest
 within_name close at name ts mid rest s w =
     let x : Word = record { kind = Ident; at = at; text = name } in
     within_more close ts mid rest (x ∷ []) s (keeps_word x refl refl) w
 
-within_tree : (close : Punct) (ts mid rest : List Word) → IsFramed ts mid → IsWithin close mid rest → IsWithin close ts rest
+within_tree : (close : Punct) (ts mid rest : List Word) → IsFramed ts mid → IsWithin close mid rest
+    → IsWithin close ts rest
 within_tree close ts mid rest f w = within_more close ts mid rest f.front f.split f.keeps w
 
 mutual
   pub framed : (x : Tree) (ts rest : List Word) → Spells x ts rest → IsFramed ts rest
-  framed (Leaf at atom) ts rest s = framed_word (record { kind = s.0; at = at; text = s.1 }) ts rest s.2 (plain_atom s.0 s.1 atom s.3)
-  framed (Items at xs) ts rest s = framed_bracket OpenBracket CloseBracket at s.1.0 ts s.0 rest (refl, refl, refl, refl) refl refl refl refl s.1.1 (items_within xs s.0 rest s.2)
-  framed (Body at es) ts rest s = framed_bracket OpenBrace CloseBrace at s.1.0 ts s.0 rest (refl, refl, refl, refl) refl refl refl refl s.1.1 (entries_within es s.0 rest s.2)
+  framed (Leaf at atom) ts rest s =
+      framed_word (record { kind = s.0; at = at; text = s.1 }) ts rest s.2 (plain_atom s.0 s.1 atom s.3)
+  framed (Items at xs) ts rest s =
+      framed_bracket OpenBracket CloseBracket at s.1.0 ts s.0 rest (refl, refl, refl, refl) refl refl refl refl s.1.1
+      (items_within xs s.0 rest s.2)
+  framed (Body at es) ts rest s =
+      framed_bracket OpenBrace CloseBrace at s.1.0 ts s.0 rest (refl, refl, refl, refl) refl refl refl refl s.1.1
+      (entries_within es s.0 rest s.2)
   framed (Sum x terms) ts rest s =
       let f = framed x ts s.0 s.3 in
       let t = terms_framed terms s.0 rest s.4 in
@@ -365,7 +433,16 @@ mutual
       }
 
   terms_framed : (xs : Terms) (ts rest : List Word) → SpellsTerms xs ts rest → AreTerms ts rest
-  terms_framed no_term ts rest s = record { front = []; split = s; keeps = keeps_nil; quiet = record { quiet = λ b x c is some none wants ident. absurd (omega (arith, ap length is, length-append b (x ∷ c))) }; starts = tt; ends = refl }
+  terms_framed no_term ts rest s = record {
+    front = [];
+    split = s;
+    keeps = keeps_nil;
+    quiet = record {
+      quiet = λ b x c is some none wants ident. absurd (omega (arith, ap length is, length-append b (x ∷ c)));
+    };
+    starts = tt;
+    ends = refl;
+  }
   terms_framed (term_and at x terms) ts rest s =
       let p : Word = record { kind = Mark Plus; at = at; text = s.2.0 } in
       let f = framed x s.0 s.1 s.4 in
@@ -374,33 +451,49 @@ mutual
       let k = keeps_append f.front t.front f.keeps t.keeps in
       record {
         front = p ∷ g;
-        split = s.2.1 ∙ ap (λ l. p ∷ l) (f.split ∙ ap (λ l. f.front ++ l) t.split ∙ sym (append_assoc f.front t.front rest));
+        split =
+            s.2.1
+            ∙ ap (λ l. p ∷ l) (f.split ∙ ap (λ l. f.front ++ l) t.split ∙ sym (append_assoc f.front t.front rest));
         keeps = keeps_append (p ∷ []) g (keeps_word p refl refl) k;
         quiet = quiet_wanting p g refl refl refl (quiet_append f.front t.front f.keeps f.quiet t.quiet t.starts);
         starts = refl;
-        ends = wants_behind p g (omega (arith, f.some, length-append f.front t.front)) (wants_two f.front t.front f.ends t.ends);
+        ends =
+            wants_behind p g (omega (arith, f.some, length-append f.front t.front))
+            (wants_two f.front t.front f.ends t.ends);
       }
 
   pub items_within : (xs : Trees) (ts rest : List Word) → SpellsItems xs ts rest → IsWithin CloseBracket ts rest
   items_within no_tree ts rest s = within_end CloseBracket ts rest s
-  items_within (tree_and x xs) ts rest s = within_tree CloseBracket ts s.0 rest (framed x ts s.0 s.1) (more_items_within xs s.0 rest s.2)
+  items_within (tree_and x xs) ts rest s =
+      within_tree CloseBracket ts s.0 rest (framed x ts s.0 s.1) (more_items_within xs s.0 rest s.2)
 
   more_items_within : (xs : Trees) (ts rest : List Word) → SpellsMoreItems xs ts rest → IsWithin CloseBracket ts rest
   more_items_within no_tree ts rest (inl s) = within_end CloseBracket ts rest s
-  more_items_within no_tree ts rest (inr s) = within_mark CloseBracket Comma ts s.0 rest refl refl s.1 (within_end CloseBracket s.0 rest s.2)
-  more_items_within (tree_and x xs) ts rest s = within_mark CloseBracket Comma ts s.0 rest refl refl s.2 (within_tree CloseBracket s.0 s.1 rest (framed x s.0 s.1 s.3) (more_items_within xs s.1 rest s.4))
+  more_items_within no_tree ts rest (inr s) =
+      within_mark CloseBracket Comma ts s.0 rest refl refl s.1 (within_end CloseBracket s.0 rest s.2)
+  more_items_within (tree_and x xs) ts rest s =
+      within_mark CloseBracket Comma ts s.0 rest refl refl s.2
+      (within_tree CloseBracket s.0 s.1 rest (framed x s.0 s.1 s.3) (more_items_within xs s.1 rest s.4))
 
   entries_within : (es : Entries) (ts rest : List Word) → SpellsEntries es ts rest → IsWithin CloseBrace ts rest
   entries_within no_entry ts rest s = within_end CloseBrace ts rest s
-  entries_within (entry_and name at x es) ts rest s = within_name CloseBrace at name ts s.0 rest s.3 (within_mark CloseBrace Colon s.0 s.1 rest refl refl s.4 (within_tree CloseBrace s.1 s.2 rest (framed x s.1 s.2 s.5) (more_entries_within es s.2 rest s.6)))
+  entries_within (entry_and name at x es) ts rest s =
+      within_name CloseBrace at name ts s.0 rest s.3 (within_mark CloseBrace Colon s.0 s.1 rest refl refl s.4
+      (within_tree CloseBrace s.1 s.2 rest (framed x s.1 s.2 s.5) (more_entries_within es s.2 rest s.6)))
 
-  more_entries_within : (es : Entries) (ts rest : List Word) → SpellsMoreEntries es ts rest → IsWithin CloseBrace ts rest
+  more_entries_within : (es : Entries) (ts rest : List Word) → SpellsMoreEntries es ts rest
+      → IsWithin CloseBrace ts rest
   more_entries_within no_entry ts rest (inl s) = within_end CloseBrace ts rest s
-  more_entries_within no_entry ts rest (inr s) = within_mark CloseBrace Comma ts s.0 rest refl refl s.1 (within_end CloseBrace s.0 rest s.2)
-  more_entries_within (entry_and name at x es) ts rest s = within_mark CloseBrace Comma ts s.0 rest refl refl s.4 (within_name CloseBrace at name s.0 s.1 rest s.5 (within_mark CloseBrace Colon s.1 s.2 rest refl refl s.6 (within_tree CloseBrace s.2 s.3 rest (framed x s.2 s.3 s.7) (more_entries_within es s.3 rest s.8))))
+  more_entries_within no_entry ts rest (inr s) =
+      within_mark CloseBrace Comma ts s.0 rest refl refl s.1 (within_end CloseBrace s.0 rest s.2)
+  more_entries_within (entry_and name at x es) ts rest s =
+      within_mark CloseBrace Comma ts s.0 rest refl refl s.4
+      (within_name CloseBrace at name s.0 s.1 rest s.5 (within_mark CloseBrace Colon s.1 s.2 rest refl refl s.6
+      (within_tree CloseBrace s.2 s.3 rest (framed x s.2 s.3 s.7) (more_entries_within es s.3 rest s.8))))
 
 -- a name, and what stands behind it in a definition
-framed_named : (at : Place) (name : List ℕ) (ts mid rest : List Word) → IsWord Ident at name ts mid → (f : IsFramed mid rest) → NoIdent f.front → IsFramed ts rest
+framed_named : (at : Place) (name : List ℕ) (ts mid rest : List Word) → IsWord Ident at name ts mid
+    → (f : IsFramed mid rest) → NoIdent f.front → IsFramed ts rest
 framed_named at name ts mid rest is f starts =
     let n : Word = record { kind = Ident; at = at; text = name } in
     record {
@@ -412,7 +505,8 @@ framed_named at name ts mid rest is f starts =
       ends = wants_behind n f.front f.some f.ends;
     }
 
-framed_mark : (m : Punct) (ts mid rest : List Word) → wants_value (Mark m) ≡ true → opens_any (Mark m) ≡ false → closes_any (Mark m) ≡ false → IsMark m ts mid → IsFramed mid rest → (f : IsFramed ts rest) × NoIdent f.front
+framed_mark : (m : Punct) (ts mid rest : List Word) → wants_value (Mark m) ≡ true → opens_any (Mark m) ≡ false
+    → closes_any (Mark m) ≡ false → IsMark m ts mid → IsFramed mid rest → (f : IsFramed ts rest) × NoIdent f.front
 framed_mark m ts mid rest wants o c is f =
     let x : Word = record { kind = Mark m; at = is.0; text = is.1.0 } in (
       record {
@@ -435,4 +529,5 @@ framed_def (Extends name at x) ts rest s =
     let f = framed_mark PlusEqual s.0 s.1 rest refl refl refl s.3 (framed x s.1 rest s.4) in
     framed_named at name ts s.0 rest s.2.0 f.0 f.1
 framed_def (Declares kind at m) ts rest s =
-    framed_named at kind ts s.0 rest s.1.0 (framed_bracket OpenBrace CloseBrace m.at s.2.1.0 s.0 s.2.0 rest (refl, refl, refl, refl) refl refl refl refl s.2.1.1 (entries_within m.entries s.2.0 rest s.2.2)) refl
+    framed_named at kind ts s.0 rest s.1.0 (framed_bracket OpenBrace CloseBrace m.at s.2.1.0 s.0 s.2.0 rest
+    (refl, refl, refl, refl) refl refl refl refl s.2.1.1 (entries_within m.entries s.2.0 rest s.2.2)) refl

@@ -1,5 +1,6 @@
 -- The names of each map differ with the list set, where they differed before.
-use Rattle.std.proofs.Common.{rules, ◌≡◌, ℕ, zero, suc, true, List, [], ◌∷◌, Option, Some, None, sym, refl, ap, ◌∙◌, subst, ⊎_elim, arith}
+use Rattle.std.proofs.Common.{rules, ◌≡◌, ℕ, zero, suc, true, List, [], ◌∷◌, Option, Some, None, sym, refl, ap, ◌∙◌}
+use Rattle.std.proofs.Common.{subst, ⊎_elim, arith}
 use Rattle.std.specs.Prelude.{◌≢◌, codes}
 use Rattle.std.specs.List.{All, Contains}
 use Rattle.std.specs.Str.{bytes_eq}
@@ -7,11 +8,15 @@ use Rattle.std.proofs.lemmas.Bool.{cases_Bool, cond-true, cond-false, cond_both}
 use Rattle.std.proofs.lemmas.List.Elements.{All-nil, All-cons, Contains-get_or}
 use Rattle.std.proofs.lemmas.List.Kept.{AllPairs-cons}
 use Rattle.std.proofs.lemmas.Slice.Eq.{bytes_eq-Decides}
-use Rattle.bp_parser.specs.Names.{entry_names, AreDistinct, TreeHasDistinctNames, ItemsHaveDistinctNames, TermsHaveDistinctNames, ValuesHaveDistinctNames, DefinitionHasDistinctNames}
-use Rattle.bp_parser.specs.Trees.{Tree, Leaf, Items, Body, Sum, Trees, no_tree, tree_and, Terms, no_term, term_and, Entries, no_entry, entry_and, Definition, Assigns, Extends, Declares}
-use Rattle.bp_format.specs.WithoutPlaces.{tree_without_places, items_without_places, terms_without_places, entries_without_places, definition_without_places, definitions_without_places}
+use Rattle.bp_parser.specs.Names.{entry_names, AreDistinct, TreeHasDistinctNames, ItemsHaveDistinctNames}
+use Rattle.bp_parser.specs.Names.{TermsHaveDistinctNames, ValuesHaveDistinctNames, DefinitionHasDistinctNames}
+use Rattle.bp_parser.specs.Trees.{Tree, Leaf, Items, Body, Sum, Trees, no_tree, tree_and, Terms, no_term, term_and}
+use Rattle.bp_parser.specs.Trees.{Entries, no_entry, entry_and, Definition, Assigns, Extends, Declares}
+use Rattle.bp_format.specs.WithoutPlaces.{tree_without_places, items_without_places, terms_without_places}
+use Rattle.bp_format.specs.WithoutPlaces.{entries_without_places, definition_without_places, definitions_without_places}
 use Rattle.bp_format.specs.Editing.{Wanted}
-use Rattle.bp_format.specs.Setting.{list_expression, string_items, with_value, with_entry, set_by, set_entry, has_module_name, set_in_definition, first_definition, set_in}
+use Rattle.bp_format.specs.Setting.{list_expression, string_items, with_value, with_entry, set_by, set_entry}
+use Rattle.bp_format.specs.Setting.{has_module_name, set_in_definition, first_definition, set_in}
 use Rattle.bp_format.specs.Spots.{lookup}
 use Rattle.bp_format.proofs.Flaws.{names_bare}
 
@@ -64,14 +69,17 @@ def_of_bare (Assigns name at x) h = of_bare x h
 def_of_bare (Extends name at x) h = of_bare x h
 def_of_bare (Declares kind at m) h = of_bare (Body m.at m.entries) h
 
-first_of : (d : Definition) (ds : List Definition) → All DefinitionHasDistinctNames (d ∷ ds) → DefinitionHasDistinctNames d
+first_of : (d : Definition) (ds : List Definition) → All DefinitionHasDistinctNames (d ∷ ds)
+    → DefinitionHasDistinctNames d
 first_of d ds h = h 0 d (omega arith)
 
-others_of : (d : Definition) (ds : List Definition) → All DefinitionHasDistinctNames (d ∷ ds) → All DefinitionHasDistinctNames ds
+others_of : (d : Definition) (ds : List Definition) → All DefinitionHasDistinctNames (d ∷ ds)
+    → All DefinitionHasDistinctNames ds
 others_of d ds h = λ i e within. h (suc i) e (omega arith)
 
 -- definitions that are the same but for places
-pub distinct_alike : (ds es : List Definition) → definitions_without_places ds ≡ definitions_without_places es → All DefinitionHasDistinctNames ds → All DefinitionHasDistinctNames es
+pub distinct_alike : (ds es : List Definition) → definitions_without_places ds ≡ definitions_without_places es
+    → All DefinitionHasDistinctNames ds → All DefinitionHasDistinctNames es
 distinct_alike ds [] same h = All-nil DefinitionHasDistinctNames
 distinct_alike [] (e ∷ es) same h = absurd cc
 distinct_alike (d ∷ ds) (e ∷ es) same h =
@@ -90,12 +98,15 @@ strings_distinct (x ∷ xs) = (tt, strings_distinct xs)
 names_kept : (name : List ℕ) (x : Tree) (es : Entries) → entry_names (with_value name x es) ≡ entry_names es
 names_kept name x no_entry = refl
 names_kept name x (entry_and other at y es) =
-    ap (λ l. other ∷ l) (cond_both (bytes_eq other name) _ _ (λ (p : Tree × Entries). entry_names p.1 ≡ entry_names es) (λ e. refl) (λ e. names_kept name x es))
+    ap (λ l. other ∷ l) (cond_both (bytes_eq other name) _ _ (λ (p : Tree × Entries). entry_names p.1 ≡ entry_names es)
+    (λ e. refl) (λ e. names_kept name x es))
 
-values_kept : (name : List ℕ) (x : Tree) (es : Entries) → TreeHasDistinctNames x → ValuesHaveDistinctNames es → ValuesHaveDistinctNames (with_value name x es)
+values_kept : (name : List ℕ) (x : Tree) (es : Entries) → TreeHasDistinctNames x → ValuesHaveDistinctNames es
+    → ValuesHaveDistinctNames (with_value name x es)
 values_kept name x no_entry d h = tt
 values_kept name x (entry_and other at y es) d h =
-    cond_both (bytes_eq other name) _ _ (λ (p : Tree × Entries). TreeHasDistinctNames p.0 × ValuesHaveDistinctNames p.1) (λ e. (d, h.1)) (λ e. (h.0, values_kept name x es d h.1))
+    cond_both (bytes_eq other name) _ _ (λ (p : Tree × Entries). TreeHasDistinctNames p.0 × ValuesHaveDistinctNames p.1)
+    (λ e. (d, h.1)) (λ e. (h.0, values_kept name x es d h.1))
 
 same_test : (a b : List ℕ) → a ≡ b → bytes_eq a b ≡ true
 same_test a b e = search (rules, bytes_eq-Decides)
@@ -106,7 +117,8 @@ no_value y e = cc
 -- a name that isn't there
 absent : (name : List ℕ) (es : Entries) → lookup name es ≡ None → Contains (entry_names es) name → ⊥
 absent name no_entry none c = let within = c.1 in omega arith
-absent name (entry_and other at y es) none (zero, within, same) = no_value y (sym (cond-true (bytes_eq other name) _ _ (same_test other name same)) ∙ none)
+absent name (entry_and other at y es) none (zero, within, same) =
+    no_value y (sym (cond-true (bytes_eq other name) _ _ (same_test other name same)) ∙ none)
 absent name (entry_and other at y es) none (suc k, within, same) =
     ⊎_elim
     (λ yes. no_value y (sym (cond-true (bytes_eq other name) _ _ yes) ∙ none))
@@ -121,11 +133,13 @@ past n names m other (zero, within, same) = absurd (other same)
 past n names m other (suc k, within, same) = (k, omega arith, same)
 
 -- a name more
-contains_more : (name property : List ℕ) (x : Tree) (es : Entries) (m : List ℕ) → Contains (entry_names (with_entry name property x es)) m → (property ≡ m → ⊥) → Contains (entry_names es) m
+contains_more : (name property : List ℕ) (x : Tree) (es : Entries) (m : List ℕ)
+    → Contains (entry_names (with_entry name property x es)) m → (property ≡ m → ⊥) → Contains (entry_names es) m
 contains_more name property x no_entry m c other = c
 contains_more name property x (entry_and n at y es) m (zero, within, same) other = (zero, omega arith, same)
 contains_more name property x (entry_and n at y es) m (suc k, within, same) other =
-    cond_both (bytes_eq n name) _ _ (λ (p : Tree × Entries). Contains (entry_names p.1) m → Contains (n ∷ entry_names es) m)
+    cond_both (bytes_eq n name) _ _
+    (λ (p : Tree × Entries). Contains (entry_names p.1) m → Contains (n ∷ entry_names es) m)
     (λ e c. one_behind n (entry_names es) m (past property (entry_names es) m other c))
     (λ e c. one_behind n (entry_names es) m (contains_more name property x es m c other))
     (k, omega arith, same)
@@ -137,10 +151,14 @@ apart n names d c = d 0 (suc c.0) n (omega arith) (omega (arith, c.1)) (sym c.2)
 others_distinct : (n : List ℕ) (names : List (List ℕ)) → AreDistinct (n ∷ names) → AreDistinct names
 others_distinct n names d = λ i j e less within. d (suc i) (suc j) e (omega arith) (omega arith)
 
-distinct_cons : (n : List ℕ) (names : List (List ℕ)) → (Contains names n → ⊥) → AreDistinct names → AreDistinct (n ∷ names)
-distinct_cons n names new d = AllPairs-cons (λ a b. a ≢ b) n names (λ k e within same. new (subst (Contains names) (sym same) (Contains-get_or names k e within))) d
+distinct_cons : (n : List ℕ) (names : List (List ℕ)) → (Contains names n → ⊥) → AreDistinct names
+    → AreDistinct (n ∷ names)
+distinct_cons n names new d =
+    AllPairs-cons (λ a b. a ≢ b) n names
+    (λ k e within same. new (subst (Contains names) (sym same) (Contains-get_or names k e within))) d
 
-one_more_distinct : (name property : List ℕ) (x : Tree) (es : Entries) → (Contains (entry_names es) property → ⊥) → AreDistinct (entry_names es) → AreDistinct (entry_names (with_entry name property x es))
+one_more_distinct : (name property : List ℕ) (x : Tree) (es : Entries) → (Contains (entry_names es) property → ⊥)
+    → AreDistinct (entry_names es) → AreDistinct (entry_names (with_entry name property x es))
 one_more_distinct name property x no_entry new d = d
 one_more_distinct name property x (entry_and n at y es) new d =
     let not_later : Contains (entry_names es) property → ⊥ = λ c. new (suc c.0, omega (arith, c.1), c.2) in
@@ -148,30 +166,44 @@ one_more_distinct name property x (entry_and n at y es) new d =
     let rest = others_distinct n (entry_names es) d in
     let lone = apart n (entry_names es) d in
     cond_both (bytes_eq n name) _ _ (λ (p : Tree × Entries). AreDistinct (n ∷ entry_names p.1))
-    (λ e. distinct_cons n (property ∷ entry_names es) (λ c. split c lone not_here) (distinct_cons property (entry_names es) not_later rest))
-    (λ e. distinct_cons n (entry_names (with_entry name property x es)) (λ c. lone (contains_more name property x es n c not_here)) (one_more_distinct name property x es not_later rest))
+    (λ e. distinct_cons n (property ∷ entry_names es) (λ c. split c lone not_here)
+    (distinct_cons property (entry_names es) not_later rest))
+    (λ e. distinct_cons n (entry_names (with_entry name property x es))
+    (λ c. lone (contains_more name property x es n c not_here)) (one_more_distinct name property x es not_later rest))
   where
     split : Contains (property ∷ entry_names es) n → (Contains (entry_names es) n → ⊥) → (property ≡ n → ⊥) → ⊥
     split (zero, w, e) a b = b e
     split (suc k, w, e) a b = a (k, omega arith, e)
 
-one_more_values : (name property : List ℕ) (x : Tree) (es : Entries) → TreeHasDistinctNames x → ValuesHaveDistinctNames es → ValuesHaveDistinctNames (with_entry name property x es)
+one_more_values : (name property : List ℕ) (x : Tree) (es : Entries) → TreeHasDistinctNames x
+    → ValuesHaveDistinctNames es → ValuesHaveDistinctNames (with_entry name property x es)
 one_more_values name property x no_entry d h = tt
 one_more_values name property x (entry_and n at y es) d h =
-    cond_both (bytes_eq n name) _ _ (λ (p : Tree × Entries). TreeHasDistinctNames p.0 × ValuesHaveDistinctNames p.1) (λ e. (h.0, (d, h.1))) (λ e. (h.0, one_more_values name property x es d h.1))
+    cond_both (bytes_eq n name) _ _ (λ (p : Tree × Entries). TreeHasDistinctNames p.0 × ValuesHaveDistinctNames p.1)
+    (λ e. (h.0, (d, h.1))) (λ e. (h.0, one_more_values name property x es d h.1))
 
-set_by_distinct : (property : List ℕ) (x : Tree) (es : Entries) (o : Option Tree) → lookup property es ≡ o → TreeHasDistinctNames x → AreDistinct (entry_names es) × ValuesHaveDistinctNames es → AreDistinct (entry_names (set_by property x o es)) × ValuesHaveDistinctNames (set_by property x o es)
-set_by_distinct property x es None is d h = (one_more_distinct (codes "name") property x es (absent property es is) h.0, one_more_values (codes "name") property x es d h.1)
-set_by_distinct property x es (Some y) is d h = (subst AreDistinct (sym (names_kept property x es)) h.0, values_kept property x es d h.1)
+set_by_distinct : (property : List ℕ) (x : Tree) (es : Entries) (o : Option Tree) → lookup property es ≡ o
+    → TreeHasDistinctNames x → AreDistinct (entry_names es) × ValuesHaveDistinctNames es
+    → AreDistinct (entry_names (set_by property x o es)) × ValuesHaveDistinctNames (set_by property x o es)
+set_by_distinct property x es None is d h = (
+  one_more_distinct (codes "name") property x es (absent property es is) h.0,
+  one_more_values (codes "name") property x es d h.1,
+)
+set_by_distinct property x es (Some y) is d h =
+    (subst AreDistinct (sym (names_kept property x es)) h.0, values_kept property x es d h.1)
 
-def_distinct : (w : Wanted) (d e : Definition) → set_in_definition w d ≡ Some e → DefinitionHasDistinctNames d → DefinitionHasDistinctNames e
+def_distinct : (w : Wanted) (d e : Definition) → set_in_definition w d ≡ Some e → DefinitionHasDistinctNames d
+    → DefinitionHasDistinctNames e
 def_distinct w (Assigns name at x) e is h = absurd cc
 def_distinct w (Extends name at x) e is h = absurd cc
 def_distinct w (Declares kind at m) e is h =
-    let new : Definition = Declares kind at (record { at = m.at; entries = set_entry w.property (list_expression w.items) m.entries }) in
-    let here : DefinitionHasDistinctNames new = set_by_distinct w.property (list_expression w.items) m.entries (lookup w.property m.entries) refl (strings_distinct w.items) h in
+    let new : Definition =
+    Declares kind at (record { at = m.at; entries = set_entry w.property (list_expression w.items) m.entries }) in
+    let here : DefinitionHasDistinctNames new = set_by_distinct w.property (list_expression w.items) m.entries
+    (lookup w.property m.entries) refl (strings_distinct w.items) h in
     ⊎_elim
-    (λ yes. subst DefinitionHasDistinctNames (one new e (sym (cond-true (has_module_name w.name m.entries) _ _ yes) ∙ is)) here)
+    (λ yes.
+    subst DefinitionHasDistinctNames (one new e (sym (cond-true (has_module_name w.name m.entries) _ _ yes) ∙ is)) here)
     (λ other. absurd (never e (sym (cond-false (has_module_name w.name m.entries) _ _ other) ∙ is)))
     (cases_Bool (has_module_name w.name m.entries))
   where
@@ -181,10 +213,14 @@ def_distinct w (Declares kind at m) e is h =
     never : (b : Definition) → None ≡ Some b → ⊥
     never b e' = cc
 
-first_distinct : (w : Wanted) (d : Definition) (ds : List Definition) (o : Option Definition) → set_in_definition w d ≡ o → All DefinitionHasDistinctNames (d ∷ ds) → All DefinitionHasDistinctNames (set_in w ds) → All DefinitionHasDistinctNames (first_definition o d ds (set_in w ds))
+first_distinct : (w : Wanted) (d : Definition) (ds : List Definition) (o : Option Definition)
+    → set_in_definition w d ≡ o → All DefinitionHasDistinctNames (d ∷ ds) → All DefinitionHasDistinctNames (set_in w ds)
+    → All DefinitionHasDistinctNames (first_definition o d ds (set_in w ds))
 first_distinct w d ds None is h more = All-cons DefinitionHasDistinctNames d (set_in w ds) (first_of d ds h) more
-first_distinct w d ds (Some e) is h more = All-cons DefinitionHasDistinctNames e ds (def_distinct w d e is (first_of d ds h)) (others_of d ds h)
+first_distinct w d ds (Some e) is h more =
+    All-cons DefinitionHasDistinctNames e ds (def_distinct w d e is (first_of d ds h)) (others_of d ds h)
 
-pub set_distinct : (w : Wanted) (ds : List Definition) → All DefinitionHasDistinctNames ds → All DefinitionHasDistinctNames (set_in w ds)
+pub set_distinct : (w : Wanted) (ds : List Definition) → All DefinitionHasDistinctNames ds
+    → All DefinitionHasDistinctNames (set_in w ds)
 set_distinct w [] h = h
 set_distinct w (d ∷ ds) h = first_distinct w d ds (set_in_definition w d) refl h (set_distinct w ds (others_of d ds h))

@@ -1,5 +1,6 @@
 -- Like words have a tree that is the same but for places, and the same flaws.
-use Rattle.std.proofs.Common.{◌≡◌, ℕ, zero, suc, ◌+◌, ◌<◌, Bool, cond, List, [], ◌∷◌, ◌++◌, length, take, drop, sym, refl, ap, ◌∙◌, subst, arith, length-drop}
+use Rattle.std.proofs.Common.{◌≡◌, ℕ, zero, suc, ◌+◌, ◌<◌, Bool, cond, List, [], ◌∷◌, ◌++◌, length, take, drop, sym}
+use Rattle.std.proofs.Common.{refl, ap, ◌∙◌, subst, arith, length-drop}
 use Rattle.std.specs.List.{count_by, Contains, fold}
 use Rattle.std.proofs.Math.Seq.{drop-append_seam}
 use Rattle.std.proofs.lemmas.List.{drop-drop, drop-map, length-map, map-append}
@@ -11,16 +12,20 @@ use Rattle.bp_lexer.specs.declared.token.TokenKind.TheVariants.{Ident, Punct as 
 use Rattle.bp_parser.specs.Trees.{Tree, Entries, no_entry, entry_and, Definition, File}
 use Rattle.bp_parser.specs.Words.{Word}
 use Rattle.bp_parser.specs.Grammar.{SpellsDef, SpellsFile}
-use Rattle.bp_parser.specs.Flaws.{BeginsAFile, IsUnexpected, IsTooNested, IsRepeated, IsDuplicate, IsFlaw, SpellsFirst, is_opening, closes}
+use Rattle.bp_parser.specs.Flaws.{BeginsAFile, IsUnexpected, IsTooNested, IsRepeated, IsDuplicate, IsFlaw, SpellsFirst}
+use Rattle.bp_parser.specs.Flaws.{is_opening, closes}
 use Rattle.bp_parser.specs.Names.{entry_names}
 use Rattle.bp_parser.specs.declared.flaw.Flaw.{Flaw}
 use Rattle.bp_parser.specs.declared.flaw.Flaw.TheVariants.{Unexpected, TooNested, Duplicate}
 use Rattle.bp_parser.specs.Meaning.{IsTree, number_of_file}
-use Rattle.bp_format.specs.WithoutPlaces.{entries_without_places, definitions_without_places, word_content, word_contents, origin}
-use Rattle.bp_format.proofs.Frames.{Alike, Moves, alike_parts, both, change, mark, word, moves, moves_def, no_word, SameEntries}
+use Rattle.bp_format.specs.WithoutPlaces.{entries_without_places, definitions_without_places, word_content}
+use Rattle.bp_format.specs.WithoutPlaces.{word_contents, origin}
+use Rattle.bp_format.proofs.Frames.{Alike, Moves, alike_parts, both, change, mark, word, moves, moves_def, no_word}
+use Rattle.bp_format.proofs.Frames.{SameEntries}
 
 -- the definitions of like words
-pub file_moves : (ds : List Definition) (ts us : List Word) → SpellsFile ds ts → Alike ts us → (es : List Definition) × SpellsFile es us × (definitions_without_places ds ≡ definitions_without_places es)
+pub file_moves : (ds : List Definition) (ts us : List Word) → SpellsFile ds ts → Alike ts us
+    → (es : List Definition) × SpellsFile es us × (definitions_without_places ds ≡ definitions_without_places es)
 file_moves [] ts us s same = ([], no_word us (subst (λ l. Alike l us) s same), refl)
 file_moves (d ∷ ds) ts us s same =
     let m = moves_def d ts s.0 s.1 in
@@ -31,7 +36,8 @@ file_moves (d ∷ ds) ts us s same =
 
 -- those that are a file's begin like those that are
 alike_append : (a b c : List Word) → Alike a b → Alike (a ++ c) (b ++ c)
-alike_append a b c same = map-append word_content a c ∙ ap (λ l. l ++ word_contents c) same ∙ sym (map-append word_content b c)
+alike_append a b c same =
+    map-append word_content a c ∙ ap (λ l. l ++ word_contents c) same ∙ sym (map-append word_content b c)
 
 begins_alike : (a b : List Word) → Alike a b → BeginsAFile a → BeginsAFile b
 begins_alike a b same s =
@@ -61,26 +67,32 @@ unexpected_alike : (a b : List Word) (k : ℕ) → Alike a b → IsUnexpected a 
 unexpected_alike a b k same is = record {
   within = omega (arith, is.within, alike_length a b same);
   before = begins_alike (take k a) (take k b) (alike_take k a b same) is.before;
-  word = λ below begun. is.word (omega (arith, alike_length a b same)) (begins_alike (take (k + 1) b) (take (k + 1) a) (sym (alike_take (k + 1) a b same)) begun);
+  word =
+      λ below begun. is.word (omega (arith, alike_length a b same))
+      (begins_alike (take (k + 1) b) (take (k + 1) a) (sym (alike_take (k + 1) a b same)) begun);
   end = λ at ds s.
       let m = file_moves ds b a s (sym same) in
       is.end (at ∙ sym (alike_length a b same)) m.0 m.1;
 }
 
-fold_alike : (p : TokenKind → Bool) (n : ℕ) (a b : List Word) → Alike a b → fold (λ s (w : Word). s + cond (p w.kind) 1 0) n a ≡ fold (λ s (w : Word). s + cond (p w.kind) 1 0) n b
+fold_alike : (p : TokenKind → Bool) (n : ℕ) (a b : List Word) → Alike a b
+    → fold (λ s (w : Word). s + cond (p w.kind) 1 0) n a ≡ fold (λ s (w : Word). s + cond (p w.kind) 1 0) n b
 fold_alike p n [] [] same = refl
 fold_alike p n [] (y ∷ b) same = absurd cc
 fold_alike p n (x ∷ a) [] same = absurd cc
 fold_alike p n (x ∷ a) (y ∷ b) same =
     let head : word_content x ≡ word_content y = cc in
     let rest : Alike a b = cc in
-    fold_alike p (n + cond (p x.kind) 1 0) a b rest ∙ ap (λ k. fold (λ s (w : Word). s + cond (p w.kind) 1 0) (n + cond (p k) 1 0) b) (ap (λ q. q.0) head)
+    fold_alike p (n + cond (p x.kind) 1 0) a b rest
+    ∙ ap (λ k. fold (λ s (w : Word). s + cond (p w.kind) 1 0) (n + cond (p k) 1 0) b) (ap (λ q. q.0) head)
 
-count_alike : (p : TokenKind → Bool) (a b : List Word) → Alike a b → count_by (λ (w : Word). p w.kind) a ≡ count_by (λ (w : Word). p w.kind) b
+count_alike : (p : TokenKind → Bool) (a b : List Word) → Alike a b
+    → count_by (λ (w : Word). p w.kind) a ≡ count_by (λ (w : Word). p w.kind) b
 count_alike p a b same = fold_alike p 0 a b same
 
 -- like words have a like first word, and like ones behind it
-first_alike : (w : Word) (rest b : List Word) → Alike (w ∷ rest) b → (v : Word) × (more : List Word) × (b ≡ v ∷ more) × (word_content w ≡ word_content v) × Alike rest more
+first_alike : (w : Word) (rest b : List Word) → Alike (w ∷ rest) b
+    → (v : Word) × (more : List Word) × (b ≡ v ∷ more) × (word_content w ≡ word_content v) × Alike rest more
 first_alike w rest [] same = absurd cc
 first_alike w rest (v ∷ more) same =
     let head : word_content w ≡ word_content v = cc in
@@ -99,7 +111,10 @@ nested_alike a b k same is =
       bracket = f.0;
       at = f.2 ∙ ap (λ l. f.0 ∷ l) (behind_first b k f.0 f.1 f.2);
       opening = sym (ap is_opening kind) ∙ is.opening;
-      open_before = sym (count_alike is_opening (take k a) (take k b) (alike_take k a b same)) ∙ is.open_before ∙ ap (λ n. n + DEEPEST_NESTING) (count_alike closes (take k a) (take k b) (alike_take k a b same));
+      open_before =
+          sym (count_alike is_opening (take k a) (take k b) (alike_take k a b same))
+          ∙ is.open_before
+          ∙ ap (λ n. n + DEEPEST_NESTING) (count_alike closes (take k a) (take k b) (alike_take k a b same));
       expected = begins_alike (take (k + 1) a) (take (k + 1) b) (alike_take (k + 1) a b same) is.expected;
     }
 
@@ -108,11 +123,18 @@ abbrev First : Entries → List Word → List Word → Type 0
 First es ts rest = SpellsFirst es ts rest
 
 first_moves : (es : Entries) (ts rest : List Word) → SpellsFirst es ts rest → Moves First SameEntries es ts rest
-first_moves no_entry ts rest s = record { front = []; split = s; again = λ us alike. (no_entry, refl, λ other. ap (λ l. l ++ other) (no_word us alike)) }
+first_moves no_entry ts rest s = record {
+  front = [];
+  split = s;
+  again = λ us alike. (no_entry, refl, λ other. ap (λ l. l ++ other) (no_word us alike));
+}
 first_moves (entry_and name at x es) ts rest s =
-    change (λ (p : Place × (Place × (Tree × (Place × Entries)))). entry_and name p.0 p.1.1.0 p.1.1.1.1) (λ y e. (λ i. entry_and name origin (e.1.1.0 i) (e.1.1.1.1 i)))
-    (λ y e us other r. (r.0, r.2.0, r.2.2.0, r.2.2.2.0, r.1, (y.1.0, r.2.1), r.2.2.1, (y.1.1.1.0, r.2.2.2.1), r.2.2.2.2))
-    (both (word Ident at name ts s.0 s.4) (both (mark Colon s.5.0 s.0 s.1 s.5.1) (both (moves x s.1 s.2 s.6) (both (mark Comma s.7.0 s.2 s.3 s.7.1) (first_moves es s.3 rest s.8)))))
+    change (λ (p : Place × (Place × (Tree × (Place × Entries)))). entry_and name p.0 p.1.1.0 p.1.1.1.1)
+    (λ y e. (λ i. entry_and name origin (e.1.1.0 i) (e.1.1.1.1 i)))
+    (λ y e us other r.
+    (r.0, r.2.0, r.2.2.0, r.2.2.2.0, r.1, (y.1.0, r.2.1), r.2.2.1, (y.1.1.1.0, r.2.2.2.1), r.2.2.2.2))
+    (both (word Ident at name ts s.0 s.4) (both (mark Colon s.5.0 s.0 s.1 s.5.1)
+    (both (moves x s.1 s.2 s.6) (both (mark Comma s.7.0 s.2 s.3 s.7.1) (first_moves es s.3 rest s.8)))))
 
 pub names_bare : (es : Entries) → entry_names (entries_without_places es) ≡ entry_names es
 names_bare no_entry = refl
@@ -126,15 +148,22 @@ one_suffix b v n k is len some =
 
 repeated_alike : (a b : List Word) (k : ℕ) → Alike a b → IsRepeated a k → IsRepeated b k
 repeated_alike a b k same is =
-    let o = first_alike (record { kind = Mark OpenBrace; at = is.opened.0; text = is.opened.1.0 }) is.inner (drop is.brace b) (sym (ap word_contents is.opened.1.1) ∙ alike_drop is.brace a b same) in
+    let o = first_alike (record { kind = Mark OpenBrace; at = is.opened.0; text = is.opened.1.0 }) is.inner
+    (drop is.brace b) (sym (ap word_contents is.opened.1.1) ∙ alike_drop is.brace a b same) in
     let kind : o.0.kind ≡ Mark OpenBrace = sym (ap (λ p. p.0) o.3) in
     let m = first_moves is.before is.inner (drop k a) is.spelled in
     let p = alike_parts m.front (drop k a) o.1 (sym (ap word_contents m.split) ∙ o.4) in
     let e = m.again p.0 p.3 in
     let inner : o.1 ≡ drop (is.brace + 1) b = behind_first b is.brace o.0 o.1 o.2 in
-    let behind : p.1 ≡ drop (is.brace + 1 + length p.0) b = sym (drop-append_seam p.0 p.1) ∙ ap (drop (length p.0)) (sym p.2 ∙ inner) ∙ drop-drop (length p.0) (is.brace + 1) b in
-    let w = first_alike (record { kind = Ident; at = is.place; text = is.name }) (drop (k + 1) a) p.1 (sym (ap word_contents is.at) ∙ p.4) in
-    let rest : p.1 ≡ drop k b = one_suffix b p.1 (is.brace + 1 + length p.0) k behind (sym (alike_length (drop k a) p.1 p.4) ∙ alike_length (drop k a) (drop k b) (alike_drop k a b same)) (omega (arith, ap length w.2)) in
+    let behind : p.1 ≡ drop (is.brace + 1 + length p.0) b =
+    sym (drop-append_seam p.0 p.1)
+    ∙ ap (drop (length p.0)) (sym p.2 ∙ inner)
+    ∙ drop-drop (length p.0) (is.brace + 1) b in
+    let w = first_alike (record { kind = Ident; at = is.place; text = is.name }) (drop (k + 1) a) p.1
+    (sym (ap word_contents is.at) ∙ p.4) in
+    let rest : p.1 ≡ drop k b =
+    one_suffix b p.1 (is.brace + 1 + length p.0) k behind (sym (alike_length (drop k a) p.1 p.4)
+    ∙ alike_length (drop k a) (drop k b) (alike_drop k a b same)) (omega (arith, ap length w.2)) in
     let here : drop k b ≡ w.0 ∷ w.1 = sym rest ∙ w.2 in
     record {
       brace = is.brace;
@@ -144,8 +173,11 @@ repeated_alike a b k same is =
       spelled = subst (λ l. SpellsFirst e.0 o.1 l) rest (subst (λ l. SpellsFirst e.0 l p.1) (sym p.2) (e.2 p.1));
       name = is.name;
       place = w.0.at;
-      at = here ∙ (λ i. record { kind = (sym w.3 i).0; at = w.0.at; text = (sym w.3 i).1 } ∷ behind_first b k w.0 w.1 here i);
-      again = subst (λ l. Contains l is.name) (sym (names_bare is.before) ∙ ap entry_names e.1 ∙ names_bare e.0) is.again;
+      at =
+          here
+          ∙ (λ i. record { kind = (sym w.3 i).0; at = w.0.at; text = (sym w.3 i).1 } ∷ behind_first b k w.0 w.1 here i);
+      again =
+          subst (λ l. Contains l is.name) (sym (names_bare is.before) ∙ ap entry_names e.1 ∙ names_bare e.0) is.again;
     }
 
 duplicate_alike : (a b : List Word) (k : ℕ) → Alike a b → IsDuplicate a k → IsDuplicate b k
@@ -160,7 +192,8 @@ flaw_alike a b (TooNested k) same is = nested_alike a b k same is
 flaw_alike a b (Duplicate k) same is = duplicate_alike a b k same is
 
 -- Like words have a tree that is the same but for places.
-pub tree_alike : (a b : List Word) (tree : File) → Alike a b → IsTree a tree → (other : File) × IsTree b other × (definitions_without_places tree.defs ≡ definitions_without_places other.defs)
+pub tree_alike : (a b : List Word) (tree : File) → Alike a b → IsTree a tree
+    → (other : File) × IsTree b other × (definitions_without_places tree.defs ≡ definitions_without_places other.defs)
 tree_alike a b tree same is =
     let m = file_moves tree.defs a b is.spelled same in (
       record { file = number_of_file b; defs = m.0 },

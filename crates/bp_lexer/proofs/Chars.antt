@@ -1,8 +1,10 @@
 -- A character is begun by one byte.
-use Rattle.std.proofs.Common.{◌≡◌, ℕ, ◌+◌, ◌/◌, ◌<◌, ◌≤◌, cond, ltb, leb, List, [], ◌∷◌, length, sym, refl, ap, ◌∙◌, IsUtf8, arith}
+use Rattle.std.proofs.Common.{◌≡◌, ℕ, ◌+◌, ◌/◌, ◌<◌, ◌≤◌, cond, ltb, leb, List, [], ◌∷◌, length, sym, refl, ap, ◌∙◌}
+use Rattle.std.proofs.Common.{IsUtf8, arith}
 use Rattle.std.specs.Prelude.{chars}
 use Rattle.std.specs.List.{count_by}
-use Rattle.std.proofs.lemmas.Bool.{cond_both, cond-true, cond-false, or_left, or_right, or_from, lt-ltb, le-ltb, le-leb, lt-leb, ltb-true}
+use Rattle.std.proofs.lemmas.Bool.{cond_both, cond-true, cond-false, or_left, or_right, or_from, lt-ltb, le-ltb, le-leb}
+use Rattle.std.proofs.lemmas.Bool.{lt-leb, ltb-true}
 use Rattle.std.proofs.lemmas.List.Sums.{sum_by-append}
 use Rattle.std.proofs.lemmas.Str.{chars-encodes}
 use lib.Utf8.{encode, encodes, next}
@@ -15,7 +17,9 @@ high : (b : ℕ) → 192 ≤ b → cond {A = ℕ} (begins_char b) 1 0 ≡ 1
 high b h = cond-true (begins_char b) 1 0 (or_right (ltb b 128) (leb 192 b) (le-leb 192 b h))
 
 inside : (c : ℕ) → cond {A = ℕ} (begins_char (next c)) 1 0 ≡ 0
-inside c = cond-false (begins_char (next c)) 1 0 (or_from (ltb (next c) 128) (leb 192 (next c)) (le-ltb (next c) 128 (omega arith)) (lt-leb 192 (next c) (omega arith)))
+inside c =
+    cond-false (begins_char (next c)) 1 0 (or_from (ltb (next c) 128) (leb 192 (next c))
+    (le-ltb (next c) 128 (omega arith)) (lt-leb 192 (next c) (omega arith)))
 
 count_encode : (c : ℕ) → count_by begins_char (encode c) ≡ 1
 unfolding encode
@@ -31,7 +35,13 @@ count_encode c =
 
 count_encodes : (cs : List ℕ) → count_by begins_char (encodes cs) ≡ length cs
 count_encodes [] = refl
-count_encodes (c ∷ cs) = omega (arith, sum_by-append (λ x. cond (begins_char x) 1 0) (encode c) (encodes cs), count_encode c, count_encodes cs)
+count_encodes (c ∷ cs) =
+    omega (
+      arith,
+      sum_by-append (λ x. cond (begins_char x) 1 0) (encode c) (encodes cs),
+      count_encode c,
+      count_encodes cs,
+    )
 
 pub count_chars : (bs : List ℕ) → IsUtf8 bs → count_by begins_char bs ≡ length (chars bs)
 count_chars bs utf8 =

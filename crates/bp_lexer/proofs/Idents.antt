@@ -1,5 +1,6 @@
 -- The longest identifier.
-use Rattle.std.proofs.Common.{◌≡◌, ℕ, suc, ◌+◌, ◌<◌, ◌≤◌, true, List, [], ◌∷◌, ◌++◌, length, get_or, take, drop, sym, refl, ap, ◌∙◌, arith}
+use Rattle.std.proofs.Common.{◌≡◌, ℕ, suc, ◌+◌, ◌<◌, ◌≤◌, true, List, [], ◌∷◌, ◌++◌, length, get_or, take, drop, sym}
+use Rattle.std.proofs.Common.{refl, ap, ◌∙◌, arith}
 use Rattle.std.specs.List.{prefix_len}
 use Rattle.std.proofs.lemmas.List.Sums.{prefix_len-le-length}
 use Rattle.std.proofs.lemmas.Bool.{cond-true}
@@ -10,7 +11,8 @@ use Rattle.bp_lexer.specs.Forms.{IsForm, IsLongest}
 use Rattle.bp_lexer.proofs.Runs.{all_le_prefix, prefix_all}
 use Rattle.bp_lexer.proofs.Rivals.{rival, form_as}
 
-ident_only : (b : ℕ) (bs : List ℕ) (k : TokenKind) (word after : List ℕ) → is_letter b ≡ true → b ∷ bs ≡ word ++ after → IsForm k word → length word ≤ suc (prefix_len is_word bs)
+ident_only : (b : ℕ) (bs : List ℕ) (k : TokenKind) (word after : List ℕ) → is_letter b ≡ true → b ∷ bs ≡ word ++ after
+    → IsForm k word → length word ≤ suc (prefix_len is_word bs)
 ident_only b bs k word after letter split form =
     let r = rival b bs k word after split form in
     let f = form_as Ident k word (r.1.kind ∙ cond-true (is_letter b) _ _ letter) form in
@@ -19,7 +21,8 @@ ident_only b bs k word after letter split form =
     let same : bs ≡ f.1 ++ after = r.1.rest ∙ ap (λ l. l ++ after) (sym more) in
     omega (arith, ap length f.2, ap (prefix_len is_word) same)
 
-pub ident_longest : (text : List ℕ) (n : ℕ) → 0 < length text → is_letter (get_or text 0 0) ≡ true → n ≡ 1 + prefix_len is_word (drop 1 text) → IsLongest text Ident n
+pub ident_longest : (text : List ℕ) (n : ℕ) → 0 < length text → is_letter (get_or text 0 0) ≡ true
+    → n ≡ 1 + prefix_len is_word (drop 1 text) → IsLongest text Ident n
 ident_longest [] n some letter len = absurd (omega arith)
 ident_longest (b ∷ bs) n some letter len =
     let long : n ≡ suc (prefix_len is_word bs) = omega arith in

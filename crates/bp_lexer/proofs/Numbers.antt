@@ -1,5 +1,6 @@
 -- What `parse` says of an integer token.
-use Rattle.std.proofs.Common.{◌≡◌, ℕ, ◌+◌, ◌-◌, Bool, true, List, ◌∷◌, take, drop, refl, ℤ, ap, ◌∙◌, subst, ⊎_elim, arith, rules, Result, Ok, Err, is_ok}
+use Rattle.std.proofs.Common.{◌≡◌, ℕ, ◌+◌, ◌-◌, Bool, true, List, ◌∷◌, take, drop, refl, ℤ, ap, ◌∙◌, subst, ⊎_elim}
+use Rattle.std.proofs.Common.{arith, rules, Result, Ok, Err, is_ok}
 use Rattle.std.specs.Prelude.{IsTrue}
 use Rattle.std.specs.Int.{w64}
 use Rattle.std.specs.List.{list_all, slice_range}
@@ -29,11 +30,14 @@ numeral word form =
     rw (int.2.begins, sign) (omega arith, own.to (int.0 ∷ int.1) (and_from _ _ digit int.2.digits)))
     int.2.first
 
-decided : {E : Type 0} (word : List ℕ) (r : Result ℤ E) → IsNumeral 10 (without_leading_sign word) → ParsesSigned w64 10 word r → (IsTrue (is_ok r) → IsInRange word) × (IsInRange word → IsTrue (is_ok r))
+decided : {E : Type 0} (word : List ℕ) (r : Result ℤ E) → IsNumeral 10 (without_leading_sign word)
+    → ParsesSigned w64 10 word r → (IsTrue (is_ok r) → IsInRange word) × (IsInRange word → IsTrue (is_ok r))
 decided word (Ok z) digits parses = (λ ok. parses.0.1, λ fits. refl)
 decided word (Err e) digits parses = (λ ok. absurd (false≢true ok), λ fits. absurd (parses (digits, fits)))
 
-pub range_test : {E : Type 0} (text : List ℕ) (at n : ℕ) (range : List ℕ) (r : Result ℤ E) (ok : Bool) → IsForm Int (take n (drop at text)) → range ≡ slice_range text at (at + n) → ParsesSigned w64 10 range r → ok ≡ is_ok r → (IsTrue ok → IsInRange (take n (drop at text))) × (IsInRange (take n (drop at text)) → IsTrue ok)
+pub range_test : {E : Type 0} (text : List ℕ) (at n : ℕ) (range : List ℕ) (r : Result ℤ E) (ok : Bool)
+    → IsForm Int (take n (drop at text)) → range ≡ slice_range text at (at + n) → ParsesSigned w64 10 range r
+    → ok ≡ is_ok r → (IsTrue ok → IsInRange (take n (drop at text))) × (IsInRange (take n (drop at text)) → IsTrue ok)
 range_test text at n range r ok form same parses is =
     let word = take n (drop at text) in
     let cut : range ≡ word = same ∙ ap (λ k. take k (drop at text)) (let e : at + n - at ≡ n = omega arith in e) in

@@ -11,7 +11,8 @@ pub record IsRival (b : ℕ) (bs : List ℕ) (k : TokenKind) (word w after : Lis
   pub rest : bs ≡ w ++ after
   pub kind : k ≡ kind_of (b ∷ w)
 
-pub rival : (b : ℕ) (bs : List ℕ) (k : TokenKind) (word after : List ℕ) → b ∷ bs ≡ word ++ after → IsForm k word → (w : List ℕ) × IsRival b bs k word w after
+pub rival : (b : ℕ) (bs : List ℕ) (k : TokenKind) (word after : List ℕ) → b ∷ bs ≡ word ++ after → IsForm k word
+    → (w : List ℕ) × IsRival b bs k word w after
 rival b bs k [] after split form = absurd (omega (arith, (form_first k [] form).0))
 rival b bs k (x ∷ w) after split form =
     let same : x ≡ b = cc in (

@@ -1,12 +1,15 @@
 -- The kind of a token, by the bytes that it begins with.
-use Rattle.std.proofs.Common.{◌≡◌, ℕ, ◌<◌, true, false, cond, List, [], ◌∷◌, length, ◌++◌, get_or, sym, inl, inr, refl, arith, ⊎_elim, ap, ◌∙◌}
+use Rattle.std.proofs.Common.{◌≡◌, ℕ, ◌<◌, true, false, cond, List, [], ◌∷◌, length, ◌++◌, get_or, sym, inl, inr, refl}
+use Rattle.std.proofs.Common.{arith, ⊎_elim, ap, ◌∙◌}
 use Rattle.std.specs.Prelude.{◌==◌, ◌||◌, ◌⊎◌}
 use Rattle.std.specs.List.{list_all}
 use Rattle.std.proofs.lemmas.Bool.{or_left, and_parts, cond-true, cond-false}
 use Rattle.std.proofs.lemmas.Bool.Decides.{nat_tests}
-use Rattle.bp_lexer.specs.declared.token.Punct.TheVariants.{OpenBrace, CloseBrace, OpenBracket, CloseBracket, OpenParen, CloseParen, Colon, Comma, Equal, PlusEqual, Plus}
+use Rattle.bp_lexer.specs.declared.token.Punct.TheVariants.{OpenBrace, CloseBrace, OpenBracket, CloseBracket, OpenParen}
+use Rattle.bp_lexer.specs.declared.token.Punct.TheVariants.{CloseParen, Colon, Comma, Equal, PlusEqual, Plus}
 use Rattle.bp_lexer.specs.declared.token.TokenKind.{TokenKind}
-use Rattle.bp_lexer.specs.declared.token.TokenKind.TheVariants.{Ident, Int, Quoted, Raw, Punct as Mark, LineComment, BlockComment}
+use Rattle.bp_lexer.specs.declared.token.TokenKind.TheVariants.{Ident, Int, Quoted, Raw, Punct as Mark, LineComment}
+use Rattle.bp_lexer.specs.declared.token.TokenKind.TheVariants.{BlockComment}
 use Rattle.bp_lexer.specs.Classes.{is_white, is_letter, is_digit}
 use Rattle.bp_lexer.specs.Forms.{IsForm}
 
@@ -26,7 +29,8 @@ pub record IsInt (word : List ℕ) (b : ℕ) (w : List ℕ) : Type 0 where
   pub digits : list_all is_digit w ≡ true
   pub first : ((b ≡ 45) × (0 < length w)) ⊎ (is_digit b ≡ true)
 
-int_cases : (word sign digits : List ℕ) → word ≡ sign ++ digits → (sign ≡ []) ⊎ (sign ≡ 45 ∷ []) → 0 < length digits → list_all is_digit digits ≡ true → (b : ℕ) × (w : List ℕ) × IsInt word b w
+int_cases : (word sign digits : List ℕ) → word ≡ sign ++ digits → (sign ≡ []) ⊎ (sign ≡ 45 ∷ []) → 0 < length digits
+    → list_all is_digit digits ≡ true → (b : ℕ) × (w : List ℕ) × IsInt word b w
 int_cases word sign [] is which some all = absurd (omega arith)
 int_cases word sign (d ∷ ds) is (inl none) some all =
     let parts = and_parts (is_digit d) (list_all is_digit ds) all in
@@ -38,7 +42,8 @@ pub int_parts : (word : List ℕ) → IsForm Int word → (b : ℕ) × (w : List
 int_parts word form = int_cases word form.0 form.1 form.2 form.3 form.4 form.5
 
 -- a token has a byte, and begins with no white space
-pub form_first : (k : TokenKind) (word : List ℕ) → IsForm k word → (0 < length word) × (is_white (get_or word 0 0) ≡ false)
+pub form_first : (k : TokenKind) (word : List ℕ) → IsForm k word
+    → (0 < length word) × (is_white (get_or word 0 0) ≡ false)
 form_first Ident word form = rw form.2 (omega arith, letter_not_white form.0 form.3)
 form_first Int word form =
     let int = int_parts word form in
@@ -76,7 +81,9 @@ kind_of (b ∷ w) =
 
 pub int_kind : (b : ℕ) (w : List ℕ) → ((b ≡ 45) × (0 < length w)) ⊎ (is_digit b ≡ true) → kind_of (b ∷ w) ≡ Int
 int_kind b w (inl minus) = rw minus.0 refl
-int_kind b w (inr digit) = cond-false (is_letter b) _ _ (digit_not_letter b digit) ∙ cond-true (is_digit b || (b == 45)) _ _ (or_left (is_digit b) (b == 45) digit)
+int_kind b w (inr digit) =
+    cond-false (is_letter b) _ _ (digit_not_letter b digit)
+    ∙ cond-true (is_digit b || (b == 45)) _ _ (or_left (is_digit b) (b == 45) digit)
 
 pub form_kind : (k : TokenKind) (word : List ℕ) → IsForm k word → k ≡ kind_of word
 form_kind Ident word form = rw form.2 (sym (cond-true (is_letter form.0) _ _ form.3))

@@ -18,7 +18,8 @@ use Rattle.bp_load.proofs.Bases.{behind, trunk_first, evaluated_apart, AreAbove,
 use Rattle.bp_load.proofs.Branches.{separate_at, trunk_above, sorted_front, sorted_back}
 
 -- modules of both halves
-pub raws_joined : (front back all : Vec (List ℕ × RawModule) Global) → all.items ≡ front.items ++ back.items → map placed_raw all.items ≡ map placed_raw front.items ++ map placed_raw back.items
+pub raws_joined : (front back all : Vec (List ℕ × RawModule) Global) → all.items ≡ front.items ++ back.items
+    → map placed_raw all.items ≡ map placed_raw front.items ++ map placed_raw back.items
 raws_joined front back all is = ap (map placed_raw) is ∙ map-append placed_raw front.items back.items
 
 -- two parts of files, in front of a place and behind it
@@ -32,11 +33,15 @@ module _ (all front back : List Parsed) (at : ℕ) (first : front ≡ take at al
       ∙ ap (map (λ (p : Placed). p.directory)) (map-append placed_of front back)
       ∙ map-append (λ (p : Placed). p.directory) (map placed_of front) (map placed_of back)
 
-  pub order_front : IsStrictlySortedBy directory_cmp (directories_of all) → IsStrictlySortedBy directory_cmp (directories_of front)
-  order_front sorted = sorted_front (directories_of front) (directories_of back) (subst (IsStrictlySortedBy directory_cmp) parts sorted)
+  pub order_front : IsStrictlySortedBy directory_cmp (directories_of all)
+      → IsStrictlySortedBy directory_cmp (directories_of front)
+  order_front sorted =
+      sorted_front (directories_of front) (directories_of back) (subst (IsStrictlySortedBy directory_cmp) parts sorted)
 
-  pub order_back : IsStrictlySortedBy directory_cmp (directories_of all) → IsStrictlySortedBy directory_cmp (directories_of back)
-  order_back sorted = sorted_back (directories_of front) (directories_of back) (subst (IsStrictlySortedBy directory_cmp) parts sorted)
+  pub order_back : IsStrictlySortedBy directory_cmp (directories_of all)
+      → IsStrictlySortedBy directory_cmp (directories_of back)
+  order_back sorted =
+      sorted_back (directories_of front) (directories_of back) (subst (IsStrictlySortedBy directory_cmp) parts sorted)
 
   placed_front : take at (map placed_of all) ≡ map placed_of front
   placed_front = take-map placed_of at all ∙ ap (map placed_of) (sym first)
@@ -45,20 +50,27 @@ module _ (all front back : List Parsed) (at : ℕ) (first : front ≡ take at al
   placed_back = drop-map placed_of at all ∙ ap (map placed_of) (sym second)
 
   together : map placed_of front ++ map placed_of back ≡ map placed_of all
-  together = sym (map-append placed_of front back) ∙ ap (map placed_of) (taken_and_dropped all front back at first second)
+  together =
+      sym (map-append placed_of front back) ∙ ap (map placed_of) (taken_and_dropped all front back at first second)
 
-  pub evaluated_halves : (base : Pairs) → IsStrictlySortedBy directory_cmp (directories_of all) → IsBranch (directories_of all) at
-      → evaluated_in base [] (map placed_of all) ≡ and_then (evaluated_in base [] (map placed_of front)) (evaluated_in base [] (map placed_of back))
+  pub evaluated_halves : (base : Pairs) → IsStrictlySortedBy directory_cmp (directories_of all)
+      → IsBranch (directories_of all) at
+      → evaluated_in base [] (map placed_of all)
+      ≡ and_then (evaluated_in base [] (map placed_of front)) (evaluated_in base [] (map placed_of back))
   evaluated_halves base sorted branch =
       let apart : AreSeparate (map placed_of front) (map placed_of back) =
-      subst (λ fs. AreSeparate fs (map placed_of back)) placed_front (subst (AreSeparate (take at (map placed_of all))) placed_back (separate_at (map placed_of all) at sorted branch)) in
+      subst (λ fs. AreSeparate fs (map placed_of back)) placed_front (subst (AreSeparate (take at (map placed_of all)))
+      placed_back (separate_at (map placed_of all) at sorted branch)) in
       ap (evaluated_in base []) (sym together) ∙ evaluated_apart base (map placed_of back) (map placed_of front) apart
 
-  pub evaluated_branches : (base : Pairs) → IsStrictlySortedBy directory_cmp (directories_of all) → IsTrunk (directories_of all) at → (turn : Result Turn Fault) → all_turned base no_turn (map placed_of front) ≡ turn
+  pub evaluated_branches : (base : Pairs) → IsStrictlySortedBy directory_cmp (directories_of all)
+      → IsTrunk (directories_of all) at → (turn : Result Turn Fault)
+      → all_turned base no_turn (map placed_of front) ≡ turn
       → evaluated_in base [] (map placed_of all) ≡ behind base (map placed_of back) turn
   evaluated_branches base sorted trunk turn is =
       let above : AreAbove (map placed_of front) (map placed_of back) =
-      subst (λ fs. AreAbove fs (map placed_of back)) placed_front (subst (AreAbove (take at (map placed_of all))) placed_back (trunk_above (map placed_of all) at sorted trunk)) in
+      subst (λ fs. AreAbove fs (map placed_of back)) placed_front
+      (subst (AreAbove (take at (map placed_of all))) placed_back (trunk_above (map placed_of all) at sorted trunk)) in
       ap (evaluated_in base []) (sym together)
       ∙ sym (goes_none (evaluated_in base [] (map placed_of front ++ map placed_of back)))
       ∙ sym (trunk_first base (map placed_of back) (map placed_of front) no_turn tt above)

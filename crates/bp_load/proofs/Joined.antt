@@ -1,8 +1,10 @@
 -- What is made of two halves of a list, in order, or the first of their refusals, is what the whole list means.
-use Rattle.std.proofs.Common.{◌≡◌, ◌∙◌, ℕ, ◌+◌, List, [], ◌∷◌, ◌++◌, Vec, Global, length, map, take, drop, get_or, refl, ap, sym, subst, arith, append_assoc}
+use Rattle.std.proofs.Common.{◌≡◌, ◌∙◌, ℕ, ◌+◌, List, [], ◌∷◌, ◌++◌, Vec, Global, length, map, take, drop, get_or, refl}
+use Rattle.std.proofs.Common.{ap, sym, subst, arith, append_assoc}
 use Rattle.std.specs.Prelude.{Option, Result, Ok, Err}
 use Rattle.std.specs.Option.{option_to_list}
-use Rattle.std.proofs.lemmas.List.{map-append, length-append, get_or_append_left, get_or-append-add, take-append-le, take-append-drop}
+use Rattle.std.proofs.lemmas.List.{map-append, length-append, get_or_append_left, get_or-append-add, take-append-le}
+use Rattle.std.proofs.lemmas.List.{take-append-drop}
 use Rattle.std.proofs.Math.Seq.{take-append-add}
 use Rattle.bp_faults.specs.declared.fault.Fault.{Fault}
 use Rattle.bp_faults.specs.declared.refusal.Refusal.{Refusal}
@@ -18,7 +20,8 @@ use Rattle.bp_load.specs.Inherited.{placed_raw}
 use Rattle.bp_load.specs.Loaded.{all_typed}
 
 -- a list that is cut in two
-pub taken_and_dropped : {A : Type 0} (all front back : List A) (at : ℕ) → front ≡ take at all → back ≡ drop at all → front ++ back ≡ all
+pub taken_and_dropped : {A : Type 0} (all front back : List A) (at : ℕ) → front ≡ take at all → back ≡ drop at all
+    → front ++ back ≡ all
 taken_and_dropped all front back at first second =
     ap (λ xs. xs ++ back) first ∙ ap (λ ys. take at all ++ ys) second ∙ take-append-drop at all
 
@@ -28,7 +31,8 @@ pub record IsOfHalves {V : Type 0} (Front Back Whole : Result (List V) Fault →
   pub back : (vs : List V) (fault : Fault) → Front (Ok vs) → Back (Err fault) → Whole (Err fault)
   pub both : (vs ws : List V) → Front (Ok vs) → Back (Ok ws) → Whole (Ok (vs ++ ws))
 
-module _ {T V : Type 0} (view : T → V) (Front Back Whole : Result (List V) Fault → Type 0) (halves : IsOfHalves Front Back Whole) where
+module _ {T V : Type 0} (view : T → V) (Front Back Whole : Result (List V) Fault → Type 0)
+    (halves : IsOfHalves Front Back Whole) where
   abbrev shown : Vec T Global → List V
   shown made = map view made.items
 
@@ -41,7 +45,8 @@ module _ {T V : Type 0} (view : T → V) (Front Back Whole : Result (List V) Fau
   refused_back front (Bad fault) made first = halves.back (shown front) fault made first
   refused_back front OutOfMemory made first = tt
 
-  one_behind : (front back : Vec T Global) (whole : Result (Vec T Global) Refusal) → Front (Ok (shown front)) → Back (Ok (shown back))
+  one_behind : (front back : Vec T Global) (whole : Result (Vec T Global) Refusal) → Front (Ok (shown front))
+      → Back (Ok (shown back))
       → AppendMeans front.items back.items whole → Tells shown Whole whole
   one_behind front back (Ok all) made more is =
       subst (λ vs. Whole (Ok vs)) (sym (ap (map view) is ∙ map-append view front.items back.items))
@@ -50,7 +55,8 @@ module _ {T V : Type 0} (view : T → V) (Front Back Whole : Result (List V) Fau
 
   pub told_joined : (front back whole : Result (Vec T Global) Refusal) → Tells shown Front front → Tells shown Back back
       → JoinMeans front back whole → Tells shown Whole whole
-  told_joined (Err refusal) back whole first second is = subst (Tells shown Whole) (sym is) (refused_front refusal first)
+  told_joined (Err refusal) back whole first second is =
+      subst (Tells shown Whole) (sym is) (refused_front refusal first)
   told_joined (Ok front) (Err refusal) whole first second is =
       subst (Tells shown Whole) (sym is) (refused_back front refusal first second)
   told_joined (Ok front) (Ok back) whole first second is = one_behind front back whole first second is
@@ -66,13 +72,18 @@ module _ {A B : Type 0} (Means : ℕ → A → Result B Fault → Type 0) where
   each_append n (x ∷ xs) zs (y ∷ ys) ws front back =
       (front.0, each_append (n + 1) xs zs ys ws front.1 (subst (λ k. Each Means k zs ws) (omega arith) back))
 
-  fault_in_front : (n : ℕ) (xs zs : List A) (fault : Fault) → IsFirstOf Means n xs fault → IsFirstOf Means n (xs ++ zs) fault
+  fault_in_front : (n : ℕ) (xs zs : List A) (fault : Fault) → IsFirstOf Means n xs fault
+      → IsFirstOf Means n (xs ++ zs) fault
   fault_in_front n xs zs fault first = record {
     at = first.at;
     inside = omega (arith, first.inside, length-append xs zs);
     before = first.before;
-    each = subst (λ ys. Each Means n ys first.before) (sym (take-append-le first.at xs zs (omega (arith, first.inside)))) first.each;
-    here = λ d. subst (λ x. Means (n + first.at) x (Err fault)) (sym (get_or_append_left xs zs d first.at first.inside)) (first.here d);
+    each =
+        subst (λ ys. Each Means n ys first.before)
+        (sym (take-append-le first.at xs zs (omega (arith, first.inside)))) first.each;
+    here =
+        λ d. subst (λ x. Means (n + first.at) x (Err fault)) (sym (get_or_append_left xs zs d first.at first.inside))
+        (first.here d);
   }
 
   fault_in_back : (n : ℕ) (xs zs : List A) (ys : List B) (fault : Fault) → Each Means n xs ys
@@ -87,7 +98,8 @@ module _ {A B : Type 0} (Means : ℕ → A → Result B Fault → Type 0) where
         (subst (λ k. Means k (get_or zs first.at d) (Err fault)) (omega arith) (first.here d));
   }
 
-  pub phase_halves : (n : ℕ) (xs zs : List A) → IsOfHalves (Phase Means n xs) (Phase Means (n + length xs) zs) (Phase Means n (xs ++ zs))
+  pub phase_halves : (n : ℕ) (xs zs : List A)
+      → IsOfHalves (Phase Means n xs) (Phase Means (n + length xs) zs) (Phase Means n (xs ++ zs))
   phase_halves n xs zs = record {
     front = λ fault first. fault_in_front n xs zs fault first;
     back = λ ys fault front first. fault_in_back n xs zs ys fault front first;
@@ -100,15 +112,18 @@ abbrev pub and_then : {V : Type 0} → Result (List V) Fault → Result (List V)
 and_then front back = then_do front (λ ms. then_do back (λ more. Ok (ms ++ more)))
 
 module _ {T V : Type 0} (show : Vec T Global → List V)
-    (joins : (front back all : Vec T Global) → all.items ≡ front.items ++ back.items → show all ≡ show front ++ show back) where
-  pub both_answered : (first second : Result (List V) Fault) (front back whole : Result (Vec T Global) Refusal) → Answers show front first
+    (joins : (front back all : Vec T Global) → all.items ≡ front.items ++ back.items
+    → show all ≡ show front ++ show back) where
+  pub both_answered : (first second : Result (List V) Fault) (front back whole : Result (Vec T Global) Refusal)
+      → Answers show front first
       → Answers show back second → JoinMeans front back whole → Answers show whole (and_then first second)
   both_answered first second (Err (Bad fault)) back whole a b is =
       subst (λ r. Answers show r (and_then first second)) (sym is) (ap (λ o. and_then o second) a)
   both_answered first second (Err OutOfMemory) back whole a b is =
       subst (λ r. Answers show r (and_then first second)) (sym is) tt
   both_answered first second (Ok front) (Err (Bad fault)) whole a b is =
-      subst (λ r. Answers show r (and_then first second)) (sym is) (ap (λ o. and_then o second) a ∙ ap (and_then (Ok (show front))) b)
+      subst (λ r. Answers show r (and_then first second)) (sym is)
+      (ap (λ o. and_then o second) a ∙ ap (and_then (Ok (show front))) b)
   both_answered first second (Ok front) (Err OutOfMemory) whole a b is =
       subst (λ r. Answers show r (and_then first second)) (sym is) tt
   both_answered first second (Ok front) (Ok back) (Ok all) a b is =
@@ -126,21 +141,30 @@ typed_append [] ys = by (all_typed ys)
     by (Err fault) = refl
 typed_append (x ∷ xs) ys = by (typed_module x.1 x.0) (all_typed xs) (all_typed ys) (typed_append xs ys)
   where
-    by : (made : Result (Option Module) Fault) (front back : Result (List Module) Fault) → all_typed (xs ++ ys) ≡ and_then front back
+    by : (made : Result (Option Module) Fault) (front back : Result (List Module) Fault)
+        → all_typed (xs ++ ys) ≡ and_then front back
         → then_do made (λ m. then_do (all_typed (xs ++ ys)) (λ more. Ok (option_to_list m ++ more)))
         ≡ and_then (then_do made (λ m. then_do front (λ more. Ok (option_to_list m ++ more)))) back
     by (Err fault) front back is = refl
     by (Ok m) (Err fault) back is = ap (λ r. then_do r (λ more. Ok (option_to_list m ++ more))) is
     by (Ok m) (Ok ms) (Err fault) is = ap (λ r. then_do r (λ more. Ok (option_to_list m ++ more))) is
-    by (Ok m) (Ok ms) (Ok more) is = ap (λ r. then_do r (λ more. Ok (option_to_list m ++ more))) is ∙ ap Ok (sym (append_assoc (option_to_list m) ms more))
+    by (Ok m) (Ok ms) (Ok more) is =
+        ap (λ r. then_do r (λ more. Ok (option_to_list m ++ more))) is
+        ∙ ap Ok (sym (append_assoc (option_to_list m) ms more))
 
 abbrev items : Vec Module Global → List Module
 items made = made.items
 
-pub typed_joined : (all xs ys : List (List ℕ × RawModule)) → xs ++ ys ≡ all → (front back whole : Result (Vec Module Global) Refusal)
-    → Answers items front (all_typed (map placed_raw xs)) → Answers items back (all_typed (map placed_raw ys)) → JoinMeans front back whole
+pub typed_joined : (all xs ys : List (List ℕ × RawModule)) → xs ++ ys ≡ all
+    → (front back whole : Result (Vec Module Global) Refusal)
+    → Answers items front (all_typed (map placed_raw xs)) → Answers items back (all_typed (map placed_raw ys))
+    → JoinMeans front back whole
     → Answers items whole (all_typed (map placed_raw all))
 typed_joined all xs ys is front back whole a b joins =
-    let parts : all_typed (map placed_raw all) ≡ and_then (all_typed (map placed_raw xs)) (all_typed (map placed_raw ys)) =
-    ap (λ raws. all_typed (map placed_raw raws)) (sym is) ∙ ap all_typed (map-append placed_raw xs ys) ∙ typed_append (map placed_raw xs) (map placed_raw ys) in
-    subst (Answers items whole) (sym parts) (both_answered items (λ front back all is. is) (all_typed (map placed_raw xs)) (all_typed (map placed_raw ys)) front back whole a b joins)
+    let parts : all_typed (map placed_raw all)
+    ≡ and_then (all_typed (map placed_raw xs)) (all_typed (map placed_raw ys)) =
+    ap (λ raws. all_typed (map placed_raw raws)) (sym is)
+    ∙ ap all_typed (map-append placed_raw xs ys)
+    ∙ typed_append (map placed_raw xs) (map placed_raw ys) in
+    subst (Answers items whole) (sym parts) (both_answered items (λ front back all is. is)
+    (all_typed (map placed_raw xs)) (all_typed (map placed_raw ys)) front back whole a b joins)

@@ -13,7 +13,8 @@ use Rattle.bp_faults.specs.Phases.{IsOnce}
 use Rattle.bp_faults.proofs.Phases.{then_once, value_once, phase_once}
 use Rattle.bp_load.proofs.AsTexts.{as_text_once}
 
-module _ (lexed : (file : ℕ) (text : List ℕ) → IsOnce (LexMeans file text)) (parsed : (text : List ℕ) (ts : List Token) → IsOnce (ParseMeans text ts)) where
+module _ (lexed : (file : ℕ) (text : List ℕ) → IsOnce (LexMeans file text))
+    (parsed : (text : List ℕ) (ts : List Token) → IsOnce (ParseMeans text ts)) where
   text_once : (file : ℕ) (text : List ℕ) → IsOnce (SourceTextMeans file text)
   text_once file text = then_once (LexMeans file text) (ParseMeans text) (lexed file text) (parsed text)
 
@@ -34,4 +35,5 @@ module _ (lexed : (file : ℕ) (text : List ℕ) → IsOnce (LexMeans file text)
       (λ trees. value_once (all_evaluated [] trees))
 
 pub load_once : OneRaw → OneLoad
-load_once raw files = then_once (RawMean files) (λ raws o. all_named raws ≡ o) (raw files) (λ raws. value_once (all_named raws))
+load_once raw files =
+    then_once (RawMean files) (λ raws o. all_named raws ≡ o) (raw files) (λ raws. value_once (all_named raws))

@@ -1,5 +1,6 @@
 -- A list file means something: line after line is taken, up to the first that is wrong.
-use Rattle.std.proofs.Common.{◌≡◌, ℕ, zero, suc, ◌+◌, ◌<◌, ◌≤◌, ◌⊎◌, inl, inr, List, [], ◌∷◌, ◌++◌, length, get_or, take, refl, ap, sym, ◌∙◌, subst, arith}
+use Rattle.std.proofs.Common.{◌≡◌, ℕ, zero, suc, ◌+◌, ◌<◌, ◌≤◌, ◌⊎◌, inl, inr, List, [], ◌∷◌, ◌++◌, length, get_or}
+use Rattle.std.proofs.Common.{take, refl, ap, sym, ◌∙◌, subst, arith}
 use Rattle.std.specs.Prelude.{Result, Ok, Err}
 use Rattle.std.specs.Str.Lines.{lines}
 use Rattle.std.proofs.lemmas.List.{take_all, take_more, get_or_default}
@@ -31,8 +32,10 @@ taken lines (suc k) within = after (taken lines k (omega arith))
     front : take k lines ++ line ∷ [] ≡ take (suc k) lines
     front = let next : k + 1 ≡ suc k = omega arith in sym (take_more lines k [] below) ∙ ap (λ n. take n lines) next
 
-    step : (entries : Entries) → Holds (take k lines) entries → (r : Result Entries Fault) → with_line k entries line ≡ r → Taken lines (suc k)
-    step entries holds (Ok new) is = inl (new, subst (λ ls. Holds ls new) front (holds_more (take k lines) k entries new line holds is))
+    step : (entries : Entries) → Holds (take k lines) entries → (r : Result Entries Fault)
+        → with_line k entries line ≡ r → Taken lines (suc k)
+    step entries holds (Ok new) is =
+        inl (new, subst (λ ls. Holds ls new) front (holds_more (take k lines) k entries new line holds is))
     step entries holds (Err fault) is = inr (fault, first_fault lines k entries line fault below here holds is)
 
     after : Taken lines k → Taken lines (suc k)
@@ -43,7 +46,10 @@ some_lines : (lines : List (List ℕ)) → HasOutcome (LinesMean lines)
 some_lines lines = by (taken lines (length lines) (omega arith))
   where
     by : Taken lines (length lines) → HasOutcome (LinesMean lines)
-    by (inl held) = (Ok (values_of held.0), files_held lines held.0 (subst (λ ls. Holds ls held.0) (take_all (length lines) lines (omega arith)) held.1))
+    by (inl held) = (
+      Ok (values_of held.0),
+      files_held lines held.0 (subst (λ ls. Holds ls held.0) (take_all (length lines) lines (omega arith)) held.1),
+    )
     by (inr found) = (Err found.0, found.1)
 
 pub some_list : SomeList

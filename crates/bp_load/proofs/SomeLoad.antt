@@ -17,21 +17,29 @@ use Rattle.bp_faults.proofs.Phases.{then_some, phase_some}
 use Rattle.bp_load.proofs.AsTexts.{some_text}
 
 module _
-    (list_or_fault : (file : ℕ) (text : List ℕ) → ((ts : List Token) × lexer.IsTokenList file text ts) ⊎ ((fault : Fault) × lexer.IsFirstLexFault file text fault))
-    (tree_or_fault : (text : List ℕ) (ws : List Word) → ((tree : File) × parser.IsTree ws tree) ⊎ ((fault : Fault) × parser.IsFirstParseFault text ws fault))
+    (list_or_fault : (file : ℕ) (text : List ℕ)
+    → ((ts : List Token) × lexer.IsTokenList file text ts) ⊎ ((fault : Fault) × lexer.IsFirstLexFault file text fault))
+    (tree_or_fault : (text : List ℕ) (ws : List Word)
+    → ((tree : File) × parser.IsTree ws tree) ⊎ ((fault : Fault) × parser.IsFirstParseFault text ws fault))
   where
     lexed : (file : ℕ) (text : List ℕ) → HasOutcome (lexer.LexMeans file text)
-    lexed file text = elim (list_or_fault file text) [ inl list ↦ (Ok list.0, list.1) | inr wrong ↦ (Err wrong.0, wrong.1) ]
+    lexed file text =
+        elim (list_or_fault file text) [ inl list ↦ (Ok list.0, list.1) | inr wrong ↦ (Err wrong.0, wrong.1) ]
 
     parsed : (text : List ℕ) (ts : List Token) → HasOutcome (parser.ParseMeans text ts)
-    parsed text ts = elim (tree_or_fault text (words_of text ts)) [ inl tree ↦ (Ok tree.0, tree.1) | inr wrong ↦ (Err wrong.0, wrong.1) ]
+    parsed text ts =
+        elim (tree_or_fault text (words_of text ts)) [
+          | inl tree ↦ (Ok tree.0, tree.1)
+          | inr wrong ↦ (Err wrong.0, wrong.1)
+        ]
 
     some_file : (file : ℕ) (source : Source) → HasOutcome (SourceFileMeans file source)
     some_file file source =
         then_some
         (AsText file source.1 (SourceTextMeans file source.1))
         (λ tree o. Ok (placed_file source.0 tree) ≡ o)
-        (some_text file source.1 (SourceTextMeans file source.1) (then_some (lexer.LexMeans file source.1) (parser.ParseMeans source.1) (lexed file source.1) (parsed source.1)))
+        (some_text file source.1 (SourceTextMeans file source.1)
+        (then_some (lexer.LexMeans file source.1) (parser.ParseMeans source.1) (lexed file source.1) (parsed source.1)))
         (λ tree. (Ok (placed_file source.0 tree), refl))
 
     pub some_raw : SomeRaw
@@ -43,4 +51,5 @@ module _
         (λ trees. (all_evaluated [] trees, refl))
 
 pub some_load : SomeRaw → SomeLoad
-some_load raw files = then_some (RawMean files) (λ raws o. all_named raws ≡ o) (raw files) (λ raws. (all_named raws, refl))
+some_load raw files =
+    then_some (RawMean files) (λ raws o. all_named raws ≡ o) (raw files) (λ raws. (all_named raws, refl))

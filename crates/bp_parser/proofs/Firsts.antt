@@ -2,12 +2,15 @@
 use Rattle.std.proofs.Common.{◌≡◌, ℕ, List, [], ◌∷◌, Bool, true, false, Some, None, sym, refl, ap, ◌∙◌, subst, inl, inr}
 use Rattle.bp_faults.specs.declared.place.Place.{Place}
 use Rattle.bp_lexer.specs.declared.token.Punct.{Punct}
-use Rattle.bp_lexer.specs.declared.token.Punct.TheVariants.{OpenBrace, CloseBrace, OpenBracket, CloseBracket, Comma, Plus}
+use Rattle.bp_lexer.specs.declared.token.Punct.TheVariants.{OpenBrace, CloseBrace, OpenBracket, CloseBracket, Comma}
+use Rattle.bp_lexer.specs.declared.token.Punct.TheVariants.{Plus}
 use Rattle.bp_lexer.specs.declared.token.TokenKind.{TokenKind}
 use Rattle.bp_lexer.specs.declared.token.TokenKind.TheVariants.{Ident, Int, Quoted, Raw, Punct as Mark}
-use Rattle.bp_parser.specs.Trees.{Atom, Tree, Leaf, Items, Body, Sum, Trees, no_tree, tree_and, Terms, no_term, term_and, Entries, no_entry, entry_and, Definition, Assigns, Extends, Declares}
+use Rattle.bp_parser.specs.Trees.{Atom, Tree, Leaf, Items, Body, Sum, Trees, no_tree, tree_and, Terms, no_term}
+use Rattle.bp_parser.specs.Trees.{term_and, Entries, no_entry, entry_and, Definition, Assigns, Extends, Declares}
 use Rattle.bp_parser.specs.Words.{Word, atom_of}
-use Rattle.bp_parser.specs.Grammar.{IsWord, IsMark, Spells, SpellsTerms, SpellsMoreItems, SpellsMoreEntries, SpellsDef, SpellsFile, HasTerm}
+use Rattle.bp_parser.specs.Grammar.{IsWord, IsMark, Spells, SpellsTerms, SpellsMoreItems, SpellsMoreEntries, SpellsDef}
+use Rattle.bp_parser.specs.Grammar.{SpellsFile, HasTerm}
 use Rattle.bp_parser.specs.Machine.{StartsNot}
 
 pub same_head : (v w : Word) (ts us : List Word) → v ∷ ts ≡ w ∷ us → (v ≡ w) × (ts ≡ us)
@@ -32,7 +35,8 @@ pub record SameWord (k l : TokenKind) (p q : Place) (m n : List ℕ) (a b : List
   pub text : m ≡ n
   pub rest : a ≡ b
 
-pub one_word : (k l : TokenKind) (p q : Place) (m n : List ℕ) (ts a b : List Word) → IsWord k p m ts a → IsWord l q n ts b → SameWord k l p q m n a b
+pub one_word : (k l : TokenKind) (p q : Place) (m n : List ℕ) (ts a b : List Word) → IsWord k p m ts a
+    → IsWord l q n ts b → SameWord k l p q m n a b
 one_word k l p q m n ts a b s t =
     let v : Word = record { kind = k; at = p; text = m } in
     let w : Word = record { kind = l; at = q; text = n } in
@@ -45,12 +49,14 @@ one_word k l p q m n ts a b s t =
     }
 
 -- what begins with one word begins with no other
-pub starts_not : (k other : TokenKind) (p : Place) (n : List ℕ) (ts rest : List Word) → (k ≡ other → ⊥) → IsWord k p n ts rest → StartsNot other ts
+pub starts_not : (k other : TokenKind) (p : Place) (n : List ℕ) (ts rest : List Word) → (k ≡ other → ⊥)
+    → IsWord k p n ts rest → StartsNot other ts
 starts_not k other p n ts rest apart s w more is kind =
     let e = same_head w (record { kind = k; at = p; text = n }) more rest (sym is ∙ s) in
     apart (sym (ap (λ (x : Word). x.kind) e.0) ∙ kind)
 
-pub mark_not : (m : Punct) (other : TokenKind) (ts rest : List Word) → (Mark m ≡ other → ⊥) → IsMark m ts rest → StartsNot other ts
+pub mark_not : (m : Punct) (other : TokenKind) (ts rest : List Word) → (Mark m ≡ other → ⊥) → IsMark m ts rest
+    → StartsNot other ts
 mark_not m other ts rest apart s = starts_not (Mark m) other s.0 s.1.0 ts rest apart s.1.1
 
 pub none_starts : (kind : TokenKind) → StartsNot kind []
@@ -73,13 +79,16 @@ atom_starts Quoted n atom e = refl
 atom_starts Raw n atom e = refl
 atom_starts _ n atom e = none_some atom e
 
-pub first_word : (x : Tree) (ts rest : List Word) → Spells x ts rest → (w : Word) × (more : List Word) × (ts ≡ w ∷ more) × (starts w.kind ≡ true)
-first_word (Leaf at atom) ts rest s = (record { kind = s.0; at = at; text = s.1 }, rest, s.2, atom_starts s.0 s.1 atom s.3)
+pub first_word : (x : Tree) (ts rest : List Word) → Spells x ts rest
+    → (w : Word) × (more : List Word) × (ts ≡ w ∷ more) × (starts w.kind ≡ true)
+first_word (Leaf at atom) ts rest s =
+    (record { kind = s.0; at = at; text = s.1 }, rest, s.2, atom_starts s.0 s.1 atom s.3)
 first_word (Items at xs) ts rest s = (record { kind = Mark OpenBracket; at = at; text = s.1.0 }, s.0, s.1.1, refl)
 first_word (Body at es) ts rest s = (record { kind = Mark OpenBrace; at = at; text = s.1.0 }, s.0, s.1.1, refl)
 first_word (Sum x terms) ts rest s = first_word x ts s.0 s.3
 
-pub no_mark : (m : Punct) (x : Tree) (ts mid rest : List Word) → starts (Mark m) ≡ false → Spells x ts mid → IsMark m ts rest → ⊥
+pub no_mark : (m : Punct) (x : Tree) (ts mid rest : List Word) → starts (Mark m) ≡ false → Spells x ts mid
+    → IsMark m ts rest → ⊥
 no_mark m x ts mid rest apart s t =
     let f = first_word x ts mid s in
     let e = same_head f.0 (record { kind = Mark m; at = t.0; text = t.1.0 }) f.1 rest (sym f.2 ∙ t.1.1) in
@@ -98,7 +107,8 @@ no_plus_entries no_entry ts rest (inr s) = mark_not Comma (Mark Plus) ts s.0 (λ
 no_plus_entries (entry_and n at x es) ts rest s = mark_not Comma (Mark Plus) ts s.0 (λ e. cc) s.4
 
 -- the name that a definition begins with
-pub def_ident : (d : Definition) (ts rest : List Word) → SpellsDef d ts rest → (at : Place) × (name : List ℕ) × (more : List Word) × IsWord Ident at name ts more
+pub def_ident : (d : Definition) (ts rest : List Word) → SpellsDef d ts rest
+    → (at : Place) × (name : List ℕ) × (more : List Word) × IsWord Ident at name ts more
 def_ident (Assigns name at x) ts rest s = (at, name, s.0, s.2.0)
 def_ident (Extends name at x) ts rest s = (at, name, s.0, s.2.0)
 def_ident (Declares kind at m) ts rest s = (at, kind, s.0, s.1.0)
@@ -107,6 +117,8 @@ pub no_plus_file : (ds : List Definition) (ts : List Word) → SpellsFile ds ts 
 no_plus_file [] ts s = subst (StartsNot (Mark Plus)) (sym s) (none_starts (Mark Plus))
 no_plus_file (d ∷ ds) ts s = let i = def_ident d ts s.0 s.1 in starts_not Ident (Mark Plus) i.0 i.1 ts i.2 (λ e. cc) i.3
 
-pub plus_here : (terms : Terms) (ts rest : List Word) → HasTerm terms → SpellsTerms terms ts rest → StartsNot (Mark Plus) ts → ⊥
+pub plus_here : (terms : Terms) (ts rest : List Word) → HasTerm terms → SpellsTerms terms ts rest
+    → StartsNot (Mark Plus) ts → ⊥
 plus_here no_term ts rest has s none' = has
-plus_here (term_and at x terms) ts rest has s none' = none' (record { kind = Mark Plus; at = at; text = s.2.0 }) s.0 s.2.1 refl
+plus_here (term_and at x terms) ts rest has s none' =
+    none' (record { kind = Mark Plus; at = at; text = s.2.0 }) s.0 s.2.1 refl

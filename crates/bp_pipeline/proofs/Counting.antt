@@ -57,7 +57,8 @@ edges_within (x ∷ xs) (suc i) =
     let rest = edges_within xs i in
     omega (arith, here, there, rest)
 
-length-joined : (xs ys : List (List ℕ)) → length (joined_text (xs ++ ys)) ≡ length (joined_text xs) + length (joined_text ys)
+length-joined : (xs ys : List (List ℕ))
+    → length (joined_text (xs ++ ys)) ≡ length (joined_text xs) + length (joined_text ys)
 length-joined [] ys = omega arith
 length-joined (x ∷ xs) ys =
     let here = length-append (ended_line x) (joined_text (xs ++ ys)) in

@@ -1,5 +1,6 @@
 -- Where the first mutators come to a graph, fewer of them do.
-use Rattle.std.proofs.Common.{◌≡◌, ◌≤◌, ◌+◌, ℕ, zero, suc, Bool, true, false, List, Ok, Err, ⊎_elim, refl, sym, subst, arith}
+use Rattle.std.proofs.Common.{◌≡◌, ◌≤◌, ◌+◌, ℕ, zero, suc, Bool, true, false, List, Ok, Err, ⊎_elim, refl, sym, subst}
+use Rattle.std.proofs.Common.{arith}
 use Rattle.std.specs.Prelude.{nat_lt, if◌then◌else◌}
 use Rattle.std.proofs.lemmas.Bool.{cases_eq, ltb-false, ltb-true}
 use Rattle.bp_props.specs.declared.module.Module.{Module}
@@ -17,7 +18,8 @@ passes_rise j k le = by (nat_lt j 9) refl (nat_lt k 9) refl
         → (if a then j else j + 1) ≤ (if b then k else k + 1)
     by true few true few_too = le
     by true few false many = omega (arith, le)
-    by false many true few = let most = ltb-true k 9 few in let least = ltb-false j 9 many in omega (arith, le, most, least)
+    by false many true few =
+        let most = ltb-true k 9 few in let least = ltb-false j 9 many in omega (arith, le, most, least)
     by false many false many_too = omega (arith, le)
 
 module _ (mods : List Module) (c : Config) where

@@ -64,7 +64,8 @@ all_asked count k (out ∷ outs) few =
     (by_number (λ n (made : Split _). map (λ r. (record { 0 = n }, r)) made.requests) (k + 1) outs)
     (all_of_node count k (omega arith) out.requests) (all_asked count (k + 1) outs (omega arith))
 
-length-with_payloads : {P : Type 0} (nodes : List (Node P)) (ps : List P) → length (with_payloads nodes ps) ≡ length nodes
+length-with_payloads : {P : Type 0} (nodes : List (Node P)) (ps : List P)
+    → length (with_payloads nodes ps) ≡ length nodes
 length-with_payloads [] ps = refl
 length-with_payloads (x ∷ xs) [] = refl
 length-with_payloads (x ∷ xs) (p ∷ ps) = ap suc (length-with_payloads xs ps)
@@ -109,7 +110,8 @@ few_asked {P} mods answer nodes made (outcome, means, is) = by outcome means is
     by (EdgesBeyond at) means is = absurd (cc)
 
 -- nodes that are the same but for their edges have the same free axes
-bare_free : {P : Type 0} (axis : Axis) (xs ys : List (Node P)) → map without_edges xs ≡ map without_edges ys → HasFreeAxis axis ys
+bare_free : {P : Type 0} (axis : Axis) (xs ys : List (Node P)) → map without_edges xs ≡ map without_edges ys
+    → HasFreeAxis axis ys
     → HasFreeAxis axis xs
 bare_free axis [] ys same free = tt
 bare_free axis (x ∷ xs) [] same free = absurd (cc)
@@ -124,7 +126,8 @@ linked_free : {P : Type 0} (along : Option Axis) (old made new : List (Node P)) 
 linked_free along old made new none stay same axis other free =
     bare_free axis new made same (stay axis (λ is. let no : None ≡ Some axis = sym none ∙ is in absurd (cc)) free)
 
-pub applied_free : {P : Type 0} (along : Option Axis) (old made : List (Node P)) → along ≡ None → StayFree along old made
+pub applied_free : {P : Type 0} (along : Option Axis) (old made : List (Node P)) → along ≡ None
+    → StayFree along old made
     → (r : Result (Graph P) Refusal) → IfOk r (λ g. map without_edges g.nodes ≡ map without_edges made)
     → IfOk r (λ g. StayFree None old g.nodes)
 applied_free along old made none stay (Ok g) same = linked_free along old made g.nodes none stay same

@@ -124,10 +124,12 @@ module _ (once : OneCourse) where
 
       pub file_once : IsOnce (FileMeans mods c)
       file_once =
-          then_once (ActionsMean mods c) (λ made (outcome : Result NinjaFile Fault). Ok (file_of_actions made) ≡ outcome)
+          then_once (ActionsMean mods c)
+          (λ made (outcome : Result NinjaFile Fault). Ok (file_of_actions made) ≡ outcome)
           actions_once (λ made. value_once (Ok (file_of_actions made)))
 
       pub text_once : IsOnce (TextMeans mods c)
       text_once =
-          then_once (FileMeans mods c) (λ file (outcome : Result (List ℕ) Fault). text_within_limit file ≡ outcome) file_once
+          then_once (FileMeans mods c)
+          (λ file (outcome : Result (List ℕ) Fault). text_within_limit file ≡ outcome) file_once
           (λ file. value_once (text_within_limit file))

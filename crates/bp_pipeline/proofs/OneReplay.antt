@@ -306,14 +306,16 @@ module _ (once : OneCourse) (one : AtMostOneOutcome Actions) (one_order : LinesS
       ∙ same_place journal other (l ∷ ls) (m ∷ ms) (same_legal journal other legal legal_too said said_too) behind
       behind_too
       ∙ sym is_too
-  one_cause x y (Behind journal made l ls legal acts said behind is) (TooLarge other text_within_limit are means large) =
+  one_cause x y (Behind journal made l ls legal acts said behind is)
+      (TooLarge other text_within_limit are means large) =
       absurd (no_more other journal l ls are legal said behind)
   one_cause x y (TooLarge journal made are means large) (Faulty p whole faulty say) =
       absurd (apart made y
       (file_once once one mods c (Ok made) (Err y) means (Err y, faulty_acts mods c p whole y faulty, refl)))
   one_cause x y (TooLarge journal text_within_limit are means large) (Illegal p nodes earlier few made refused) =
       absurd (never_legal p nodes earlier y made refused few journal are.legal are.say)
-  one_cause x y (TooLarge other text_within_limit are means large) (Behind journal made l ls legal acts said behind is) =
+  one_cause x y (TooLarge other text_within_limit are means large)
+      (Behind journal made l ls legal acts said behind is) =
       absurd (no_more other journal l ls are legal said behind)
   one_cause x y (TooLarge journal made are means large) (TooLarge other made_too are_too means_too large_too) =
       let same = value_of made made_too (file_once once one mods c (Ok made) (Ok made_too) means means_too) in

@@ -87,7 +87,8 @@ module _ {T : Type 0} (view : T → List ℕ) (mods : List Module) (c : Config) 
 
     -- none does, and the text tells the replay
     pub replay_told : end_of file (suc count) (drop count lines) ≡ Ok tt → (made_file : NinjaFile)
-        → made_file ≡ file_of_actions made → (r : Result T Refusal) → Tells view (λ outcome. text_within_limit made_file ≡ outcome) r
+        → made_file ≡ file_of_actions made → (r : Result T Refusal)
+        → Tells view (λ outcome. text_within_limit made_file ≡ outcome) r
         → Told r
     replay_told ends made_file is (Ok text) told = (
       (

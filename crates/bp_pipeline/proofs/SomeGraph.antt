@@ -22,7 +22,8 @@ use Rattle.bp_pipeline.proofs.SomeStep.{Comes}
 pub first_ready : (mods : List Module) → length mods ≤ MOST_MODULES → IsReadyForPass (length mods) 0 (first_nodes mods)
 first_ready mods few = (first_usable mods (first_nodes mods) few refl, first_free mods (first_nodes mods) refl)
 
-module _ (step : SomeStep) (mods : List Module) (few : length mods ≤ MOST_MODULES) (c : Config) (differ : TargetsDiffer c)
+module _ (step : SomeStep) (mods : List Module) (few : length mods ≤ MOST_MODULES) (c : Config)
+    (differ : TargetsDiffer c)
   where
     pub course_some : (p : ℕ) → Comes (CourseMeans mods c p) (IsReadyForPass (length mods) p)
     course_some zero = (Ok (first_nodes mods), refl, first_ready mods few)

@@ -77,7 +77,8 @@ line_told plan pass order l = by l.entry refl
         (λ same. ⊎_elim
         (λ ready. inl (v.1, is ∙ ap (λ q. entry (q, v.1)) same, ready))
         (λ no. inr (λ legal. let e = same_entry v (pass, legal.0) (sym is ∙ legal.1) in
-        no (subst (λ (m : NodeId). IsReadyAfter plan (numbers order) m.0) (sym (ap (λ (w : ℕ × NodeId). w.1) e)) legal.2)))
+        no (subst (λ (m : NodeId). IsReadyAfter plan (numbers order) m.0)
+        (sym (ap (λ (w : ℕ × NodeId). w.1) e)) legal.2)))
         (ready_told plan (numbers order) v.1.0))
         (λ differ. inr (λ legal. let e = same_entry v (pass, legal.0) (sym is ∙ legal.1) in
         differ (ap (λ (w : ℕ × NodeId). w.0) e)))
@@ -127,7 +128,8 @@ module _ (plan : Plan) (order : List ℕ) (ready : (place : ℕ) → place < len
       (λ differ. ⊎_elim
       (λ less. subst (λ l. IsReadyAfter plan l (slice_index (order ++ n ∷ []) place))
       (sym (take-append-le place order (n ∷ []) (omega (arith, less))))
-      (subst (IsReadyAfter plan (take place order)) (sym (get_or-append order (n ∷ []) 0 place less)) (ready place less)))
+      (subst (IsReadyAfter plan (take place order)) (sym (get_or-append order (n ∷ []) 0 place less))
+      (ready place less)))
       (λ more. absurd (omega (arith, many, more, lt)))
       differ)
       (cases_order place (length order))

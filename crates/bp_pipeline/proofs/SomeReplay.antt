@@ -131,10 +131,13 @@ module _ (step : SomeStep) (short : PartsAreShort) (one : OneOutcome Actions) (p
         file_means : FileMeans mods c (Ok (file_of_actions made))
         file_means = (Ok made, (Ok now.nodes, now.course, means), refl)
 
-        written_by : length lines ≡ length journal → (text : Result (List ℕ) Fault) → text_within_limit (file_of_actions made) ≡ text
+        written_by : length lines ≡ length journal → (text : Result (List ℕ) Fault)
+            → text_within_limit (file_of_actions made) ≡ text
             → Replayed
-        written_by all (Ok text) is =
-            (Ok text, ((journal, record { legal = legal; say = say; all = all }), (Ok (file_of_actions made), file_means, is)))
+        written_by all (Ok text) is = (
+          Ok text,
+          ((journal, record { legal = legal; say = say; all = all }), (Ok (file_of_actions made), file_means, is)),
+        )
         written_by all (Err fault) is =
             faulty fault
             (TooLarge journal (file_of_actions made) (record { legal = legal; say = say; all = all }) file_means is)

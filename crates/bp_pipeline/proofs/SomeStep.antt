@@ -99,7 +99,8 @@ module _ (some_up : SomeBottomUpOutcome Props) (up_keeps : BottomUpKeeps Props) 
         let next = some_applied mods made.0 made.1 kept.valid.ends asking in
         by next.0 next.1
       where
-        by : (outcome : Outcome) → ApplyMeans mods made.0 made.1 outcome → Comes (AskMeans mods answer nodes) (Kept None)
+        by : (outcome : Outcome) → ApplyMeans mods made.0 made.1 outcome
+            → Comes (AskMeans mods answer nodes) (Kept None)
         by (Ok new) applied =
             let fit = applied_keeps mods made.0 made.1 new kept.valid kept.may
             (asked_inside many mods answer nodes made comes) applied in (

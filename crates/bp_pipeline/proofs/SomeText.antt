@@ -54,4 +54,5 @@ module _ (graph : SomeGraph) (valid : GraphsAreValid) (one : OneOutcome Actions)
 
   pub text_some : HasOutcome (TextMeans mods c)
   text_some =
-      then_some (FileMeans mods c) (λ file outcome. text_within_limit file ≡ outcome) file_some (λ file. (text_within_limit file, refl))
+      then_some (FileMeans mods c) (λ file outcome. text_within_limit file ≡ outcome) file_some
+      (λ file. (text_within_limit file, refl))

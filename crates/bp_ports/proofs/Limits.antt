@@ -11,6 +11,9 @@ whole_of_part n held bytes part short =
     sym (part ∙ take_all n held few)
 
 -- The same where the whole may be unknown.
-pub all_of_part : (left : Option (List ℕ)) (n : ℕ) (front bytes : List ℕ) → front ≡ [] → IfSome (option_map (take n) left) (λ part. bytes ≡ front ++ part) → length bytes < n → IfSome left (λ held. Some held ≡ Some bytes)
+pub all_of_part : (left : Option (List ℕ)) (n : ℕ) (front bytes : List ℕ) → front ≡ []
+    → IfSome (option_map (take n) left) (λ part. bytes ≡ front ++ part) → length bytes < n
+    → IfSome left (λ held. Some held ≡ Some bytes)
 all_of_part None n front bytes none part short = tt
-all_of_part (Some held) n front bytes none part short = ap Some (whole_of_part n held bytes (part ∙ ap (λ f. f ++ take n held) none) short)
+all_of_part (Some held) n front bytes none part short =
+    ap Some (whole_of_part n held bytes (part ∙ ap (λ f. f ++ take n held) none) short)

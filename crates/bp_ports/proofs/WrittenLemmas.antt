@@ -1,5 +1,6 @@
 -- What a path holds after writes, and what one more write makes of them.
-use Rattle.std.proofs.Common.{◌≡◌, ℕ, ◌+◌, ◌≤◌, List, [], ◌∷◌, ◌++◌, length, take, drop, refl, ap, ◌∙◌, arith, length-append, length-drop}
+use Rattle.std.proofs.Common.{◌≡◌, ℕ, ◌+◌, ◌≤◌, List, [], ◌∷◌, ◌++◌, length, take, drop, refl, ap, ◌∙◌, arith}
+use Rattle.std.proofs.Common.{length-append, length-drop}
 use Rattle.std.proofs.lemmas.List.{take-append-le, drop-append-le}
 use Rattle.std.proofs.lemmas.Grind.{common_steps}
 use Rattle.std.specs.FinMap.{get, insert, find, from_entries, get-insert, get-from_entries}
@@ -9,10 +10,13 @@ use Rattle.bp_ports.specs.Files.{Files}
 use Rattle.bp_ports.specs.declared.writes.Span.{Span}
 use Rattle.bp_ports.specs.Written.{total, files_after, held_after}
 
-pub get-written : (spans : List Span) (run : List ℕ) (files : Files) (q : List ℕ) → get (files_after spans run files) q ≡ held_after spans run q (get files q)
+pub get-written : (spans : List Span) (run : List ℕ) (files : Files) (q : List ℕ)
+    → get (files_after spans run files) q ≡ held_after spans run q (get files q)
 get-written [] run files q = refl
 get-written (s ∷ spans) run files q =
-    get-written spans _ _ q ∙ ap (held_after spans (drop s.bytes (drop s.path run)) q) (get-insert nat_list_cmp_total files (take s.path run) (take s.bytes (drop s.path run)) q)
+    get-written spans _ _ q
+    ∙ ap (held_after spans (drop s.bytes (drop s.path run)) q)
+    (get-insert nat_list_cmp_total files (take s.path run) (take s.bytes (drop s.path run)) q)
 
 take_all : (xs ys : List ℕ) → take (length xs) (xs ++ ys) ≡ xs
 take_all xs ys = grind (arith, common_steps)
@@ -24,14 +28,19 @@ take_whole : (xs : List ℕ) → take (length xs) xs ≡ xs
 take_whole xs = grind (arith, common_steps)
 
 -- the first write, by its parts
-first_write : (s : Span) (spans : List Span) (run : List ℕ) (files : Files) (name bytes rest : List ℕ) → take s.path run ≡ name → take s.bytes (drop s.path run) ≡ bytes → drop s.bytes (drop s.path run) ≡ rest → files_after (s ∷ spans) run files ≡ files_after spans rest (insert files name bytes)
-first_write s spans run files name bytes rest is_name is_bytes is_rest = λ i. files_after spans (is_rest i) (insert files (is_name i) (is_bytes i))
+first_write : (s : Span) (spans : List Span) (run : List ℕ) (files : Files) (name bytes rest : List ℕ)
+    → take s.path run ≡ name → take s.bytes (drop s.path run) ≡ bytes → drop s.bytes (drop s.path run) ≡ rest
+    → files_after (s ∷ spans) run files ≡ files_after spans rest (insert files name bytes)
+first_write s spans run files name bytes rest is_name is_bytes is_rest =
+    λ i. files_after spans (is_rest i) (insert files (is_name i) (is_bytes i))
 
 total-append : (spans more : List Span) → total (spans ++ more) ≡ total spans + total more
 total-append [] more = omega arith
 total-append (s ∷ spans) more = omega (arith, total-append spans more)
 
-pub written-push : (spans : List Span) (run path bytes : List ℕ) (files : Files) → total spans ≡ length run → files_after (spans ++ record { path = length path; bytes = length bytes } ∷ []) (run ++ (path ++ bytes)) files ≡ insert (files_after spans run files) path bytes
+pub written-push : (spans : List Span) (run path bytes : List ℕ) (files : Files) → total spans ≡ length run
+    → files_after (spans ++ record { path = length path; bytes = length bytes } ∷ []) (run ++ (path ++ bytes)) files
+    ≡ insert (files_after spans run files) path bytes
 written-push [] [] path bytes files whole = rw (take_all path bytes, drop_all path bytes, take_whole bytes) refl
 written-push [] (b ∷ run) path bytes files whole = absurd (omega arith)
 written-push (s ∷ spans) run path bytes files whole =
@@ -39,16 +48,21 @@ written-push (s ∷ spans) run path bytes files whole =
     let in_rest : s.bytes ≤ length (drop s.path run) = simp length-drop (omega arith) in
     let left : total spans ≡ length (drop s.bytes (drop s.path run)) = simp length-drop (omega arith) in
     let rest = drop-append-le s.path run (path ++ bytes) in_run in
-    first_write s (spans ++ record { path = length path; bytes = length bytes } ∷ []) (run ++ (path ++ bytes)) files _ _ _
+    first_write s (spans ++ record { path = length path; bytes = length bytes } ∷ [])
+    (run ++ (path ++ bytes)) files _ _ _
     (take-append-le s.path run (path ++ bytes) in_run)
     (ap (take s.bytes) rest ∙ take-append-le s.bytes (drop s.path run) (path ++ bytes) in_rest)
     (ap (drop s.bytes) rest ∙ drop-append-le s.bytes (drop s.path run) (path ++ bytes) in_rest)
     ∙ written-push spans _ path bytes _ left
 
 -- how many bytes the writes have with one more
-pub total-push : (spans : List Span) (run path bytes : List ℕ) → total spans ≡ length run → total (spans ++ record { path = length path; bytes = length bytes } ∷ []) ≡ length (run ++ (path ++ bytes))
+pub total-push : (spans : List Span) (run path bytes : List ℕ) → total spans ≡ length run
+    → total (spans ++ record { path = length path; bytes = length bytes } ∷ []) ≡ length (run ++ (path ++ bytes))
 total-push spans run path bytes whole = simp length-append (rw (total-append spans _) (omega arith))
 
 -- what a path holds after the writes, from what it was given
-pub get-held : (spans : List Span) (run : List ℕ) (entries : List (List ℕ × List ℕ)) (q : List ℕ) → get (files_after spans run (from_entries entries)) q ≡ held_after spans run q (find (slice_cmp nat_cmp) q entries)
-get-held spans run entries q = get-written spans run (from_entries entries) q ∙ ap (held_after spans run q) (get-from_entries nat_list_cmp_total entries q)
+pub get-held : (spans : List Span) (run : List ℕ) (entries : List (List ℕ × List ℕ)) (q : List ℕ)
+    → get (files_after spans run (from_entries entries)) q ≡ held_after spans run q (find (slice_cmp nat_cmp) q entries)
+get-held spans run entries q =
+    get-written spans run (from_entries entries) q
+    ∙ ap (held_after spans run q) (get-from_entries nat_list_cmp_total entries q)

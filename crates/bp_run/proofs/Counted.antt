@@ -8,7 +8,8 @@ use Rattle.bp_faults.specs.declared.fault.Fault.{Fault}
 use Rattle.bp_faults.specs.declared.limits.TheConstants.{MOST_MODULES}
 use Rattle.bp_faults.specs.Answers.{then_do}
 use Rattle.bp_props.specs.declared.module.Module.{Module}
-use Rattle.bp_load.specs.Loaded.{names_tested, name_tested, name_check, all_typed, has_module_named, name_place, LoadMeans}
+use Rattle.bp_load.specs.Loaded.{names_tested, name_tested, name_check, all_typed, has_module_named, name_place}
+use Rattle.bp_load.specs.Loaded.{LoadMeans}
 use Rattle.std.proofs.lemmas.Bool.{leb-false}
 use Rattle.std.proofs.lemmas.List.{length-append}
 

@@ -139,21 +139,27 @@ module _ (old new : World) (reads : ℕ) (made : Made) where
 
   written_here : (words : BuildWords) → IfSome old.files (HasModules (Build words) words.list)
       → journal_path made.journal ≡ words.journal → (before after : Option Files) → old.files ≡ before
-      → WhereTold (λ before after. after ≡ files_with_journal made.journal (insert before words.out made.text)) before after
+      → WhereTold (λ before after. after ≡ files_with_journal made.journal (insert before words.out made.text)) before
+      after
       → WhereTold (λ before after. Journals words before words.journal (insert before words.out made.text) after)
       before after
   written_here words has asked None None is h = tt
   written_here words has asked None (Some after) is h = absurd h
   written_here words has asked (Some before) None is h = tt
   written_here words has asked (Some before) (Some after) is h =
-      let loaded : HasModules (Build words) words.list before = subst (λ told. IfSome told (HasModules (Build words) words.list)) is has in
-      journals_here words before loaded.0 loaded.1 (insert before words.out made.text) after made.journal asked loaded.2 h
+      let loaded : HasModules (Build words) words.list before =
+      subst (λ told. IfSome told (HasModules (Build words) words.list)) is has in
+      journals_here words before loaded.0 loaded.1
+      (insert before words.out made.text) after made.journal asked loaded.2 h
 
   pub ends_delivered : (c : Configuration) → Gives c old (Ok made.text) → journal_path made.journal ≡ journal_of c
       → ((words : BuildWords) → c ≡ Build words → IfSome old.files (HasModules c words.list)) → (end : End)
       → EndsDelivery c made (reading old reads) new end → Ended (Some (Job c)) old new end
-  ends_delivered (Build words) gives asked has End.Done h =
-      (made.text, gives, record { files = written_here words (has words refl) asked old.files new.files refl h.files; out = h.out })
+  ends_delivered (Build words) gives asked has End.Done h = (
+    made.text,
+    gives,
+    record { files = written_here words (has words refl) asked old.files new.files refl h.files; out = h.out },
+  )
   ends_delivered (Build words) gives asked has (End.Fault line) h = absurd h
   ends_delivered (Build words) gives asked has End.Usage h = absurd h
   ends_delivered (Build words) gives asked has (End.Read line) h = absurd h
@@ -316,7 +322,8 @@ cause_later {T} old mid new e later cause = record { later = omega (arith, later
     by (Stop.Read path) rose = rose_later old mid new later rose
     by Stop.OutOfMemory rose = tt
 
-pub ends_later : (c : Configuration) (made : Made) (old new : World) (files : Option Files) (reads writes : ℕ) (end : End)
+pub ends_later : (c : Configuration) (made : Made) (old new : World) (files : Option Files) (reads writes : ℕ)
+    (end : End)
     → files ≡ old.files → writes ≡ old.writes
     → EndsDelivery c made
     (record { files = files; reads = reads; writes = writes; out = old.out; puts = old.puts }) new end

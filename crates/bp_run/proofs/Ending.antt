@@ -44,7 +44,8 @@ module _ (once : OneJob) (replayed : OneReplay) (rewritten : OneRewrite) where
   given_once (Synth words) old a b x y = once (Synth words) empty a b x y
 
   replay_once : (words : ReplayWords) (told : Option Files) (a b : Result (List ℕ) Fault)
-      → IfSome told (λ files. ReplayJobMeans words files a) → IsSomeAnd told (λ files. ReplayJobMeans words files b) → a ≡ b
+      → IfSome told (λ files. ReplayJobMeans words files a) → IsSomeAnd told (λ files. ReplayJobMeans words files b)
+      → a ≡ b
   replay_once words None a b x y = absurd y
   replay_once words (Some files) a b x y = replayed words files a b x y
 

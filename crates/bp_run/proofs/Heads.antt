@@ -3,7 +3,8 @@ use Rattle.std.proofs.Common.{◌≡◌, ◌∙◌, ℕ, List, [], ◌∷◌, �
 use Rattle.std.specs.List.{flat_map}
 use Rattle.ninja_write.specs.Meaning.{joined_text, head_line, rule_lines, statement_lines, default_lines}
 use Rattle.build_actions.specs.File.{all_path, all_statements}
-use Rattle.build_actions.specs.Head.{head_rules, head_lines, compile_command, dependency_bindings, assemble_rule, archive_rule}
+use Rattle.build_actions.specs.Head.{head_rules, head_lines, compile_command, dependency_bindings, assemble_rule}
+use Rattle.build_actions.specs.Head.{archive_rule}
 use Rattle.build_actions.specs.Head.{link_rule}
 use Rattle.bp_run.specs.Laws.{HeadIsText}
 use Rattle.bp_faults.specs.Characters.{ended_line}
@@ -11,7 +12,8 @@ use Rattle.bp_faults.specs.Characters.{ended_line}
 joined-append : (xs ys : List (List ℕ)) → joined_text (xs ++ ys) ≡ joined_text xs ++ joined_text ys
 joined-append [] ys = refl
 joined-append (x ∷ xs) ys =
-    ap (λ rest. ended_line x ++ rest) (joined-append xs ys) ∙ sym (append_assoc (ended_line x) (joined_text xs) (joined_text ys))
+    ap (λ rest. ended_line x ++ rest) (joined-append xs ys)
+    ∙ sym (append_assoc (ended_line x) (joined_text xs) (joined_text ys))
 
 -- the lines of the comment and of the rules
 first_lines : head_line ∷ flat_map rule_lines head_rules ≡ head_lines

@@ -33,7 +33,8 @@ module _ (paths : List (List ℕ)) (order : List ℕ) where
 
   -- the order file is read behind the others
   abbrev behind : Files → Result (List Source) Fault → Result (List Source × List ℕ) Fault
-  behind files read = then_do read (λ sources_given. then_do (order_of files paths order) (λ bytes. Ok (sources_given, bytes)))
+  behind files read =
+      then_do read (λ sources_given. then_do (order_of files paths order) (λ bytes. Ok (sources_given, bytes)))
 
   -- a file of the list can't be read, or has a fault
   pub files_fail : (old : Option Files) (e : Stop) (r : Result Inputs Stop) → IsErrAnd r (λ x. x ≡ e)
@@ -42,7 +43,8 @@ module _ (paths : List (List ℕ)) (order : List ℕ) where
       → IfSome old (λ files. Read files r)
   files_fail None e r same h = tt
   files_fail (Some files) e r same h =
-      stops {T = Vec Held Global} {U = Inputs} (λ read. sources_given read.items) contents (Exactly (sources_of files paths))
+      stops {T = Vec Held Global} {U = Inputs} (λ read. sources_given read.items) contents
+      (Exactly (sources_of files paths))
       (Exactly (sources_and_order files paths order)) (CannotReadOf files paths) (CannotReadAlong files paths order)
       (λ fault means. ap (behind files) means) (λ path cannot. inl cannot) e r same h
 

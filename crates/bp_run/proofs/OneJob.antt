@@ -21,7 +21,8 @@ use Rattle.build_actions.specs.Acts.{acts_at}
 use Rattle.build_actions.specs.File.{file_of_actions}
 use Rattle.ninja_file.specs.declared.file.NinjaFile.{NinjaFile}
 use Rattle.bp_pipeline.specs.Course.{GraphAfter}
-use Rattle.bp_pipeline.specs.Generated.{ActionsMean, FileMeans, TextMeans, IsStatementCount, sizes_of, text_within_limit}
+use Rattle.bp_pipeline.specs.Generated.{ActionsMean, FileMeans, TextMeans, IsStatementCount, sizes_of}
+use Rattle.bp_pipeline.specs.Generated.{text_within_limit}
 use Rattle.bp_pipeline.specs.Laws.{OneGraph}
 use Rattle.bp_pipeline.specs.Mutators.{mutator_count}
 use Rattle.bp_pipeline.specs.Shown.{shown_graph}

@@ -1,5 +1,6 @@
 -- A synthetic tree is one list of files.
-use Rattle.std.proofs.Common.{◌≡◌, ◌∙◌, ◌<◌, ◌⊎◌, inl, inr, ⊎_elim, ℕ, zero, suc, List, [], ◌∷◌, length, get_or, map, refl}
+use Rattle.std.proofs.Common.{◌≡◌, ◌∙◌, ◌<◌, ◌⊎◌, inl, inr, ⊎_elim, ℕ, zero, suc, List, [], ◌∷◌, length, get_or, map}
+use Rattle.std.proofs.Common.{refl}
 use Rattle.std.proofs.Common.{sym, ap, subst, arith}
 use Rattle.std.specs.List.{AllByRecursion, Contains, range_with_len}
 use Rattle.std.specs.List.Sorted.{IsPermutation, IsStrictlySortedBy}
@@ -39,7 +40,8 @@ not_before_itself k is =
 
 not_both : (j k : ℕ) → block_cmp j k ≡ Less → block_cmp k j ≡ Less → ⊥
 not_both j k first second =
-    not_before_itself j (nat_list_cmp_total.trans (block_directory j) (block_directory k) (block_directory j) first second)
+    not_before_itself j
+    (nat_list_cmp_total.trans (block_directory j) (block_directory k) (block_directory j) first second)
 
 behind : (k : ℕ) (xs : List ℕ) (q : ℕ) → AllByRecursion (λ y. block_cmp k y ≡ Less) xs → Has xs q
     → block_cmp k q ≡ Less

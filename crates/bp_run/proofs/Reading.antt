@@ -70,7 +70,8 @@ module _ (files : Files) where
       ∙ ap (λ n. behind [] (sources_from files n size ys)) (none_more number)
       ∙ ap (λ s. behind [] (sources_from files (number + 0) s ys)) (none_more size))
   read_append number size (x ∷ xs) ys done h =
-      held (λ bytes more. read_append (number + 1) (size + length bytes) xs ys more) (file_bytes files number size x) refl
+      held (λ bytes more. read_append (number + 1) (size + length bytes) xs ys more)
+      (file_bytes files number size x) refl
       h
     where
       Goal : Type 0
@@ -105,7 +106,8 @@ module _ (files : Files) where
           ∙ ap (behind ((x, bytes) ∷ more)) (shift bytes more)
           ∙ ap (λ done. behind done (sources_from files (number + suc (length xs)) (size + size_of done) ys)) same
 
-      held : Onward → (r : Result (List ℕ) Fault) → file_bytes files number size x ≡ r → step number size x xs r ≡ Ok done
+      held : Onward → (r : Result (List ℕ) Fault) → file_bytes files number size x ≡ r
+          → step number size x xs r ≡ Ok done
           → Goal
       held onward (Err fault) is h = absurd (cc)
       held onward (Ok bytes) is h =

@@ -42,7 +42,8 @@ module _ (words : ReplayWords) (old new : World) where
   list_stopped Stop.OutOfMemory end gives cause same h =
       ends_at_memory (Replay words) old new same (words.list ∷ []) end h
 
-  module _ (paths : List (List ℕ)) (listed : IfSome old.files (λ files. ListFileMeans words.list files (Ok paths))) where
+  module _ (paths : List (List ℕ))
+      (listed : IfSome old.files (λ files. ListFileMeans words.list files (Ok paths))) where
     -- a file can't be read, or the job is a fault
     pub files_stopped : (e : Stop) (end : End)
         → IfSome old.files (λ files. GivesOrStops {T = Made} {V = List ℕ} (λ made. made.text)

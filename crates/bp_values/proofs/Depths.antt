@@ -13,10 +13,12 @@ le_max a b n = grind (arith, nat_tests)
 
 pub within_step : (es : List Entry) (i : ℕ) (e : Entry) (limit : ℕ) → i < length es → e ≡ get_or es i e
     → nat_le (depth_of_fields (fields_then (map field_of (drop i es)) no_field)) limit
-    ≡ (nat_le (depth (meaning (out-Entry e).value)) limit && nat_le (depth_of_fields (fields_then (map field_of (drop (i + 1) es)) no_field)) limit)
+    ≡ (nat_le (depth (meaning (out-Entry e).value)) limit
+    && nat_le (depth_of_fields (fields_then (map field_of (drop (i + 1) es)) no_field)) limit)
 within_step es i e limit within item =
     let rest : map field_of (drop i es) ≡ field_of e ∷ map field_of (drop (i + 1) es) =
     map_drop_cons field_of es i e within ∙ ap (λ x. field_of x ∷ map field_of (drop (i + 1) es)) (sym item) in
     ap (λ l. nat_le (depth_of_fields (fields_then l no_field)) limit) rest
     ∙ le_max (depth (field_of e).value) (depth_of_fields (fields_then (map field_of (drop (i + 1) es)) no_field)) limit
-    ∙ ap (λ v. nat_le (depth v) limit && nat_le (depth_of_fields (fields_then (map field_of (drop (i + 1) es)) no_field)) limit) (value_out e)
+    ∙ ap (λ v. nat_le (depth v) limit
+    && nat_le (depth_of_fields (fields_then (map field_of (drop (i + 1) es)) no_field)) limit) (value_out e)

@@ -4,7 +4,8 @@ use Rattle.bp_values.specs.Values.{Meaning, Field, meaning, field_of, value_step
 use Rattle.bp_values.specs.declared.value.Entry.{Entry, out-Entry}
 use Rattle.bp_values.specs.declared.value.Value.TheFolds.{fold_out-Entry}
 
-pub field_out : (e : Entry) → field_of e ≡ record { name = (out-Entry e).name; at = (out-Entry e).at; value = meaning (out-Entry e).value }
+pub field_out : (e : Entry)
+    → field_of e ≡ record { name = (out-Entry e).name; at = (out-Entry e).at; value = meaning (out-Entry e).value }
 field_out = fold_out-Entry Meaning Field value_step field_step
 
 pub name_out : (e : Entry) → (field_of e).name ≡ (out-Entry e).name

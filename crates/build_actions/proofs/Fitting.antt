@@ -1,5 +1,6 @@
 -- Statements that are well formed.
-use Rattle.std.proofs.Common.{◌≡◌, ◌≢◌, ◌<◌, ◌++◌, ◌&&◌, ℕ, Bool, true, false, cond, List, [], ◌∷◌, get_or, Option, Some, None, refl, sym, ap, ◌∙◌, arith, subst}
+use Rattle.std.proofs.Common.{◌≡◌, ◌≢◌, ◌<◌, ◌++◌, ◌&&◌, ℕ, Bool, true, false, cond, List, [], ◌∷◌, get_or, Option}
+use Rattle.std.proofs.Common.{Some, None, refl, sym, ap, ◌∙◌, arith, subst}
 use Rattle.std.specs.Prelude.{codes, Contains}
 use Rattle.std.specs.Option.{option_map}
 use Rattle.std.specs.List.{AllByRecursion, list_all, cons_option}
@@ -58,7 +59,8 @@ one_variable key (b ∷ value) name h = record {
   values = one_value (is_value (b ∷ value)) (value_of b value h);
 }
 
-pub two_variables : (k l v w : List ℕ) → is_name k ≡ true → is_name l ≡ true → Differ k l → Shown v → Shown w → AreVariables (variable k v ++ variable l w)
+pub two_variables : (k l v w : List ℕ) → is_name k ≡ true → is_name l ≡ true → Differ k l → Shown v → Shown w
+    → AreVariables (variable k v ++ variable l w)
 two_variables k l [] w nk nl kl hv hw = one_variable l w nl hw
 two_variables k l (b ∷ v) [] nk nl kl hv hw = one_variable k (b ∷ v) nk hv
 two_variables k l (b ∷ v) (c ∷ w) nk nl kl hv hw = record {
@@ -67,7 +69,8 @@ two_variables k l (b ∷ v) (c ∷ w) nk nl kl hv hw = record {
   values = two_values (is_value (b ∷ v)) (is_value (c ∷ w)) (value_of b v hv) (value_of c w hw);
 }
 
-pub three_variables : (k l m v w x : List ℕ) → is_name k ≡ true → is_name l ≡ true → is_name m ≡ true → Differ k l → Differ k m → Differ l m → Shown v → Shown w → Shown x
+pub three_variables : (k l m v w x : List ℕ) → is_name k ≡ true → is_name l ≡ true → is_name m ≡ true → Differ k l
+    → Differ k m → Differ l m → Shown v → Shown w → Shown x
     → AreVariables (variable k v ++ (variable l w ++ variable m x))
 three_variables k l m [] w x nk nl nm kl km lm hv hw hx = two_variables l m w x nl nm lm hw hx
 three_variables k l m (b ∷ v) [] x nk nl nm kl km lm hv hw hx = two_variables k m (b ∷ v) x nk nm km hv hx
@@ -75,7 +78,9 @@ three_variables k l m (b ∷ v) (c ∷ w) [] nk nl nm kl km lm hv hw hx = two_va
 three_variables k l m (b ∷ v) (c ∷ w) (d ∷ x) nk nl nm kl km lm hv hw hx = record {
   keys = three_values (is_name k) (is_name l) (is_name m) nk nl nm;
   differ = pairs_apart Differ (k ∷ l ∷ m ∷ []) ((kl, (km, tt)), ((lm, tt), (tt, tt)));
-  values = three_values (is_value (b ∷ v)) (is_value (c ∷ w)) (is_value (d ∷ x)) (value_of b v hv) (value_of c w hw) (value_of d x hx);
+  values =
+      three_values (is_value (b ∷ v)) (is_value (c ∷ w)) (is_value (d ∷ x)) (value_of b v hv) (value_of c w hw)
+      (value_of d x hx);
 }
 
 -- paths, as a test
@@ -87,13 +92,16 @@ some : {A : Type 0} (x : A) (xs : List A) → (x ∷ xs) ≢ []
 some x xs same = cc
 
 -- a statement of one out
-pub fits : (s : Statement) (out : List ℕ) → s.outs ≡ out ∷ [] → IsPath out → AllByRecursion IsPath s.ins → AllByRecursion IsPath s.implicit → AllByRecursion IsPath s.order_only
+pub fits : (s : Statement) (out : List ℕ) → s.outs ≡ out ∷ [] → IsPath out → AllByRecursion IsPath s.ins
+    → AllByRecursion IsPath s.implicit → AllByRecursion IsPath s.order_only
     → Contains (codes "phony" ∷ six) s.rule → AreVariables s.vars → IsStatement six s
 fits s out outs path ins implicit order_only rule vars = record {
   makes = λ none. some out [] (sym outs ∙ none);
   paths = are_paths (s.outs ++ (s.ins ++ (s.implicit ++ s.order_only)))
-      (all_append IsPath s.outs (s.ins ++ (s.implicit ++ s.order_only)) (subst (λ l. AllByRecursion IsPath l) (sym outs) (path, tt))
-      (all_append IsPath s.ins (s.implicit ++ s.order_only) ins (all_append IsPath s.implicit s.order_only implicit order_only)));
+      (all_append IsPath s.outs (s.ins ++ (s.implicit ++ s.order_only))
+      (subst (λ l. AllByRecursion IsPath l) (sym outs) (path, tt))
+      (all_append IsPath s.ins (s.implicit ++ s.order_only) ins
+      (all_append IsPath s.implicit s.order_only implicit order_only)));
   rule = rule;
   keys = vars.keys;
   keys_differ = vars.differ;
@@ -101,7 +109,8 @@ fits s out outs path ins implicit order_only rule vars = record {
 }
 
 -- the rule at a place
-pub rule_at : (k : ℕ) (rule : List ℕ) → k < 7 → get_or (codes "phony" ∷ six) k rule ≡ rule → Contains (codes "phony" ∷ six) rule
+pub rule_at : (k : ℕ) (rule : List ℕ) → k < 7 → get_or (codes "phony" ∷ six) k rule ≡ rule
+    → Contains (codes "phony" ∷ six) rule
 rule_at k rule lt is = (k, lt, is)
 
 pub language_rule : (language : Language) → Contains (codes "phony" ∷ six) (rule_of language)
@@ -110,9 +119,12 @@ language_rule Cxx = rule_at 2 (codes "cxx") (omega arith) refl
 language_rule Assembler = rule_at 3 (codes "as") (omega arith) refl
 
 -- what is kept of some texts
-pub kept_all : (P : List ℕ → Type 0) (earlier texts : List (List ℕ)) → AllByRecursion P texts → AllByRecursion P (new_ones earlier texts)
+pub kept_all : (P : List ℕ → Type 0) (earlier texts : List (List ℕ)) → AllByRecursion P texts
+    → AllByRecursion P (new_ones earlier texts)
 kept_all P earlier [] h = tt
-kept_all P earlier (t ∷ texts) h = all_append P (new_one earlier t) (new_ones (earlier ++ t ∷ []) texts) (by (knows earlier t)) (kept_all P (earlier ++ t ∷ []) texts h.1)
+kept_all P earlier (t ∷ texts) h =
+    all_append P (new_one earlier t) (new_ones (earlier ++ t ∷ []) texts) (by (knows earlier t))
+    (kept_all P (earlier ++ t ∷ []) texts h.1)
   where
     by : (b : Bool) → AllByRecursion P (cond b [] (t ∷ []))
     by true = tt
@@ -124,24 +136,32 @@ pub record Fits (compiler : Compiler) : Type 0 where
   pub headers : AllByRecursion IsPath compiler.headers
   pub variables : (language : Language) → AreVariables (variables_in compiler language)
 
-pub step_fits : (compiler : Compiler) → Fits compiler → (source : List ℕ) (language : Language) → IsPath source → IsStatement six (compile_step compiler source language)
+pub step_fits : (compiler : Compiler) → Fits compiler → (source : List ℕ) (language : Language) → IsPath source
+    → IsStatement six (compile_step compiler source language)
 step_fits compiler fit source language path =
-    fits (compile_step compiler source language) (object_path compiler.directory source) refl (fit.objects source path) (path, tt) fit.headers tt (language_rule language) (fit.variables language)
+    fits (compile_step compiler source language) (object_path compiler.directory source) refl (fit.objects source path)
+    (path, tt) fit.headers tt (language_rule language) (fit.variables language)
 
-pub steps_fit : (compiler : Compiler) → Fits compiler → (files : List Item) → AllByRecursion (λ (f : Item). IsPath f.text) files → AllByRecursion (IsStatement six) (compile_steps compiler files)
+pub steps_fit : (compiler : Compiler) → Fits compiler → (files : List Item)
+    → AllByRecursion (λ (f : Item). IsPath f.text) files
+    → AllByRecursion (IsStatement six) (compile_steps compiler files)
 steps_fit compiler fit [] h = tt
 steps_fit compiler fit (f ∷ files) h = by (language_of f) (steps_fit compiler fit files h.1)
   where
     by : (o : Option Language) → AllByRecursion (IsStatement six) (compile_steps compiler files)
-        → AllByRecursion (IsStatement six) (cons_option (option_map (compile_step compiler f.text) o) (compile_steps compiler files))
+        → AllByRecursion (IsStatement six)
+        (cons_option (option_map (compile_step compiler f.text) o) (compile_steps compiler files))
     by None rest = rest
     by (Some language) rest = (step_fits compiler fit f.text language h.0, rest)
 
-pub objects_fit : (directory : List ℕ) → ((source : List ℕ) → IsPath source → IsPath (object_path directory source)) → (files : List Item) → AllByRecursion (λ (f : Item). IsPath f.text) files → AllByRecursion IsPath (objects_in directory files)
+pub objects_fit : (directory : List ℕ) → ((source : List ℕ) → IsPath source → IsPath (object_path directory source))
+    → (files : List Item) → AllByRecursion (λ (f : Item). IsPath f.text) files
+    → AllByRecursion IsPath (objects_in directory files)
 objects_fit directory fit [] h = tt
 objects_fit directory fit (f ∷ files) h = by (language_of f) (objects_fit directory fit files h.1)
   where
     by : (o : Option Language) → AllByRecursion IsPath (objects_in directory files)
-        → AllByRecursion IsPath (cons_option (option_map (λ language. object_path directory f.text) o) (objects_in directory files))
+        → AllByRecursion IsPath
+        (cons_option (option_map (λ language. object_path directory f.text) o) (objects_in directory files))
     by None rest = rest
     by (Some language) rest = (fit f.text h.0, rest)

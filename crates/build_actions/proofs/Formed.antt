@@ -1,5 +1,6 @@
 -- The file of a graph: its rules, its statements and its default.
-use Rattle.std.proofs.Common.{◌≡◌, ◌++◌, ℕ, List, [], ◌∷◌, map, length, get_or, Some, None, Option, refl, sym, arith, subst, length-append}
+use Rattle.std.proofs.Common.{◌≡◌, ◌++◌, ℕ, List, [], ◌∷◌, map, length, get_or, Some, None, Option, refl, sym, arith}
+use Rattle.std.proofs.Common.{subst, length-append}
 use Rattle.std.specs.Prelude.{codes, Contains}
 use Rattle.std.specs.List.{AllByRecursion, All, flat_map, cons_option}
 use Rattle.std.proofs.lemmas.List.Elements.{All-from_recursion}
@@ -8,7 +9,8 @@ use Rattle.ninja_file.specs.declared.file.NinjaRule.{NinjaRule}
 use Rattle.ninja_file.specs.declared.file.Statement.{Statement}
 use Rattle.ninja_file.specs.Meaning.{AllDiffer, IsRule, IsStatement, outs_of, IsWellFormed}
 use Rattle.build_actions.specs.declared.actions.Actions.{Actions}
-use Rattle.build_actions.specs.Head.{head_rules, compile_command, dependency_bindings, compile_rule, assemble_rule, archive_rule, link_rule}
+use Rattle.build_actions.specs.Head.{head_rules, compile_command, dependency_bindings, compile_rule, assemble_rule}
+use Rattle.build_actions.specs.Head.{archive_rule, link_rule}
 use Rattle.build_actions.specs.File.{all_path, outputs_of, all_step, all_statements, file_of_actions}
 use Rattle.build_actions.proofs.Differing.{all_flat}
 use Rattle.build_actions.proofs.Outputs.{Differ}
@@ -24,7 +26,10 @@ four_keys = (
     (apart_texts (codes "command") (codes "depfile") refl, (apart_texts (codes "command") (codes "deps") refl, tt)),
   ),
   (
-    (apart_texts (codes "description") (codes "depfile") refl, (apart_texts (codes "description") (codes "deps") refl, tt)),
+    (
+      apart_texts (codes "description") (codes "depfile") refl,
+      (apart_texts (codes "description") (codes "deps") refl, tt),
+    ),
     ((apart_texts (codes "depfile") (codes "deps") refl, tt), (tt, tt)),
   ),
 )
@@ -38,7 +43,8 @@ compiles_c = record {
   name = refl;
   not_phony = apart_texts (codes "cc") (codes "phony") refl;
   keys = refl;
-  keys_differ = pairs_apart Differ (codes "command" ∷ codes "description" ∷ codes "depfile" ∷ codes "deps" ∷ []) four_keys;
+  keys_differ =
+      pairs_apart Differ (codes "command" ∷ codes "description" ∷ codes "depfile" ∷ codes "deps" ∷ []) four_keys;
   command = (0, omega arith, refl);
   values = refl;
 }
@@ -49,7 +55,8 @@ compiles_cxx = record {
   name = refl;
   not_phony = apart_texts (codes "cxx") (codes "phony") refl;
   keys = refl;
-  keys_differ = pairs_apart Differ (codes "command" ∷ codes "description" ∷ codes "depfile" ∷ codes "deps" ∷ []) four_keys;
+  keys_differ =
+      pairs_apart Differ (codes "command" ∷ codes "description" ∷ codes "depfile" ∷ codes "deps" ∷ []) four_keys;
   command = (0, omega arith, refl);
   values = refl;
 }
@@ -111,16 +118,25 @@ six_differ = (
     apart_texts (codes "cc") (codes "cxx") refl,
     (
       apart_texts (codes "cc") (codes "as") refl,
-      (apart_texts (codes "cc") (codes "ar") refl, (apart_texts (codes "cc") (codes "link") refl, (apart_texts (codes "cc") (codes "solink") refl, tt))),
+      (
+        apart_texts (codes "cc") (codes "ar") refl,
+        (apart_texts (codes "cc") (codes "link") refl, (apart_texts (codes "cc") (codes "solink") refl, tt)),
+      ),
     ),
   ),
   (
     (
       apart_texts (codes "cxx") (codes "as") refl,
-      (apart_texts (codes "cxx") (codes "ar") refl, (apart_texts (codes "cxx") (codes "link") refl, (apart_texts (codes "cxx") (codes "solink") refl, tt))),
+      (
+        apart_texts (codes "cxx") (codes "ar") refl,
+        (apart_texts (codes "cxx") (codes "link") refl, (apart_texts (codes "cxx") (codes "solink") refl, tt)),
+      ),
     ),
     (
-      (apart_texts (codes "as") (codes "ar") refl, (apart_texts (codes "as") (codes "link") refl, (apart_texts (codes "as") (codes "solink") refl, tt))),
+      (
+        apart_texts (codes "as") (codes "ar") refl,
+        (apart_texts (codes "as") (codes "link") refl, (apart_texts (codes "as") (codes "solink") refl, tt)),
+      ),
       (
         (apart_texts (codes "ar") (codes "link") refl, (apart_texts (codes "ar") (codes "solink") refl, tt)),
         ((apart_texts (codes "link") (codes "solink") refl, tt), (tt, tt)),
@@ -150,19 +166,27 @@ module _ (made : List Actions) (good : AllByRecursion IsGood made) where
   statements_good =
       all_append (IsStatement six) (flat_map (λ (node : Actions). node.statements) made) (all_step made ∷ [])
       (all_flat (λ (node : Actions). node.statements) (IsStatement six) made
-      (all_map IsGood (λ (a : Actions). AllByRecursion (IsStatement six) a.statements) (λ a g. g.statements) made good))
-      (fits (all_step made) all_path refl refl (outputs_good made good) tt tt (rule_at 0 (codes "phony") (omega arith) refl) no_variables, tt)
+      (all_map IsGood (λ (a : Actions). AllByRecursion (IsStatement six) a.statements)
+      (λ a g. g.statements) made good)) (
+        fits (all_step made) all_path refl refl (outputs_good made good) tt tt
+            (rule_at 0 (codes "phony") (omega arith) refl) no_variables,
+        tt,
+      )
 
   pub well_formed : AllDiffer (outs_of (file_of_actions made)) → IsWellFormed (file_of_actions made)
   well_formed differ = record {
     rules = All-from_recursion IsRule head_rules rules_good;
     rules_differ = subst (λ l. AllDiffer l) (sym names_six) (pairs_apart Differ six six_differ);
-    statements = subst (λ names. All (IsStatement names) (all_statements made)) (sym names_six) (All-from_recursion (IsStatement six) (all_statements made) statements_good);
+    statements =
+        subst (λ names. All (IsStatement names) (all_statements made)) (sym names_six)
+        (All-from_recursion (IsStatement six) (all_statements made) statements_good);
     outs_differ = differ;
     defaults = All-from_recursion (Contains (outs_of (file_of_actions made))) (all_path ∷ []) (
       subst (λ l. Contains l all_path)
-          (sym (flat_map-append (λ (s : Statement). s.outs) (flat_map (λ (node : Actions). node.statements) made) (all_step made ∷ [])))
-          (last_contained (flat_map (λ (s : Statement). s.outs) (flat_map (λ (node : Actions). node.statements) made)) all_path),
+          (sym (flat_map-append (λ (s : Statement). s.outs) (flat_map (λ (node : Actions). node.statements) made)
+          (all_step made ∷ [])))
+          (last_contained (flat_map (λ (s : Statement). s.outs) (flat_map (λ (node : Actions). node.statements) made))
+          all_path),
       tt,
     );
   }

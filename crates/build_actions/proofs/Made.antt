@@ -25,8 +25,10 @@ pub made_is : (ms : List Module) (nodes : List (Node Props)) (m : Module) (x : N
     → output ≡ output_in compiler.directory m x
     → product ≡ product_step ms nodes x (product_of (link_variation x)) output objects
     → statements ≡ steps ++ product ∷ []
-    → record { statements = statements; objects = objects; output = Some output; files = files } ≡ made_of ms nodes m x ins files
-made_is ms nodes m x ins files compiler steps objects output product statements compiler_is steps_are objects_are output_is product_is statements_are =
+    → record { statements = statements; objects = objects; output = Some output; files = files }
+    ≡ made_of ms nodes m x ins files
+made_is ms nodes m x ins files compiler steps objects output product statements compiler_is steps_are objects_are
+    output_is product_is statements_are =
     let whole = results_of (λ (e : Edge). is_whole e.kind) x.edges ins in
     let all_steps =
     steps_are ∙ ap (λ (tool : Compiler). compile_steps tool files) compiler_is ∙ needed_steps m x files in

@@ -34,5 +34,6 @@ module _ (separator : ℕ) where
       by false k on = ap (λ l. b ∷ l) (on k)
 
   -- Two texts without the separator are one where they stand before it in texts that are one.
-  pub before_it : (a b r s : List ℕ) → has_it a ≡ false → has_it b ≡ false → Behind r → Behind s → a ++ r ≡ b ++ s → a ≡ b
+  pub before_it : (a b r s : List ℕ) → has_it a ≡ false → has_it b ≡ false → Behind r → Behind s → a ++ r ≡ b ++ s
+      → a ≡ b
   before_it a b r s ha hb hr hs e = sym (until_is a r ha hr) ∙ ap until e ∙ until_is b s hb hs

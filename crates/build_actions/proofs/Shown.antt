@@ -1,5 +1,6 @@
 -- Texts that a file for Ninja can hold.
-use Rattle.std.proofs.Common.{◌≡◌, ◌++◌, ◌==◌, not, cond, suc, length, ℕ, Bool, true, false, List, [], ◌∷◌, map, refl, arith, subst}
+use Rattle.std.proofs.Common.{◌≡◌, ◌++◌, ◌==◌, not, cond, suc, length, ℕ, Bool, true, false, List, [], ◌∷◌, map, refl}
+use Rattle.std.proofs.Common.{arith, subst}
 use Rattle.std.specs.Prelude.{codes}
 use Rattle.std.specs.List.{AllByRecursion, flat_map, list_all}
 use Rattle.std.specs.Fmt.{decimal}
@@ -9,7 +10,8 @@ use Rattle.std.proofs.lemmas.List.{append-nil}
 use Rattle.bp_faults.specs.declared.target.Target.TheVariants as T
 use Rattle.bp_faults.proofs.Lists.{all_append}
 use Rattle.module_graph.specs.declared.variation.Variation.{Variation}
-use Rattle.module_graph.specs.declared.variation.Variation.TheVariants.{Empty, Target as For, Common, Vendor, Recovery, Static, Shared, PerSource, Asan}
+use Rattle.module_graph.specs.declared.variation.Variation.TheVariants.{Empty, Target as For, Common, Vendor, Recovery}
+use Rattle.module_graph.specs.declared.variation.Variation.TheVariants.{Static, Shared, PerSource, Asan}
 use Rattle.module_graph.specs.Names.{is_label_byte}
 use Rattle.module_graph.specs.Laws.{VariantNamesArePlain}
 use Rattle.ninja_file.specs.Names.{is_shown, is_value, is_path}
@@ -46,7 +48,9 @@ not_zero n = grind (arith, nat_tests)
 
 -- a value: a text without control characters that isn't empty
 pub value_of : (b : ℕ) (text : List ℕ) → Shown (b ∷ text) → is_value (b ∷ text) ≡ true
-value_of b text h = and_from (not (suc (length text) == 0)) (list_all is_shown (b ∷ text)) (not_zero (length text)) (bytes_shown (b ∷ text) h)
+value_of b text h =
+    and_from (not (suc (length text) == 0)) (list_all is_shown (b ∷ text)) (not_zero (length text))
+    (bytes_shown (b ∷ text) h)
 
 no_bars : (text : List ℕ) → Clear text → list_all (λ b. not (b == 124)) text ≡ true
 no_bars [] h = refl
@@ -57,7 +61,9 @@ clear_shown [] h = tt
 clear_shown (b ∷ text) h = (h.0.0, clear_shown text h.1)
 
 pub path_of : (b : ℕ) (text : List ℕ) → Clear (b ∷ text) → IsPath (b ∷ text)
-path_of b text h = and_from (is_value (b ∷ text)) (list_all (λ b. not (b == 124)) (b ∷ text)) (value_of b text (clear_shown (b ∷ text) h)) (no_bars (b ∷ text) h)
+path_of b text h =
+    and_from (is_value (b ∷ text)) (list_all (λ b. not (b == 124)) (b ∷ text))
+    (value_of b text (clear_shown (b ∷ text) h)) (no_bars (b ∷ text) h)
 
 clear_both : (text : List ℕ) → list_all is_shown text ≡ true → list_all (λ b. not (b == 124)) text ≡ true → Clear text
 clear_both [] h k = tt
@@ -117,13 +123,18 @@ target_shown Asan = tt
 
 -- a number, which is part of some variant's name
 decimal_shown : VariantNamesArePlain → (n : ℕ) → Shown (decimal n)
-decimal_shown plain n = (clear_shown (codes "t" ++ decimal n) (plain_clear (codes "t" ++ decimal n) (subst (λ l. AllByRecursion (λ c. is_label_byte c ≡ true) l) (append-nil (codes "t" ++ decimal n)) (plain (PerSource n ∷ []))))).1
+decimal_shown plain n =
+    (clear_shown (codes "t" ++ decimal n)
+    (plain_clear (codes "t" ++ decimal n) (subst (λ l. AllByRecursion (λ c. is_label_byte c ≡ true) l)
+    (append-nil (codes "t" ++ decimal n)) (plain (PerSource n ∷ []))))).1
 
 pub level_shown : VariantNamesArePlain → (level : ℕ) → AllByRecursion Shown (level_words level)
 level_shown plain level = by (level == 10000)
   where
     word : Shown (codes "-DMIN_SDK=" ++ decimal level)
-    word = shown_append (codes "-DMIN_SDK=") (decimal level) (shown_of (codes "-DMIN_SDK=") refl) (decimal_shown plain level)
+    word =
+        shown_append (codes "-DMIN_SDK=") (decimal level) (shown_of (codes "-DMIN_SDK=") refl)
+        (decimal_shown plain level)
 
     by : (b : Bool) → AllByRecursion Shown (cond b [] ((codes "-DMIN_SDK=" ++ decimal level) ∷ []))
     by true = tt
@@ -133,6 +144,7 @@ include_shown : (path : List ℕ) → Shown path → Shown (include_word path)
 include_shown [] h = shown_of (codes "-I.") refl
 include_shown (b ∷ path) h = shown_append (codes "-I") (b ∷ path) (shown_of (codes "-I") refl) h
 
-pub includes_shown : (paths : List (List ℕ)) → AllByRecursion Shown paths → AllByRecursion Shown (map include_word paths)
+pub includes_shown : (paths : List (List ℕ)) → AllByRecursion Shown paths
+    → AllByRecursion Shown (map include_word paths)
 includes_shown [] h = tt
 includes_shown (path ∷ paths) h = (include_shown path h.0, includes_shown paths h.1)

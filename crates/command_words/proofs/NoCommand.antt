@@ -28,13 +28,15 @@ one_word : (word : List ℕ) (notice : Notice) → notice_named word ≡ Some no
 one_word word notice =
     where_named (IsNone word) _ Help notice _
     (either (IsNone word) (bytes_eq word (codes "--help")) _ (spelled word (codes "--help") refl)
-    (either (IsNone word) (bytes_eq word (codes "-h")) _ (spelled word (codes "-h") refl) (spelled word (codes "help") refl)))
+    (either (IsNone word) (bytes_eq word (codes "-h")) _ (spelled word (codes "-h") refl)
+    (spelled word (codes "help") refl)))
     (where_named (IsNone word) _ Version notice None
     (either (IsNone word) (bytes_eq word (codes "--version")) _ (spelled word (codes "--version") refl)
     (spelled word (codes "-V") refl))
     (λ none. absurd (cc)))
 
-pub no_command : (words : List (List ℕ)) (notice : Notice) → notice_of words ≡ Some notice → configuration_of words ≡ None
+pub no_command : (words : List (List ℕ)) (notice : Notice) → notice_of words ≡ Some notice
+    → configuration_of words ≡ None
 no_command [] notice is = absurd (cc)
 no_command (word ∷ []) notice is = one_word word notice is
 no_command (word ∷ other ∷ words) notice is = absurd (cc)

@@ -1,5 +1,6 @@
 -- What every configuration keeps.
-use Rattle.std.proofs.Common.{◌≡◌, ◌≢◌, ◌≤◌, ℕ, Bool, true, false, List, [], ◌∷◌, ◌++◌, ◌∙◌, ap, sym, refl, subst, arith, lit≤}
+use Rattle.std.proofs.Common.{◌≡◌, ◌≢◌, ◌≤◌, ℕ, Bool, true, false, List, [], ◌∷◌, ◌++◌, ◌∙◌, ap, sym, refl, subst}
+use Rattle.std.proofs.Common.{arith, lit≤}
 use Rattle.std.specs.Prelude.{Option, Some, None, IfSome, ⊤, not, ◌&&◌, ◌||◌, nat_le, if◌then◌else◌}
 use Rattle.std.specs.List.{All, AllPairs, list_any}
 use Rattle.std.specs.Str.{bytes_eq}
@@ -19,8 +20,12 @@ use Rattle.command_words.specs.Once.{has_none_twice}
 use Rattle.command_words.specs.Options.{command_named}
 use Rattle.command_words.specs.Plain.{plain_words}
 use Rattle.command_words.specs.Sound.{AreWorkers, AreDistinctTargets, IsIdentifier, IsSoundConfiguration}
-use Rattle.command_words.specs.Values.{is_first_byte, is_further_byte, is_identifier, is_numeral, number_in, targets_once, targets_named, names_in, mutator_number, is_same_target}
-use Rattle.command_words.specs.Words.{Given, and_then, workers_of, default_targets, targets_or_default, items_or_none, is_other, build_of, replay_of, graph_of, synth_of, format_of, edit_of, configuration_by, configuration_of_plain, configuration_of, option_pairs, are_plain_pairs, option_value}
+use Rattle.command_words.specs.Values.{is_first_byte, is_further_byte, is_identifier, is_numeral, number_in}
+use Rattle.command_words.specs.Values.{targets_once, targets_named, names_in, mutator_number, is_same_target}
+use Rattle.command_words.specs.Words.{Given, and_then, workers_of, default_targets, targets_or_default, items_or_none}
+use Rattle.command_words.specs.Words.{is_other, build_of, replay_of, graph_of, synth_of, format_of, edit_of}
+use Rattle.command_words.specs.Words.{configuration_by, configuration_of_plain, configuration_of, option_pairs}
+use Rattle.command_words.specs.Words.{are_plain_pairs, option_value}
 
 -- ---- what holds of a value that is there
 
@@ -47,7 +52,8 @@ where_true P false x holds = tt
 number_within : (low high : ℕ) (text : List ℕ) → IfSome (number_in low high text) (λ n. (low ≤ n) × (n ≤ high))
 number_within low high text =
     where_true (λ n. (low ≤ n) × (n ≤ high))
-    (is_numeral text && (nat_le low (digits_value 10 text) && nat_le (digits_value 10 text) high)) (digits_value 10 text)
+    (is_numeral text
+    && (nat_le low (digits_value 10 text) && nat_le (digits_value 10 text) high)) (digits_value 10 text)
     (λ is. let within = and_parts (is_numeral text) _ is in
     let bounds = and_parts (nat_le low (digits_value 10 text)) _ within.1 in
     (leb-true low _ bounds.0, leb-true _ high bounds.1))
@@ -71,7 +77,8 @@ stands_once {X = X} same R apart before (x ∷ xs) none =
     let parts = and_parts (not (list_any (λ y. same y x) before)) _ none in
     let rest = stands_once same R apart (before ++ x ∷ []) xs parts.1 in
     let cut = λ (t : X) (h : list_any (λ y. same y t) (before ++ x ∷ []) ≡ false).
-    or_parts (list_any (λ y. same y t) before) (same x t || false) (sym (list_any-append (λ y. same y t) before (x ∷ [])) ∙ h) in
+    or_parts (list_any (λ y. same y t) before) (same x t || false)
+    (sym (list_any-append (λ y. same y t) before (x ∷ [])) ∙ h) in
     record {
       new = All-cons (λ t. list_any (λ y. same y t) before ≡ false) x xs (not-true _ parts.0)
           (λ k d within. (cut _ (rest.new k d within)).0);
@@ -101,8 +108,10 @@ one_number false n k rest small next is = next is
 
 most_number : (name : List ℕ) (k : ℕ) → mutator_number name ≡ Some k → k ≤ 11
 most_number name k =
-    one_number _ 1 k _ (lit≤ tt) (one_number _ 2 k _ (lit≤ tt) (one_number _ 3 k _ (lit≤ tt) (one_number _ 4 k _ (lit≤ tt)
-    (one_number _ 5 k _ (lit≤ tt) (one_number _ 6 k _ (lit≤ tt) (one_number _ 7 k _ (lit≤ tt) (one_number _ 8 k _ (lit≤ tt)
+    one_number _ 1 k _ (lit≤ tt)
+    (one_number _ 2 k _ (lit≤ tt) (one_number _ 3 k _ (lit≤ tt) (one_number _ 4 k _ (lit≤ tt)
+    (one_number _ 5 k _ (lit≤ tt)
+    (one_number _ 6 k _ (lit≤ tt) (one_number _ 7 k _ (lit≤ tt) (one_number _ 8 k _ (lit≤ tt)
     (one_number _ 9 k _ (lit≤ tt) (one_number _ 10 k _ (lit≤ tt)
     (one_number _ 11 k None (lit≤ tt) (λ none. absurd (cc))))))))))))
 
@@ -127,9 +136,12 @@ other_paths out (Some path) other = other_path out path other
 
 build_sound : (given : Given) → IfSome (build_of given) IsSoundConfiguration
 build_sound given =
-    with_any IsSoundConfiguration (given option.List) _ (λ list. with_any IsSoundConfiguration (given option.Out) _ (λ out.
-    and_then-holds AreWorkers IsSoundConfiguration (workers_of (given option.Jobs)) _ (workers_sound (given option.Jobs)) (λ workers few.
-    and_then-holds AreDistinctTargets IsSoundConfiguration (targets_or_default (given option.Targets)) _ (targets_sound (given option.Targets))
+    with_any IsSoundConfiguration (given option.List) _
+    (λ list. with_any IsSoundConfiguration (given option.Out) _ (λ out.
+    and_then-holds AreWorkers IsSoundConfiguration (workers_of (given option.Jobs)) _
+    (workers_sound (given option.Jobs)) (λ workers few.
+    and_then-holds AreDistinctTargets IsSoundConfiguration (targets_or_default (given option.Targets)) _
+    (targets_sound (given option.Targets))
     (λ targets differ.
     where_true IsSoundConfiguration (is_other out (Some list) && is_other out (given option.Journal)) _ (λ is.
     let parts = and_parts (is_other out (Some list)) _ is in record {
@@ -141,9 +153,11 @@ build_sound given =
 
 replay_sound : (given : Given) → IfSome (replay_of given) IsSoundConfiguration
 replay_sound given =
-    with_any IsSoundConfiguration (given option.List) _ (λ list. with_any IsSoundConfiguration (given option.Out) _ (λ out.
+    with_any IsSoundConfiguration (given option.List) _
+    (λ list. with_any IsSoundConfiguration (given option.Out) _ (λ out.
     with_any IsSoundConfiguration (given option.Order) _ (λ order.
-    and_then-holds AreDistinctTargets IsSoundConfiguration (targets_or_default (given option.Targets)) _ (targets_sound (given option.Targets))
+    and_then-holds AreDistinctTargets IsSoundConfiguration (targets_or_default (given option.Targets)) _
+    (targets_sound (given option.Targets))
     (λ targets differ.
     where_true IsSoundConfiguration (is_other out (Some list) && is_other out (Some order)) _ (λ is.
     let parts = and_parts (is_other out (Some list)) _ is in record {
@@ -157,8 +171,10 @@ graph_sound given =
     with_any IsSoundConfiguration (given option.List) _ (λ list.
     and_then-holds (λ k. k ≤ 11) IsSoundConfiguration (and_then (given option.After) mutator_number) _
     (with_any (λ k. k ≤ 11) (given option.After) mutator_number mutator_sound) (λ after most.
-    and_then-holds AreWorkers IsSoundConfiguration (workers_of (given option.Jobs)) _ (workers_sound (given option.Jobs)) (λ workers few.
-    and_then-holds AreDistinctTargets IsSoundConfiguration (targets_or_default (given option.Targets)) _ (targets_sound (given option.Targets))
+    and_then-holds AreWorkers IsSoundConfiguration (workers_of (given option.Jobs)) _
+    (workers_sound (given option.Jobs)) (λ workers few.
+    and_then-holds AreDistinctTargets IsSoundConfiguration (targets_or_default (given option.Targets)) _
+    (targets_sound (given option.Targets))
     (λ targets differ. record { after = most; workers = few; targets = differ }))))
 
 synth_sound : (given : Given) → IfSome (synth_of given) IsSoundConfiguration
@@ -169,11 +185,14 @@ synth_sound given =
     (with_any (λ n. (1 ≤ n) × (n ≤ MOST_SYNTHETIC_MODULES)) (given option.Modules)
     (number_in 1 MOST_SYNTHETIC_MODULES) (number_within 1 MOST_SYNTHETIC_MODULES))
     (λ modules within.
-    and_then-holds AreWorkers IsSoundConfiguration (workers_of (given option.Jobs)) _ (workers_sound (given option.Jobs))
+    and_then-holds AreWorkers IsSoundConfiguration (workers_of (given option.Jobs)) _
+    (workers_sound (given option.Jobs))
     (λ workers few. record { some = within.0; few = within.1; workers = few })))
 
 format_sound : (given : Given) → IfSome (format_of given) IsSoundConfiguration
-format_sound given = with_any IsSoundConfiguration (given option.In) _ (λ file. with_any IsSoundConfiguration (given option.Out) _ (λ out. tt))
+format_sound given =
+    with_any IsSoundConfiguration (given option.In) _
+    (λ file. with_any IsSoundConfiguration (given option.Out) _ (λ out. tt))
 
 identifier : (word : List ℕ) → is_identifier word ≡ true → IsIdentifier word
 identifier [] is = absurd (cc)
@@ -183,8 +202,10 @@ identifier (first ∷ more) is =
 
 edit_sound : (given : Given) → IfSome (edit_of given) IsSoundConfiguration
 edit_sound given =
-    with_any IsSoundConfiguration (given option.In) _ (λ file. with_any IsSoundConfiguration (given option.Out) _ (λ out.
-    with_any IsSoundConfiguration (given option.Module) _ (λ name. with_any IsSoundConfiguration (given option.Property) _ (λ property.
+    with_any IsSoundConfiguration (given option.In) _
+    (λ file. with_any IsSoundConfiguration (given option.Out) _ (λ out.
+    with_any IsSoundConfiguration (given option.Module) _
+    (λ name. with_any IsSoundConfiguration (given option.Property) _ (λ property.
     with_any IsSoundConfiguration (items_or_none (given option.Items)) _ (λ items.
     where_true IsSoundConfiguration (is_identifier property) _ (λ is. record { property = identifier property is }))))))
 
@@ -203,7 +224,8 @@ where_plain P false x holds = tt
 pub sound_plain : (words : List (List ℕ)) → IfSome (configuration_of_plain words) IsSoundConfiguration
 sound_plain [] = tt
 sound_plain (word ∷ words) =
-    with_any IsSoundConfiguration (command_named word) _ (λ c. with_any IsSoundConfiguration (option_pairs c words) _ (λ ps.
+    with_any IsSoundConfiguration (command_named word) _
+    (λ c. with_any IsSoundConfiguration (option_pairs c words) _ (λ ps.
     where_plain IsSoundConfiguration (are_plain_pairs c ps) _ (by_command c (option_value ps))))
 
 pub sound : (words : List (List ℕ)) → IfSome (configuration_of words) IsSoundConfiguration

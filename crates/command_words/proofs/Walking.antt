@@ -1,11 +1,14 @@
 -- How `clap` walks over the plain pairs of a command.
 use Rattle.std.proofs.Common.{◌≡◌, ◌∙◌, ℕ, Bool, true, false, List, [], ◌∷◌, map, ap, ap₂, sym, refl, subst, inl, inr}
-use Rattle.std.specs.Prelude.{Option, Some, None, not, ◌&&◌, ◌||◌, ◌==◌, find, option_and_then, ◌⊎◌, if◌then◌else◌, nat_lt, IfSome, ⊤}
+use Rattle.std.specs.Prelude.{Option, Some, None, not, ◌&&◌, ◌||◌, ◌==◌, find, option_and_then, ◌⊎◌, if◌then◌else◌}
+use Rattle.std.specs.Prelude.{nat_lt, IfSome, ⊤}
 use Rattle.std.specs.Option.{option_map_or}
 use Rattle.std.specs.Str.{bytes_eq}
 use Rattle.std.proofs.lemmas.Slice.Eq.{bytes_eq-Decides}
 use Rattle.clap.specs.Lexer.{long_of, long_of_rest, short_of, short_of_rest, strip_byte}
-use Rattle.clap.specs.Walk.{Step, next, trailing, idle, after_step, word_met, long_or_other, short_or_plain, plain_word, option_word, Held, Row, Rule, Text, Waiting, Walk, option, arg_by_id, settled_rows, walk_from, walked}
+use Rattle.clap.specs.Walk.{Step, next, trailing, idle, after_step, word_met, long_or_other, short_or_plain, plain_word}
+use Rattle.clap.specs.Walk.{option_word, Held, Row, Rule, Text, Waiting, Walk, option, arg_by_id, settled_rows}
+use Rattle.clap.specs.Walk.{walk_from, walked}
 use Rattle.clap.specs.Simple.{Shape, built, filled, is_simple}
 use Rattle.clap.specs.Takes.{flag_word_passes, bundle_passes, step_passes, settle_passes, turn_passes}
 use Rattle.clap.proofs.OnLiterals.{clap_on_literals}
@@ -47,13 +50,22 @@ held rows pending = record { rows = rows; pending = pending; skip = 0 }
 
 -- The walk has read an option, which waits for its value.
 abbrev pub awaits : OptionName → List Row → Walk
-awaits o rows = record { held = held rows (Some (option_name o, [])); waiting = option (option_name o); position = 1; is_trailing = false; stopped = None }
+awaits o rows = record {
+  held = held rows (Some (option_name o, []));
+  waiting = option (option_name o);
+  position = 1;
+  is_trailing = false;
+  stopped = None;
+}
 
 -- What a word that spells an option does to the walk.
 pub record Turn (c : CommandName) (word : Text) (o : OptionName) : Type 0 where
   pub rule : arg_by_id (rules_for c) (option_name o) ≡ Some (built_rule o)
-  pub met : (rows : List Row) (pending : Option (Text × List Text)) → walked (rules_for c) [] (walk_from (held rows pending)) word ≡ awaits o (settled_rows (rules_for c) pending rows)
-  pub passes : (rows : List Row) (pending : Option (Text × List Text)) → settle_passes (rules_for c) false (held rows pending) ≡ true → turn_passes (shape_for c) [] (walk_from (held rows pending)) word ≡ true
+  pub met : (rows : List Row) (pending : Option (Text × List Text)) → walked (rules_for c) []
+      (walk_from (held rows pending)) word ≡ awaits o (settled_rows (rules_for c) pending rows)
+  pub passes : (rows : List Row) (pending : Option (Text × List Text))
+      → settle_passes (rules_for c) false (held rows pending) ≡ true
+      → turn_passes (shape_for c) [] (walk_from (held rows pending)) word ≡ true
 
 -- What the spellings of an option do: of its long name, and of its short one where it has one.
 pub record Turns (c : CommandName) (o : OptionName) : Type 0 where
@@ -229,7 +241,8 @@ pub same_name : (n : Text) → bytes_eq n n ≡ true
 same_name n = (bytes_eq-Decides n n).1 refl
 
 -- What is found passes the test, and what holds of each option holds of it.
-found_at : (P : OptionName → Type 0) (p : OptionName → Bool) (x : OptionName) (os : List OptionName) (o : OptionName) (b : Bool)
+found_at : (P : OptionName → Type 0) (p : OptionName → Bool) (x : OptionName) (os : List OptionName) (o : OptionName)
+    (b : Bool)
     → p x ≡ b → P x → (find p os ≡ Some o → (p o ≡ true) × P o) → find p (x ∷ os) ≡ Some o → (p o ≡ true) × P o
 found_at P p x os o true here holds rest e =
     let is : ◌≡◌ {A = Option OptionName} (Some x) (Some o) = rw here at e in
@@ -262,7 +275,8 @@ no_dash : (b : ℕ) (bs : Text) → (b == 45) ≡ false → strip_byte 45 (b ∷
 no_dash b bs plain = rw plain refl
 
 no_long : (b : ℕ) (bs : Text) → (b == 45) ≡ false → long_of (b ∷ bs) ≡ None
-no_long b bs plain = ap (λ (s : Option Text). option_and_then long_of_rest (option_and_then (strip_byte 45) s)) (no_dash b bs plain)
+no_long b bs plain =
+    ap (λ (s : Option Text). option_and_then long_of_rest (option_and_then (strip_byte 45) s)) (no_dash b bs plain)
 
 no_short : (b : ℕ) (bs : Text) → (b == 45) ≡ false → short_of (b ∷ bs) ≡ None
 no_short b bs plain = ap (option_and_then short_of_rest) (no_dash b bs plain)
@@ -270,31 +284,54 @@ no_short b bs plain = ap (option_and_then short_of_rest) (no_dash b bs plain)
 no_dashes : (b : ℕ) (bs : Text) → (b == 45) ≡ false → bytes_eq (b ∷ bs) (45 ∷ 45 ∷ []) ≡ false
 no_dashes b bs plain = rw plain refl
 
-other_word : (c : List Rule) (w : Waiting) (b : ℕ) (bs : Text) (h : Held) → (b == 45) ≡ false → long_or_other c w (b ∷ bs) (long_of (b ∷ bs)) h ≡ plain_word c w (b ∷ bs) h
-other_word c w b bs h plain = ap (λ (l : Option (Text × Option Text)). long_or_other c w (b ∷ bs) l h) (no_long b bs plain) ∙ ap (λ (s : Option Text). short_or_plain c w (b ∷ bs) s h) (no_short b bs plain)
+other_word : (c : List Rule) (w : Waiting) (b : ℕ) (bs : Text) (h : Held) → (b == 45) ≡ false
+    → long_or_other c w (b ∷ bs) (long_of (b ∷ bs)) h ≡ plain_word c w (b ∷ bs) h
+other_word c w b bs h plain =
+    ap (λ (l : Option (Text × Option Text)). long_or_other c w (b ∷ bs) l h) (no_long b bs plain)
+    ∙ ap (λ (s : Option Text). short_or_plain c w (b ∷ bs) s h) (no_short b bs plain)
 
-value_word : (c : List Rule) (id : Text) (b : ℕ) (bs : Text) (h : Held) → (b == 45) ≡ false → word_met c [] false (option id) 1 (b ∷ bs) h ≡ plain_word c (option id) (b ∷ bs) h
-value_word c id b bs h plain = ap (λ (is : Bool). if is then (h, trailing 1) else long_or_other c (option id) (b ∷ bs) (long_of (b ∷ bs)) h) (no_dashes b bs plain) ∙ other_word c (option id) b bs h plain
+value_word : (c : List Rule) (id : Text) (b : ℕ) (bs : Text) (h : Held) → (b == 45) ≡ false
+    → word_met c [] false (option id) 1 (b ∷ bs) h ≡ plain_word c (option id) (b ∷ bs) h
+value_word c id b bs h plain =
+    ap (λ (is : Bool). if is then (h, trailing 1) else long_or_other c (option id) (b ∷ bs) (long_of (b ∷ bs)) h)
+    (no_dashes b bs plain)
+    ∙ other_word c (option id) b bs h plain
 
-taken : (c : CommandName) (o : OptionName) (rows : List Row) (word : Text) → arg_by_id (rules_for c) (option_name o) ≡ Some (built_rule o)
-    → plain_word (rules_for c) (option (option_name o)) word (awaits o rows).held ≡ (held rows (Some (option_name o, word ∷ [])), next idle)
+taken : (c : CommandName) (o : OptionName) (rows : List Row) (word : Text)
+    → arg_by_id (rules_for c) (option_name o) ≡ Some (built_rule o)
+    → plain_word (rules_for c) (option (option_name o)) word (awaits o rows).held
+    ≡ (held rows (Some (option_name o, word ∷ [])), next idle)
 taken c o rows word rule =
-    ap (λ (a : Option Rule). ((option_word a (option_name o) word (awaits o rows).held).0, next (option_word a (option_name o) word (awaits o rows).held).1)) rule
-    ∙ ap (λ (same : Bool). (held rows (Some (option_name o, word ∷ [])), next (if nat_lt (if same then 1 else 0) 1 then option (option_name o) else idle))) (same_name (option_name o))
+    ap (λ (a : Option Rule). (
+      (option_word a (option_name o) word (awaits o rows).held).0,
+      next (option_word a (option_name o) word (awaits o rows).held).1,
+    )) rule
+    ∙ ap (λ (same : Bool). (
+      held rows (Some (option_name o, word ∷ [])),
+      next (if nat_lt (if same then 1 else 0) 1 then option (option_name o) else idle),
+    )) (same_name (option_name o))
 
-pub value_met : (c : CommandName) (o : OptionName) (rows : List Row) (b : ℕ) (bs : Text) → arg_by_id (rules_for c) (option_name o) ≡ Some (built_rule o) → (b == 45) ≡ false
+pub value_met : (c : CommandName) (o : OptionName) (rows : List Row) (b : ℕ) (bs : Text)
+    → arg_by_id (rules_for c) (option_name o) ≡ Some (built_rule o) → (b == 45) ≡ false
     → walked (rules_for c) [] (awaits o rows) (b ∷ bs) ≡ walk_from (held rows (Some (option_name o, (b ∷ bs) ∷ [])))
 unfolding walked
 value_met c o rows b bs rule plain =
-    ap (λ (met : Held × Step). after_step (rules_for c) (b ∷ bs) (awaits o rows) met.0 met.1) (value_word (rules_for c) (option_name o) b bs (awaits o rows).held plain ∙ taken c o rows (b ∷ bs) rule)
+    ap (λ (met : Held × Step). after_step (rules_for c) (b ∷ bs) (awaits o rows) met.0 met.1)
+    (value_word (rules_for c) (option_name o) b bs (awaits o rows).held plain ∙ taken c o rows (b ∷ bs) rule)
 
-no_flag : (c : List Rule) (again : Bool) (b : ℕ) (bs : Text) (h : Held) → (b == 45) ≡ false → flag_word_passes c again (long_of (b ∷ bs)) (b ∷ bs) h ≡ true
-no_flag c again b bs h plain = ap (λ (l : Option (Text × Option Text)). flag_word_passes c again l (b ∷ bs) h) (no_long b bs plain) ∙ ap (λ (s : Option Text). option_map_or (λ (flags : Text). bundle_passes c again flags h) s true) (no_short b bs plain)
+no_flag : (c : List Rule) (again : Bool) (b : ℕ) (bs : Text) (h : Held) → (b == 45) ≡ false
+    → flag_word_passes c again (long_of (b ∷ bs)) (b ∷ bs) h ≡ true
+no_flag c again b bs h plain =
+    ap (λ (l : Option (Text × Option Text)). flag_word_passes c again l (b ∷ bs) h) (no_long b bs plain)
+    ∙ ap (λ (s : Option Text). option_map_or (λ (flags : Text). bundle_passes c again flags h) s true)
+    (no_short b bs plain)
 
-pub value_passes : (c : CommandName) (o : OptionName) (rows : List Row) (b : ℕ) (bs : Text) → arg_by_id (rules_for c) (option_name o) ≡ Some (built_rule o) → (b == 45) ≡ false
+pub value_passes : (c : CommandName) (o : OptionName) (rows : List Row) (b : ℕ) (bs : Text)
+    → arg_by_id (rules_for c) (option_name o) ≡ Some (built_rule o) → (b == 45) ≡ false
     → turn_passes (shape_for c) [] (awaits o rows) (b ∷ bs) ≡ true
 value_passes c o rows b bs rule plain =
     ap₂ (λ (word step : Bool). (bytes_eq (b ∷ bs) (45 ∷ 45 ∷ []) || word) && step)
     (no_flag (rules_for c) (shape_for c).args_override_self b bs (awaits o rows).held plain)
-    (ap (λ (met : Held × Step). step_passes (shape_for c) 1 met.0 met.1) (value_word (rules_for c) (option_name o) b bs (awaits o rows).held plain ∙ taken c o rows (b ∷ bs) rule))
+    (ap (λ (met : Held × Step). step_passes (shape_for c) 1 met.0 met.1)
+    (value_word (rules_for c) (option_name o) b bs (awaits o rows).held plain ∙ taken c o rows (b ∷ bs) rule))
     ∙ ap (λ (is : Bool). (is || true) && true) (no_dashes b bs plain)

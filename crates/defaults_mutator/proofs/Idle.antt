@@ -26,7 +26,8 @@ leave_asked [] is = tt
 leave_asked (x ∷ nodes) is =
     let parts = and_parts (names_no_defaults x) (list_all names_no_defaults nodes) is in
     let none = nil_from_length x.payload.defaults.items (eqb-true (length x.payload.defaults.items) 0 parts.0) in (
-      λ m ins. ap (λ (items : List Item). answered (one_variant x.payload (requests Defaults no_variations items))) none,
+      λ m ins.
+          ap (λ (items : List Item). answered (one_variant x.payload (requests Defaults no_variations items))) none,
       leave_asked nodes parts.1,
     )
 

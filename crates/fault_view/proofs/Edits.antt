@@ -1,5 +1,6 @@
 -- The table of `strsim` has the distance of its recursive definition.
-use Rattle.std.proofs.Common.{◌≡◌, ◌<◌, ◌≤◌, ◌+◌, min, ℕ, zero, suc, List, [], ◌∷◌, length, nat_eq, get_or, arith, ap, ◌∙◌}
+use Rattle.std.proofs.Common.{◌≡◌, ◌<◌, ◌≤◌, ◌+◌, min, ℕ, zero, suc, List, [], ◌∷◌, length, nat_eq, get_or, arith, ap}
+use Rattle.std.proofs.Common.{◌∙◌}
 use Rattle.strsim.specs.Edits.{levenshtein_row, rows, next_row, cost_at}
 use Rattle.fault_view.specs.Nearest.{edits, difference}
 
@@ -43,4 +44,5 @@ base a b j = λ i. j
 
 pub table_is_edits : (a b : List ℕ) → levenshtein_row nat_eq a b (length b) ≡ edits a b (length a) (length b)
 table_is_edits a b =
-    rows_are a b a 0 (length a) (λ j. j) (omega arith) (λ k lt. let same : k ≡ 0 + k = omega arith in ap (λ n. get_or a n 0) same) (λ j le. base a b j) (length b) (omega arith)
+    rows_are a b a 0 (length a) (λ j. j) (omega arith) (λ k lt. let same : k ≡ 0 + k = omega arith in
+    ap (λ n. get_or a n 0) same) (λ j le. base a b j) (length b) (omega arith)

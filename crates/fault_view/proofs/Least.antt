@@ -1,5 +1,6 @@
 -- The nearest names, by the least reach.
-use Rattle.std.proofs.Common.{◌≡◌, ◌<◌, ◌≤◌, ◌*◌, min, ℕ, Bool, true, false, ◌&&◌, nat_lt, nat_le, cond, List, [], ◌∷◌, ◌++◌, length, arith, refl, sym, ◌∙◌}
+use Rattle.std.proofs.Common.{◌≡◌, ◌<◌, ◌≤◌, ◌*◌, min, ℕ, Bool, true, false, ◌&&◌, nat_lt, nat_le, cond, List, [], ◌∷◌}
+use Rattle.std.proofs.Common.{◌++◌, length, arith, refl, sym, ◌∙◌}
 use Rattle.std.specs.List.{filter, list_all}
 use Rattle.std.specs.Str.{chars}
 use Rattle.std.proofs.lemmas.Bool.Decides.{nat_tests}
@@ -21,7 +22,8 @@ tested true d h = let few = h refl in (grind (arith, nat_tests), omega (arith, f
 tested false d h = (refl, omega arith)
 
 near_is : (word name : List ℕ) → (is_near word name ≡ nat_lt (reach word name) 4) × (reach word name ≤ 4)
-near_is word name = tested (is_near word name) (distance word name) (near_small (distance word name) (length (chars word)))
+near_is word name =
+    tested (is_near word name) (distance word name) (near_small (distance word name) (length (chars word)))
 
 two_tests : (a b c : ℕ) → (nat_le a b && nat_le a c) ≡ nat_le a (min b c)
 two_tests a b c = grind (arith, nat_tests)

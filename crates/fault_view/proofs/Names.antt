@@ -1,5 +1,6 @@
 -- The names that begin at each of some tokens, one token after another.
-use Rattle.std.proofs.Common.{◌≡◌, ◌<◌, ◌+◌, ℕ, zero, suc, List, [], ◌∷◌, ◌++◌, drop, length, Option, Some, None, refl, arith, sym, ap, ◌∙◌, append_assoc, append-nil, add-one}
+use Rattle.std.proofs.Common.{◌≡◌, ◌<◌, ◌+◌, ℕ, zero, suc, List, [], ◌∷◌, ◌++◌, drop, length, Option, Some, None, refl}
+use Rattle.std.proofs.Common.{arith, sym, ap, ◌∙◌, append_assoc, append-nil, add-one}
 use Rattle.std.specs.List.{cons_option}
 use Rattle.bp_faults.specs.declared.fault.Fault.{Fault}
 use Rattle.bp_lexer.specs.declared.token.Token.{Token}
@@ -27,5 +28,6 @@ next_put text ts at names new all name lt is put before =
     ap (λ xs. xs ++ token_names text (drop (at + 1) ts)) put
     ∙ ap (λ k. (names ++ cons_option name []) ++ token_names text (drop k ts)) one
     ∙ append_assoc names (cons_option name []) rest
-    ∙ ap (λ xs. names ++ xs) (put_before name rest ∙ ap (λ (o : Option (List ℕ)). cons_option o rest) is ∙ sym (next text ts at lt))
+    ∙ ap (λ xs. names ++ xs)
+    (put_before name rest ∙ ap (λ (o : Option (List ℕ)). cons_option o rest) is ∙ sym (next text ts at lt))
     ∙ before

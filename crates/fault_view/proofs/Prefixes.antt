@@ -1,5 +1,6 @@
 -- A text without its prefix.
-use Rattle.std.proofs.Common.{◌≡◌, ◌≢◌, ◌+◌, ℕ, Bool, true, false, cond, List, ◌++◌, length, take, drop, Option, Some, None, refl, sym, ap, ◌∙◌}
+use Rattle.std.proofs.Common.{◌≡◌, ◌≢◌, ◌+◌, ℕ, Bool, true, false, cond, List, ◌++◌, length, take, drop, Option, Some}
+use Rattle.std.proofs.Common.{None, refl, sym, ap, ◌∙◌}
 use Rattle.std.specs.Prelude.{MatchOption}
 use Rattle.std.specs.Option.{option_map}
 use Rattle.std.specs.Str.{bytes_eq}
@@ -21,7 +22,8 @@ none_behind : (p s : List ℕ) → ((rest : List ℕ) → s ≢ p ++ rest) → N
 none_behind p s never =
     refuted (bytes_eq p (take (length p) s)) p s
     (λ e. never (drop (length p) s)
-    (sym (take-append-drop (length p) s) ∙ ap (λ xs. xs ++ drop (length p) s) (sym ((bytes_eq-Decides p (take (length p) s)).0 e))))
+    (sym (take-append-drop (length p) s)
+    ∙ ap (λ xs. xs ++ drop (length p) s) (sym ((bytes_eq-Decides p (take (length p) s)).0 e))))
 
 cut_at : (t : Bool) (p s : List ℕ) → t ≡ true → Some (drop (length p) s) ≡ cond t (Some (drop (length p) s)) None
 cut_at true p s is = refl

@@ -56,8 +56,10 @@ pub regrouped : (path line col number text tail : List ℕ)
 regrouped path line col number text tail =
     let end = tail ++ codes "\n" in
     let last = sym (append_assoc text tail (codes "\n")) in
-    append_assoc path (codes ":" ++ (line ++ (codes ":" ++ (col ++ (codes ": error " ++ (number ++ (codes ": " ++ text))))))) end
-    ∙ ap (λ xs. path ++ (codes ":" ++ xs)) (append_assoc line (codes ":" ++ (col ++ (codes ": error " ++ (number ++ (codes ": " ++ text))))) end
+    append_assoc path
+    (codes ":" ++ (line ++ (codes ":" ++ (col ++ (codes ": error " ++ (number ++ (codes ": " ++ text))))))) end
+    ∙ ap (λ xs. path ++ (codes ":" ++ xs))
+    (append_assoc line (codes ":" ++ (col ++ (codes ": error " ++ (number ++ (codes ": " ++ text))))) end
     ∙ ap (λ xs. line ++ (codes ":" ++ xs)) (append_assoc col (codes ": error " ++ (number ++ (codes ": " ++ text))) end
     ∙ ap (λ xs. col ++ (codes ": error " ++ xs)) (append_assoc number (codes ": " ++ text) end
     ∙ ap (λ xs. number ++ (codes ": " ++ xs)) last)))

@@ -1,5 +1,6 @@
 -- What is read from a store, where no read fails.
-use Rattle.std.proofs.Common.{◌≡◌, ◌<◌, ◌≤◌, ◌+◌, ◌-◌, ◌^◌, min, ℕ, zero, suc, length, drop, map, get_or, List, [], ◌∷◌, ◌++◌, Option, Some, None, refl, arith, sym, ap, subst, ◌∙◌, append_assoc, append-nil}
+use Rattle.std.proofs.Common.{◌≡◌, ◌<◌, ◌≤◌, ◌+◌, ◌-◌, ◌^◌, min, ℕ, zero, suc, length, drop, map, get_or, List, [], ◌∷◌}
+use Rattle.std.proofs.Common.{◌++◌, Option, Some, None, refl, arith, sym, ap, subst, ◌∙◌, append_assoc, append-nil}
 use denote.Ref.{Bor}
 use Rattle.bp_ports.specs.Causes.{Rose}
 use Rattle.bp_ports.specs.Files.{Files}
@@ -27,7 +28,8 @@ pub softly_map : (told : Option Files) (a b : ℕ) (P Q : Files → Type 0)
 softly_map None a b P Q more p = tt
 softly_map (Some files) a b P Q more p = λ quiet. more files (p quiet)
 
-pub softly_always : (told : Option Files) (a b : ℕ) (P : Files → Type 0) → ((files : Files) → P files) → Softly told a b P
+pub softly_always : (told : Option Files) (a b : ℕ) (P : Files → Type 0) → ((files : Files) → P files)
+    → Softly told a b P
 softly_always None a b P always = tt
 softly_always (Some files) a b P always = λ quiet. always files
 
@@ -46,7 +48,8 @@ reads_next told a b c all left rest path names more new is bc put here s = recor
   exact = softly_both told a b c _ _ _ s.later bc
       (λ files view first others h.
       subst (λ xs. AreAllNames files all xs) (sym (append_assoc names more others) ∙ ap (λ xs. xs ++ others) (sym put))
-      (view (more ++ others) (subst (λ paths. AreAllNames files paths (more ++ others)) (sym is) (more, others, refl, first, h))))
+      (view (more ++ others)
+      (subst (λ paths. AreAllNames files paths (more ++ others)) (sym is) (more, others, refl, first, h))))
       s.exact here;
 }
 
@@ -57,7 +60,8 @@ reads_last told a b all left names is s =
     (λ files view. subst (λ xs. AreAllNames files all xs) (append-nil names)
     (view [] (subst (λ paths. AreAllNames files paths []) (sym is) refl))) s.exact
 
-first_and_rest : {A : Type 0} (xs : List A) (i : ℕ) (d : A) → i < length xs → drop i xs ≡ get_or xs i d ∷ drop (suc i) xs
+first_and_rest : {A : Type 0} (xs : List A) (i : ℕ) (d : A) → i < length xs
+    → drop i xs ≡ get_or xs i d ∷ drop (suc i) xs
 first_and_rest [] i d lt = absurd (omega arith)
 first_and_rest (x ∷ xs) zero d lt = refl
 first_and_rest (x ∷ xs) (suc i) d lt = first_and_rest xs i d (omega arith)

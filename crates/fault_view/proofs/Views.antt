@@ -1,5 +1,6 @@
 -- What is printed of the lines that were read, while others are left.
-use Rattle.std.proofs.Common.{◌≡◌, ◌<◌, ◌≤◌, ◌==◌, ℕ, Bool, true, false, cond, List, [], ◌∷◌, ◌++◌, length, Option, Some, None, refl, arith, sym, ap, subst, ◌∙◌, append_assoc, append-nil}
+use Rattle.std.proofs.Common.{◌≡◌, ◌<◌, ◌≤◌, ◌==◌, ℕ, Bool, true, false, cond, List, [], ◌∷◌, ◌++◌, length, Option}
+use Rattle.std.proofs.Common.{Some, None, refl, arith, sym, ap, subst, ◌∙◌, append_assoc, append-nil}
 use Rattle.std.specs.Prelude.{IfSome}
 use Rattle.std.specs.Io.BufRead.{take_through, drop_through}
 use Rattle.std.proofs.lemmas.Bool.{eqb-true}
@@ -25,7 +26,8 @@ module _ (Behind : List ℕ → List ℕ → Type 0) (all : List ℕ) where
   abbrev pub Printed : List ℕ → List ℕ → List ℕ → Type 0
   Printed rest before now =
       (seen : List ℕ) × (now ≡ before ++ seen)
-      × ((more : List ℕ) → IsPrintedView Behind (ended_lines rest) more → IsPrintedView Behind (ended_lines all) (seen ++ more))
+      × ((more : List ℕ) → IsPrintedView Behind (ended_lines rest) more
+      → IsPrintedView Behind (ended_lines all) (seen ++ more))
 
   pub all_printed : (before now : List ℕ) → Printed [] before now → Shows Behind all before now
   all_printed before now (seen, is, view) =
@@ -39,14 +41,17 @@ module _ (Behind : List ℕ → List ℕ → Type 0) (all : List ℕ) where
     seen ++ (line ++ note),
     put ∙ ap (λ xs. xs ++ (line ++ note)) so_far ∙ append_assoc before seen (line ++ note),
     λ more rest.
-        let here : IsPrintedView Behind (take_through 10 (b ∷ bs) ∷ ended_lines (drop_through 10 (b ∷ bs))) (line ++ (note ++ more)) =
+        let here : IsPrintedView Behind (take_through 10 (b ∷ bs) ∷ ended_lines (drop_through 10 (b ∷ bs)))
+        (line ++ (note ++ more)) =
         (note, more, ap (λ xs. xs ++ (note ++ more)) (sym is), subst (λ xs. Behind xs note) (sym is) behind, rest) in
         subst (λ xs. IsPrintedView Behind (ended_lines all) xs)
         (ap (λ xs. seen ++ xs) (sym (append_assoc line note more)) ∙ sym (append_assoc seen (line ++ note) more))
-        (view (line ++ (note ++ more)) (subst (λ ls. IsPrintedView Behind ls (line ++ (note ++ more))) (sym (first_line b bs)) here)),
+        (view (line ++ (note ++ more))
+        (subst (λ ls. IsPrintedView Behind ls (line ++ (note ++ more))) (sym (first_line b bs)) here)),
   )
 
-  pub told_all : (before now : Option (List ℕ)) → WhereTold (Printed []) before now → WhereTold (Shows Behind all) before now
+  pub told_all : (before now : Option (List ℕ)) → WhereTold (Printed []) before now
+      → WhereTold (Shows Behind all) before now
   told_all None None h = tt
   told_all None (Some now) h = h
   told_all (Some before) None h = tt
@@ -79,7 +84,8 @@ pub record Stands (list : Option (List ℕ)) (told : Option Files) (reads_before
   pub rest : List ℕ
   pub is_left : left ≡ Some rest
   pub kept : WhereTold (Printed Anything all rest) before now
-  pub exact : Softly told reads_before reads_now (λ files. WhereTold (Printed (IsBehind list files) all rest) before now)
+  pub exact : Softly told reads_before reads_now
+      (λ files. WhereTold (Printed (IsBehind list files) all rest) before now)
 
 module _ (list : Option (List ℕ)) (told : Option Files) (all : List ℕ) where
   pub stands_next : (a b c : ℕ) (left new_left : Option (List ℕ)) (before now new : Option (List ℕ)) (line : List ℕ)
@@ -94,7 +100,8 @@ module _ (list : Option (List ℕ)) (told : Option Files) (all : List ℕ) where
         is_left = step.1;
         kept = told_line Anything all s.rest line put.note before now new (sym step.0) some put.put tt s.kept;
         exact = softly_both told a b c _ _ _ ab bc
-            (λ files here behind. told_line (IsBehind list files) all s.rest line put.note before now new (sym step.0) some
+            (λ files here behind.
+            told_line (IsBehind list files) all s.rest line put.note before now new (sym step.0) some
             put.put behind here)
             s.exact put.exact;
       }

@@ -1,5 +1,6 @@
 -- How bytes are read, line after line.
-use Rattle.std.proofs.Common.{◌≡◌, ◌∙◌, ◌+◌, ◌<◌, ◌≤◌, ◌++◌, ℕ, List, [], ◌∷◌, length, get_or, ap, sym, subst, refl, arith, append_assoc, length-append, Some}
+use Rattle.std.proofs.Common.{◌≡◌, ◌∙◌, ◌+◌, ◌<◌, ◌≤◌, ◌++◌, ℕ, List, [], ◌∷◌, length, get_or, ap, sym, subst, refl}
+use Rattle.std.proofs.Common.{arith, append_assoc, length-append, Some}
 use Rattle.std.specs.List.{flat_map}
 use Rattle.std.proofs.lemmas.List.{get_or_at}
 use Rattle.graph_picture.specs.declared.variant.Variant.{Variant}
@@ -14,7 +15,12 @@ use Rattle.bp_faults.specs.Characters.{ended_line}
 pub ended_few : (lines : List (List ℕ)) → length lines ≤ length (flat_map ended_line lines)
 ended_few [] = omega arith
 ended_few (line ∷ lines) =
-    omega (arith, ended_few lines, length-append (ended_line line) (flat_map ended_line lines), length-append line (10 ∷ []))
+    omega (
+      arith,
+      ended_few lines,
+      length-append (ended_line line) (flat_map ended_line lines),
+      length-append line (10 ∷ []),
+    )
 
 end_apart : (line behind : List ℕ) → ended_line line ++ behind ≡ line ++ (10 ∷ behind)
 end_apart line behind = append_assoc line (10 ∷ []) behind
@@ -22,7 +28,13 @@ end_apart line behind = append_assoc line (10 ∷ []) behind
 module _ (bytes : List ℕ) (vs : List Variant) (rest : List ℕ) (n : ℕ) (r : IsRead bytes vs rest n) where
   pub few_read : 0 < length rest → n < length bytes
   few_read some =
-      omega (arith, r.line_is, ended_few (all_variant_lines vs), ap length r.whole, length-append (variants_text vs) rest)
+      omega (
+        arith,
+        r.line_is,
+        ended_few (all_variant_lines vs),
+        ap length r.whole,
+        length-append (variants_text vs) rest,
+      )
 
   stops : 0 < length rest
       → ((line behind : List ℕ) → HasNo 10 line → rest ≡ ended_line line ++ behind → IsStray vs line)

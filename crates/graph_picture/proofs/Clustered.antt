@@ -1,5 +1,7 @@
 -- Clusters that grow by one variant, and the table of their names.
-use Rattle.std.proofs.Common.{◌≡◌, ◌∙◌, ◌+◌, ◌<◌, ◌≤◌, ◌++◌, ℕ, zero, suc, Bool, true, false, cond, List, [], ◌∷◌, length, map, get_or, set, take, ap, sym, subst, refl, arith, Option, Some, None, IfSome, IsSome, bytes_eq, length-append, length-set}
+use Rattle.std.proofs.Common.{◌≡◌, ◌∙◌, ◌+◌, ◌<◌, ◌≤◌, ◌++◌, ℕ, zero, suc, Bool, true, false, cond, List, [], ◌∷◌}
+use Rattle.std.proofs.Common.{length, map, get_or, set, take, ap, sym, subst, refl, arith, Option, Some, None, IfSome}
+use Rattle.std.proofs.Common.{IsSome, bytes_eq, length-append, length-set}
 use Rattle.std.proofs.lemmas.List.{map-append, length-map}
 use Rattle.bp_faults.proofs.Lists.{take-more}
 use Rattle.bp_names.specs.Laws.{TablesGrowWithLists}
@@ -38,7 +40,8 @@ module _ (vs : List Variant) (n : ℕ) where
   abbrev with_n : Cluster → Cluster
   with_n c = record { first = c.first; others = c.others ++ n ∷ [] }
 
-  some_below : (k m : ℕ) (b : Bool) (rest : Option ℕ) → cond b (Some k) rest ≡ Some (k + suc m) → (b ≡ false) × (rest ≡ Some (k + suc m))
+  some_below : (k m : ℕ) (b : Bool) (rest : Option ℕ) → cond b (Some k) rest ≡ Some (k + suc m)
+      → (b ≡ false) × (rest ≡ Some (k + suc m))
   some_below k m true rest e = absurd (let f : k ≡ k + suc m = cc in omega arith)
   some_below k m false rest e = (refl, e)
 
@@ -48,7 +51,8 @@ module _ (vs : List Variant) (n : ℕ) where
   first_put k d cs c true rest e least is = ap (λ (x : Cluster). with_n x ∷ cs) (sym is)
   first_put k d cs c false rest e least is = absurd (omega (arith, least (k + 0) e))
 
-  pub put_known : (k m : ℕ) (cs : List Cluster) (c : Cluster) → first_number_from k (map name cs) (module_name_at vs n) ≡ Some (k + m)
+  pub put_known : (k m : ℕ) (cs : List Cluster) (c : Cluster)
+      → first_number_from k (map name cs) (module_name_at vs n) ≡ Some (k + m)
       → c ≡ get_or cs m c → (clusters_with vs n cs ≡ set cs m (with_n c)) × (m < length cs)
   put_known k m [] c e is = absurd (let f : None ≡ Some (k + m) = e in cc)
   put_known k zero (d ∷ cs) c e is = (
@@ -59,7 +63,8 @@ module _ (vs : List Variant) (n : ℕ) where
   put_known k (suc m) (d ∷ cs) c e is =
       let s = some_below k m (here d) (first_number_from (k + 1) (map name cs) (module_name_at vs n)) e in
       let r = put_known (k + 1) m cs c (s.1 ∙ ap Some (let f : k + suc m ≡ k + 1 + m = omega arith in f)) is in (
-        ap (λ (b : Bool). cond b (with_n d ∷ cs) (d ∷ clusters_with vs n cs)) s.0 ∙ ap (λ (l : List Cluster). d ∷ l) r.0,
+        ap (λ (b : Bool). cond b (with_n d ∷ cs) (d ∷ clusters_with vs n cs)) s.0
+            ∙ ap (λ (l : List Cluster). d ∷ l) r.0,
         omega (arith, r.1),
       )
 
@@ -82,7 +87,8 @@ module _ (vs : List Variant) (n : ℕ) where
   names_kept (d ∷ cs) (suc m) c is lt = ap (λ (l : List (List ℕ)). name d ∷ l) (names_kept cs m c is (omega arith))
 
 -- the clusters so far, and the table of their names
-pub record AreGrouped (vs : List Variant) (numbers : List ℕ) (i : ℕ) (table : List (List ℕ × ℕ)) (clusters : List Cluster)
+pub record AreGrouped (vs : List Variant) (numbers : List ℕ) (i : ℕ) (table : List (List ℕ × ℕ))
+    (clusters : List Cluster)
     : Type 0 where
   pub clusters_are : clusters ≡ clusters_behind vs [] (take i numbers)
   pub table_is : NumbersFirst (map (λ (c : Cluster). module_name_at vs c.first) clusters) table
@@ -111,7 +117,8 @@ module _ (vs : List Variant) (numbers : List ℕ) (i n : ℕ) (lt : i < length n
       }
 
   pub new_more : TablesGrowWithLists → (new_table : List (List ℕ × ℕ)) (new : List Cluster)
-      → number_of table (module_name_at vs n) ≡ None → LearnsNumber table (module_name_at vs n) (length clusters) new_table
+      → number_of table (module_name_at vs n) ≡ None
+      → LearnsNumber table (module_name_at vs n) (length clusters) new_table
       → new ≡ clusters ++ record { first = n; others = [] } ∷ [] → AreGrouped vs numbers (i + 1) new_table new
   new_more grow new_table new had learns new_is =
       let names = map (name vs n) clusters in
@@ -128,7 +135,8 @@ module _ (vs : List Variant) (numbers : List ℕ) (i n : ℕ) (lt : i < length n
         few = omega (arith, g.few, ap length new_is, length-append clusters (record { first = n; others = [] } ∷ []));
       }
 
-  pub grouped_inside : (had : Option ℕ) → had ≡ number_of table (module_name_at vs n) → IfSome had (λ m. m < length clusters)
+  pub grouped_inside : (had : Option ℕ) → had ≡ number_of table (module_name_at vs n)
+      → IfSome had (λ m. m < length clusters)
   grouped_inside None e = tt
   grouped_inside (Some m) e =
       (put_known vs n 0 m clusters (get_or clusters m (record { first = 0; others = [] }))
@@ -136,7 +144,8 @@ module _ (vs : List Variant) (numbers : List ℕ) (i n : ℕ) (lt : i < length n
       (same_default clusters m (record { first = 0; others = [] }))).1
 
   pub grouped_more : TablesGrowWithLists → (had : Option ℕ) (new_table : List (List ℕ × ℕ)) (new : List Cluster)
-      → had ≡ number_of table (module_name_at vs n) → LearnsNumber table (module_name_at vs n) (length clusters) new_table
+      → had ≡ number_of table (module_name_at vs n)
+      → LearnsNumber table (module_name_at vs n) (length clusters) new_table
       → (IsSome had → new_table ≡ table) → PutsNumber n clusters had new
       → AreGrouped vs numbers (i + 1) new_table new
   grouped_more grow None new_table new e learns kept p = new_more grow new_table new (sym e) learns p

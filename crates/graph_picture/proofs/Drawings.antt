@@ -1,5 +1,6 @@
 -- Lines that were put one behind another, an item more.
-use Rattle.std.proofs.Common.{◌≡◌, ◌∙◌, ◌+◌, ◌<◌, ◌≤◌, ◌++◌, ℕ, Bool, true, false, cond, List, [], ◌∷◌, length, map, get_or, take, ap, arith, length-append}
+use Rattle.std.proofs.Common.{◌≡◌, ◌∙◌, ◌+◌, ◌<◌, ◌≤◌, ◌++◌, ℕ, Bool, true, false, cond, List, [], ◌∷◌, length, map}
+use Rattle.std.proofs.Common.{get_or, take, ap, arith, length-append}
 use Rattle.std.specs.List.{filter, flat_map}
 use Rattle.std.proofs.lemmas.Grind.{flat_map-append}
 use Rattle.std.proofs.lemmas.List.Elements.{filter-append}
@@ -23,7 +24,8 @@ module _ (marks : List Bool) where
       ≡ flat_map arrow_drawn (shown_arrows (take n vs) marks) ++ lines_for (map (λ (b : Arrow). (n, b)) v.edges)
   all_taken vs n v lt is =
       ap lines_for (by_number_taken (λ k (w : Variant). map (λ (b : Arrow). (k, b)) w.edges) vs n v lt is)
-      ∙ lines_apart (by_number (λ k (w : Variant). map (λ (b : Arrow). (k, b)) w.edges) 0 (take n vs)) (map (λ (b : Arrow). (n, b)) v.edges)
+      ∙ lines_apart (by_number (λ k (w : Variant). map (λ (b : Arrow). (k, b)) w.edges) 0 (take n vs))
+      (map (λ (b : Arrow). (n, b)) v.edges)
 
 -- the marked numbers, a mark more
 pub marked_taken : (marks : List Bool) (n : ℕ) (mark : Bool) → n < length marks → mark ≡ get_or marks n mark

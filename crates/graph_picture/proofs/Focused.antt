@@ -1,5 +1,7 @@
 -- What a focus keeps is what is marked along the targets and against them.
-use Rattle.std.proofs.Common.{◌≡◌, ◌≢◌, ◌∙◌, ◌+◌, ◌<◌, ◌≤◌, ◌++◌, ◌⊎◌, ◌↔◌, inl, inr, ℕ, zero, suc, Bool, true, List, [], ◌∷◌, length, map, get_or, slice_get, ap, sym, subst, refl, arith, Contains, Some, None}
+use Rattle.std.proofs.Common.{◌≡◌, ◌≢◌, ◌∙◌, ◌+◌, ◌<◌, ◌≤◌, ◌++◌, ◌⊎◌, ◌↔◌, inl, inr, ℕ, zero, suc, Bool, true, List}
+use Rattle.std.proofs.Common.{[], ◌∷◌, length, map, get_or, slice_get, ap, sym, subst, refl, arith, Contains, Some}
+use Rattle.std.proofs.Common.{None}
 use Rattle.std.specs.List.{AllByRecursion}
 use Rattle.std.proofs.lemmas.Bool.{cases_eq}
 use Rattle.std.proofs.lemmas.List.{length-map}
@@ -20,7 +22,8 @@ got [] i x lt is = absurd (omega arith)
 got (y ∷ xs) zero x lt is = ap Some (sym is)
 got (y ∷ xs) (suc i) x lt is = got xs i x (omega arith) is
 
-got_all : {X : Type 0} (P : X → Type 0) (xs : List X) (i : ℕ) (x : X) → AllByRecursion P xs → slice_get xs i ≡ Some x → P x
+got_all : {X : Type 0} (P : X → Type 0) (xs : List X) (i : ℕ) (x : X) → AllByRecursion P xs → slice_get xs i ≡ Some x
+    → P x
 got_all P [] i x all e = absurd (let f : None ≡ Some x = e in cc)
 got_all P (y ∷ xs) zero x all e = subst P (let f : Some y ≡ Some x = e in cc) all.0
 got_all P (y ∷ xs) (suc i) x all e = got_all P xs i x all.1 e
@@ -148,7 +151,8 @@ module _ (variants : List Variant) (focus : Focus) (starts : List ℕ)
                 w.1,
                 (of w.0).0 w.2,
                 w.3,
-                inr (walk_turned (Has back) (ArrowLeads variants) (λ a b h. leads b a ((turned.turned a b).0 h)) w.1 w.0 n w.4),
+                inr (walk_turned (Has back) (ArrowLeads variants)
+                    (λ a b h. leads b a ((turned.turned a b).0 h)) w.1 w.0 n w.4),
               )
 
           from : (n s k : ℕ) → IsOf variants focus.module s → k ≤ focus.depth

@@ -1,5 +1,6 @@
 -- Marks that grow level by level are exactly what is within so many steps.
-use Rattle.std.proofs.Common.{◌≡◌, ◌≢◌, ◌∙◌, ◌+◌, ◌≤◌, ◌⊎◌, inl, inr, ℕ, zero, suc, Bool, true, false, List, [], length, ap, sym, subst, refl, arith, take, replicate, ◌++◌, Contains}
+use Rattle.std.proofs.Common.{◌≡◌, ◌≢◌, ◌∙◌, ◌+◌, ◌≤◌, ◌⊎◌, inl, inr, ℕ, zero, suc, Bool, true, false, List, [], length}
+use Rattle.std.proofs.Common.{ap, sym, subst, refl, arith, take, replicate, ◌++◌, Contains}
 use Rattle.std.proofs.lemmas.Bool.{cases_eq}
 use Rattle.std.proofs.Math.Seq.{take-append_seam}
 use Rattle.graph_picture.specs.Growing.{Has, Grows, IsNext, IsWithin, IsLevel, MarkWithin}
@@ -68,7 +69,8 @@ module _ (lists : List (List ℕ)) (starts : List ℕ) where
           → mark_at marks' n ≡ true
       all n s k c le w (inr ne) = (g.marks n).1 (inl (l.whole n (s, k, c, omega arith, w)))
       all n s k c le w (inl e) =
-          let r = walk_last (Has lists) d s n (subst (λ (j : ℕ). StepWalk (Has lists) j s n) (let u : k ≡ suc d = omega arith in u) w) in
+          let r = walk_last (Has lists) d s n
+          (subst (λ (j : ℕ). StepWalk (Has lists) j s n) (let u : k ≡ suc d = omega arith in u) w) in
           let before : IsWithin lists starts d r.0 = (s, d, c, omega arith, r.1) in
           let t = l.whole r.0 before in
           stepped r.0 n r.2 (l.done r.0 n t r.2)

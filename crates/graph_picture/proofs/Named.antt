@@ -1,5 +1,6 @@
 -- The variant of which a line is the line.
-use Rattle.std.proofs.Common.{◌≡◌, ◌≢◌, ◌<◌, ◌^◌, ℕ, List, [], ◌∷◌, ◌++◌, length, get_or, arith, lit<, sym, ap, ◌∙◌, subst, refl, Some, None, IsUtf8, append_assoc, length-append}
+use Rattle.std.proofs.Common.{◌≡◌, ◌≢◌, ◌<◌, ◌^◌, ℕ, List, [], ◌∷◌, ◌++◌, length, get_or, arith, lit<, sym, ap, ◌∙◌}
+use Rattle.std.proofs.Common.{subst, refl, Some, None, IsUtf8, append_assoc, length-append}
 use Rattle.std.specs.Fmt.{decimal}
 use Rattle.std.proofs.lemmas.List.{append_cancel_left, get_or_at}
 use Rattle.std.specs.List.{AllByRecursion}

@@ -1,5 +1,6 @@
 -- Lists that are made of numbered items, one item more or cut in two.
-use Rattle.std.proofs.Common.{◌≡◌, ◌∙◌, ◌+◌, ◌<◌, ◌++◌, ℕ, List, [], ◌∷◌, length, get_or, take, ap, sym, arith, append_assoc, append-nil}
+use Rattle.std.proofs.Common.{◌≡◌, ◌∙◌, ◌+◌, ◌<◌, ◌++◌, ℕ, List, [], ◌∷◌, length, get_or, take, ap, sym, arith}
+use Rattle.std.proofs.Common.{append_assoc, append-nil}
 use Rattle.std.proofs.lemmas.List.{length-take-le}
 use Rattle.bp_faults.proofs.Lists.{take-more}
 use Rattle.module_graph.specs.Numbered.{by_number}
@@ -23,7 +24,8 @@ by_number_more f xs x =
     (append-nil (f (0 + length xs) x) ∙ ap (λ (n : ℕ). f n x) (let e : 0 + length xs ≡ length xs = omega arith in e))
 
 -- the first i + 1 items
-pub by_number_taken : {X A : Type 0} (f : ℕ → X → List A) (xs : List X) (i : ℕ) (x : X) → i < length xs → x ≡ get_or xs i x
+pub by_number_taken : {X A : Type 0} (f : ℕ → X → List A) (xs : List X) (i : ℕ) (x : X) → i < length xs
+    → x ≡ get_or xs i x
     → by_number f 0 (take (i + 1) xs) ≡ by_number f 0 (take i xs) ++ f i x
 by_number_taken f xs i x lt is =
     ap (by_number f 0) (take-more xs i x lt is) ∙ by_number_more f (take i xs) x

@@ -1,18 +1,22 @@
 -- What is marked stands in the clusters once, each module in one of them, and each edge in its list once.
-use Rattle.std.proofs.Common.{◌≡◌, ◌≢◌, ◌∙◌, ◌+◌, ◌<◌, ◌≤◌, ◌&&◌, ◌++◌, ℕ, zero, suc, Bool, true, false, cond, List, [], ◌∷◌, length, map, get_or, ap, sym, subst, refl, arith, Contains, AllPairs, IsPermutation, append_assoc, append-nil}
+use Rattle.std.proofs.Common.{◌≡◌, ◌≢◌, ◌∙◌, ◌+◌, ◌<◌, ◌≤◌, ◌&&◌, ◌++◌, ℕ, zero, suc, Bool, true, false, cond, List, []}
+use Rattle.std.proofs.Common.{◌∷◌, length, map, get_or, ap, sym, subst, refl, arith, Contains, AllPairs, IsPermutation}
+use Rattle.std.proofs.Common.{append_assoc, append-nil}
 use Rattle.std.specs.List.{AllByRecursion, filter, flat_map}
 use Rattle.std.specs.List.Sorted.{IsStrictlyIncreasing}
 use Rattle.std.specs.Str.{bytes_eq}
 use Rattle.std.proofs.lemmas.List.{map-append}
 use Rattle.std.proofs.lemmas.List.Elements.{All-from_recursion, filter-append}
-use Rattle.std.proofs.lemmas.List.Sorted.{IsPermutation-refl, IsPermutation-trans, IsPermutation-append_comm, IsPermutation-append_left, IsPermutation-append_right}
+use Rattle.std.proofs.lemmas.List.Sorted.{IsPermutation-refl, IsPermutation-trans, IsPermutation-append_comm}
+use Rattle.std.proofs.lemmas.List.Sorted.{IsPermutation-append_left, IsPermutation-append_right}
 use Rattle.std.proofs.lemmas.Slice.Eq.{bytes_eq-Decides}
 use Rattle.bp_faults.proofs.Lists.{same_bytes}
 use Rattle.module_graph.specs.Numbered.{by_number}
 use Rattle.graph_picture.specs.declared.clusters.Cluster.{Cluster}
 use Rattle.graph_picture.specs.declared.variant.Arrow.{Arrow}
 use Rattle.graph_picture.specs.declared.variant.Variant.{Variant}
-use Rattle.graph_picture.specs.Drawing.{clusters_behind, is_inside, marked_numbers, module_name_at, numbers_in, clusters_with, shown_clusters}
+use Rattle.graph_picture.specs.Drawing.{clusters_behind, is_inside, marked_numbers, module_name_at, numbers_in}
+use Rattle.graph_picture.specs.Drawing.{clusters_with, shown_clusters}
 use Rattle.graph_picture.specs.Laws.{HasOneModule, Differ, EachVariantStandsOnce, EachModuleHasOneCluster}
 use Rattle.graph_picture.specs.Laws.{EachEdgeIsShownOnce}
 use Rattle.graph_picture.specs.Reach.{IsKept, mark_at}
@@ -32,7 +36,8 @@ increasing k [] r i lt = absurd (omega arith)
 increasing k (x ∷ []) r i lt = absurd (omega arith)
 increasing k (x ∷ y ∷ xs) r zero lt = omega (arith, r.1.0)
 increasing k (x ∷ y ∷ xs) r (suc i) lt =
-    subst (λ (j : ℕ). get_or (y ∷ xs) i 0 < get_or (x ∷ y ∷ xs) j 0) (let e : suc (i + 1) ≡ suc i + 1 = omega arith in e)
+    subst (λ (j : ℕ). get_or (y ∷ xs) i 0 < get_or (x ∷ y ∷ xs) j 0)
+    (let e : suc (i + 1) ≡ suc i + 1 = omega arith in e)
     (increasing (x + 1) (y ∷ xs) r.1 i (omega arith))
 
 -- the marked numbers, from k on
@@ -96,9 +101,11 @@ module _ (vs : List Variant) where
           subst (λ (l : List ℕ). IsPermutation l (numbers_in c ++ joined (clusters_with vs n cs))) whole
           (IsPermutation-append_right (numbers_in c) (joined cs ++ n ∷ []) (joined (clusters_with vs n cs)) rest)
 
-  joined_behind : (cs : List Cluster) (ns : List ℕ) → IsPermutation (joined cs ++ ns) (joined (clusters_behind vs cs ns))
+  joined_behind : (cs : List Cluster) (ns : List ℕ)
+      → IsPermutation (joined cs ++ ns) (joined (clusters_behind vs cs ns))
   joined_behind cs [] =
-      subst (λ (l : List ℕ). IsPermutation l (joined cs)) (sym (append-nil (joined cs))) (IsPermutation-refl (joined cs))
+      subst (λ (l : List ℕ). IsPermutation l (joined cs)) (sym (append-nil (joined cs)))
+      (IsPermutation-refl (joined cs))
   joined_behind cs (n ∷ ns) =
       subst (λ (l : List ℕ). IsPermutation l (joined (clusters_behind vs (clusters_with vs n cs) ns)))
       (append_assoc (joined cs) (n ∷ []) ns)
@@ -116,7 +123,8 @@ module _ (vs : List Variant) where
       → AllByRecursion (HasOneModule vs) (clusters_with vs n cs)
   one_module n [] all = (tt, tt)
   one_module n (c ∷ cs) all =
-      by (one_module n cs all.1) (bytes_eq (module_name_at vs n) (module_name_at vs c.first)) (same_bytes (module_name_at vs n) (module_name_at vs c.first))
+      by (one_module n cs all.1) (bytes_eq (module_name_at vs n) (module_name_at vs c.first))
+      (same_bytes (module_name_at vs n) (module_name_at vs c.first))
     where
       by : AllByRecursion (HasOneModule vs) (clusters_with vs n cs) → (b : Bool)
           → (b ≡ true → module_name_at vs n ≡ module_name_at vs c.first)
@@ -160,7 +168,8 @@ module _ (vs : List Variant) where
   both_behind : (cs : List Cluster) (ns : List ℕ) → AllByRecursion (HasOneModule vs) cs → Apart cs
       → AllByRecursion (HasOneModule vs) (clusters_behind vs cs ns) × Apart (clusters_behind vs cs ns)
   both_behind cs [] all apart = (all, apart)
-  both_behind cs (n ∷ ns) all apart = both_behind (clusters_with vs n cs) ns (one_module n cs all) (apart_put n cs apart)
+  both_behind cs (n ∷ ns) all apart =
+      both_behind (clusters_with vs n cs) ns (one_module n cs all) (apart_put n cs apart)
 
   pairs : (cs : List Cluster) → Apart cs → AllPairs (Differ vs) cs
   pairs [] apart i j d lt le = absurd (omega arith)

@@ -1,5 +1,7 @@
 -- A text is the text of one graph alone.
-use Rattle.std.proofs.Common.{◌≡◌, ◌≢◌, ◌+◌, ◌*◌, ◌==◌, ◌<◌, ◌≤◌, ◌^◌, ◌%◌, ◌++◌, ◌∙◌, ℕ, zero, suc, Bool, true, false, cond, List, [], ◌∷◌, length, map, get_or, All, ap, sym, subst, refl, arith, lit<, append_assoc, length-append}
+use Rattle.std.proofs.Common.{◌≡◌, ◌≢◌, ◌+◌, ◌*◌, ◌==◌, ◌<◌, ◌≤◌, ◌^◌, ◌%◌, ◌++◌, ◌∙◌, ℕ, zero, suc, Bool, true, false}
+use Rattle.std.proofs.Common.{cond, List, [], ◌∷◌, length, map, get_or, All, ap, sym, subst, refl, arith, lit<}
+use Rattle.std.proofs.Common.{append_assoc, length-append}
 use Rattle.std.specs.Fmt.{decimal}
 use Rattle.std.specs.List.{AllByRecursion, flat_map}
 use Rattle.std.proofs.lemmas.Fmt.{decimal_by_steps, decimal_injective}
@@ -14,7 +16,8 @@ use Rattle.module_graph.specs.Numbered.{by_number}
 use Rattle.graph_picture.specs.declared.variant.Arrow.{Arrow}
 use Rattle.graph_picture.specs.declared.variant.Variant.{Variant}
 use Rattle.graph_picture.specs.Laws.{OneReading}
-use Rattle.graph_picture.specs.Lines.{HasNo, IsVariant, IsPrintedWord, arrow_line, all_variant_lines, variants_text, variant_line, variant_lines}
+use Rattle.graph_picture.specs.Lines.{HasNo, IsVariant, IsPrintedWord, arrow_line, all_variant_lines, variants_text}
+use Rattle.graph_picture.specs.Lines.{variant_line, variant_lines}
 use Rattle.graph_picture.proofs.Numbered.{by_number-append}
 use Rattle.graph_picture.proofs.Parts.{cut_once}
 use Rattle.graph_picture.proofs.Puts.{starts}
@@ -46,13 +49,17 @@ abbrev IsLetter : ℕ → Type 0
 IsLetter c = 97 ≤ c
 
 word_letters : (kind : EdgeKind) → AllByRecursion IsLetter (kind_word kind)
-word_letters Defaults = (omega arith, (omega arith, (omega arith, (omega arith, (omega arith, (omega arith, (omega arith, (omega arith, tt))))))))
+word_letters Defaults = (
+  omega arith,
+  (omega arith, (omega arith, (omega arith, (omega arith, (omega arith, (omega arith, (omega arith, tt))))))),
+)
 word_letters Whole = (omega arith, (omega arith, (omega arith, (omega arith, (omega arith, tt)))))
 word_letters Static = (omega arith, (omega arith, (omega arith, (omega arith, (omega arith, (omega arith, tt))))))
 word_letters Shared = (omega arith, (omega arith, (omega arith, (omega arith, (omega arith, (omega arith, tt))))))
 word_letters Header = (omega arith, (omega arith, (omega arith, (omega arith, (omega arith, (omega arith, tt))))))
 word_letters DataBin = (omega arith, (omega arith, (omega arith, (omega arith, tt))))
-word_letters Sources = (omega arith, (omega arith, (omega arith, (omega arith, (omega arith, (omega arith, (omega arith, tt)))))))
+word_letters Sources =
+    (omega arith, (omega arith, (omega arith, (omega arith, (omega arith, (omega arith, (omega arith, tt)))))))
 
 word_lacks : (b : ℕ) (kind : EdgeKind) → b < 97 → Lacks b (kind_word kind)
 word_lacks b kind low =
@@ -87,7 +94,8 @@ one_arrow a b low high e =
     let r = cut_once 32 (kind_word a.kind) (decimal a.to) (kind_word b.kind) (decimal b.to)
     (has_no 32 (kind_word a.kind) (word_lacks 32 a.kind (lit< tt)))
     (has_no 32 (kind_word b.kind) (word_lacks 32 b.kind (lit< tt)))
-    (append_cancel_left (32 ∷ 32 ∷ []) (kind_word a.kind ++ (32 ∷ decimal a.to)) (kind_word b.kind ++ (32 ∷ decimal b.to)) e) in
+    (append_cancel_left (32 ∷ 32 ∷ []) (kind_word a.kind ++ (32 ∷ decimal a.to))
+    (kind_word b.kind ++ (32 ∷ decimal b.to)) e) in
     let kind = one_kind a.kind b.kind r.0 in
     let to = decimal_injective a.to b.to (omega (arith, low)) (omega (arith, high)) r.1 in
     λ i. record { kind = kind i; to = to i }
@@ -126,9 +134,17 @@ one_lines : (ls ms : List (List ℕ)) → AllByRecursion (Lacks 10) ls → AllBy
     → flat_map ended_line ls ≡ flat_map ended_line ms → ls ≡ ms
 one_lines [] [] h k e = refl
 one_lines [] (m ∷ ms) h k e =
-    absurd (omega (arith, ap length (e ∙ append_assoc m (10 ∷ []) (flat_map ended_line ms)), length-append m (10 ∷ flat_map ended_line ms)))
+    absurd (omega (
+      arith,
+      ap length (e ∙ append_assoc m (10 ∷ []) (flat_map ended_line ms)),
+      length-append m (10 ∷ flat_map ended_line ms),
+    ))
 one_lines (l ∷ ls) [] h k e =
-    absurd (omega (arith, ap length (sym e ∙ append_assoc l (10 ∷ []) (flat_map ended_line ls)), length-append l (10 ∷ flat_map ended_line ls)))
+    absurd (omega (
+      arith,
+      ap length (sym e ∙ append_assoc l (10 ∷ []) (flat_map ended_line ls)),
+      length-append l (10 ∷ flat_map ended_line ls),
+    ))
 one_lines (l ∷ ls) (m ∷ ms) h k e =
     let r = cut_once 10 l (flat_map ended_line ls) m (flat_map ended_line ms) (has_no 10 l h.0) (has_no 10 m k.0)
     (sym (append_assoc l (10 ∷ []) (flat_map ended_line ls)) ∙ e ∙ append_assoc m (10 ∷ []) (flat_map ended_line ms)) in
@@ -195,7 +211,8 @@ one_variants k (v ∷ vs) (w ∷ ws) le ge h j e =
     let line : variant_line k v ≡ variant_line k w = cc in
     let behind : map arrow_line v.edges ++ from (k + 1) vs ≡ map arrow_line w.edges ++ from (k + 1) ws = cc in
     let names = one_names k v w h.0 j.0 line in
-    let edges = one_edges (k + 1) v.edges w.edges vs ws (omega (arith, le)) (omega (arith, ge)) h.0.targets j.0.targets behind in
+    let edges =
+    one_edges (k + 1) v.edges w.edges vs ws (omega (arith, le)) (omega (arith, ge)) h.0.targets j.0.targets behind in
     let rest = one_variants (k + 1) vs ws (omega (arith, le)) (omega (arith, ge)) h.1 j.1 edges.1 in
     λ i. record { «module» = names.0 i; variation = names.1 i; edges = edges.0 i } ∷ rest i
 

@@ -1,5 +1,6 @@
 -- The first edge that leads to none of the variants, and the number of its line.
-use Rattle.std.proofs.Common.{◌≡◌, ◌∙◌, ◌+◌, ◌<◌, ◌≤◌, ◌++◌, ℕ, List, [], ◌∷◌, length, get_or, take, drop, map, ap, sym, subst, arith, append_assoc, length-append, Some}
+use Rattle.std.proofs.Common.{◌≡◌, ◌∙◌, ◌+◌, ◌<◌, ◌≤◌, ◌++◌, ℕ, List, [], ◌∷◌, length, get_or, take, drop, map, ap, sym}
+use Rattle.std.proofs.Common.{subst, arith, append_assoc, length-append, Some}
 use Rattle.std.specs.List.{AllByRecursion}
 use Rattle.std.proofs.lemmas.List.{map-append, take-append-drop, length-take-le, length-map}
 use Rattle.bp_faults.proofs.Lists.{all_pushed, drop-here, take-more}
@@ -30,7 +31,8 @@ module _ (vs : List Variant) (i : ℕ) (v : Variant) (lt : i < length vs) (is : 
       ∙ ap (λ (n : ℕ). all_variant_lines (take i vs) ++ by_number variant_lines n (v ∷ drop (i + 1) vs))
       (let e : 0 + length (take i vs) ≡ i = omega (arith, length-take-le i vs (omega arith)) in e)
 
-  pub lines_next : length (all_variant_lines (take (i + 1) vs)) ≡ length (all_variant_lines (take i vs)) + (length v.edges + 1)
+  pub lines_next : length (all_variant_lines (take (i + 1) vs))
+      ≡ length (all_variant_lines (take i vs)) + (length v.edges + 1)
   lines_next =
       omega (
         arith,
@@ -76,7 +78,8 @@ module _ (vs : List Variant) (i : ℕ) (v : Variant) (lt : i < length vs) (is : 
             lines_cut ∙ ap (λ (ls : List (List ℕ)). all_variant_lines (take i vs) ++ (ls ++ later)) whole
             ∙ ap (λ (ls : List (List ℕ)). all_variant_lines (take i vs) ++ ls)
             (append_assoc (variant_lines i cut) (arrow_line f.1 ∷ tail) later)
-            ∙ sym (append_assoc (all_variant_lines (take i vs)) (variant_lines i cut) (arrow_line f.1 ∷ (tail ++ later)))
+            ∙ sym (append_assoc (all_variant_lines (take i vs)) (variant_lines i cut)
+            (arrow_line f.1 ∷ (tail ++ later)))
             ∙ ap (λ (ls : List (List ℕ)). ls ++ (arrow_line f.1 ∷ (tail ++ later))) (sym same);
         inside =
             all_pushed (λ (v : Variant). AllByRecursion (λ (a : Arrow). a.to < length vs) v.edges) (take i vs) cut

@@ -1,5 +1,7 @@
 -- A line in words: where it is cut, and what its parts are.
-use Rattle.std.proofs.Common.{◌≡◌, ◌≢◌, ◌<◌, ◌+◌, ℕ, zero, suc, List, [], ◌∷◌, ◌++◌, length, get_or, take, drop, arith, sym, ap, ◌∙◌, subst, refl, Option, Some, None, MatchOption, IsUtf8, append_assoc, length-append}
+use Rattle.std.proofs.Common.{◌≡◌, ◌≢◌, ◌<◌, ◌+◌, ℕ, zero, suc, List, [], ◌∷◌, ◌++◌, length, get_or, take, drop, arith}
+use Rattle.std.proofs.Common.{sym, ap, ◌∙◌, subst, refl, Option, Some, None, MatchOption, IsUtf8, append_assoc}
+use Rattle.std.proofs.Common.{length-append}
 use denote.Ref.{Bor}
 use Rattle.std.proofs.lemmas.List.{drop_at, get_or_at, get_or_append_left, get_or-append-add}
 use Rattle.std.proofs.Math.Seq.{take-append_seam}

@@ -1,5 +1,6 @@
 -- What is printed of a module graph is the text of its nodes as variants.
-use Rattle.std.proofs.Common.{◌≡◌, ◌≢◌, ◌+◌, ◌<◌, ◌≤◌, ◌^◌, ◌++◌, ◌∙◌, ℕ, zero, suc, true, false, List, [], ◌∷◌, length, map, get_or, ap, sym, subst, refl, arith, IsUtf8}
+use Rattle.std.proofs.Common.{◌≡◌, ◌≢◌, ◌+◌, ◌<◌, ◌≤◌, ◌^◌, ◌++◌, ◌∙◌, ℕ, zero, suc, true, false, List, [], ◌∷◌, length}
+use Rattle.std.proofs.Common.{map, get_or, ap, sym, subst, refl, arith, IsUtf8}
 use Rattle.std.specs.List.{AllByRecursion, flat_map}
 use Rattle.std.proofs.lemmas.Bool.Decides.{nat_tests}
 use Rattle.std.proofs.lemmas.List.Elements.{All-from_recursion}
@@ -15,7 +16,8 @@ use Rattle.module_graph.specs.Numbered.{by_number}
 use Rattle.graph_picture.specs.declared.variant.Arrow.{Arrow}
 use Rattle.graph_picture.specs.declared.variant.Variant.{Variant}
 use Rattle.graph_picture.specs.Laws.{PrintedGraphsAreGraphs}
-use Rattle.graph_picture.specs.Lines.{IsGraph, IsVariant, IsPrintedWord, LeadInside, arrow_line, variants_text, variant_lines}
+use Rattle.graph_picture.specs.Lines.{IsGraph, IsVariant, IsPrintedWord, LeadInside, arrow_line, variants_text}
+use Rattle.graph_picture.specs.Lines.{variant_lines}
 use Rattle.graph_picture.specs.Printed.{arrow_for, variant_for, variants_for}
 use Rattle.bp_faults.specs.Characters.{ended_line}
 

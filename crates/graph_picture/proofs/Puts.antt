@@ -1,6 +1,7 @@
 -- A line more behind those of some variants.
 use lib.Utf8.{encode}
-use Rattle.std.proofs.Common.{◌≡◌, ◌∙◌, ◌+◌, ◌<◌, ◌≤◌, ◌^◌, ◌++◌, ℕ, zero, suc, true, List, [], ◌∷◌, length, map, set, get_or, ap, sym, subst, refl, arith, lit<, append_assoc, append-nil, IsUtf8}
+use Rattle.std.proofs.Common.{◌≡◌, ◌∙◌, ◌+◌, ◌<◌, ◌≤◌, ◌^◌, ◌++◌, ℕ, zero, suc, true, List, [], ◌∷◌, length, map, set}
+use Rattle.std.proofs.Common.{get_or, ap, sym, subst, refl, arith, lit<, append_assoc, append-nil, IsUtf8}
 use Rattle.std.specs.Prelude.{codes}
 use Rattle.std.specs.List.{AllByRecursion}
 use Rattle.std.specs.Fmt.{decimal}
@@ -17,7 +18,8 @@ use Rattle.module_graph.specs.Numbered.{by_number}
 use Rattle.graph_picture.specs.declared.variant.Arrow.{Arrow}
 use Rattle.graph_picture.specs.declared.variant.Variant.{Variant}
 use Rattle.graph_picture.specs.Inside.{PutsLine}
-use Rattle.graph_picture.specs.Lines.{IsPrintedWord, IsVariant, variant_line, arrow_line, variant_lines, all_variant_lines}
+use Rattle.graph_picture.specs.Lines.{IsPrintedWord, IsVariant, variant_line, arrow_line, variant_lines}
+use Rattle.graph_picture.specs.Lines.{all_variant_lines}
 use Rattle.graph_picture.specs.Reading.{IsStray}
 use Rattle.graph_picture.proofs.Numbered.{by_number_more}
 

@@ -1,5 +1,6 @@
 -- Graphs in which no level is handed on: their records are kept.
-use Rattle.std.proofs.Common.{◌≡◌, ◌∙◌, ap, sym, refl, ℕ, Bool, true, false, cond, min, arith, map, List, [], ◌∷◌, Option, Some, None, Result, Ok}
+use Rattle.std.proofs.Common.{◌≡◌, ◌∙◌, ap, sym, refl, ℕ, Bool, true, false, cond, min, arith, map, List, [], ◌∷◌}
+use Rattle.std.proofs.Common.{Option, Some, None, Result, Ok}
 use Rattle.std.specs.Prelude.{◌==◌, fold, is_none}
 use Rattle.std.specs.List.{AllByRecursion, filter, list_all, zip}
 use Rattle.std.specs.Option.{unwrap_or}
@@ -22,7 +23,8 @@ abbrev HasNone : Props → Type 0
 HasNone p = IsNone p.level
 
 has_none : (x : Node Props) → has_no_level x ≡ true → HasNone x.payload
-has_none x is = eqb-true x.payload.level 10000 (and_parts (x.payload.level == 10000) (is_none x.payload.min_sdk_version) is).0
+has_none x is =
+    eqb-true x.payload.level 10000 (and_parts (x.payload.level == 10000) (is_none x.payload.min_sdk_version) is).0
 
 unset : (set : Option (Given ℕ)) → is_none set ≡ true → set ≡ None
 unset None is = refl

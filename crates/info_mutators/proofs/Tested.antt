@@ -12,7 +12,8 @@ same_item : {X : Type 0} (x y : X) → Some x ≡ Some y → x ≡ y
 same_item x y e = cc
 
 -- the node of a number passes it
-pub passes_at : (test : Node Props → Bool) (nodes : List (Node Props)) (n : ℕ) (x : Node Props) → slice_get nodes n ≡ Some x
+pub passes_at : (test : Node Props → Bool) (nodes : List (Node Props)) (n : ℕ) (x : Node Props)
+    → slice_get nodes n ≡ Some x
     → list_all test nodes ≡ true → test x ≡ true
 passes_at test [] n x is all = cc
 passes_at test (y ∷ ys) zero x is all =
@@ -24,7 +25,8 @@ node_there [] n x is = cc
 node_there (y ∷ ys) zero x is = same_item y x is
 node_there (y ∷ ys) (suc n) x is = node_there ys n x is
 
-module _ (Holds : Props → Type 0) (test : Node Props → Bool) (each : (x : Node Props) → test x ≡ true → Holds x.payload) where
+module _ (Holds : Props → Type 0) (test : Node Props → Bool)
+    (each : (x : Node Props) → test x ≡ true → Holds x.payload) where
   payloads : (nodes : List (Node Props)) → list_all test nodes ≡ true
       → AllByRecursion Holds (map (λ (x : Node Props). x.payload) nodes)
   payloads [] all = tt
@@ -36,5 +38,7 @@ module _ (Holds : Props → Type 0) (test : Node Props → Bool) (each : (x : No
       → AllByRecursion (Contains (map (λ (x : Node Props). x.payload) nodes)) ins → AllByRecursion Holds ins
   among_payloads nodes all [] are = tt
   among_payloads nodes all (p ∷ ins) are =
-      let ps = map (λ (x : Node Props). x.payload) nodes in
-      (All-contains Holds ps p (All-from_recursion Holds ps (payloads nodes all)) are.0, among_payloads nodes all ins are.1)
+      let ps = map (λ (x : Node Props). x.payload) nodes in (
+        All-contains Holds ps p (All-from_recursion Holds ps (payloads nodes all)) are.0,
+        among_payloads nodes all ins are.1,
+      )

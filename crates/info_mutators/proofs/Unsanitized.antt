@@ -1,5 +1,6 @@
 -- Graphs without the sanitizer: nothing is wanted of their nodes, and their records are kept.
-use Rattle.std.proofs.Common.{◌≡◌, ◌∙◌, ◌<◌, ◌&&◌, ◌||◌, ap, sym, refl, ℕ, zero, suc, Bool, true, false, not, cond, length, arith, append-nil, List, [], ◌∷◌, Some, Result, Ok}
+use Rattle.std.proofs.Common.{◌≡◌, ◌∙◌, ◌<◌, ◌&&◌, ◌||◌, ap, sym, refl, ℕ, zero, suc, Bool, true, false, not, cond}
+use Rattle.std.proofs.Common.{length, arith, append-nil, List, [], ◌∷◌, Some, Result, Ok}
 use Rattle.std.specs.Prelude.{slice_get}
 use Rattle.std.specs.List.{AllByRecursion, list_all}
 use Rattle.std.proofs.lemmas.Bool.{and_parts}
@@ -16,7 +17,8 @@ use Rattle.module_rules.specs.Seen.{node_at}
 use Rattle.mutator_rules.specs.Idle.{KeepsPayloads, WantsNothing}
 use Rattle.info_mutators.specs.Dependencies.{is_archived}
 use Rattle.info_mutators.specs.Idle.{is_off, is_unsanitized}
-use Rattle.info_mutators.specs.Sanitize.{has_sanitized, is_asan, is_never, is_on, sanitize_meant, sanitized_record, with_flag_if, with_sanitizer}
+use Rattle.info_mutators.specs.Sanitize.{has_sanitized, is_asan, is_never, is_on, sanitize_meant, sanitized_record}
+use Rattle.info_mutators.specs.Sanitize.{with_flag_if, with_sanitizer}
 use Rattle.info_mutators.proofs.Tested.{among_payloads, node_there, passes_at}
 
 not_true : (b : Bool) → not b ≡ true → b ≡ false
@@ -47,7 +49,8 @@ pub want_nothing : (nodes : List (Node Props)) → list_all is_off nodes ≡ tru
 want_nothing nodes off = record {
   own = λ n lt. ap (λ (on : Bool). wanted (cond on Asan Empty)) (is_off_at nodes off n lt);
   handed = λ n from kind lt.
-      ap (λ (on : Bool). cond (is_never (node_at nodes n).payload) Empty (cond on Asan (cond (is_archived kind) Empty Empty)))
+      ap (λ (on : Bool).
+      cond (is_never (node_at nodes n).payload) Empty (cond on Asan (cond (is_archived kind) Empty Empty)))
       (is_off_at nodes off n lt)
       ∙ none_handed (is_archived kind) (is_never (node_at nodes n).payload);
 }
@@ -82,7 +85,8 @@ with_lists p cflags ldflags asan = record p { base = record p.base { cflags = cf
 
 kept : (p : Props) → HasNone p → with_sanitizer false false p ≡ p
 kept p none =
-    ap (λ (list : Listed (List ℕ)). with_lists p list (with_flag_if false p.base.ldflags) false) (unflagged p.base.cflags)
+    ap (λ (list : Listed (List ℕ)). with_lists p list (with_flag_if false p.base.ldflags) false)
+    (unflagged p.base.cflags)
     ∙ ap (λ (list : Listed (List ℕ)). with_lists p p.base.cflags list false) (unflagged p.base.ldflags)
     ∙ ap (λ (asan : Bool). with_lists p p.base.cflags p.base.ldflags asan) (sym none)
 

@@ -5,7 +5,8 @@ use Rattle.std.proofs.lemmas.Bool.{and_parts}
 use Rattle.bp_faults.specs.declared.fault.Fault.{Fault}
 use Rattle.bp_props.specs.declared.given.Given.{Given}
 use Rattle.bp_props.specs.declared.kind.ModuleKind.{ModuleKind}
-use Rattle.bp_props.specs.declared.kind.ModuleKind.TheVariants.{Binary, Library, LibraryStatic, LibraryShared, LibraryHeaders, Test, Defaults, Filegroup}
+use Rattle.bp_props.specs.declared.kind.ModuleKind.TheVariants.{Binary, Library, LibraryStatic, LibraryShared}
+use Rattle.bp_props.specs.declared.kind.ModuleKind.TheVariants.{LibraryHeaders, Test, Defaults, Filegroup}
 use Rattle.bp_props.specs.declared.props.Props.{Props}
 use Rattle.module_graph.specs.declared.graph.Node.{Node}
 use Rattle.module_graph.specs.declared.variation.Variation.{Variation}
@@ -23,7 +24,8 @@ not_true false is = refl
 not_true true is = cc
 
 -- no module is split without the flag
-is_unsplit : (kind : ModuleKind) (flag : Option (Given Bool)) → is_true_or false flag ≡ false → is_split kind flag ≡ false
+is_unsplit : (kind : ModuleKind) (flag : Option (Given Bool)) → is_true_or false flag ≡ false
+    → is_split kind flag ≡ false
 is_unsplit Test flag is = is
 is_unsplit Binary flag is = refl
 is_unsplit Library flag is = refl

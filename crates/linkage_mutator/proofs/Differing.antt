@@ -22,14 +22,17 @@ before_differs : (p : Props) (n k : ℕ) (sources : List Source) → n < k
     → All (λ (b : Variant). PerSource n ≢ b.0) (by_number (variant_of_source p) k sources)
 before_differs p n k [] lt = All-nil (λ (b : Variant). PerSource n ≢ b.0)
 before_differs p n k (s ∷ sources) lt =
-    All-cons (λ (b : Variant). PerSource n ≢ b.0) _ _ (λ is. let same : n ≡ k = ap own_number is in absurd (omega arith))
+    All-cons (λ (b : Variant). PerSource n ≢ b.0) _ _
+    (λ is. let same : n ≡ k = ap own_number is in absurd (omega arith))
     (before_differs p n (k + 1) sources (omega arith))
 
 -- the variants of sources differ
-sources_differ : (p : Props) (k : ℕ) (sources : List Source) → VariantsDiffer (by_number (variant_of_source p) k sources)
+sources_differ : (p : Props) (k : ℕ) (sources : List Source)
+    → VariantsDiffer (by_number (variant_of_source p) k sources)
 sources_differ p k [] = λ i j d before inside. absurd (omega arith)
 sources_differ p k (s ∷ sources) =
-    AllPairs-cons (λ (b c : Variant). b.0 ≢ c.0) _ _ (before_differs p k (k + 1) sources (omega arith)) (sources_differ p (k + 1) sources)
+    AllPairs-cons (λ (b c : Variant). b.0 ≢ c.0) _ _ (before_differs p k (k + 1) sources (omega arith))
+    (sources_differ p (k + 1) sources)
 
 one_differs : (b : Variant) → VariantsDiffer (b ∷ [])
 one_differs b = λ i j d before inside. absurd (omega arith)

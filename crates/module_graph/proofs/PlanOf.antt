@@ -12,10 +12,13 @@ use Rattle.module_graph.proofs.Alls.{edges_of_ends}
 use Rattle.module_graph.proofs.Ordered.{turned_is_plan}
 use Rattle.module_graph.proofs.Sorted.{all_by_target, sorted_by_target, few_by_target}
 
-pub plan_of_is_plan : {P : Type 0} (dir : Direction) (nodes : List (Node P)) → IsNumbered nodes → IsPlan (plan_of dir nodes)
+pub plan_of_is_plan : {P : Type 0} (dir : Direction) (nodes : List (Node P)) → IsNumbered nodes
+    → IsPlan (plan_of dir nodes)
 plan_of_is_plan BottomUp nodes is = turned_is_plan nodes is
 plan_of_is_plan TopDown nodes is = record {
-  ends = all_by_target (edges_of nodes) (length nodes) (λ (e : PlanEdge). (e.from.0 < length nodes) × (e.to.0 < length nodes)) (edges_of_ends nodes is.ends);
+  ends =
+      all_by_target (edges_of nodes) (length nodes)
+      (λ (e : PlanEdge). (e.from.0 < length nodes) × (e.to.0 < length nodes)) (edges_of_ends nodes is.ends);
   by_target = sorted_by_target (edges_of nodes) (length nodes);
   few = let less = few_by_target (edges_of nodes) (length nodes) in let few = is.few_edges in omega arith;
 }

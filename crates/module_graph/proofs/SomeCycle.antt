@@ -1,5 +1,6 @@
 -- Where a walk returns, a cycle is reported; and whether one does can be decided.
-use Rattle.std.proofs.Common.{◌≡◌, ◌+◌, ◌<◌, ◌≤◌, ◌==◌, ◌⊎◌, inl, inr, ⊎_elim, ℕ, zero, suc, List, [], ◌∷◌, length, get_or, refl, ap, sym, subst, arith, false, ne_eqb, Result, Ok, Err}
+use Rattle.std.proofs.Common.{◌≡◌, ◌+◌, ◌<◌, ◌≤◌, ◌==◌, ◌⊎◌, inl, inr, ⊎_elim, ℕ, zero, suc, List, [], ◌∷◌, length}
+use Rattle.std.proofs.Common.{get_or, refl, ap, sym, subst, arith, false, ne_eqb, Result, Ok, Err}
 use Rattle.std.specs.Prelude.{Contains}
 use Rattle.std.specs.List.{AllByRecursion, IsDistinct}
 use Rattle.std.proofs.Math.Decide.{dec_lt}
@@ -13,7 +14,8 @@ use Rattle.module_graph.specs.declared.graph.Edge.{Edge}
 use Rattle.module_graph.specs.declared.graph.Node.{Node}
 use Rattle.module_graph.specs.Graphs.{edges_of, NameNodes}
 use Rattle.module_graph.specs.Walks.{Walk, Returns}
-use Rattle.module_graph.specs.Cycles.{IsDistance, IsStart, IsNearest, IsWay, IsCycle, IsReported, CycleMeans, cycle_fault, edges_at}
+use Rattle.module_graph.specs.Cycles.{IsDistance, IsStart, IsNearest, IsWay, IsCycle, IsReported, CycleMeans}
+use Rattle.module_graph.specs.Cycles.{cycle_fault, edges_at}
 use Rattle.module_graph.proofs.Alls.{edges_of_ends}
 use Rattle.module_graph.proofs.Outward.{at_target}
 use Rattle.module_graph.proofs.ShortCycle.{nearest_leads, nearest_within}
@@ -29,7 +31,8 @@ any_of : {A : Type 0} (Q : A → Type 0) → ((a : A) → Dec (Q a)) → (xs : L
 any_of Q dec [] = no (λ t. let lt = t.1.1 in absurd (omega arith))
 any_of {A} Q dec (x ∷ xs) = pick (dec x) (any_of Q dec xs)
   where
-    not_here : (Q x → ⊥) → (((y : A) × Contains xs y × Q y) → ⊥) → (y : A) (k : ℕ) → k < length (x ∷ xs) → get_or (x ∷ xs) k y ≡ y → Q y → ⊥
+    not_here : (Q x → ⊥) → (((y : A) × Contains xs y × Q y) → ⊥) → (y : A) (k : ℕ) → k < length (x ∷ xs)
+        → get_or (x ∷ xs) k y ≡ y → Q y → ⊥
     not_here nq none y zero lt is q = nq (subst Q (sym is) q)
     not_here nq none y (suc k) lt is q = none (y, (k, omega arith, is), q)
 
@@ -42,17 +45,21 @@ abbrev IsFirst : (ℕ → Type 0) → ℕ → Type 0
 IsFirst Q m = Q m × ((j : ℕ) → j < m → Q j → ⊥)
 
 module _ (Q : ℕ → Type 0) (dec : (k : ℕ) → Dec (Q k)) where
-  first_from : (fuel start : ℕ) → ((j : ℕ) → j < start → Q j → ⊥) → ((m : ℕ) × IsFirst Q m) ⊎ ((j : ℕ) → j < start + fuel → Q j → ⊥)
+  first_from : (fuel start : ℕ) → ((j : ℕ) → j < start → Q j → ⊥)
+      → ((m : ℕ) × IsFirst Q m) ⊎ ((j : ℕ) → j < start + fuel → Q j → ⊥)
   first_from zero start none = inr (λ j lt. none j (omega arith))
   first_from (suc fuel) start none = pick (dec start) (λ h. first_from fuel (suc start) h)
     where
-      pick : Dec (Q start) → (((j : ℕ) → j < suc start → Q j → ⊥) → ((m : ℕ) × IsFirst Q m) ⊎ ((j : ℕ) → j < suc start + fuel → Q j → ⊥)) → ((m : ℕ) × IsFirst Q m) ⊎ ((j : ℕ) → j < start + suc fuel → Q j → ⊥)
+      pick : Dec (Q start)
+          → (((j : ℕ) → j < suc start → Q j → ⊥) → ((m : ℕ) × IsFirst Q m) ⊎ ((j : ℕ) → j < suc start + fuel → Q j → ⊥))
+          → ((m : ℕ) × IsFirst Q m) ⊎ ((j : ℕ) → j < start + suc fuel → Q j → ⊥)
       pick (yes q) more = inl (start, (q, none))
       pick (no nq) more = ⊎_elim (λ t. inl t) (λ h. inr (λ j lt. h j (omega arith)))
           (more (λ j lt q. dite (ℕ_discrete j start) (λ same. nq (subst Q same q)) (λ other. none j (omega arith) q)))
 
   first_below : (bound : ℕ) → ((m : ℕ) × IsFirst Q m) ⊎ ((j : ℕ) → j < bound → Q j → ⊥)
-  first_below bound = ⊎_elim (λ t. inl t) (λ h. inr (λ j lt. h j (omega arith))) (first_from bound 0 (λ j lt. absurd (omega arith)))
+  first_below bound =
+      ⊎_elim (λ t. inl t) (λ h. inr (λ j lt. h j (omega arith))) (first_from bound 0 (λ j lt. absurd (omega arith)))
 
   first_of : (k : ℕ) → Q k → (m : ℕ) × IsFirst Q m
   first_of k q = ⊎_elim (λ t. t) (λ h. absurd (h k (omega arith) q)) (first_below (suc k))
@@ -67,45 +74,66 @@ module _ (Q : ℕ → Type 0) (dec : (k : ℕ) → Dec (Q k)) where
 module _ (count : ℕ) (edges : List PlanEdge) (ends : HaveEndsBelow count edges) where
   walk_decided : (m k n : ℕ) → Dec (Walk edges k n m)
   walk_decided m zero n = ℕ_discrete n m
-  walk_decided m (suc k) n = pick (any_of (λ (e : PlanEdge). (e.from.0 ≡ n) × Walk edges k e.to.0 m) (λ e. both (ℕ_discrete e.from.0 n) (walk_decided m k e.to.0)) edges)
+  walk_decided m (suc k) n =
+      pick (any_of (λ (e : PlanEdge). (e.from.0 ≡ n) × Walk edges k e.to.0 m)
+      (λ e. both (ℕ_discrete e.from.0 n) (walk_decided m k e.to.0)) edges)
     where
-      pick : Dec ((e : PlanEdge) × Contains edges e × ((e.from.0 ≡ n) × Walk edges k e.to.0 m)) → Dec (Walk edges (suc k) n m)
+      pick : Dec ((e : PlanEdge) × Contains edges e × ((e.from.0 ≡ n) × Walk edges k e.to.0 m))
+          → Dec (Walk edges (suc k) n m)
       pick (yes t) = yes (t.0.to.0, (t.0, t.1, t.2.0, refl), t.2.1)
       pick (no none) = no (λ w. none (w.1.0, w.1.1, (w.1.2, subst (λ x. Walk edges k x m) (sym w.1.3) w.2)))
 
   distance_is : (s n d : ℕ) → IsFirst (λ k. Walk edges k n s) d → IsDistance edges s n d
-  distance_is s n d is = record { walk = is.0; least = first_least (λ k. Walk edges k n s) (λ k. walk_decided s k n) d is }
+  distance_is s n d is = record {
+    walk = is.0;
+    least = first_least (λ k. Walk edges k n s) (λ k. walk_decided s k n) d is;
+  }
 
   distance_of : (s n k : ℕ) → Walk edges k n s → (d : ℕ) × IsDistance edges s n d
-  distance_of s n k w = let t = first_of (λ k. Walk edges k n s) (λ k. walk_decided s k n) k w in (t.0, distance_is s n t.0 t.1)
+  distance_of s n k w =
+      let t = first_of (λ k. Walk edges k n s) (λ k. walk_decided s k n) k w in (t.0, distance_is s n t.0 t.1)
 
-  remaining : (k n m : ℕ) (w : Walk edges k n m) → AllByRecursion (λ y. (j : ℕ) × (j ≤ k) × Walk edges j y m) (starts edges k n m w)
+  remaining : (k n m : ℕ) (w : Walk edges k n m)
+      → AllByRecursion (λ y. (j : ℕ) × (j ≤ k) × Walk edges j y m) (starts edges k n m w)
   remaining zero n m w = tt
-  remaining (suc k) n m w = ((suc k, omega arith, w), all_map (λ y. (j : ℕ) × (j ≤ k) × Walk edges j y m) (λ y. (j : ℕ) × (j ≤ suc k) × Walk edges j y m) (λ y t. let le = t.1 in (t.0, omega arith, t.2)) (starts edges k w.0 m w.2) (remaining k w.0 m w.2))
+  remaining (suc k) n m w = (
+    (suc k, omega arith, w),
+    all_map (λ y. (j : ℕ) × (j ≤ k) × Walk edges j y m) (λ y. (j : ℕ) × (j ≤ suc k) × Walk edges j y m)
+        (λ y t. let le = t.1 in (t.0, omega arith, t.2)) (starts edges k w.0 m w.2) (remaining k w.0 m w.2),
+  )
 
   -- a shortest walk begins at no node twice
-  least_distinct : (k n m : ℕ) (w : Walk edges k n m) → ((j : ℕ) → Walk edges j n m → k ≤ j) → IsDistinct ◌==◌ (starts edges k n m w)
+  least_distinct : (k n m : ℕ) (w : Walk edges k n m) → ((j : ℕ) → Walk edges j n m → k ≤ j)
+      → IsDistinct ◌==◌ (starts edges k n m w)
   least_distinct zero n m w least = distinct_nil
   least_distinct (suc k) n m w least = distinct_cons n (starts edges k w.0 m w.2)
       (all_map (λ y. (j : ℕ) × (j ≤ k) × Walk edges j y m) (λ y. (n == y) ≡ false)
-      (λ y t. ne_eqb n y (λ same. let le = t.1 in let more = least t.0 (subst (λ x. Walk edges t.0 x m) (sym same) t.2) in absurd (omega arith))) (starts edges k w.0 m w.2) (remaining k w.0 m w.2))
+      (λ y t. ne_eqb n y (λ same. let le = t.1 in let more = least t.0 (subst (λ x. Walk edges t.0 x m)
+      (sym same) t.2) in absurd (omega arith))) (starts edges k w.0 m w.2) (remaining k w.0 m w.2))
       (least_distinct k w.0 m w.2 (λ j v. let le = least (suc j) (w.0, w.1, v) in omega arith))
 
   reach_decided : (s n : ℕ) → Dec ((d : ℕ) × IsDistance edges s n d)
   reach_decided s n = ⊎_elim
       (λ t. yes (t.0, distance_is s n t.0 t.1))
-      (λ none. no (λ t. let le = distinct_short edges count ends t.0 n s t.1.walk (least_distinct t.0 n s t.1.walk t.1.least) in none t.0 (omega arith) t.1.walk))
+      (λ none. no (λ t. let le = distinct_short edges count ends t.0 n s t.1.walk
+      (least_distinct t.0 n s t.1.walk t.1.least) in none t.0 (omega arith) t.1.walk))
       (first_below (λ k. Walk edges k n s) (λ k. walk_decided s k n) (suc count))
 
   returns_decided : (n : ℕ) → Dec (Returns edges n)
-  returns_decided n = pick (any_of (λ (e : PlanEdge). (e.from.0 ≡ n) × ((d : ℕ) × IsDistance edges n e.to.0 d)) (λ e. both (ℕ_discrete e.from.0 n) (reach_decided n e.to.0)) edges)
+  returns_decided n =
+      pick (any_of (λ (e : PlanEdge). (e.from.0 ≡ n) × ((d : ℕ) × IsDistance edges n e.to.0 d))
+      (λ e. both (ℕ_discrete e.from.0 n) (reach_decided n e.to.0)) edges)
     where
-      pick : Dec ((e : PlanEdge) × Contains edges e × ((e.from.0 ≡ n) × ((d : ℕ) × IsDistance edges n e.to.0 d))) → Dec (Returns edges n)
+      pick : Dec ((e : PlanEdge) × Contains edges e × ((e.from.0 ≡ n) × ((d : ℕ) × IsDistance edges n e.to.0 d)))
+          → Dec (Returns edges n)
       pick (yes t) = yes (t.2.1.0, (t.0.to.0, (t.0, t.1, t.2.0, refl), t.2.1.1.walk))
-      pick (no none) = no (λ r. let w = r.1 in none (w.1.0, w.1.1, (w.1.2, distance_of n w.1.0.to.0 r.0 (subst (λ x. Walk edges r.0 x n) (sym w.1.3) w.2))))
+      pick (no none) =
+          no (λ r. let w = r.1 in
+          none (w.1.0, w.1.1, (w.1.2, distance_of n w.1.0.to.0 r.0 (subst (λ x. Walk edges r.0 x n) (sym w.1.3) w.2))))
 
   start_of : (n : ℕ) → Returns edges n → (s : ℕ) × IsStart edges s
-  start_of n r = let t = first_of (Returns edges) returns_decided n r in (t.0, record { returns = t.1.0; least = t.1.1 })
+  start_of n r =
+      let t = first_of (Returns edges) returns_decided n r in (t.0, record { returns = t.1.0; least = t.1.1 })
 
   abbrev Stray : ℕ → Edge → Type 0
   Stray s x = (k : ℕ) → Walk edges k x.to.0 s → ⊥
@@ -118,7 +146,8 @@ module _ (count : ℕ) (edges : List PlanEdge) (ends : HaveEndsBelow count edges
   nearest_of s [] = inr tt
   nearest_of s (x ∷ xs) = pick (reach_decided s x.to.0) (nearest_of s xs)
     where
-      closer : (d : ℕ) → IsDistance edges s x.to.0 d → (e : Edge) (near : IsNearest edges s xs e) → Dec (near.distance < d) → (e : Edge) × IsNearest edges s (x ∷ xs) e
+      closer : (d : ℕ) → IsDistance edges s x.to.0 d → (e : Edge) (near : IsNearest edges s xs e)
+          → Dec (near.distance < d) → (e : Edge) × IsNearest edges s (x ∷ xs) e
       closer d at e near (yes lt) = (
         e,
         record {
@@ -142,12 +171,19 @@ module _ (count : ℕ) (edges : List PlanEdge) (ends : HaveEndsBelow count edges
           earlier = tt;
           later = subst (λ (l : List Edge). AllByRecursion (Beyond s d) l) (sym near.parts)
               (all_append (Beyond s d) near.before (e ∷ near.after)
-              (all_map (λ (y : Edge). (k : ℕ) → Walk edges k y.to.0 s → near.distance < k) (Beyond s d) (λ y h k w. let lt = h k w in omega arith) near.before near.earlier)
-              (λ k w. let le = near.away.least k w in omega arith, all_map (λ (y : Edge). (k : ℕ) → Walk edges k y.to.0 s → near.distance ≤ k) (Beyond s d) (λ y h k w. let le = h k w in omega arith) near.after near.later));
+              (all_map (λ (y : Edge). (k : ℕ) → Walk edges k y.to.0 s → near.distance < k) (Beyond s d)
+              (λ y h k w. let lt = h k w in omega arith) near.before near.earlier) (
+                λ k w. let le = near.away.least k w in
+                    omega arith,
+                all_map (λ (y : Edge). (k : ℕ) → Walk edges k y.to.0 s → near.distance ≤ k) (Beyond s d)
+                    (λ y h k w. let le = h k w in omega arith) near.after near.later,
+              ));
         },
       )
 
-      pick : Dec ((d : ℕ) × IsDistance edges s x.to.0 d) → ((e : Edge) × IsNearest edges s xs e) ⊎ AllByRecursion (Stray s) xs → ((e : Edge) × IsNearest edges s (x ∷ xs) e) ⊎ AllByRecursion (Stray s) (x ∷ xs)
+      pick : Dec ((d : ℕ) × IsDistance edges s x.to.0 d)
+          → ((e : Edge) × IsNearest edges s xs e) ⊎ AllByRecursion (Stray s) xs
+          → ((e : Edge) × IsNearest edges s (x ∷ xs) e) ⊎ AllByRecursion (Stray s) (x ∷ xs)
       pick (yes t) (inl near) = inl (closer t.0 t.1 near.0 near.1 (dec_lt near.1.distance t.0))
       pick (yes t) (inr none) = inl (
         x,

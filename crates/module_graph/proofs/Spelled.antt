@@ -1,14 +1,17 @@
 -- The name of a variant grows by one variation.
-use Rattle.std.proofs.Common.{◌≡◌, ◌≢◌, ◌+◌, ◌<◌, ◌++◌, ℕ, true, List, [], ◌∷◌, length, get_or, take, refl, ap, ◌∙◌, sym, append-nil, arith}
+use Rattle.std.proofs.Common.{◌≡◌, ◌≢◌, ◌+◌, ◌<◌, ◌++◌, ℕ, true, List, [], ◌∷◌, length, get_or, take, refl, ap, ◌∙◌}
+use Rattle.std.proofs.Common.{sym, append-nil, arith}
 use Rattle.std.specs.Prelude.{codes}
 use Rattle.std.specs.List.{All, filter, flat_map, join_by}
 use Rattle.std.proofs.lemmas.List.{take_more, flat_map_more}
 use Rattle.std.proofs.lemmas.List.Elements.{filter-append, filter_passes}
 use Rattle.bp_faults.specs.declared.target.Target.{Target}
-use Rattle.bp_faults.specs.declared.target.Target.TheVariants.{AndroidArm64, AndroidArm, AndroidX86_64, AndroidX86, LinuxGlibcX86_64, LinuxGlibcX86}
+use Rattle.bp_faults.specs.declared.target.Target.TheVariants.{AndroidArm64, AndroidArm, AndroidX86_64, AndroidX86}
+use Rattle.bp_faults.specs.declared.target.Target.TheVariants.{LinuxGlibcX86_64, LinuxGlibcX86}
 use Rattle.bp_faults.specs.Targets.{target_name}
 use Rattle.module_graph.specs.declared.variation.Variation.{Variation}
-use Rattle.module_graph.specs.declared.variation.Variation.TheVariants.{Empty, Target as ForTarget, Common, Vendor, Recovery, Static, Shared, PerSource, Asan}
+use Rattle.module_graph.specs.declared.variation.Variation.TheVariants.{Empty, Target as ForTarget, Common, Vendor}
+use Rattle.module_graph.specs.declared.variation.Variation.TheVariants.{Recovery, Static, Shared, PerSource, Asan}
 use Rattle.module_graph.specs.Inside.{name_with}
 use Rattle.module_graph.specs.Names.{spelling, is_set, variant_name_of}
 
@@ -47,13 +50,16 @@ added_both (c ∷ name) (d ∷ more) n m = refl
 abbrev joined : List Variation → List ℕ
 joined vs = join_by spelling (codes "_") vs
 
-joined_set : (vs : List Variation) → All (λ v. is_set v ≡ true) vs → (v : Variation) → is_set v ≡ true → name_with (joined vs) (spelling v) ≡ joined (vs ++ v ∷ [])
+joined_set : (vs : List Variation) → All (λ v. is_set v ≡ true) vs → (v : Variation) → is_set v ≡ true
+    → name_with (joined vs) (spelling v) ≡ joined (vs ++ v ∷ [])
 joined_set [] all v set = sym (append-nil (spelling v))
 joined_set (w ∷ vs) all v set =
-    added_both (joined (w ∷ vs)) (spelling v) (not_empty (spelling w) (flat_map (λ y. codes "_" ++ spelling y) vs) (spelled w (all 0 w (omega arith)))) (spelled v set)
+    added_both (joined (w ∷ vs)) (spelling v) (not_empty (spelling w) (flat_map (λ y. codes "_" ++ spelling y) vs)
+    (spelled w (all 0 w (omega arith)))) (spelled v set)
     ∙ flat_map_more (λ y. codes "_" ++ spelling y) (spelling w) vs v
 
-joined_more : (vs : List Variation) → All (λ v. is_set v ≡ true) vs → (v : Variation) → name_with (joined vs) (spelling v) ≡ joined (vs ++ filter is_set (v ∷ []))
+joined_more : (vs : List Variation) → All (λ v. is_set v ≡ true) vs → (v : Variation)
+    → name_with (joined vs) (spelling v) ≡ joined (vs ++ filter is_set (v ∷ []))
 joined_more vs all Empty = added_none (joined vs) ∙ sym (ap joined (append-nil vs))
 joined_more vs all (ForTarget t) = joined_set vs all (ForTarget t) refl
 joined_more vs all Common = joined_set vs all Common refl
@@ -65,7 +71,9 @@ joined_more vs all (PerSource k) = joined_set vs all (PerSource k) refl
 joined_more vs all Asan = joined_set vs all Asan refl
 
 -- one variation more
-pub name_more : (vs : List Variation) (i : ℕ) (d : Variation) → i < length vs → name_with (variant_name_of (take i vs)) (spelling (get_or vs i d)) ≡ variant_name_of (take (i + 1) vs)
+pub name_more : (vs : List Variation) (i : ℕ) (d : Variation) → i < length vs
+    → name_with (variant_name_of (take i vs)) (spelling (get_or vs i d)) ≡ variant_name_of (take (i + 1) vs)
 name_more vs i d lt =
     joined_more (filter is_set (take i vs)) (filter_passes is_set (take i vs)) (get_or vs i d)
-    ∙ ap joined (sym (filter-append is_set (take i vs) (get_or vs i d ∷ []))) ∙ ap variant_name_of (sym (take_more vs i d lt))
+    ∙ ap joined (sym (filter-append is_set (take i vs) (get_or vs i d ∷ [])))
+    ∙ ap variant_name_of (sym (take_more vs i d lt))

@@ -1,5 +1,6 @@
 -- The nodes at which the edges of a walk begin.
-use Rattle.std.proofs.Common.{◌≡◌, ◌<◌, ◌≤◌, ◌==◌, ℕ, zero, suc, List, [], ◌∷◌, length, refl, ap, subst, arith, false, true, ne_eqb}
+use Rattle.std.proofs.Common.{◌≡◌, ◌<◌, ◌≤◌, ◌==◌, ℕ, zero, suc, List, [], ◌∷◌, length, refl, ap, subst, arith, false}
+use Rattle.std.proofs.Common.{true, ne_eqb}
 use Rattle.std.specs.List.{AllByRecursion, list_any, IsDistinct}
 use Rattle.std.proofs.lemmas.Map.Steps.{length-le_from_distinct_below}
 use mathlib.Core.Logic.{dite}
@@ -9,7 +10,8 @@ use Rattle.pass_core.specs.Plans.{HaveEndsBelow}
 use Rattle.module_graph.specs.Walks.{Walk}
 use Rattle.module_graph.proofs.Walking.{at_step}
 
-pub distinct_cons : (x : ℕ) (xs : List ℕ) → AllByRecursion (λ y. (x == y) ≡ false) xs → IsDistinct ◌==◌ xs → IsDistinct ◌==◌ (x ∷ xs)
+pub distinct_cons : (x : ℕ) (xs : List ℕ) → AllByRecursion (λ y. (x == y) ≡ false) xs → IsDistinct ◌==◌ xs
+    → IsDistinct ◌==◌ (x ∷ xs)
 unfolding IsDistinct
 distinct_cons x xs h k = (h, k)
 
@@ -17,7 +19,8 @@ pub distinct_nil : IsDistinct ◌==◌ []
 unfolding IsDistinct
 distinct_nil = tt
 
-any_below : (count : ℕ) (xs : List ℕ) → AllByRecursion (λ y. y < count) xs → (q : ℕ) → list_any (λ y. q == y) xs ≡ true → q < count
+any_below : (count : ℕ) (xs : List ℕ) → AllByRecursion (λ y. y < count) xs → (q : ℕ) → list_any (λ y. q == y) xs ≡ true
+    → q < count
 any_below count [] h q e = cc
 any_below count (x ∷ xs) h q e = dite (ℕ_discrete q x)
     (λ same. let a = h.0 in omega arith)
@@ -39,4 +42,6 @@ module _ (edges : List PlanEdge) where
 
     -- a walk that begins at no node twice has no more edges than there are nodes
     pub distinct_short : (k n m : ℕ) (w : Walk edges k n m) → IsDistinct ◌==◌ (starts k n m w) → k ≤ count
-    distinct_short k n m w distinct = subst (λ j. j ≤ count) (many k n m w) (length-le_from_distinct_below (starts k n m w) count distinct (any_below count (starts k n m w) (below k n m w)))
+    distinct_short k n m w distinct =
+        subst (λ j. j ≤ count) (many k n m w) (length-le_from_distinct_below (starts k n m w) count distinct
+        (any_below count (starts k n m w) (below k n m w)))

@@ -13,7 +13,8 @@ map_twice f h [] = refl
 map_twice f h (x ∷ xs) = ap (λ l. h (f x) ∷ l) (map_twice f h xs)
 
 module _ {P : Type 0} (nodes : List (Node P)) where
-  pub kinds_of_all : (lists : List (List (NodeId × EdgeKind))) → lists ≡ all_arrivals nodes → map (map (λ (a : NodeId × EdgeKind). a.1)) lists ≡ all_kinds nodes
+  pub kinds_of_all : (lists : List (List (NodeId × EdgeKind))) → lists ≡ all_arrivals nodes
+      → map (map (λ (a : NodeId × EdgeKind). a.1)) lists ≡ all_kinds nodes
   kinds_of_all lists is =
       ap (map (map (λ (a : NodeId × EdgeKind). a.1))) is
       ∙ map_twice (arrivals nodes) (map (λ (a : NodeId × EdgeKind). a.1)) (range_with_len 0 (length nodes))
@@ -21,5 +22,7 @@ module _ {P : Type 0} (nodes : List (Node P)) where
   pub many_kinds : (lists : List (List EdgeKind)) → lists ≡ all_kinds nodes → length lists ≡ length nodes
   many_kinds lists is = ap length is ∙ length-map-range_with_len (kinds_into nodes) 0 (length nodes)
 
-  pub kinds_read : (lists : List (List EdgeKind)) (n : ℕ) (d : List EdgeKind) → lists ≡ all_kinds nodes → n < length nodes → get_or lists n d ≡ kinds_into nodes n
-  kinds_read lists n d is lt = ap (λ l. get_or l n d) is ∙ get_or-map-range_with_len (kinds_into nodes) 0 (length nodes) n n d lt (zero-add n)
+  pub kinds_read : (lists : List (List EdgeKind)) (n : ℕ) (d : List EdgeKind) → lists ≡ all_kinds nodes
+      → n < length nodes → get_or lists n d ≡ kinds_into nodes n
+  kinds_read lists n d is lt =
+      ap (λ l. get_or l n d) is ∙ get_or-map-range_with_len (kinds_into nodes) 0 (length nodes) n n d lt (zero-add n)

@@ -7,7 +7,8 @@ use Rattle.mutator_rules.specs.declared.error.KindError.{KindError}
 use Rattle.mutator_rules.specs.declared.error.KindError.TheVariants.{At, Nodes, Edges, OutOfMemory}
 use Rattle.mutator_rules.specs.Outcomes.{KindOutcome}
 use Rattle.pass_ways.specs.declared.error.WayError.{WayError}
-use Rattle.pass_ways.specs.declared.error.WayError.TheVariants.{At as AtNode, Refused as RefusedPass, OutOfMemory as Want}
+use Rattle.pass_ways.specs.declared.error.WayError.TheVariants.{At as AtNode, Refused as RefusedPass}
+use Rattle.pass_ways.specs.declared.error.WayError.TheVariants.{OutOfMemory as Want}
 use Rattle.pass_ways.specs.declared.way.Way.{Way}
 use Rattle.pass_ways.specs.Idle.{AnswersIdle}
 use Rattle.pass_ways.specs.Ways.{Follows, RefusesPass, Runs}

@@ -1,5 +1,6 @@
 -- Nodes that are changed in place are those that results mean.
-use Rattle.std.proofs.Common.{◌≡◌, ◌∙◌, ◌<◌, ◌≤◌, ◌+◌, ◌++◌, ap, subst, sym, refl, arith, length, map, take, get_or, zero-add, ℕ, zero, suc, List, [], ◌∷◌, true, Option, Some, None, Result, Ok, Err}
+use Rattle.std.proofs.Common.{◌≡◌, ◌∙◌, ◌<◌, ◌≤◌, ◌+◌, ◌++◌, ap, subst, sym, refl, arith, length, map, take, get_or}
+use Rattle.std.proofs.Common.{zero-add, ℕ, zero, suc, List, [], ◌∷◌, true, Option, Some, None, Result, Ok, Err}
 use Rattle.std.specs.Prelude.{slice_get, slice_set, IsErr, IsErrAnd}
 use Rattle.std.specs.Option.{option_map}
 use Rattle.std.specs.List.{AllByRecursion, cons_option, filter_map, list_all, sum_by}
@@ -25,7 +26,8 @@ use Rattle.mutator_rules.specs.Outcomes.{AnswersKind}
 use Rattle.variant_graphs.specs.Limits.{AnswersLimits, IsWithinLimits, IsFirstNodeBeyond, IsFirstEdgeBeyond}
 use Rattle.variant_graphs.specs.Payloads.{with_payload, with_payloads}
 use Rattle.variant_graphs.specs.Splitting.{Splitting, splitting, variants_at, variant_node, first_of, led_edge}
-use Rattle.mutator_kinds.specs.BottomUp.{chosen, rule_along, variants_of, first_payload, first_payloads, new_nodes, ResultsMean}
+use Rattle.mutator_kinds.specs.BottomUp.{chosen, rule_along, variants_of, first_payload, first_payloads, new_nodes}
+use Rattle.mutator_kinds.specs.BottomUp.{ResultsMean}
 use Rattle.mutator_kinds.specs.Inside.{HaveOneEach, has_one_variant, with_first, with_firsts}
 use Rattle.mutator_kinds.proofs.Firsts.{length-with_firsts}
 use Rattle.mutator_kinds.proofs.Fit.{chosen_within, chosen_none}

@@ -1,5 +1,6 @@
 -- Passes of rules that leave every node as it is.
-use Rattle.std.proofs.Common.{◌≡◌, ◌∙◌, ◌<◌, ◌+◌, ap, subst, sym, refl, length, map, get_or, ℕ, zero, suc, List, [], ◌∷◌, Option, Some, None, Result, Ok, Err}
+use Rattle.std.proofs.Common.{◌≡◌, ◌∙◌, ◌<◌, ◌+◌, ap, subst, sym, refl, length, map, get_or, ℕ, zero, suc, List, []}
+use Rattle.std.proofs.Common.{◌∷◌, Option, Some, None, Result, Ok, Err}
 use Rattle.std.specs.Prelude.{slice_get, IsErr, IsErrAnd}
 use Rattle.std.proofs.lemmas.List.{length-map}
 use Rattle.bp_faults.specs.declared.fault.Fault.{Fault}
@@ -24,7 +25,8 @@ use Rattle.variant_graphs.specs.Limits.{AnswersLimits, IsWithinLimits, IsFirstNo
 use Rattle.variant_graphs.specs.Payloads.{with_payloads}
 use Rattle.variant_graphs.specs.Splitting.{splitting}
 use Rattle.variant_graphs.specs.Steps.{AnswersStep}
-use Rattle.mutator_kinds.specs.BottomUp.{chosen, new_nodes, rule_along, variants_of, BottomUpMeans, IsFreeFor, VisitsMeans}
+use Rattle.mutator_kinds.specs.BottomUp.{chosen, new_nodes, rule_along, variants_of, BottomUpMeans, IsFreeFor}
+use Rattle.mutator_kinds.specs.BottomUp.{VisitsMeans}
 use Rattle.mutator_kinds.proofs.InPlace.{chosen_of_one}
 
 module _ {P : Type 0} where

@@ -28,7 +28,8 @@ module _ {P : Type 0} (plans : PlansOfGraphsArePlans P) (acyclic : ValidPlansHav
     abbrev Down : Type 0
     Down = (outcome : KindOutcome (List (Node P))) × TopDownMeans mean nodes outcome
 
-    down_by : (o : Result (List P) (ℕ × Fault)) → PassOutcomeMeans (from_above mean nodes) (plan_of TopDown nodes) o → Down
+    down_by : (o : Result (List P) (ℕ × Fault)) → PassOutcomeMeans (from_above mean nodes) (plan_of TopDown nodes) o
+        → Down
     down_by (Ok outs) is = (Made (with_payloads nodes outs), (outs, is, refl))
     down_by (Err at) is = (FaultAt at.0 at.1, is)
 

@@ -1,5 +1,7 @@
 -- One more item at the next free place of a list.
-use Rattle.std.proofs.Common.{◌≡◌, ◌≢◌, ◌+◌, ◌<◌, ◌≤◌, ◌==◌, ◌++◌, ℕ, suc, zero, List, [], ◌∷◌, Bool, true, false, cond, map, length, get_or, set, take, refl, ap, ◌∙◌, sym, subst, arith, append_assoc, length-append, get_or-set_same, get_or-set_other, eq-eqb, ne_eqb, append-nil}
+use Rattle.std.proofs.Common.{◌≡◌, ◌≢◌, ◌+◌, ◌<◌, ◌≤◌, ◌==◌, ◌++◌, ℕ, suc, zero, List, [], ◌∷◌, Bool, true, false, cond}
+use Rattle.std.proofs.Common.{map, length, get_or, set, take, refl, ap, ◌∙◌, sym, subst, arith, append_assoc}
+use Rattle.std.proofs.Common.{length-append, get_or-set_same, get_or-set_other, eq-eqb, ne_eqb, append-nil}
 use Rattle.std.specs.Prelude.{slice_index}
 use Rattle.std.proofs.Math.Decide.{dec_lt}
 use Rattle.std.proofs.Math.Path.{fun_ext}

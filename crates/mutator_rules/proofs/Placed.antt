@@ -1,5 +1,6 @@
 -- The edges that lead to each node stand where those of its predecessors stand in the plan from the top down.
-use Rattle.std.proofs.Common.{◌≡◌, ◌+◌, ◌-◌, ◌<◌, ◌≤◌, ◌^◌, ℕ, List, [], ◌∷◌, map, length, get_or, take, drop, refl, ap, ◌∙◌, sym, arith, eq-eqb, ne_eqb, zero-add, length-drop}
+use Rattle.std.proofs.Common.{◌≡◌, ◌+◌, ◌-◌, ◌<◌, ◌≤◌, ◌^◌, ℕ, List, [], ◌∷◌, map, length, get_or, take, drop, refl, ap}
+use Rattle.std.proofs.Common.{◌∙◌, sym, arith, eq-eqb, ne_eqb, zero-add, length-drop}
 use Rattle.std.specs.Prelude.{slice_index, slice_range}
 use Rattle.std.specs.List.{range_with_len}
 use Rattle.std.proofs.Math.Decide.{dec_lt}

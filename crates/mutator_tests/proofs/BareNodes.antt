@@ -1,5 +1,6 @@
 -- The graphs of the tests are valid where no walk in them returns.
-use Rattle.std.proofs.Common.{◌≡◌, ◌≢◌, ◌+◌, ◌*◌, ◌<◌, ◌≤◌, ◌==◌, ℕ, zero, suc, Bool, true, false, cond, List, [], ◌∷◌, ◌++◌, length}
+use Rattle.std.proofs.Common.{◌≡◌, ◌≢◌, ◌+◌, ◌*◌, ◌<◌, ◌≤◌, ◌==◌, ℕ, zero, suc, Bool, true, false, cond, List, [], ◌∷◌}
+use Rattle.std.proofs.Common.{◌++◌, length}
 use Rattle.std.proofs.Common.{map, get_or, add-zero, ap, arith, length-append, subst, Ok, Result}
 use Rattle.std.specs.List.{AllByRecursion, AllPairs}
 use Rattle.std.specs.Prelude.{slice_get, ⊤}
@@ -29,7 +30,8 @@ numbered_at : (count k : ℕ) (xs : List (Node NodeId)) (i : ℕ) (d : Node Node
     → (get_or xs i d).«module».0 ≡ k + i
 numbered_at count k [] i d h lt = absurd (omega arith)
 numbered_at count k (x ∷ xs) zero d h lt = let here = h.0.numbered in omega arith
-numbered_at count k (x ∷ xs) (suc i) d h lt = let rest = numbered_at count (k + 1) xs i d h.1 (omega arith) in omega arith
+numbered_at count k (x ∷ xs) (suc i) d h lt =
+    let rest = numbered_at count (k + 1) xs i d h.1 (omega arith) in omega arith
 
 differ : (count : ℕ) (xs : List (Node NodeId)) → HasNodes count 0 xs
     → AllPairs (λ (x y : Node NodeId). x.«module» ≡ y.«module» → x.vars ≡ y.vars → ⊥) xs

@@ -1,5 +1,6 @@
 -- How names are found by slots, before and after an index gets one name more.
-use Rattle.std.proofs.Common.{◌≡◌, ◌≢◌, ◌∙◌, ◌<◌, ◌≤◌, ◌+◌, ◌-◌, ℕ, zero, suc, Bool, true, false, cond, List, [], ◌∷◌, ◌++◌}
+use Rattle.std.proofs.Common.{◌≡◌, ◌≢◌, ◌∙◌, ◌<◌, ◌≤◌, ◌+◌, ◌-◌, ℕ, zero, suc, Bool, true, false, cond, List, [], ◌∷◌}
+use Rattle.std.proofs.Common.{◌++◌}
 use Rattle.std.proofs.Common.{length, nat_eq, bit_and, slice_get, set, replicate, refl, ap, sym, arith}
 use Rattle.std.proofs.Common.{Option, Some, None, true≢false}
 use Rattle.std.specs.Prelude.{if◌then◌else◌}
@@ -171,7 +172,8 @@ module _ (mask : ℕ) (marks : List ℕ) (names others : List Named) (finds : Fi
     owned = λ s m e. owned_by s m e (nat_eq s slot) refl;
   }
     where
-      owned_by : (s m : ℕ) → slice_get (set marks slot mark) s ≡ Some m → (b : Bool) → nat_eq s slot ≡ b → m ≤ length all
+      owned_by : (s m : ℕ) → slice_get (set marks slot mark) s ≡ Some m → (b : Bool) → nat_eq s slot ≡ b
+          → m ≤ length all
       owned_by s m e true is =
           let here : slice_get (set marks slot mark) s ≡ Some mark =
           ap (slice_get (set marks slot mark)) (eqb-true s slot is) ∙ get_set_here marks slot mark free in
@@ -196,7 +198,8 @@ module _ (mask : ℕ) (marks : List ℕ) (names others : List Named) (finds : Fi
           taken false is = refl
 
       by : (query : List ℕ) (b : Bool) → nat_eq (bit_and (key_of query) mask) slot ≡ b
-          → number_of all query ≡ number_by (slice_get (set marks slot mark) (bit_and (key_of query) mask)) all others query
+          → number_of all query
+          ≡ number_by (slice_get (set marks slot mark) (bit_and (key_of query) mask)) all others query
       by query true is =
           let same = eqb-true (bit_and (key_of query) mask) slot is in
           let was_free = ap (λ s. is_free (slice_get marks s)) same ∙ free in

@@ -7,7 +7,8 @@ use Rattle.bp_faults.specs.Characters.{space}
 pub utf8_behind : (text rest : List ℕ) (c : ℕ) → c < 128 → IsUtf8 text → text ≡ c ∷ rest → IsUtf8 rest
 utf8_behind text rest c ascii utf8 is = IsUtf8-past_char text rest c utf8 (rw (encode_ascii c ascii) is)
 
-no_space_by : (b : ℕ) (text : List ℕ) (e : Bool) → eqb b space ≡ e → (b ≡ space → ⊥) → b ∷ text ≡ cond e (drop_spaces text) (b ∷ text)
+no_space_by : (b : ℕ) (text : List ℕ) (e : Bool) → eqb b space ≡ e → (b ≡ space → ⊥)
+    → b ∷ text ≡ cond e (drop_spaces text) (b ∷ text)
 no_space_by b text true is h = absurd (h (eqb-true b space is))
 no_space_by b text false is h = refl
 

@@ -18,15 +18,19 @@ no_dollar : (escape : Escape) (b : ℕ) → is_escaped escape b ≡ false → eq
 no_dollar Path b e = grind (arith, nat_tests)
 no_dollar Value b e = e
 
-unescaped-byte : (escape : Escape) (b : ℕ) (rest : List ℕ) (e : Bool) → is_escaped escape b ≡ e → unescaped false (escaped_byte escape b ++ rest) ≡ b ∷ unescaped false rest
+unescaped-byte : (escape : Escape) (b : ℕ) (rest : List ℕ) (e : Bool) → is_escaped escape b ≡ e
+    → unescaped false (escaped_byte escape b ++ rest) ≡ b ∷ unescaped false rest
 unescaped-byte escape b rest true e = rw e refl
 unescaped-byte escape b rest false e = rw e (rw (no_dollar escape b e) refl)
 
 pub unescaped-escaped : (escape : Escape) (bytes : List ℕ) → unescaped false (escaped_bytes escape bytes) ≡ bytes
 unescaped-escaped escape [] = refl
-unescaped-escaped escape (b ∷ bytes) = unescaped-byte escape b (escaped_bytes escape bytes) (is_escaped escape b) refl ∙ ap (λ more. b ∷ more) (unescaped-escaped escape bytes)
+unescaped-escaped escape (b ∷ bytes) =
+    unescaped-byte escape b (escaped_bytes escape bytes) (is_escaped escape b) refl
+    ∙ ap (λ more. b ∷ more) (unescaped-escaped escape bytes)
 
-unescaped-lead : (b : ℕ) (rest : List ℕ) (e : Bool) → eqb b space ≡ e → unescaped false (cond (eqb b space) (dollar ∷ []) [] ++ (escaped_byte Value b ++ rest)) ≡ b ∷ unescaped false rest
+unescaped-lead : (b : ℕ) (rest : List ℕ) (e : Bool) → eqb b space ≡ e
+    → unescaped false (cond (eqb b space) (dollar ∷ []) [] ++ (escaped_byte Value b ++ rest)) ≡ b ∷ unescaped false rest
 unescaped-lead b rest true e =
     let plain : eqb b dollar ≡ false = grind (arith, nat_tests) in
     rw (e, plain) refl
@@ -34,7 +38,9 @@ unescaped-lead b rest false e = rw e (unescaped-byte Value b rest (is_escaped Va
 
 pub unescaped-value_text : (value : List ℕ) → unescaped false (value_text value) ≡ value
 unescaped-value_text [] = refl
-unescaped-value_text (b ∷ bytes) = unescaped-lead b (escaped_bytes Value bytes) (eqb b space) refl ∙ ap (λ more. b ∷ more) (unescaped-escaped Value bytes)
+unescaped-value_text (b ∷ bytes) =
+    unescaped-lead b (escaped_bytes Value bytes) (eqb b space) refl
+    ∙ ap (λ more. b ∷ more) (unescaped-escaped Value bytes)
 
 pub paths_apart : (a b : List ℕ) → path_text a ≡ path_text b → a ≡ b
 paths_apart a b e = sym (unescaped-escaped Path a) ∙ ap (unescaped false) e ∙ unescaped-escaped Path b

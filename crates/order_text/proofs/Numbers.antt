@@ -1,11 +1,13 @@
 -- The number of which a text is the decimal, by its first byte.
-use Rattle.std.proofs.Common.{◌≡◌, ◌≢◌, ◌==◌, Bool, true, false, ◌<◌, ◌^◌, ℕ, List, [], ◌∷◌, length, get_or, slice_get, arith, lit<, sym, ap, ◌∙◌, subst, Result, Ok, Err, Some, None}
+use Rattle.std.proofs.Common.{◌≡◌, ◌≢◌, ◌==◌, Bool, true, false, ◌<◌, ◌^◌, ℕ, List, [], ◌∷◌, length, get_or, slice_get}
+use Rattle.std.proofs.Common.{arith, lit<, sym, ap, ◌∙◌, subst, Result, Ok, Err, Some, None}
 use Rattle.std.specs.Bool.{then_some}
 use Rattle.std.specs.Fmt.{decimal}
 use Rattle.std.specs.Result.{result_ok}
 use Rattle.std.specs.Str.Parse.{ParsesUnsigned}
 use Rattle.std.proofs.lemmas.Bool.{eqb-true, eqb-false}
-use Rattle.std.proofs.lemmas.Fmt.{decimal_digit, decimal_nonempty, decimal-digits_value, digits_decimal, digits_value-decimal}
+use Rattle.std.proofs.lemmas.Fmt.{decimal_digit, decimal_nonempty, decimal-digits_value, digits_decimal}
+use Rattle.std.proofs.lemmas.Fmt.{digits_value-decimal}
 use Rattle.std.proofs.lemmas.Str.Parse.{not_in_digits, parse_plain}
 use Rattle.order_text.specs.Inside.{IsNumber}
 use Rattle.order_text.proofs.Digits.{own, length_zero}

@@ -1,10 +1,12 @@
 -- How an order file is read, line after line.
-use Rattle.std.proofs.Common.{◌≡◌, ◌<◌, ◌≤◌, ◌⊎◌, inl, inr, ℕ, List, [], ◌∷◌, ◌++◌, length, arith, sym, ap, ◌∙◌, subst, append_assoc, append-nil}
+use Rattle.std.proofs.Common.{◌≡◌, ◌<◌, ◌≤◌, ◌⊎◌, inl, inr, ℕ, List, [], ◌∷◌, ◌++◌, length, arith, sym, ap, ◌∙◌, subst}
+use Rattle.std.proofs.Common.{append_assoc, append-nil}
 use Rattle.std.specs.List.{AllZip}
 use Rattle.pass_ways.specs.declared.way.OrderLine.{OrderLine}
 use Rattle.order_text.specs.Inside.{IsFirstLine}
 use Rattle.order_text.specs.Lines.{AreLines, IsLine}
-use Rattle.order_text.proofs.Pieces.{pieces, pieces_ended, pieces_open, pieces_are_cut, pieces_few, cut_is_pieces, plain}
+use Rattle.order_text.proofs.Pieces.{pieces, pieces_ended, pieces_open, pieces_are_cut, pieces_few, cut_is_pieces}
+use Rattle.order_text.proofs.Pieces.{plain}
 use Rattle.bp_faults.specs.Characters.{ended_line}
 
 -- the lines so far, and what is left of the bytes

@@ -109,7 +109,8 @@ module _ (mods : List Module) where
   mutate_kept nodes forms new (outs, are, is) =
       subst HaveForms (sym is)
       (renewed nodes outs forms
-      (outs_have HasSoundTexts (sanitize_meant.mutate nodes) (mutated_sound nodes forms) (plan_of BottomUp nodes) outs are))
+      (outs_have HasSoundTexts (sanitize_meant.mutate nodes) (mutated_sound nodes forms)
+      (plan_of BottomUp nodes) outs are))
 
   levels_kept : (nodes : List (Node Props)) → HaveForms nodes → (new : List (Node Props))
       → TopDownMeans level_meant nodes (Made new) → HaveForms new

@@ -92,7 +92,8 @@ module _ (nodes : List (Node Props)) where
   wanted_on n [] lists h = tt
   wanted_on n (a ∷ rest) [] h = tt
   wanted_on n (a ∷ rest) (vs ∷ lists) h =
-      all_append IsOnSanitize (map (handed_variation sanitize_meant nodes n a) vs) (wanted_variations sanitize_meant nodes n rest lists)
+      all_append IsOnSanitize (map (handed_variation sanitize_meant nodes n a) vs)
+      (wanted_variations sanitize_meant nodes n rest lists)
       (all_handed n a vs h.0) (wanted_on n rest lists h.1)
 
   -- the variations of a node, given those of the nodes that lead to it

@@ -22,7 +22,8 @@ use Rattle.module_graph.specs.Walks.{NoneReturns}
 use Rattle.mutator_rules.specs.declared.request.Request.{Request}
 use Rattle.reverse_deps.specs.Applied.{edges_counted, too_many, AcyclicMeans, CountedMeans, found_for, ApplyMeans}
 use Rattle.reverse_deps.specs.Applied.{AskInside}
-use Rattle.reverse_deps.specs.Linked.{Link, edge_for, link_of, links_in, links, same_way, gained_edges, linked_from, linked_nodes}
+use Rattle.reverse_deps.specs.Linked.{Link, edge_for, link_of, links_in, links, same_way, gained_edges, linked_from}
+use Rattle.reverse_deps.specs.Linked.{linked_nodes}
 use Rattle.reverse_deps.specs.Resolved.{module_for, missing_variant, is_for, node_for, resolved_node}
 use Rattle.variant_graphs.specs.Splitting.{HasFreeAxis}
 use Rattle.output_forms.proofs.Outs.{IfResult}
@@ -165,7 +166,8 @@ pub record Follows (old new : List (Node Props)) : Type 0 where
   pub free : (axis : Axis) → HasFreeAxis axis old → HasFreeAxis axis new
 
 linked_follows : (nodes : List (Node Props)) (ls : List Link) → IsValid nodes → IsNumbered nodes
-    → AllByRecursion (LinksBelow (length nodes)) ls → (done : Unit {0}) → edges_counted (linked_nodes nodes ls) ≡ Ok done
+    → AllByRecursion (LinksBelow (length nodes)) ls → (done : Unit {0})
+    → edges_counted (linked_nodes nodes ls) ≡ Ok done
     → NoneReturns (edges_of (linked_nodes nodes ls)) → Follows nodes (linked_nodes nodes ls)
 linked_follows nodes ls valid numbered below done counted acyclic =
     let many = many_from 0 nodes ls in

@@ -49,7 +49,8 @@ InClear p = IsClear p.dir
 abbrev FromClear : List ℕ × Raw → Type 0
 FromClear r = IsClear r.0
 
-file_clear : (n : ℕ) (file : Source) (p : Placed) → IsTrue (is_listed file.0) → SourceFileMeans n file (Ok p) → InClear p
+file_clear : (n : ℕ) (file : Source) (p : Placed) → IsTrue (is_listed file.0) → SourceFileMeans n file (Ok p)
+    → InClear p
 file_clear n file p h means =
     then_came (AsText n file.1 (SourceTextMeans n file.1)) (λ tree o. Ok (placed_file file.0 tree) ≡ o) InClear
     (λ tree text q is. let same : placed_file file.0 tree ≡ q = cc in

@@ -8,7 +8,8 @@ use Rattle.pass_core.specs.declared.plan.Plan.{Plan}
 use Rattle.pass_core.specs.Heights.{unroll}
 use Rattle.pass_core.specs.Outcomes.{PassOutcomeMeans}
 use Rattle.pass_core.specs.Plans.{predecessors}
-use Rattle.pass_core.specs.Results.{NodeResult, Done, Bad, Poisoned, result_of_visit, cons_if, all_outs, judged_result, node_result}
+use Rattle.pass_core.specs.Results.{NodeResult, Done, Bad, Poisoned, result_of_visit, cons_if, all_outs, judged_result}
+use Rattle.pass_core.specs.Results.{node_result}
 use Rattle.output_forms.proofs.Each.{IfThere, all_made}
 
 -- An answer has a property, if it is a result.

@@ -38,7 +38,8 @@ renewed (x ∷ xs) [] h k = h
 renewed (x ∷ xs) (p ∷ ps) h k = (record { axes = h.0.axes; texts = k.0 }, renewed xs ps h.1 k.1)
 
 first_sound : (old : Props) (variants : List (Variation × Props)) → HasSoundTexts old
-    → AllByRecursion (λ (b : Variation × Props). HasSoundTexts b.1) variants → HasSoundTexts (first_payload old variants)
+    → AllByRecursion (λ (b : Variation × Props). HasSoundTexts b.1) variants
+    → HasSoundTexts (first_payload old variants)
 first_sound old [] h k = h
 first_sound old (b ∷ bs) h k = k.0
 

@@ -55,7 +55,8 @@ use Rattle.output_forms.proofs.Fits.{IsOn, IsFit}
 
 -- `defaults`
 
-first_sound : (variants : List (Variation × Props)) → AllByRecursion (λ (b : Variation × Props). HasSoundTexts b.1) variants
+first_sound : (variants : List (Variation × Props))
+    → AllByRecursion (λ (b : Variation × Props). HasSoundTexts b.1) variants
     → IfThere HasSoundTexts (record_in variants)
 first_sound [] h = tt
 first_sound (b ∷ bs) h = h.0
@@ -75,7 +76,8 @@ given_sound (e ∷ es) (made ∷ ins) h = by (record_by e.kind made) (by_sound e
     by None h rest = rest
     by (Some p) h rest = (h, rest)
 
-fold_sound : (p : Props) (ps : List Props) → HasSoundTexts p → AllByRecursion HasSoundTexts ps → HasSoundTexts (fold props_followed p ps)
+fold_sound : (p : Props) (ps : List Props) → HasSoundTexts p → AllByRecursion HasSoundTexts ps
+    → HasSoundTexts (fold props_followed p ps)
 fold_sound p [] h k = h
 fold_sound p (q ∷ qs) h k = fold_sound (props_followed p q) qs (followed p q h k.0) k.1
 

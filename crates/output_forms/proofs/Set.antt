@@ -32,7 +32,8 @@ with_texts srcs cflags conlyflags cppflags asflags ldflags local include export 
 }
 
 -- so a record
-with_parts : {p : Props} → HasTexts p.base → HaveTexts p.groups → AreShown p.exports → AreShown p.includes → HasSoundTexts p
+with_parts : {p : Props} → HasTexts p.base → HaveTexts p.groups → AreShown p.exports → AreShown p.includes
+    → HasSoundTexts p
 with_parts base groups exports includes = record {
   base = base;
   groups = groups;

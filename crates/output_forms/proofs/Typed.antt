@@ -147,7 +147,10 @@ fits_leave : (dir : List ℕ) (effect : Option Field) (path : List ℕ) (entry :
     → IfResult (Leaves group_set props_set) (fit_of dir effect path entry kind)
 fits_leave dir effect path entry K.Bool clear =
     then_any (Leaves group_set props_set) (truth_in entry.at path entry.value) _
-    (λ b. (λ field at g h. truth_set field (given_scalar at b) g h, λ field at p h. truth_given field (given_scalar at b) p h))
+    (λ b. (
+      λ field at g h. truth_set field (given_scalar at b) g h,
+      λ field at p h. truth_given field (given_scalar at b) p h,
+    ))
 fits_leave dir effect path entry K.Word clear =
     then_any (Leaves group_set props_set) (word_in entry.at path entry.value) _
     (λ word. (λ field at g h. h, λ field at p h. word_given field (given_scalar at word) p h))
@@ -241,7 +244,8 @@ module _ (dir : List ℕ) (clear : IsClear dir) where
       → IfResult HasSoundTexts (sanitize_entry dir prefix props entry)
   sanitize_entry_kept prefix props entry h =
       then_any HasSoundTexts (property_in sanitize_table prefix entry) _
-      (λ p. then_if (Leaves group_set props_set) HasSoundTexts (fit_of dir p.effect (prefix ++ entry.name) entry p.kind) _
+      (λ p.
+      then_if (Leaves group_set props_set) HasSoundTexts (fit_of dir p.effect (prefix ++ entry.name) entry p.kind) _
       (fits_leave dir p.effect (prefix ++ entry.name) entry p.kind clear)
       (λ fit leaves. record_left p.effect entry.at fit props leaves h))
 

@@ -1,5 +1,7 @@
 -- A pass along the serial order.
-use Rattle.std.proofs.Common.{◌≡◌, ◌≢◌, ◌+◌, ◌<◌, ◌≤◌, ℕ, zero, suc, List, [], ◌∷◌, ◌++◌, map, length, get_or, take, replicate, refl, ap, arith, ◌∙◌, sym, subst, Option, Some, None, Result, Ok, Err, IsSome, All, length-set, zero-add, add-zero}
+use Rattle.std.proofs.Common.{◌≡◌, ◌≢◌, ◌+◌, ◌<◌, ◌≤◌, ℕ, zero, suc, List, [], ◌∷◌, ◌++◌, map, length, get_or, take}
+use Rattle.std.proofs.Common.{replicate, refl, ap, arith, ◌∙◌, sym, subst, Option, Some, None, Result, Ok, Err, IsSome}
+use Rattle.std.proofs.Common.{All, length-set, zero-add, add-zero}
 use Rattle.std.specs.Prelude.{slice_set, IsErr}
 use Rattle.std.specs.Result.{IsErrAnd}
 use Rattle.std.specs.List.{AllByRecursion, Contains, range_with_len}
@@ -49,12 +51,15 @@ module _ {O A : Type 0} (results : ℕ → NodeResult O) (count : ℕ) where
 
       still_filled : (m : ℕ) → IsSome (made_at made m) → IsSome (made_at (slice_set made n (Some shared)) m)
       still_filled m h = dite (ℕ_discrete m n)
-          (λ same. subst (λ x. IsSome (made_at (slice_set made n (Some shared)) x)) (sym same) (subst (λ (r : Option O). IsSome r) (sym here) refl))
+          (λ same. subst (λ x. IsSome (made_at (slice_set made n (Some shared)) x)) (sym same)
+          (subst (λ (r : Option O). IsSome r) (sym here) refl))
           (λ other. subst (λ (r : Option O). IsSome r) (sym (elsewhere m other)) h)
 
       still_right : (m : ℕ) (o : O) → made_at (slice_set made n (Some shared)) m ≡ Some o → results m ≡ Done o
       still_right m o e = dite (ℕ_discrete m n)
-          (λ same. let f : Some (arc_value shared) ≡ Some o = sym here ∙ ap (made_at (slice_set made n (Some shared))) (sym same) ∙ e in
+          (λ same. let f : Some (arc_value shared) ≡ Some o = sym here
+          ∙ ap (made_at (slice_set made n (Some shared))) (sym same)
+          ∙ e in
           let g : arc_value shared ≡ o = cc in ap results same ∙ out ∙ ap Done g)
           (λ other. is.right m o (sym (elsewhere m other) ∙ e))
 
@@ -63,7 +68,8 @@ module _ {O A : Type 0} (results : ℕ → NodeResult O) (count : ℕ) where
       made_more = record {
         many = length-set made n (Some shared) ∙ is.many;
         filled = all_pushed (λ m. IsSome (made_at (slice_set made n (Some shared)) m)) done n
-            (all_map (λ m. IsSome (made_at made m)) (λ m. IsSome (made_at (slice_set made n (Some shared)) m)) still_filled done is.filled)
+            (all_map (λ m. IsSome (made_at made m))
+            (λ m. IsSome (made_at (slice_set made n (Some shared)) m)) still_filled done is.filled)
             (subst (λ (r : Option O). IsSome r) (sym here) refl);
         right = still_right;
       }
@@ -76,24 +82,30 @@ module _ {O A : Type 0} (results : ℕ → NodeResult O) (count : ℕ) where
     -- where the whole order is made, something stands in each place
     pub all_filled : ((n : ℕ) → n < count → Contains order n) → All IsSome made
     all_filled each k d lk =
-        filled_there (get_or made k d) (subst (λ (r : Option (Option (Arc O A))). IsSome (value_of r)) (slice_get-get_or made k d lk)
+        filled_there (get_or made k d)
+        (subst (λ (r : Option (Option (Arc O A))). IsSome (value_of r)) (slice_get-get_or made k d lk)
         (all_contained (λ n. IsSome (made_at made n)) order k is.filled (each k (subst (λ x. k < x) is.many lk))))
 
-  from_place : (a : ℕ) (outs : List (Arc O A)) → ((k : ℕ) (o : O) → made_at (map Some outs) k ≡ Some o → results (a + k) ≡ Done o)
+  from_place : (a : ℕ) (outs : List (Arc O A))
+      → ((k : ℕ) (o : O) → made_at (map Some outs) k ≡ Some o → results (a + k) ≡ Done o)
       → map Done (map arc_value outs) ≡ map results (range_with_len a (length outs))
   from_place a [] right = refl
   from_place a (x ∷ outs) right =
       let first : Done (arc_value x) ≡ results a = sym (ap results (sym (add-zero a)) ∙ right 0 (arc_value x) refl) in
-      let rest : map Done (map arc_value outs) ≡ map results (range_with_len (a + 1) (length outs)) = from_place (a + 1) outs (λ k o e. let n : (a + 1) + k ≡ a + suc k = omega arith in ap results n ∙ right (suc k) o e) in
+      let rest : map Done (map arc_value outs) ≡ map results (range_with_len (a + 1) (length outs)) = from_place (a + 1)
+      outs (λ k o e. let n : (a + 1) + k ≡ a + suc k = omega arith in ap results n ∙ right (suc k) o e) in
       λ j. first j ∷ rest j
 
   -- what stands in the places is the results by node number
-  pub outs_right : (done : List ℕ) (made : List (Option (Arc O A))) → IsMade results count done made → (outs : List (Arc O A)) → map Some outs ≡ made → map Done (map arc_value outs) ≡ map results (range_with_len 0 count)
+  pub outs_right : (done : List ℕ) (made : List (Option (Arc O A))) → IsMade results count done made
+      → (outs : List (Arc O A)) → map Some outs ≡ made
+      → map Done (map arc_value outs) ≡ map results (range_with_len 0 count)
   outs_right done made is outs same =
       from_place 0 outs (λ k o e. ap results (zero-add k) ∙ is.right k o (ap (λ l. made_at l k) (sym same) ∙ e))
       ∙ ap (λ (n : ℕ). map results (range_with_len 0 n)) (sym (length-map outs Some) ∙ ap length same ∙ is.many)
 
-module _ (plan : Plan) (nodes : List NodeId) (serial : IsSerial plan (numbers nodes)) (i : ℕ) (d : NodeId) (lt : i < length nodes) where
+module _ (plan : Plan) (nodes : List NodeId) (serial : IsSerial plan (numbers nodes)) (i : ℕ) (d : NodeId)
+    (lt : i < length nodes) where
   lt_numbers : i < length (numbers nodes)
   lt_numbers = omega (arith, length-map nodes (λ (n : NodeId). n.0))
 
@@ -103,43 +115,56 @@ module _ (plan : Plan) (nodes : List NodeId) (serial : IsSerial plan (numbers no
   pub inside_at : (get_or nodes i d).0 < plan.count
   inside_at = subst (λ n. n < plan.count) turn (node_at plan (numbers nodes) serial i d.0 lt_numbers)
 
-  module _ {O A : Type 0} (mean : ℕ → List O → Result O Fault) (is_plan : IsPlan plan) (free : HasNoCycle plan.edges) (made : List (Option (Arc O A))) (going : IsMade (node_result mean plan) plan.count (take i (numbers nodes)) made) where
+  module _ {O A : Type 0} (mean : ℕ → List O → Result O Fault) (is_plan : IsPlan plan) (free : HasNoCycle plan.edges)
+      (made : List (Option (Arc O A)))
+      (going : IsMade (node_result mean plan) plan.count (take i (numbers nodes)) made) where
     -- the predecessors of the node whose turn it is are made
     pub ready_at : AllByRecursion (λ m. IsSome (made_at made m)) (predecessors plan.edges (get_or nodes i d).0)
     ready_at = subst (λ n. AllByRecursion (λ m. IsSome (made_at made m)) (predecessors plan.edges n)) turn
-        (all_map (Contains (take i (numbers nodes))) (λ m. IsSome (made_at made m)) (λ m c. all_contained (λ n. IsSome (made_at made n)) (take i (numbers nodes)) m going.filled c)
-        (predecessors plan.edges (get_or (numbers nodes) i d.0)) (predecessors_before plan (numbers nodes) serial is_plan.ends free i d.0 lt_numbers))
+        (all_map (Contains (take i (numbers nodes))) (λ m. IsSome (made_at made m))
+        (λ m c. all_contained (λ n. IsSome (made_at made n)) (take i (numbers nodes)) m going.filled c)
+        (predecessors plan.edges (get_or (numbers nodes) i d.0)) (predecessors_before plan
+        (numbers nodes) serial is_plan.ends free i d.0 lt_numbers))
 
     -- a fault at the node whose turn it is is the pass's
-    fault_at : (fault : Fault) → node_result mean plan (get_or nodes i d).0 ≡ Bad fault → PassOutcomeMeans mean plan (Err ((get_or nodes i d).0, fault))
+    fault_at : (fault : Fault) → node_result mean plan (get_or nodes i d).0 ≡ Bad fault
+        → PassOutcomeMeans mean plan (Err ((get_or nodes i d).0, fault))
     fault_at fault is = (
       record {
         inside = inside_at;
         undone = λ done. subst (λ (r : NodeResult O). IsDone r) is done;
         first = λ m lm before. done_made (node_result mean plan) plan.count (take i (numbers nodes)) made going m
-            (stands_before plan (numbers nodes) serial m i d.0 lm lt_numbers (subst (λ n. IsBefore plan m n) (sym turn) before));
+            (stands_before plan (numbers nodes) serial m i d.0 lm lt_numbers
+            (subst (λ n. IsBefore plan m n) (sym turn) before));
       },
       is,
     )
 
     -- what the visit refuses is what the pass refuses
-    pub refused_at : (e : PassError) → AnswersVisit {O = O} {A = A} (get_or nodes i d).0 (node_result mean plan (get_or nodes i d).0) (Err e) → AnswersPass mean plan (Err e)
+    pub refused_at : (e : PassError)
+        → AnswersVisit {O = O} {A = A} (get_or nodes i d).0 (node_result mean plan (get_or nodes i d).0) (Err e)
+        → AnswersPass mean plan (Err e)
     refused_at (At n fault) h = subst (λ m. PassOutcomeMeans mean plan (Err (m, fault))) (sym h.0) (fault_at fault h.1)
     refused_at OutOfMemory h = tt
 
     pub made_next : (shared : Arc O A) → node_result mean plan (get_or nodes i d).0 ≡ Done (arc_value shared)
-        → IsMade (node_result mean plan) plan.count (take (i + 1) (numbers nodes)) (slice_set made (get_or nodes i d).0 (Some shared))
+        → IsMade (node_result mean plan) plan.count (take (i + 1) (numbers nodes))
+        (slice_set made (get_or nodes i d).0 (Some shared))
     made_next shared is =
-        subst (λ done. IsMade (node_result mean plan) plan.count done (slice_set made (get_or nodes i d).0 (Some shared)))
+        subst (λ done.
+        IsMade (node_result mean plan) plan.count done (slice_set made (get_or nodes i d).0 (Some shared)))
         (sym (take_more (numbers nodes) i d.0 lt_numbers ∙ ap (λ n. take i (numbers nodes) ++ n ∷ []) turn))
-        (made_more (node_result mean plan) plan.count (take i (numbers nodes)) made going (get_or nodes i d).0 shared inside_at is)
+        (made_more (node_result mean plan) plan.count (take i (numbers nodes)) made going
+        (get_or nodes i d).0 shared inside_at is)
 
 pub err_of : {T E : Type 0} (r : Result T E) (e : E) → IsErr r → IsErrAnd r (λ y. y ≡ e) → r ≡ Err e
 err_of (Ok x) e h k = cc
 err_of (Err y) e h k = ap Err k
 
 -- at the end of the order each node stands in what was taken of it
-pub each_taken : (plan : Plan) (nodes : List NodeId) (serial : IsSerial plan (numbers nodes)) (i : ℕ) → length nodes ≤ i → i ≤ length nodes → (n : ℕ) → n < plan.count → Contains (take i (numbers nodes)) n
+pub each_taken : (plan : Plan) (nodes : List NodeId) (serial : IsSerial plan (numbers nodes)) (i : ℕ) → length nodes ≤ i
+    → i ≤ length nodes → (n : ℕ) → n < plan.count → Contains (take i (numbers nodes)) n
 each_taken plan nodes serial i le ge n lt =
     let same : i ≡ length (numbers nodes) = omega (arith, length-map nodes (λ (n : NodeId). n.0)) in
-    subst (λ (l : List ℕ). Contains l n) (sym (ap (λ j. take j (numbers nodes)) same ∙ take-length (numbers nodes))) (serial.each_once.each n lt)
+    subst (λ (l : List ℕ). Contains l n) (sym (ap (λ j. take j (numbers nodes)) same ∙ take-length (numbers nodes)))
+    (serial.each_once.each n lt)

@@ -1,5 +1,6 @@
 -- What a pass comes to, where its visits mean what a step makes of their nodes.
-use Rattle.std.proofs.Common.{◌≡◌, ◌<◌, ◌≤◌, ◌+◌, ℕ, zero, suc, List, [], ◌∷◌, map, Option, Some, None, Result, Ok, Err, refl, sym, ap, subst, ◌∙◌, arith}
+use Rattle.std.proofs.Common.{◌≡◌, ◌<◌, ◌≤◌, ◌+◌, ℕ, zero, suc, List, [], ◌∷◌, map, Option, Some, None, Result, Ok, Err}
+use Rattle.std.proofs.Common.{refl, sym, ap, subst, ◌∙◌, arith}
 use Rattle.std.specs.Prelude.{⊤}
 use Rattle.std.specs.Result.{IsOk, is_ok}
 use Rattle.std.specs.List.{AllByRecursion, range_with_len}
@@ -9,13 +10,15 @@ use Rattle.pass_core.specs.declared.plan.Plan.{Plan}
 use Rattle.pass_core.specs.Plans.{IsPlan, HasNoCycle, predecessors}
 use Rattle.pass_core.specs.Heights.{height}
 use Rattle.pass_core.specs.Outcomes.{PassMeans}
-use Rattle.pass_core.specs.Results.{NodeResult, Done, Bad, Poisoned, IsDone, cons_if, all_outs, result_of_visit, judged_result, node_result}
+use Rattle.pass_core.specs.Results.{NodeResult, Done, Bad, Poisoned, IsDone, cons_if, all_outs, result_of_visit}
+use Rattle.pass_core.specs.Results.{judged_result, node_result}
 use Rattle.pass_core.proofs.Unrolled.{result_equation}
 use Rattle.pass_core.proofs.Induction.{plan_induction}
 
 all_range : (P : ℕ → Type 0) (a n : ℕ) → ((k : ℕ) → a ≤ k → k < a + n → P k) → AllByRecursion P (range_with_len a n)
 all_range P a zero h = tt
-all_range P a (suc n) h = (h a (omega arith) (omega arith), all_range P (a + 1) n (λ k le lt. h k (omega arith) (omega arith)))
+all_range P a (suc n) h =
+    (h a (omega arith) (omega arith), all_range P (a + 1) n (λ k le lt. h k (omega arith) (omega arith)))
 
 module _ {O : Type 0} where
   -- what became of a node is what the step makes of it
@@ -34,23 +37,28 @@ module _ {O : Type 0} where
   settled_ok Poisoned made done same = absurd done
 
   module _ (step : ℕ → Result O Fault) (f : ℕ → NodeResult O) where
-    one_out : (m : ℕ) (ms : List ℕ) (r : NodeResult O) (rest : Option (List O)) → f m ≡ r → all_outs (map f ms) ≡ rest → Settled r (step m) → ((outs : List O) → rest ≡ Some outs → map Ok outs ≡ map step ms)
+    one_out : (m : ℕ) (ms : List ℕ) (r : NodeResult O) (rest : Option (List O)) → f m ≡ r → all_outs (map f ms) ≡ rest
+        → Settled r (step m) → ((outs : List O) → rest ≡ Some outs → map Ok outs ≡ map step ms)
         → (outs : List O) → all_outs (r ∷ map f ms) ≡ Some outs → map Ok outs ≡ map step (m ∷ ms)
-    one_out m ms (Done out) None is rest_is here behind outs h = let e : cons_if out None ≡ Some outs = ap (cons_if out) (sym rest_is) ∙ h in cc
+    one_out m ms (Done out) None is rest_is here behind outs h =
+        let e : cons_if out None ≡ Some outs = ap (cons_if out) (sym rest_is) ∙ h in cc
     one_out m ms (Done out) (Some more) is rest_is here behind outs h =
         let e : cons_if out (Some more) ≡ Some outs = ap (cons_if out) (sym rest_is) ∙ h in
         let same : out ∷ more ≡ outs = cc in
-        subst (λ l. map Ok l ≡ map step (m ∷ ms)) same (let back = sym here in let others = behind more refl in λ i. back i ∷ others i)
+        subst (λ l. map Ok l ≡ map step (m ∷ ms)) same
+        (let back = sym here in let others = behind more refl in λ i. back i ∷ others i)
     one_out m ms (Bad fault) rest is rest_is here behind outs h = cc
     one_out m ms Poisoned rest is rest_is here behind outs h = cc
 
     -- where all are done, their outs are what the step makes
-    outs_settled : (ms : List ℕ) → AllByRecursion (λ m. Settled (f m) (step m)) ms → (outs : List O) → all_outs (map f ms) ≡ Some outs → map Ok outs ≡ map step ms
+    outs_settled : (ms : List ℕ) → AllByRecursion (λ m. Settled (f m) (step m)) ms → (outs : List O)
+        → all_outs (map f ms) ≡ Some outs → map Ok outs ≡ map step ms
     outs_settled [] h [] e = refl
     outs_settled [] h (x ∷ xs) e = cc
     outs_settled (m ∷ ms) h outs e = one_out m ms (f m) (all_outs (map f ms)) refl refl h.0 (outs_settled ms h.1) outs e
 
-    done_settled : (ms : List ℕ) → AllByRecursion (λ m. Settled (f m) (step m)) ms → (outs : List O) → map Done outs ≡ map f ms → map Ok outs ≡ map step ms
+    done_settled : (ms : List ℕ) → AllByRecursion (λ m. Settled (f m) (step m)) ms → (outs : List O)
+        → map Done outs ≡ map f ms → map Ok outs ≡ map step ms
     done_settled [] h [] e = refl
     done_settled [] h (x ∷ xs) e = cc
     done_settled (m ∷ ms) h [] e = cc
@@ -60,20 +68,29 @@ module _ {O : Type 0} where
         let made : Ok x ≡ step m = sym (subst (λ r. Settled r (step m)) here h.0) in
         let rest = done_settled ms h.1 xs back in λ i. made i ∷ rest i
 
-  module _ (mean : ℕ → List O → Result O Fault) (step : ℕ → Result O Fault) (plan : Plan) (is_plan : IsPlan plan) (free : HasNoCycle plan.edges)
-      (right : (n : ℕ) (outs : List O) → n < plan.count → map Ok outs ≡ map step (predecessors plan.edges n) → mean n outs ≡ step n) where
-    judged_settled : (n : ℕ) → n < plan.count → (outs : Option (List O)) → all_outs (map (node_result mean plan) (predecessors plan.edges n)) ≡ outs
-        → AllByRecursion (λ m. Settled (node_result mean plan m) (step m)) (predecessors plan.edges n) → Settled (judged_result (mean n) outs) (step n)
+  module _ (mean : ℕ → List O → Result O Fault) (step : ℕ → Result O Fault) (plan : Plan) (is_plan : IsPlan plan)
+      (free : HasNoCycle plan.edges)
+      (right : (n : ℕ) (outs : List O) → n < plan.count → map Ok outs ≡ map step (predecessors plan.edges n)
+      → mean n outs ≡ step n) where
+    judged_settled : (n : ℕ) → n < plan.count → (outs : Option (List O))
+        → all_outs (map (node_result mean plan) (predecessors plan.edges n)) ≡ outs
+        → AllByRecursion (λ m. Settled (node_result mean plan m) (step m)) (predecessors plan.edges n)
+        → Settled (judged_result (mean n) outs) (step n)
     judged_settled n lt None e h = tt
-    judged_settled n lt (Some outs) e h = settled_visit (mean n outs) (step n) (right n outs lt (outs_settled step (node_result mean plan) (predecessors plan.edges n) h outs e))
+    judged_settled n lt (Some outs) e h =
+        settled_visit (mean n outs) (step n)
+        (right n outs lt (outs_settled step (node_result mean plan) (predecessors plan.edges n) h outs e))
 
     node_settled : (n : ℕ) → n < plan.count → Settled (node_result mean plan n) (step n)
     node_settled = plan_induction plan is_plan.ends free (λ n. Settled (node_result mean plan n) (step n))
-        (λ n lt h. subst (λ r. Settled r (step n)) (sym (result_equation plan is_plan.ends free mean n lt)) (judged_settled n lt (all_outs (map (node_result mean plan) (predecessors plan.edges n))) refl h))
+        (λ n lt h. subst (λ r. Settled r (step n)) (sym (result_equation plan is_plan.ends free mean n lt))
+        (judged_settled n lt (all_outs (map (node_result mean plan) (predecessors plan.edges n))) refl h))
 
-    pub pass_gathers : (outcome : Result (List O) Fault) → PassMeans mean plan outcome → Gathers (height plan) plan.count step outcome
+    pub pass_gathers : (outcome : Result (List O) Fault) → PassMeans mean plan outcome
+        → Gathers (height plan) plan.count step outcome
     pass_gathers (Ok outs) h =
-        done_settled step (node_result mean plan) (range_with_len 0 plan.count) (all_range (λ n. Settled (node_result mean plan n) (step n)) 0 plan.count (λ k le lt. node_settled k (omega arith))) outs h
+        done_settled step (node_result mean plan) (range_with_len 0 plan.count) (all_range (λ n.
+        Settled (node_result mean plan n) (step n)) 0 plan.count (λ k le lt. node_settled k (omega arith))) outs h
     pass_gathers (Err fault) h =
         let n = h.0 in
         let inside = h.1.0.inside in (
@@ -81,6 +98,8 @@ module _ {O : Type 0} where
           record {
             inside = inside;
             here = subst (λ r. Settled r (step n)) h.1.1 (node_settled n inside);
-            first = λ m lt precedes. settled_ok (node_result mean plan m) (step m) (h.1.0.first m lt precedes) (node_settled m lt);
+            first =
+                λ m lt precedes.
+                settled_ok (node_result mean plan m) (step m) (h.1.0.first m lt precedes) (node_settled m lt);
           },
         )

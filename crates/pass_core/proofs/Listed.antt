@@ -1,5 +1,6 @@
 -- Lists of nodes that are legal orders, and where others are refused.
-use Rattle.std.proofs.Common.{◌≡◌, ◌≢◌, ◌<◌, ◌≤◌, ◌+◌, ℕ, suc, true, false, List, [], ◌∷◌, ◌++◌, length, replicate, get_or, take, refl, ap, arith, ◌∙◌, sym, subst, Bool, Result, ⊎_elim, length-set}
+use Rattle.std.proofs.Common.{◌≡◌, ◌≢◌, ◌<◌, ◌≤◌, ◌+◌, ℕ, suc, true, false, List, [], ◌∷◌, ◌++◌, length, replicate}
+use Rattle.std.proofs.Common.{get_or, take, refl, ap, arith, ◌∙◌, sym, subst, Bool, Result, ⊎_elim, length-set}
 use Rattle.std.specs.Prelude.{slice_index, slice_set}
 use Rattle.std.specs.List.{AllByRecursion, AllPairs, Contains}
 use Rattle.std.proofs.Math.Decide.{dec_lt}
@@ -11,9 +12,11 @@ use Rattle.pass_core.specs.declared.plan.Plan.{Plan}
 use Rattle.pass_core.specs.Plans.{predecessors}
 use Rattle.pass_core.specs.Orders.{IsLegal}
 use Rattle.pass_core.specs.CoreStates.{IsMarked, IsUnmarked, marks}
-use Rattle.pass_core.specs.OrderOutcomes.{IsReadyAfter, IsReadyAt, IsFirstRefused, IsShort, OrderOutcome, Ran, Refused, Short, IsOrderOutcome}
+use Rattle.pass_core.specs.OrderOutcomes.{IsReadyAfter, IsReadyAt, IsFirstRefused, IsShort, OrderOutcome, Ran, Refused}
+use Rattle.pass_core.specs.OrderOutcomes.{Short, IsOrderOutcome}
 use Rattle.bp_faults.proofs.Lists.{all_map, all_pushed, all_contained, same_at}
-use Rattle.pass_core.proofs.Marks.{marks_more, marks_most, marks_full, marks_none, marked_or, marked_before, still_marked, now_marked, not_both, get_blank}
+use Rattle.pass_core.proofs.Marks.{marks_more, marks_most, marks_full, marks_none, marked_or, marked_before}
+use Rattle.pass_core.proofs.Marks.{still_marked, now_marked, not_both, get_blank}
 use Rattle.pass_core.proofs.Unique.{outcome_unique}
 
 -- After some entries of a list, each of them ready, what was visited is marked.
@@ -34,7 +37,10 @@ contains_taken : (xs : List ℕ) (x i j : ℕ) → j < i → i ≤ length xs →
 contains_taken xs x i j lt le is = (j, let e = length-take-le i xs le in omega arith, get_or-take i xs j x lt ∙ is)
 
 taken_at : (xs : List ℕ) (x i : ℕ) → i ≤ length xs → Contains (take i xs) x → (j : ℕ) × (j < i) × (get_or xs j x ≡ x)
-taken_at xs x i le c = let e = length-take-le i xs le in let lt : c.0 < i = let h = c.1 in omega arith in (c.0, lt, sym (get_or-take i xs c.0 x lt) ∙ c.2)
+taken_at xs x i le c =
+    let e = length-take-le i xs le in
+    let lt : c.0 < i = let h = c.1 in omega arith in
+    (c.0, lt, sym (get_or-take i xs c.0 x lt) ∙ c.2)
 
 module _ (plan : Plan) (order : List ℕ) where
   pub checked_none : IsChecked plan order 0 (replicate plan.count false)
@@ -55,20 +61,25 @@ module _ (plan : Plan) (order : List ℕ) where
       contained : (k : ℕ) → IsMarked visited k → Contains (take place order) k
       contained k h = let t = checked.seen k h in contains_taken order k place t.0 t.1 (omega arith) t.2
 
-      ready_here : n < plan.count → IsUnmarked visited n → AllByRecursion (IsMarked visited) (predecessors plan.edges n) → IsReadyAt plan order place
+      ready_here : n < plan.count → IsUnmarked visited n → AllByRecursion (IsMarked visited) (predecessors plan.edges n)
+          → IsReadyAt plan order place
       ready_here inside free after = subst (IsReadyAfter plan (take place order)) (sym here) (record {
         inside = inside;
-        unvisited = λ c. not_both visited n (all_contained (IsMarked visited) (take place order) n checked.marked c) free;
+        unvisited =
+            λ c. not_both visited n (all_contained (IsMarked visited) (take place order) n checked.marked c) free;
         after = all_map (IsMarked visited) (Contains (take place order)) contained (predecessors plan.edges n) after;
       })
 
       -- what makes the next node ready shows in the marks
-      pub ready_shows : IsReadyAt plan order place → (n < plan.count) × IsUnmarked visited n × AllByRecursion (IsMarked visited) (predecessors plan.edges n)
+      pub ready_shows : IsReadyAt plan order place
+          → (n < plan.count) × IsUnmarked visited n × AllByRecursion (IsMarked visited) (predecessors plan.edges n)
       ready_shows at =
           let is : IsReadyAfter plan (take place order) n = subst (IsReadyAfter plan (take place order)) here at in (
             is.inside,
-            ⊎_elim (λ h. absurd (is.unvisited (contained n h))) (λ free. free) (marked_or visited n (subst (λ x. n < x) (sym checked.many) is.inside)),
-            all_map (Contains (take place order)) (IsMarked visited) (λ m c. all_contained (IsMarked visited) (take place order) m checked.marked c) (predecessors plan.edges n) is.after,
+            ⊎_elim (λ h. absurd (is.unvisited (contained n h))) (λ free. free)
+                (marked_or visited n (subst (λ x. n < x) (sym checked.many) is.inside)),
+            all_map (Contains (take place order)) (IsMarked visited) (λ m c. all_contained (IsMarked visited)
+                (take place order) m checked.marked c) (predecessors plan.edges n) is.after,
           )
 
       pub refused_at : (IsReadyAt plan order place → ⊥) → IsFirstRefused plan order place
@@ -77,20 +88,28 @@ module _ (plan : Plan) (order : List ℕ) where
       taken_more : take (place + 1) order ≡ take place order ++ n ∷ []
       taken_more = take_more order place 0 lt ∙ ap (λ x. take place order ++ x ∷ []) here
 
-      module _ (inside : n < plan.count) (free : IsUnmarked visited n) (after : AllByRecursion (IsMarked visited) (predecessors plan.edges n)) where
+      module _ (inside : n < plan.count) (free : IsUnmarked visited n)
+          (after : AllByRecursion (IsMarked visited) (predecessors plan.edges n)) where
         seen_more : (k : ℕ) → IsMarked (slice_set visited n true) k → (j : ℕ) × (j < place + 1) × (get_or order j k ≡ k)
-        seen_more k h = ⊎_elim (λ same. (place, omega arith, same_at order place k 0 lt ∙ here ∙ sym same)) (λ before. let t = checked.seen k before in (t.0, let e = t.1 in omega arith, t.2)) (marked_before visited n k h)
+        seen_more k h =
+            ⊎_elim (λ same. (place, omega arith, same_at order place k 0 lt ∙ here ∙ sym same)) (λ before. let t =
+            checked.seen k before in (t.0, let e = t.1 in omega arith, t.2)) (marked_before visited n k h)
 
         ready_more : (earlier : ℕ) → earlier < place + 1 → IsReadyAt plan order earlier
-        ready_more earlier e = dite (dec_lt earlier place) (λ less. checked.ready earlier less) (λ last. let same : place ≡ earlier = omega arith in subst (IsReadyAt plan order) same (ready_here inside free after))
+        ready_more earlier e =
+            dite (dec_lt earlier place) (λ less. checked.ready earlier less) (λ last. let same : place ≡ earlier =
+            omega arith in subst (IsReadyAt plan order) same (ready_here inside free after))
 
         pub checked_more : IsChecked plan order (place + 1) (slice_set visited n true)
         checked_more = record {
           many = length-set visited n true ∙ checked.many;
-          nodes = subst (AllByRecursion (λ n. n < plan.count)) (sym taken_more) (all_pushed (λ n. n < plan.count) (take place order) n checked.nodes inside);
+          nodes =
+              subst (AllByRecursion (λ n. n < plan.count)) (sym taken_more)
+              (all_pushed (λ n. n < plan.count) (take place order) n checked.nodes inside);
           marked = subst (AllByRecursion (IsMarked (slice_set visited n true))) (sym taken_more)
               (all_pushed (IsMarked (slice_set visited n true)) (take place order) n
-              (all_map (IsMarked visited) (IsMarked (slice_set visited n true)) (λ k h. still_marked visited n k h) (take place order) checked.marked) (now_marked visited n free));
+              (all_map (IsMarked visited) (IsMarked (slice_set visited n true)) (λ k h. still_marked visited n k h)
+              (take place order) checked.marked) (now_marked visited n free));
           seen = seen_more;
           counted = marks_more visited n free ∙ omega (arith, checked.counted);
           ready = ready_more;
@@ -105,19 +124,28 @@ module _ (plan : Plan) (order : List ℕ) where
           let t = some_unmarked visited (omega (arith, checked.many, checked.counted)) in record {
             whole = refl;
             ready = λ k lt. checked.ready k (subst (λ x. k < x) (sym whole) lt);
-            missing = (t.0, subst (λ x. t.0 < x) checked.many t.1, λ c. not_both visited t.0 (all_contained (IsMarked visited) order t.0 (subst (AllByRecursion (IsMarked visited)) all_taken checked.marked) c) t.2);
+            missing = (
+              t.0,
+              subst (λ x. t.0 < x) checked.many t.1,
+              λ c. not_both visited t.0 (all_contained (IsMarked visited) order t.0
+                  (subst (AllByRecursion (IsMarked visited)) all_taken checked.marked) c) t.2,
+            );
           }
 
       once : AllPairs (λ m n. m ≢ n) order
       once i j d lt inside same =
           let at = checked.ready j (subst (λ x. j < x) (sym whole) inside) in
-          at.unvisited (contains_taken order (slice_index order j) j i lt (omega arith) (same_at order i (slice_index order j) d (omega arith) ∙ same ∙ same_at order j d 0 inside))
+          at.unvisited (contains_taken order (slice_index order j) j i lt (omega arith)
+          (same_at order i (slice_index order j) d (omega arith) ∙ same ∙ same_at order j d 0 inside))
 
       pub legal_if : plan.count ≤ length order → IsLegal plan order
       legal_if enough = record {
         each_once = record {
           nodes = subst (AllByRecursion (λ n. n < plan.count)) all_taken checked.nodes;
-          each = λ n lt. let t = checked.seen n (marks_full visited (omega (arith, checked.many, checked.counted)) n (subst (λ x. n < x) (sym checked.many) lt)) in (t.0, subst (λ x. t.0 < x) whole t.1, t.2);
+          each =
+              λ n lt. let t = checked.seen n (marks_full visited (omega (arith, checked.many, checked.counted)) n
+              (subst (λ x. n < x) (sym checked.many) lt)) in
+              (t.0, subst (λ x. t.0 < x) whole t.1, t.2);
           once = once;
         };
         after = λ k lt. (checked.ready k (subst (λ x. k < x) (sym whole) lt)).after;
@@ -127,9 +155,12 @@ module _ (plan : Plan) (order : List ℕ) where
     -- each entry of a legal order is ready
     legal_ready : (place : ℕ) → place < length order → IsReadyAt plan order place
     legal_ready place lt = record {
-      inside = all_contained (λ n. n < plan.count) order (slice_index order place) legal.each_once.nodes (place, lt, same_at order place (slice_index order place) 0 lt);
+      inside =
+          all_contained (λ n. n < plan.count) order (slice_index order place) legal.each_once.nodes
+          (place, lt, same_at order place (slice_index order place) 0 lt);
       unvisited = λ c. let t = taken_at order (slice_index order place) place (omega arith) c in
-          legal.each_once.once t.0 place (slice_index order place) t.1 lt (t.2 ∙ sym (same_at order place (slice_index order place) 0 lt));
+          legal.each_once.once t.0 place (slice_index order place) t.1 lt
+          (t.2 ∙ sym (same_at order place (slice_index order place) 0 lt));
       after = legal.after place lt;
     }
 
@@ -145,14 +176,16 @@ module _ (plan : Plan) (order : List ℕ) where
       (λ more. dite (dec_lt k j) (λ less. absurd (b.refused (a.ready k less))) (λ no. omega arith))
 
 module _ {O : Type 0} (mean : ℕ → List O → Result O Fault) (plan : Plan) where
-  pub legal_agree : (order other : List ℕ) → IsLegal plan order → IsLegal plan other → (x y : OrderOutcome O) → IsOrderOutcome mean plan order x → IsOrderOutcome mean plan other y → x ≡ y
+  pub legal_agree : (order other : List ℕ) → IsLegal plan order → IsLegal plan other → (x y : OrderOutcome O)
+      → IsOrderOutcome mean plan order x → IsOrderOutcome mean plan other y → x ≡ y
   legal_agree order other l m (Ran r) (Ran s) a b = ap Ran (outcome_unique mean plan r s a.1 b.1)
   legal_agree order other l m (Ran r) (Refused k) a b = absurd (never_refused plan other m k b)
   legal_agree order other l m (Ran r) (Short k) a b = absurd (never_short plan other m k b)
   legal_agree order other l m (Refused k) y a b = absurd (never_refused plan order l k a)
   legal_agree order other l m (Short k) y a b = absurd (never_short plan order l k a)
 
-  pub one_outcome : (order : List ℕ) (x y : OrderOutcome O) → IsOrderOutcome mean plan order x → IsOrderOutcome mean plan order y → x ≡ y
+  pub one_outcome : (order : List ℕ) (x y : OrderOutcome O) → IsOrderOutcome mean plan order x
+      → IsOrderOutcome mean plan order y → x ≡ y
   one_outcome order (Ran r) (Ran s) a b = ap Ran (outcome_unique mean plan r s a.1 b.1)
   one_outcome order (Ran r) (Refused k) a b = absurd (never_refused plan order a.0 k b)
   one_outcome order (Ran r) (Short k) a b = absurd (never_short plan order a.0 k b)

@@ -1,5 +1,6 @@
 -- Marked and filled places: how many there are, and what one more changes.
-use Rattle.std.proofs.Common.{◌≡◌, ◌<◌, ◌≤◌, ℕ, zero, suc, Bool, true, false, List, [], ◌∷◌, map, length, replicate, refl, ap, arith, ◌∙◌, sym, subst, Option, Some, None, ◌⊎◌, inl, inr}
+use Rattle.std.proofs.Common.{◌≡◌, ◌<◌, ◌≤◌, ℕ, zero, suc, Bool, true, false, List, [], ◌∷◌, map, length, replicate}
+use Rattle.std.proofs.Common.{refl, ap, arith, ◌∙◌, sym, subst, Option, Some, None, ◌⊎◌, inl, inr}
 use Rattle.std.specs.Prelude.{slice_get, slice_set, is_some}
 use mathlib.Core.Logic.{dite}
 use native.Mathlib.Decide.{ℕ_discrete}
@@ -53,7 +54,8 @@ get_blank (suc n) x (suc k) y h = get_blank n x k y h
 -- what is marked stays marked, and what becomes marked is the place or was marked
 pub still_marked : (bs : List Bool) (j k : ℕ) → IsMarked bs k → IsMarked (slice_set bs j true) k
 still_marked bs j k h = dite (ℕ_discrete k j)
-    (λ same. subst (λ x. IsMarked (slice_set bs j true) x) (sym same) (get_here bs j true (subst (λ x. x < length bs) same (slice_get_within bs k true h))))
+    (λ same. subst (λ x. IsMarked (slice_set bs j true) x) (sym same)
+    (get_here bs j true (subst (λ x. x < length bs) same (slice_get_within bs k true h))))
     (λ other. get_else bs j k true other ∙ h)
 
 pub now_marked : (bs : List Bool) (j : ℕ) → IsUnmarked bs j → IsMarked (slice_set bs j true) j
@@ -62,12 +64,14 @@ now_marked bs j h = get_here bs j true (slice_get_within bs j false h)
 pub marked_before : (bs : List Bool) (j k : ℕ) → IsMarked (slice_set bs j true) k → (k ≡ j) ⊎ (IsMarked bs k)
 marked_before bs j k h = dite (ℕ_discrete k j) (λ same. inl same) (λ other. inr (sym (get_else bs j k true other) ∙ h))
 
-pub map_set : {X Y : Type 0} (f : X → Y) (xs : List X) (k : ℕ) (x : X) → map f (slice_set xs k x) ≡ slice_set (map f xs) k (f x)
+pub map_set : {X Y : Type 0} (f : X → Y) (xs : List X) (k : ℕ) (x : X)
+    → map f (slice_set xs k x) ≡ slice_set (map f xs) k (f x)
 map_set f [] k x = refl
 map_set f (y ∷ ys) zero x = refl
 map_set f (y ∷ ys) (suc k) x = ap (λ (l : List _). f y ∷ l) (map_set f ys k x)
 
-pub get_mapped : {X Y : Type 0} (f : X → Y) (xs : List X) (k : ℕ) (x : X) → slice_get xs k ≡ Some x → slice_get (map f xs) k ≡ Some (f x)
+pub get_mapped : {X Y : Type 0} (f : X → Y) (xs : List X) (k : ℕ) (x : X) → slice_get xs k ≡ Some x
+    → slice_get (map f xs) k ≡ Some (f x)
 get_mapped f [] k x h = cc
 get_mapped f (y ∷ ys) zero x h = let e : y ≡ x = cc in ap (λ z. Some (f z)) e
 get_mapped f (y ∷ ys) (suc k) x h = get_mapped f ys k x h
@@ -77,28 +81,44 @@ fills_none X zero = refl
 fills_none X (suc n) = fills_none X n
 
 module _ {X : Type 0} where
-  pub filled_or : (xs : List (Option X)) (k : ℕ) → k < length xs → ((x : X) × (slice_get xs k ≡ Some (Some x))) ⊎ (slice_get xs k ≡ Some None)
+  pub filled_or : (xs : List (Option X)) (k : ℕ) → k < length xs
+      → ((x : X) × (slice_get xs k ≡ Some (Some x))) ⊎ (slice_get xs k ≡ Some None)
   filled_or [] k lt = absurd (omega arith)
   filled_or (Some x ∷ xs) zero lt = inl (x, refl)
   filled_or (None ∷ xs) zero lt = inr refl
   filled_or (x ∷ xs) (suc k) lt = filled_or xs k (omega arith)
 
-  pub fills_more : (xs : List (Option X)) (k : ℕ) (x : X) → slice_get xs k ≡ Some None → filled_count (slice_set xs k (Some x)) ≡ suc (filled_count xs)
-  fills_more xs k x h = ap marks (map_set is_some xs k (Some x)) ∙ marks_more (map is_some xs) k (get_mapped is_some xs k None h)
+  pub fills_more : (xs : List (Option X)) (k : ℕ) (x : X) → slice_get xs k ≡ Some None
+      → filled_count (slice_set xs k (Some x)) ≡ suc (filled_count xs)
+  fills_more xs k x h =
+      ap marks (map_set is_some xs k (Some x)) ∙ marks_more (map is_some xs) k (get_mapped is_some xs k None h)
 
   pub fills_most : (xs : List (Option X)) → filled_count xs ≤ length xs
   fills_most xs = let most = marks_most (map is_some xs) in omega (arith, length-map xs is_some)
 
-  filled_there : (xs : List (Option X)) (k : ℕ) → IsMarked (map is_some xs) k → ((x : X) × (slice_get xs k ≡ Some (Some x))) ⊎ (slice_get xs k ≡ Some None) → (x : X) × (slice_get xs k ≡ Some (Some x))
+  filled_there : (xs : List (Option X)) (k : ℕ) → IsMarked (map is_some xs) k
+      → ((x : X) × (slice_get xs k ≡ Some (Some x))) ⊎ (slice_get xs k ≡ Some None)
+      → (x : X) × (slice_get xs k ≡ Some (Some x))
   filled_there xs k h (inl there) = there
   filled_there xs k h (inr none) = let e : Some false ≡ Some true = sym (get_mapped is_some xs k None none) ∙ h in cc
 
-  pub fills_full : (xs : List (Option X)) → length xs ≤ filled_count xs → (k : ℕ) → k < length xs → (x : X) × (slice_get xs k ≡ Some (Some x))
-  fills_full xs h k lt = filled_there xs k (marks_full (map is_some xs) (omega (arith, length-map xs is_some)) k (omega (arith, length-map xs is_some))) (filled_or xs k lt)
+  pub fills_full : (xs : List (Option X)) → length xs ≤ filled_count xs → (k : ℕ) → k < length xs
+      → (x : X) × (slice_get xs k ≡ Some (Some x))
+  fills_full xs h k lt =
+      filled_there xs k (marks_full (map is_some xs) (omega (arith, length-map xs is_some)) k
+      (omega (arith, length-map xs is_some))) (filled_or xs k lt)
 
-  pub full_fills : (xs : List (Option X)) → ((k : ℕ) → k < length xs → (x : X) × (slice_get xs k ≡ Some (Some x))) → filled_count xs ≡ length xs
-  full_fills xs h = full_marks (map is_some xs) (λ k lt. let t = h k (omega (arith, length-map xs is_some)) in get_mapped is_some xs k (Some t.0) t.1) ∙ length-map xs is_some
+  pub full_fills : (xs : List (Option X)) → ((k : ℕ) → k < length xs → (x : X) × (slice_get xs k ≡ Some (Some x)))
+      → filled_count xs ≡ length xs
+  full_fills xs h =
+      full_marks (map is_some xs)
+      (λ k lt. let t = h k (omega (arith, length-map xs is_some)) in get_mapped is_some xs k (Some t.0) t.1)
+      ∙ length-map xs is_some
 
   -- what is filled stays filled
-  pub still_filled : (xs : List (Option X)) (j k : ℕ) (y x : X) → slice_get xs j ≡ Some None → slice_get xs k ≡ Some (Some x) → slice_get (slice_set xs j (Some y)) k ≡ Some (Some x)
-  still_filled xs j k y x none h = get_else xs j k (Some y) (λ same. let e : Some None ≡ Some (Some x) = sym none ∙ ap (slice_get xs) (sym same) ∙ h in cc) ∙ h
+  pub still_filled : (xs : List (Option X)) (j k : ℕ) (y x : X) → slice_get xs j ≡ Some None
+      → slice_get xs k ≡ Some (Some x) → slice_get (slice_set xs j (Some y)) k ≡ Some (Some x)
+  still_filled xs j k y x none h =
+      get_else xs j k (Some y)
+      (λ same. let e : Some None ≡ Some (Some x) = sym none ∙ ap (slice_get xs) (sym same) ∙ h in cc)
+      ∙ h

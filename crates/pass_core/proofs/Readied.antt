@@ -1,5 +1,6 @@
 -- Whether a node is ready, an in-edge at a time.
-use Rattle.std.proofs.Common.{◌≡◌, ◌+◌, ◌<◌, ◌≤◌, ℕ, Bool, false, List, [], ◌∷◌, length, get_or, take, ap, arith, ◌∙◌, sym, subst, Some}
+use Rattle.std.proofs.Common.{◌≡◌, ◌+◌, ◌<◌, ◌≤◌, ℕ, Bool, false, List, [], ◌∷◌, length, get_or, take, ap, arith, ◌∙◌}
+use Rattle.std.proofs.Common.{sym, subst, Some}
 use Rattle.std.specs.Prelude.{slice_get}
 use Rattle.std.specs.List.{AllByRecursion}
 use Rattle.std.proofs.Math.Seq.{take-length}
@@ -12,22 +13,34 @@ use Rattle.pass_core.specs.CoreStates.{IsMarked}
 use Rattle.bp_faults.proofs.Lists.{all_pushed}
 use Rattle.pass_core.proofs.Predecessors.{in_edges_below, source_at}
 
-pub mark_read : (marks : List Bool) (k : ℕ) (b : Bool) → k < length marks → get_or marks k false ≡ b → slice_get marks k ≡ Some b
+pub mark_read : (marks : List Bool) (k : ℕ) (b : Bool) → k < length marks → get_or marks k false ≡ b
+    → slice_get marks k ≡ Some b
 mark_read marks k b lt is = slice_get-get_or marks k false lt ∙ ap Some is
 
-module _ (edges es : List PlanEdge) (count n : ℕ) (below : HaveEndsBelow count edges) (same : es ≡ in_edges edges n) (i : ℕ) (d : PlanEdge) (lt : i < length es) where
+module _ (edges es : List PlanEdge) (count n : ℕ) (below : HaveEndsBelow count edges) (same : es ≡ in_edges edges n)
+    (i : ℕ) (d : PlanEdge) (lt : i < length es) where
   pub source_below : (get_or es i d).from.0 < count
-  source_below = All-from_recursion (λ (e : PlanEdge). e.from.0 < count) es (subst (AllByRecursion (λ (e : PlanEdge). e.from.0 < count)) (sym same) (in_edges_below count n edges below)) i d lt
+  source_below =
+      All-from_recursion (λ (e : PlanEdge). e.from.0 < count) es
+      (subst (AllByRecursion (λ (e : PlanEdge). e.from.0 < count)) (sym same) (in_edges_below count n edges below)) i d
+      lt
 
   module _ (marks : List Bool) where
-    pub marked_one_more : AllByRecursion (IsMarked marks) (sources (take i es)) → IsMarked marks (get_or es i d).from.0 → AllByRecursion (IsMarked marks) (sources (take (i + 1) es))
+    pub marked_one_more : AllByRecursion (IsMarked marks) (sources (take i es)) → IsMarked marks (get_or es i d).from.0
+        → AllByRecursion (IsMarked marks) (sources (take (i + 1) es))
     marked_one_more before here =
-        rw (take_more es i d lt, map-append (λ (e : PlanEdge). e.from.0) (take i es) (get_or es i d ∷ [])) (all_pushed (IsMarked marks) (sources (take i es)) (get_or es i d).from.0 before here)
+        rw (take_more es i d lt, map-append (λ (e : PlanEdge). e.from.0) (take i es) (get_or es i d ∷ []))
+        (all_pushed (IsMarked marks) (sources (take i es)) (get_or es i d).from.0 before here)
 
     pub marked_source : AllByRecursion (IsMarked marks) (predecessors edges n) → IsMarked marks (get_or es i d).from.0
-    marked_source all = source_at (IsMarked marks) es i d (subst (λ (l : List PlanEdge). AllByRecursion (IsMarked marks) (sources l)) (sym same) all) lt
+    marked_source all =
+        source_at (IsMarked marks) es i d
+        (subst (λ (l : List PlanEdge). AllByRecursion (IsMarked marks) (sources l)) (sym same) all) lt
 
-pub marked_whole : (edges es : List PlanEdge) (n i : ℕ) (marks : List Bool) → es ≡ in_edges edges n → i ≤ length es → length es ≤ i → AllByRecursion (IsMarked marks) (sources (take i es)) → AllByRecursion (IsMarked marks) (predecessors edges n)
+pub marked_whole : (edges es : List PlanEdge) (n i : ℕ) (marks : List Bool) → es ≡ in_edges edges n → i ≤ length es
+    → length es ≤ i → AllByRecursion (IsMarked marks) (sources (take i es))
+    → AllByRecursion (IsMarked marks) (predecessors edges n)
 marked_whole edges es n i marks same le ge h =
     let whole : i ≡ length es = omega arith in
-    subst (λ (l : List PlanEdge). AllByRecursion (IsMarked marks) (sources l)) (ap (λ j. take j es) whole ∙ take-length es ∙ same) h
+    subst (λ (l : List PlanEdge). AllByRecursion (IsMarked marks) (sources l))
+    (ap (λ j. take j es) whole ∙ take-length es ∙ same) h

@@ -11,7 +11,8 @@ use Rattle.pass_core.specs.CoreStates.{CoreState, from_of, IsMarked, IsFilled, v
 use Rattle.bp_faults.proofs.Lists.{get_here}
 use Rattle.pass_core.proofs.Marks.{now_marked, still_marked, still_filled, not_both}
 
-pairs_cons : {X : Type 0} (R : X → X → Type 0) (x : X) (xs : List X) → AllByRecursion (R x) xs → AllPairs R xs → AllPairs R (x ∷ xs)
+pairs_cons : {X : Type 0} (R : X → X → Type 0) (x : X) (xs : List X) → AllByRecursion (R x) xs → AllPairs R xs
+    → AllPairs R (x ∷ xs)
 pairs_cons R x xs here there zero zero d lt inside = absurd (omega arith)
 pairs_cons R x xs here there zero (suc j) d lt inside = All-from_recursion (R x) xs here j d (omega arith)
 pairs_cons R x xs here there (suc i) zero d lt inside = absurd (omega arith)
@@ -34,7 +35,10 @@ module _ {O : Type 0} (mean : ℕ → List O → Result O Fault) (plan : Plan) w
   records : (s : CoreState O) (t : Step) → Allows plan s t → IsRecorded (after mean plan s t) t
   records s (Claim n) may = now_marked s.claimed n.0 may.0
   records s (Fetch e) may = now_marked s.fetched e may.2
-  records s (Fill e) may = (visit_result mean plan s (from_of plan e), get_here s.filled e (Some (visit_result mean plan s (from_of plan e))) (slice_get_within s.filled e None may.1))
+  records s (Fill e) may = (
+    visit_result mean plan s (from_of plan e),
+    get_here s.filled e (Some (visit_result mean plan s (from_of plan e))) (slice_get_within s.filled e None may.1),
+  )
   records s (Subtract e) may = now_marked s.subtracted e may.1
 
   claimed_stays : (s : CoreState O) (t : Step) (k : ℕ) → IsMarked s.claimed k → IsMarked (after mean plan s t).claimed k
@@ -49,16 +53,19 @@ module _ {O : Type 0} (mean : ℕ → List O → Result O Fault) (plan : Plan) w
   fetched_stays s (Fill e) k h = h
   fetched_stays s (Subtract e) k h = h
 
-  subtracted_stays : (s : CoreState O) (t : Step) (k : ℕ) → IsMarked s.subtracted k → IsMarked (after mean plan s t).subtracted k
+  subtracted_stays : (s : CoreState O) (t : Step) (k : ℕ) → IsMarked s.subtracted k
+      → IsMarked (after mean plan s t).subtracted k
   subtracted_stays s (Claim n) k h = h
   subtracted_stays s (Fetch e) k h = h
   subtracted_stays s (Fill e) k h = h
   subtracted_stays s (Subtract e) k h = still_marked s.subtracted e k h
 
-  filled_stays : (s : CoreState O) (t : Step) (k : ℕ) → Allows plan s t → IsFilled s k → IsFilled (after mean plan s t) k
+  filled_stays : (s : CoreState O) (t : Step) (k : ℕ) → Allows plan s t → IsFilled s k
+      → IsFilled (after mean plan s t) k
   filled_stays s (Claim n) k may h = h
   filled_stays s (Fetch e) k may h = h
-  filled_stays s (Fill e) k may h = (h.0, still_filled s.filled e k (visit_result mean plan s (from_of plan e)) h.0 may.1 h.1)
+  filled_stays s (Fill e) k may h =
+      (h.0, still_filled s.filled e k (visit_result mean plan s (from_of plan e)) h.0 may.1 h.1)
   filled_stays s (Subtract e) k may h = h
 
   stays : (s : CoreState O) (t u : Step) → Allows plan s t → IsRecorded s u → IsRecorded (after mean plan s t) u
@@ -67,10 +74,16 @@ module _ {O : Type 0} (mean : ℕ → List O → Result O Fault) (plan : Plan) w
   stays s t (Fill e) may h = filled_stays s t e may h
   stays s t (Subtract e) may h = subtracted_stays s t e h
 
-  not_later : (ts : List Step) (s : CoreState O) (u : Step) → IsRecorded s u → AreAllowed mean plan s ts → AllByRecursion (λ t. u ≢ t) ts
+  not_later : (ts : List Step) (s : CoreState O) (u : Step) → IsRecorded s u → AreAllowed mean plan s ts
+      → AllByRecursion (λ t. u ≢ t) ts
   not_later [] s u there h = tt
-  not_later (t ∷ ts) s u there h = ((λ same. never_again s t (subst (IsRecorded s) same there) h.0), not_later ts (after mean plan s t) u (stays s t u h.0 there) h.1)
+  not_later (t ∷ ts) s u there h = (
+    (λ same. never_again s t (subst (IsRecorded s) same there) h.0),
+    not_later ts (after mean plan s t) u (stays s t u h.0 there) h.1,
+  )
 
   pub no_repeats : (ts : List Step) (s : CoreState O) → AreAllowed mean plan s ts → AllPairs (λ t u. t ≢ u) ts
   no_repeats [] s h = λ i j d lt inside. absurd (omega arith)
-  no_repeats (t ∷ ts) s h = pairs_cons (λ t u. t ≢ u) t ts (not_later ts (after mean plan s t) t (records s t h.0) h.1) (no_repeats ts (after mean plan s t) h.1)
+  no_repeats (t ∷ ts) s h =
+      pairs_cons (λ t u. t ≢ u) t ts (not_later ts (after mean plan s t) t (records s t h.0) h.1)
+      (no_repeats ts (after mean plan s t) h.1)

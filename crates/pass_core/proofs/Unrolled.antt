@@ -16,7 +16,8 @@ use Rattle.bp_faults.proofs.Lists.{all_map, all_with, below_top, map-same}
 use Rattle.pass_core.proofs.Predecessors.{all_predecessors}
 
 -- past a node's rank the depth makes no difference
-pub unroll_deeper : {X : Type 0} (ins : ℕ → List ℕ) (rank : ℕ → ℕ) → ((n : ℕ) → AllByRecursion (λ m. rank m < rank n) (ins n)) → (step : ℕ → List X → X) (base : X)
+pub unroll_deeper : {X : Type 0} (ins : ℕ → List ℕ) (rank : ℕ → ℕ)
+    → ((n : ℕ) → AllByRecursion (λ m. rank m < rank n) (ins n)) → (step : ℕ → List X → X) (base : X)
     → (j k n : ℕ) → rank n < j → rank n < k → unroll ins step base j n ≡ unroll ins step base k n
 unroll_deeper ins rank rises step base zero k n lj lk = absurd (omega arith)
 unroll_deeper ins rank rises step base (suc j) zero n lj lk = absurd (omega arith)
@@ -25,7 +26,8 @@ unroll_deeper ins rank rises step base (suc j) (suc k) n lj lk =
     (all_map (λ m. rank m < rank n) (λ m. unroll ins step base j m ≡ unroll ins step base k m)
     (λ m less. unroll_deeper ins rank rises step base j k m (omega arith) (omega arith)) (ins n) (rises n)))
 
-pub unroll_equation : {X : Type 0} (ins : ℕ → List ℕ) (rank : ℕ → ℕ) → ((n : ℕ) → AllByRecursion (λ m. rank m < rank n) (ins n)) → (step : ℕ → List X → X) (base : X)
+pub unroll_equation : {X : Type 0} (ins : ℕ → List ℕ) (rank : ℕ → ℕ)
+    → ((n : ℕ) → AllByRecursion (λ m. rank m < rank n) (ins n)) → (step : ℕ → List X → X) (base : X)
     → (depth n : ℕ) → rank n < depth → unroll ins step base depth n ≡ step n (map (unroll ins step base depth) (ins n))
 unroll_equation ins rank rises step base zero n lt = absurd (omega arith)
 unroll_equation ins rank rises step base (suc d) n lt =
@@ -50,14 +52,19 @@ lower_miss : (rank : ℕ → ℕ) (r n k : ℕ) → n < k → r ≤ rank n → l
 lower_miss rank r n zero lt le = absurd (omega arith)
 lower_miss rank r n (suc k) lt le =
     dite (ℕ_discrete n k)
-    (λ same. let bound = lower_le rank r k in let le' : r ≤ rank k = subst (λ x. r ≤ rank x) same le in grind (arith, nat_tests))
+    (λ same. let bound = lower_le rank r k in
+    let le' : r ≤ rank k = subst (λ x. r ≤ rank x) same le in
+    grind (arith, nat_tests))
     (λ other. let h = lower_miss rank r n k (omega arith) le in grind (arith, nat_tests))
 
 lower_less : (rank : ℕ → ℕ) (r s m k : ℕ) → m < k → rank m < s → r ≤ rank m → lower rank r k < lower rank s k
 lower_less rank r s m zero lt a b = absurd (omega arith)
 lower_less rank r s m (suc k) lt a b =
     dite (ℕ_discrete m k)
-    (λ same. let more = lower_mono rank r s k (omega arith) in let a' : rank k < s = subst (λ x. rank x < s) same a in let b' : r ≤ rank k = subst (λ x. r ≤ rank x) same b in grind (arith, nat_tests))
+    (λ same. let more = lower_mono rank r s k (omega arith) in
+    let a' : rank k < s = subst (λ x. rank x < s) same a in
+    let b' : r ≤ rank k = subst (λ x. r ≤ rank x) same b in
+    grind (arith, nat_tests))
     (λ other. let h = lower_less rank r s m k (omega arith) a b in grind (arith, nat_tests))
 
 module _ (plan : Plan) (below : HaveEndsBelow plan.count plan.edges) (free : HasNoCycle plan.edges) where
@@ -70,19 +77,31 @@ module _ (plan : Plan) (below : HaveEndsBelow plan.count plan.edges) (free : Has
 
   pub tight_rises : (n : ℕ) → AllByRecursion (λ m. tight m < tight n) (predecessors plan.edges n)
   tight_rises n = all_predecessors (λ m k. tight m < tight k) plan.edges n
-      (all_with (λ (e : PlanEdge). (e.from.0 < plan.count) × (e.to.0 < plan.count)) (λ (e : PlanEdge). free.rank e.from.0 < free.rank e.to.0) (λ (e : PlanEdge). tight e.from.0 < tight e.to.0)
-      (λ e a b. lower_less free.rank (free.rank e.from.0) (free.rank e.to.0) e.from.0 plan.count a.0 b (omega arith)) plan.edges below free.rises)
+      (all_with (λ (e : PlanEdge). (e.from.0 < plan.count) × (e.to.0 < plan.count))
+      (λ (e : PlanEdge). free.rank e.from.0 < free.rank e.to.0) (λ (e : PlanEdge). tight e.from.0 < tight e.to.0)
+      (λ e a b. lower_less free.rank (free.rank e.from.0) (free.rank e.to.0) e.from.0 plan.count a.0 b
+      (omega arith)) plan.edges below free.rises)
 
   pub result_equation : {O : Type 0} (mean : ℕ → List O → Result O Fault) (n : ℕ) → n < plan.count
-      → node_result mean plan n ≡ judged_result (mean n) (all_outs (map (node_result mean plan) (predecessors plan.edges n)))
+      → node_result mean plan n
+      ≡ judged_result (mean n) (all_outs (map (node_result mean plan) (predecessors plan.edges n)))
   unfolding node_result
-  result_equation mean n lt = unroll_equation (predecessors plan.edges) tight tight_rises (λ n rs. judged_result (mean n) (all_outs rs)) Poisoned plan.count n (tight_below n lt)
+  result_equation mean n lt =
+      unroll_equation (predecessors plan.edges) tight tight_rises
+      (λ n rs. judged_result (mean n) (all_outs rs)) Poisoned plan.count n (tight_below n lt)
 
-  pub height_equation : (n : ℕ) → n < plan.count → height plan n ≡ above_all (map (height plan) (predecessors plan.edges n))
+  pub height_equation : (n : ℕ) → n < plan.count
+      → height plan n ≡ above_all (map (height plan) (predecessors plan.edges n))
   unfolding height
-  height_equation n lt = unroll_equation (predecessors plan.edges) tight tight_rises (λ n hs. above_all hs) 0 plan.count n (tight_below n lt)
+  height_equation n lt =
+      unroll_equation (predecessors plan.edges) tight tight_rises (λ n hs. above_all hs) 0 plan.count n
+      (tight_below n lt)
 
   -- a predecessor is lower
-  pub height_rises : (n : ℕ) → n < plan.count → AllByRecursion (λ m. height plan m < height plan n) (predecessors plan.edges n)
-  height_rises n lt = all_map (λ m. height plan m < above_all (map (height plan) (predecessors plan.edges n))) (λ m. height plan m < height plan n)
-      (λ m h. rw (height_equation n lt) h) (predecessors plan.edges n) (below_top (height plan) (predecessors plan.edges n))
+  pub height_rises : (n : ℕ) → n < plan.count
+      → AllByRecursion (λ m. height plan m < height plan n) (predecessors plan.edges n)
+  height_rises n lt =
+      all_map (λ m. height plan m < above_all (map (height plan) (predecessors plan.edges n)))
+      (λ m. height plan m < height plan n)
+      (λ m h. rw (height_equation n lt) h) (predecessors plan.edges n)
+      (below_top (height plan) (predecessors plan.edges n))

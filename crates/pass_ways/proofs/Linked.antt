@@ -206,7 +206,8 @@ module _ (plan : Plan) (size : ℕ) (order table : List ℕ) (positive : 0 < siz
       links_last : (k : ℕ) → k < length order → k / size ≡ t → AllByRecursion (λ m. IsLinked (edges ++ added.more)
           (slice_index table m) (k / size)) (predecessors plan.edges (slice_index order k))
       links_last k lt is =
-          let there : Contains (stretch size t order) (slice_index order k) = subst (λ s. Contains (stretch size s order)
+          let there : Contains (stretch size t order) (slice_index order k) =
+          subst (λ s. Contains (stretch size s order)
           (slice_index order k)) is (in_stretch size order k positive lt) in
           all_map (λ m. IsMarked marks (slice_index table m)) (λ m. IsLinked (edges ++ added.more) (slice_index table m)
           (k / size))
@@ -226,7 +227,8 @@ module _ (plan : Plan) (size : ℕ) (order table : List ℕ) (positive : 0 < siz
         rise = all_append (λ (e : PlanEdge). (e.from.0 < e.to.0) × (e.to.0 < t + 1)) edges added.more
             (all_map (λ (e : PlanEdge). (e.from.0 < e.to.0) × (e.to.0 < t)) (λ (e : PlanEdge). (e.from.0 < e.to.0) ×
             (e.to.0 < t + 1)) (λ e h. (h.0, let a = h.1 in omega arith)) edges before.rise)
-            (all_map (λ (e : PlanEdge). (e.from.0 < t) × (e.to.0 ≡ t)) (λ (e : PlanEdge). (e.from.0 < e.to.0) × (e.to.0 <
+            (all_map (λ (e : PlanEdge). (e.from.0 < t) × (e.to.0 ≡ t)) (λ (e : PlanEdge). (e.from.0 < e.to.0)
+            × (e.to.0 <
             t + 1)) (λ e h. let a = h.0 in let b = h.1 in (omega arith, omega arith)) added.more added.rise);
         by_target = stand_appended edges added.more t before.by_target before.rise added.rise;
         few = few_more t (length edges) (length added.more) (length (edges ++ added.more)) before.few added.few

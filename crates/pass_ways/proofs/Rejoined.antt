@@ -37,7 +37,8 @@ module _ (plan : Plan) (order : List ℕ) (legal : IsLegal plan order) where
 
   module _ (size : ℕ) (positive : 0 < size) (stretches : Plan) (made : IsPlanOfStretches plan size order stretches)
     where
-      module _ (before : List ℕ) (t : ℕ) (ready : IsReadyAfter stretches before t) (k : ℕ) (lt : k < length (stretch size
+      module _ (before : List ℕ) (t : ℕ) (ready : IsReadyAfter stretches before t) (k : ℕ)
+          (lt : k < length (stretch size
           t order)) where
         small : k < size
         small = offset_small size order t k lt
@@ -77,7 +78,8 @@ module _ (plan : Plan) (order : List ℕ) (legal : IsLegal plan order) where
             (subst (λ s. Contains (predecessors stretches.edges ((t * size + k) / size)) s) told
             (linked (subst (λ s. s < (t * size + k) / size) (sym told) (subst (λ u. i / size < u) (sym here) earlier))))
             in
-            let seen : Contains before (i / size) = all_contained (Contains before) (predecessors stretches.edges t) (i /
+            let seen : Contains before (i / size) =
+            all_contained (Contains before) (predecessors stretches.edges t) (i /
             size) ready.after link in
             Contains-append_left (joined_stretches size order before) (take k (stretch size t order)) m
             (in_joined size order before (i / size) m seen (subst (Contains (stretch size (i / size) order)) there

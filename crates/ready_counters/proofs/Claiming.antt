@@ -1,5 +1,6 @@
 -- A claim keeps the rule.
-use Rattle.std.proofs.Common.{◌≡◌, ◌+◌, ◌<◌, ◌≤◌, ◌==◌, ℕ, zero, suc, List, ◌∷◌, length, set, get_or-set_same, get_or-set_other, refl, ap, arith, ◌∙◌, sym, subst, Bool, true, false, Option}
+use Rattle.std.proofs.Common.{◌≡◌, ◌+◌, ◌<◌, ◌≤◌, ◌==◌, ℕ, zero, suc, List, ◌∷◌, length, set, get_or-set_same}
+use Rattle.std.proofs.Common.{get_or-set_other, refl, ap, arith, ◌∙◌, sym, subst, Bool, true, false, Option}
 use Rattle.std.specs.Prelude.{slice_index}
 use Rattle.std.proofs.lemmas.Bool.Decides.{nat_tests}
 use Rattle.std.proofs.lemmas.List.{set-get_or}
@@ -24,7 +25,8 @@ use Rattle.ready_counters.specs.Views.{with_claim}
 use Rattle.ready_counters.proofs.Sums.{sum_set, sum_same, sum_at, total_less, times_here, times_else}
 use Rattle.ready_counters.proofs.Left.{left_same, left_bound}
 use Rattle.ready_counters.proofs.Frames.{word_same, at_node}
-use Rattle.ready_counters.proofs.Knowing.{times_grow, not_taken, is_taken, word_taken, subtracted_claimed, claimed_subtracted, sole, left_within, left_sole}
+use Rattle.ready_counters.proofs.Knowing.{times_grow, not_taken, is_taken, word_taken, subtracted_claimed}
+use Rattle.ready_counters.proofs.Knowing.{claimed_subtracted, sole, left_within, left_sole}
 
 module _ {O A : Type 0} (count : ℕ) (edges : List PlanEdge) (few : length edges < 4294967296)
     (result : ℕ → NodeResult O) (id n : ℕ) (me : Me (Option (Arc (Published O) A)) View) (node : n < count)
@@ -73,7 +75,8 @@ module _ {O A : Type 0} (count : ℕ) (edges : List PlanEdge) (few : length edge
     sourced = before.sourced;
     drawn = λ m. let h = before.drawn m in let t = times_grow m n me.0.claimed in omega arith;
     gathered = before.gathered;
-    targeted = λ e l. let h = before.targeted e l in let t = times_grow (edge_target edges e) n me.0.claimed in omega arith;
+    targeted =
+        λ e l. let h = before.targeted e l in let t = times_grow (edge_target edges e) n me.0.claimed in omega arith;
   }
 
   claims_after : (m : ℕ)
@@ -109,7 +112,8 @@ module _ {O A : Type 0} (count : ℕ) (edges : List PlanEdge) (few : length edge
             (left_from (subtractions (set s.views id (with_claim me.0 n))) 0 edges x)) (sym same)
             (word_taken _ _ _ (let h = claims_here in omega arith) (get_or-set_same s.words n claimed_word 0 many)
             (left_after n ∙ sym none.1 ∙ free)))
-            (λ ne. word_same _ _ _ _ _ _ (claims_else m ne) (get_or-set_other s.words n m claimed_word 0 ne) (left_after m)
+            (λ ne.
+            word_same _ _ _ _ _ _ (claims_else m ne) (get_or-set_other s.words n m claimed_word 0 ne) (left_after m)
             (holds.counters.words m lm));
       })
 

@@ -1,5 +1,6 @@
 -- What a whole seat with all tickets has done.
-use Rattle.std.proofs.Common.{◌≡◌, ◌+◌, ◌<◌, ◌≤◌, ℕ, zero, suc, List, [], ◌∷◌, length, refl, ap, arith, ◌∙◌, sym, subst, Option, Some}
+use Rattle.std.proofs.Common.{◌≡◌, ◌+◌, ◌<◌, ◌≤◌, ℕ, zero, suc, List, [], ◌∷◌, length, refl, ap, arith, ◌∙◌, sym, subst}
+use Rattle.std.proofs.Common.{Option, Some}
 use Rattle.std.specs.Prelude.{slice_index, slice_get}
 use Rattle.std.proofs.lemmas.Bool.Decides.{nat_tests}
 use Rattle.std.specs.declared.sync.Arc.{Arc}
@@ -19,7 +20,8 @@ use Rattle.ready_counters.specs.Sums.{claims, draws, drawn_numbers, uses}
 use Rattle.ready_counters.specs.Views.{whole, times, tickets_for, ticket_number, tickets_with}
 use Rattle.ready_counters.specs.Ends.{IsByTicket, IsDoneBy}
 use Rattle.ready_counters.specs.Inside.{IsInOrder}
-use Rattle.ready_counters.proofs.Sums.{ticket_here, ticket_else, number_here, number_else, no_number, below_all, times_here, times_else}
+use Rattle.ready_counters.proofs.Sums.{ticket_here, ticket_else, number_here, number_else, no_number, below_all}
+use Rattle.ready_counters.proofs.Sums.{times_here, times_else}
 use Rattle.ready_counters.proofs.Knowing.{claimed_subtracted, sole}
 
 -- a number that is on a ticket is some node's

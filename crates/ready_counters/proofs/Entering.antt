@@ -1,5 +1,6 @@
 -- The numbers of the edges into a node.
-use Rattle.std.proofs.Common.{◌≡◌, ◌<◌, ◌+◌, ◌==◌, ℕ, suc, Bool, true, false, List, [], ◌∷◌, map, length, refl, ap, arith, ◌∙◌, sym, subst, add-zero, zero-add}
+use Rattle.std.proofs.Common.{◌≡◌, ◌<◌, ◌+◌, ◌==◌, ℕ, suc, Bool, true, false, List, [], ◌∷◌, map, length, refl, ap}
+use Rattle.std.proofs.Common.{arith, ◌∙◌, sym, subst, add-zero, zero-add}
 use Rattle.std.specs.Prelude.{if◌then◌else◌}
 use Rattle.std.specs.List.{AllByRecursion}
 use Rattle.std.proofs.lemmas.Bool.Decides.{nat_tests}
@@ -27,7 +28,8 @@ module _ {X : Type 0} (f g : ℕ → X) where
       (d.to.0 == n) refl
 
   -- a function of each edge into a node that is another of the edge's source
-  pub into_map : (ds : List PlanEdge) (n : ℕ) → ((e : ℕ) → e < length ds → edge_target ds e ≡ n → f e ≡ g (edge_source ds e))
+  pub into_map : (ds : List PlanEdge) (n : ℕ)
+      → ((e : ℕ) → e < length ds → edge_target ds e ≡ n → f e ≡ g (edge_source ds e))
       → map f (numbers_into 0 ds n) ≡ map g (predecessors ds n)
   into_map ds n h = map_from 0 ds n (λ e l to. ap f (zero-add e) ∙ h e l to)
 
@@ -51,13 +53,15 @@ module _ (P : ℕ → Type 0) where
       → AllByRecursion P (numbers_into 0 ds n)
   all_into ds n h = all_from 0 ds n (λ e l to. subst P (sym (zero-add e)) (h e l to))
 
-  source_if : (d : PlanEdge) (n : ℕ) (ds : List PlanEdge) → (d.to.0 ≡ n → P d.from.0) → AllByRecursion P (predecessors ds n)
+  source_if : (d : PlanEdge) (n : ℕ) (ds : List PlanEdge) → (d.to.0 ≡ n → P d.from.0)
+      → AllByRecursion P (predecessors ds n)
       → (b : Bool) → (d.to.0 == n) ≡ b → AllByRecursion P (predecessors (d ∷ ds) n)
   source_if d n ds here there true is = let same : d.to.0 ≡ n = grind (arith, nat_tests) in rw is (here same, there)
   source_if d n ds here there false is = rw is there
 
   -- what holds of the source of each edge that leads to a node holds of all its predecessors
-  pub all_sources : (ds : List PlanEdge) (n : ℕ) → ((e : ℕ) → e < length ds → edge_target ds e ≡ n → P (edge_source ds e))
+  pub all_sources : (ds : List PlanEdge) (n : ℕ)
+      → ((e : ℕ) → e < length ds → edge_target ds e ≡ n → P (edge_source ds e))
       → AllByRecursion P (predecessors ds n)
   all_sources [] n h = tt
   all_sources (d ∷ ds) n h =

@@ -1,5 +1,6 @@
 -- Opening and filling an edge, fetching it, and giving its slot back.
-use Rattle.std.proofs.Common.{◌≡◌, ◌+◌, ◌<◌, ◌≤◌, ◌==◌, ℕ, zero, suc, List, [], ◌∷◌, length, length-set, set, refl, ap, arith, ◌∙◌, sym, subst, Option, Some, None, eq-eqb}
+use Rattle.std.proofs.Common.{◌≡◌, ◌+◌, ◌<◌, ◌≤◌, ◌==◌, ℕ, zero, suc, List, [], ◌∷◌, length, length-set, set, refl, ap}
+use Rattle.std.proofs.Common.{arith, ◌∙◌, sym, subst, Option, Some, None, eq-eqb}
 use Rattle.std.specs.Prelude.{slice_index}
 use Rattle.std.specs.declared.sync.Arc.{Arc}
 use Rattle.std.specs.Arc.{arc_value}
@@ -23,7 +24,8 @@ use Rattle.ready_counters.specs.Inside.{Opens, Fills, Fetches, Returns}
 use Rattle.ready_counters.specs.Views.{with_open, with_fill, with_fetch, without_first}
 use Rattle.ready_counters.proofs.Sums.{sum_set, sum_same, sum_at, total_add, total_less, times_here, times_else}
 use Rattle.ready_counters.proofs.Frames.{at_edge}
-use Rattle.ready_counters.proofs.Knowing.{times_grow, filled_drawn, drawn_claimed, subtracted_filled, claimed_subtracted, claim_mine}
+use Rattle.ready_counters.proofs.Knowing.{times_grow, filled_drawn, drawn_claimed, subtracted_filled}
+use Rattle.ready_counters.proofs.Knowing.{claimed_subtracted, claim_mine}
 
 module _ {O A : Type 0} where
   at_empty : (o f r w : ℕ) (h : Maybe (Maybe (Option (Arc (Published O) A)))) (v : NodeResult O) → HasEdge o f r w h v
@@ -284,7 +286,8 @@ module _ {O A : Type 0} where
       (refl, refl),
     )
 
-    pub fetch_allows : (value : NodeResult O) → edge_target edges e < count → 1 ≤ times (edge_target edges e) me.0.claimed
+    pub fetch_allows : (value : NodeResult O) → edge_target edges e < count
+        → 1 ≤ times (edge_target edges e) me.0.claimed
         → times e me.0.fetched ≡ 0 → result e ≡ value
         → Allows (IsBoard count edges result) slots id me (count + e) (λ n. either (n == 2) 3 n)
         (λ n after. Fetches e value me after)

@@ -1,5 +1,6 @@
 -- What a change at one word and in one view leaves as it was.
-use Rattle.std.proofs.Common.{◌≡◌, ◌+◌, ◌<◌, ◌≤◌, ℕ, List, length, length-set, set, get_or-set_same, get_or-set_other, refl, ap, arith, ◌∙◌, sym, subst, ⊎_elim, Option}
+use Rattle.std.proofs.Common.{◌≡◌, ◌+◌, ◌<◌, ◌≤◌, ℕ, List, length, length-set, set, get_or-set_same, get_or-set_other}
+use Rattle.std.proofs.Common.{refl, ap, arith, ◌∙◌, sym, subst, ⊎_elim, Option}
 use Rattle.std.specs.Prelude.{slice_index}
 use Rattle.std.specs.declared.sync.Arc.{Arc}
 use mathlib.Core.Option.{Option as Maybe, some}

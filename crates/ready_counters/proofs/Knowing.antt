@@ -1,5 +1,6 @@
 -- What a seat knows of all views by its own.
-use Rattle.std.proofs.Common.{◌≡◌, ◌+◌, ◌<◌, ◌≤◌, ℕ, zero, suc, List, ◌∷◌, length, refl, ap, arith, ◌∙◌, sym, subst, zero-add, Option}
+use Rattle.std.proofs.Common.{◌≡◌, ◌+◌, ◌<◌, ◌≤◌, ℕ, zero, suc, List, ◌∷◌, length, refl, ap, arith, ◌∙◌, sym, subst}
+use Rattle.std.proofs.Common.{zero-add, Option}
 use Rattle.std.specs.Prelude.{slice_index}
 use Rattle.std.specs.declared.sync.Arc.{Arc}
 use mathlib.Core.Option.{some}
@@ -76,7 +77,8 @@ module _ {O A : Type 0} (count : ℕ) (edges : List PlanEdge) (result : ℕ → 
       (λ j v at. (holds.seats j v at).subtracted e)
 
   -- all in-edges of a claimed node are subtracted
-  pub claimed_subtracted : (n : ℕ) → n < count → 1 ≤ claims s.views n → (e : ℕ) → e < length edges → edge_target edges e ≡ n
+  pub claimed_subtracted : (n : ℕ) → n < count → 1 ≤ claims s.views n → (e : ℕ) → e < length edges
+      → edge_target edges e ≡ n
       → 1 ≤ subtractions s.views e
   claimed_subtracted n node le e inside to =
       subst (λ k. 1 ≤ subtractions s.views k) (zero-add e)

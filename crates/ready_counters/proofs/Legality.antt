@@ -1,5 +1,6 @@
 -- The nodes by ticket are a legal order of the plan.
-use Rattle.std.proofs.Common.{◌≡◌, ◌≢◌, ◌<◌, ◌≤◌, ℕ, zero, suc, List, [], ◌∷◌, length, get_or, take, refl, ap, arith, ◌∙◌, sym, subst, Some}
+use Rattle.std.proofs.Common.{◌≡◌, ◌≢◌, ◌<◌, ◌≤◌, ℕ, zero, suc, List, [], ◌∷◌, length, get_or, take, refl, ap, arith}
+use Rattle.std.proofs.Common.{◌∙◌, sym, subst, Some}
 use Rattle.std.specs.Prelude.{slice_get, slice_index}
 use Rattle.std.specs.List.{AllByRecursion, Contains}
 use mathlib.Core.Logic.{dite}
@@ -23,7 +24,8 @@ ends_from count [] h e l = absurd (omega arith)
 ends_from count (d ∷ ds) h zero l = h.0.0
 ends_from count (d ∷ ds) h (suc e) l = ends_from count ds h.1 e (omega arith)
 
-pub ends_to : (count : ℕ) (es : List PlanEdge) → HaveEndsBelow count es → (e : ℕ) → e < length es → edge_target es e < count
+pub ends_to : (count : ℕ) (es : List PlanEdge) → HaveEndsBelow count es → (e : ℕ) → e < length es
+    → edge_target es e < count
 ends_to count [] h e l = absurd (omega arith)
 ends_to count (d ∷ ds) h zero l = h.0.1
 ends_to count (d ∷ ds) h (suc e) l = ends_to count ds h.1 e (omega arith)
@@ -64,7 +66,8 @@ got_or [] i d l = absurd (omega arith)
 got_or (x ∷ xs) zero d l = refl
 got_or (x ∷ xs) (suc i) d l = got_or xs i d (omega arith)
 
-module _ (plan : Plan) (begins : (e : ℕ) → e < length plan.edges → edge_source plan.edges e < plan.count) (order : List ℕ)
+module _ (plan : Plan) (begins : (e : ℕ) → e < length plan.edges → edge_source plan.edges e < plan.count)
+    (order : List ℕ)
     (in_order : IsInOrder plan.count plan.edges order) where
   node_at : (i d : ℕ) → i < length order → get_or order i d < plan.count
   node_at i d l = in_order.0 i (get_or order i d) (got_or order i d l)

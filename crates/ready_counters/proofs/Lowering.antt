@@ -1,5 +1,6 @@
 -- A subtraction keeps the rule.
-use Rattle.std.proofs.Common.{◌≡◌, ◌+◌, ◌-◌, ◌%◌, ◌^◌, ◌<◌, ◌≤◌, ℕ, zero, suc, List, [], ◌∷◌, length, set, get_or-set_same, get_or-set_other, refl, ap, arith, ◌∙◌, sym, subst, zero-add, Option}
+use Rattle.std.proofs.Common.{◌≡◌, ◌+◌, ◌-◌, ◌%◌, ◌^◌, ◌<◌, ◌≤◌, ℕ, zero, suc, List, [], ◌∷◌, length, set}
+use Rattle.std.proofs.Common.{get_or-set_same, get_or-set_other, refl, ap, arith, ◌∙◌, sym, subst, zero-add, Option}
 use Rattle.std.specs.Prelude.{slice_index}
 use Rattle.std.specs.declared.sync.Arc.{Arc}
 use mathlib.Core.Option.{some}
@@ -104,7 +105,8 @@ module _ {O A : Type 0} (count : ℕ) (edges : List PlanEdge) (result : ℕ → 
         let l = lowered_is (slice_index s.words (edge_target edges e)) (omega arith) small in omega arith
 
     pub lowered_state : IsBoard count edges result
-        (stepped s (edge_target edges e) (lowered (slice_index s.words (edge_target edges e))) id me.1 (with_subtract me.0 e) keeps)
+        (stepped s (edge_target edges e) (lowered (slice_index s.words (edge_target edges e))) id me.1
+        (with_subtract me.0 e) keeps)
     lowered_state =
         at_node count edges result s holds id me.0 (with_subtract me.0 e) here view_after refl refl refl refl refl
         (edge_target edges e) (lowered (slice_index s.words (edge_target edges e))) node
@@ -115,10 +117,12 @@ module _ {O A : Type 0} (count : ℕ) (edges : List PlanEdge) (result : ℕ → 
               (slice_index (set s.words (edge_target edges e) (lowered (slice_index s.words (edge_target edges e)))) x)
               (left_from (subtractions (set s.views id (with_subtract me.0 e))) 0 edges x)) (sym same)
               (word_free _ _ _ (claims_after (edge_target edges e) ∙ the_word.0)
-              (get_or-set_same s.words (edge_target edges e) (lowered (slice_index s.words (edge_target edges e))) 0 many
+              (get_or-set_same s.words (edge_target edges e)
+              (lowered (slice_index s.words (edge_target edges e))) 0 many
               ∙ new_word)))
               (λ ne. word_same _ _ _ _ _ _ (claims_after m)
-              (get_or-set_other s.words (edge_target edges e) m (lowered (slice_index s.words (edge_target edges e))) 0 ne)
+              (get_or-set_other s.words (edge_target edges e) m
+              (lowered (slice_index s.words (edge_target edges e))) 0 ne)
               (as_many m ne) (holds.counters.words m lm));
         })
 
@@ -140,7 +144,8 @@ module _ {O A : Type 0} (count : ℕ) (edges : List PlanEdge) (result : ℕ → 
           exact = λ heavy. let a =
               left_sole count edges result
               (stepped s (edge_target edges e) (lowered (slice_index s.words (edge_target edges e))) id me.1
-              (with_subtract me.0 e) keeps) lowered_state id (with_subtract me.0 e) after_at heavy (edge_target edges e) in
+              (with_subtract me.0 e) keeps) lowered_state id (with_subtract me.0 e) after_at heavy
+              (edge_target edges e) in
               omega arith;
         }
 

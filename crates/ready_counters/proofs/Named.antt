@@ -1,5 +1,6 @@
 -- The steps, under the names that a call picks.
-use Rattle.std.proofs.Common.{◌≡◌, ◌+◌, ◌<◌, ◌≤◌, ◌==◌, ℕ, zero, suc, List, [], ◌∷◌, length, refl, ap, arith, ◌∙◌, sym, subst, Option, Some, get_or}
+use Rattle.std.proofs.Common.{◌≡◌, ◌+◌, ◌<◌, ◌≤◌, ◌==◌, ℕ, zero, suc, List, [], ◌∷◌, length, refl, ap, arith, ◌∙◌, sym}
+use Rattle.std.proofs.Common.{subst, Option, Some, get_or}
 use Rattle.std.specs.declared.sync.Arc.{Arc}
 use Rattle.std.specs.Arc.{arc_value}
 use prog.Atomic.{either}
@@ -27,8 +28,10 @@ module _ {O A : Type 0} (count : ℕ) (edges : List PlanEdge) (result : ℕ → 
   pub claim_as : (es : List PlanEdge) (n m : ℕ) → edges ≡ es → n ≡ m → length edges < 4294967296 → n < count
       → Allows (IsBoard count edges result) slots id me n (λ x. either (x == 0) claimed_word x) (Claims es m me)
   claim_as es n m a b few node =
-      subst (λ k. Allows (IsBoard count edges result) slots id me n (λ x. either (x == 0) claimed_word x) (Claims es k me)) b
-      (subst (λ k. Allows (IsBoard count edges result) slots id me n (λ x. either (x == 0) claimed_word x) (Claims k n me)) a
+      subst (λ k.
+      Allows (IsBoard count edges result) slots id me n (λ x. either (x == 0) claimed_word x) (Claims es k me)) b
+      (subst (λ k.
+      Allows (IsBoard count edges result) slots id me n (λ x. either (x == 0) claimed_word x) (Claims k n me)) a
       (claim_allows count edges result slots id n me few node live))
 
   pub ticket_as : (c n m w : ℕ) → count ≡ c → n ≡ m → w ≡ count + length edges → count < 4294967296 → n < count
@@ -109,7 +112,8 @@ exact_taken zero w l h few is = absurd (omega arith)
 exact_taken (suc c) w l h few is = omega arith
 
 pub gone_told : {S : Type 0} (edges : List PlanEdge) (n : ℕ) (me : Me S View) (found : ℕ) (after : Me S View)
-    → found ≡ claimed_word → length edges < 4294967296 → Claims edges n me found after → AnswersClaim edges n me.0 Gone after.0
+    → found ≡ claimed_word → length edges < 4294967296 → Claims edges n me found after
+    → AnswersClaim edges n me.0 Gone after.0
 gone_told edges n me zero after is few t = absurd (omega arith)
 gone_told edges n me (suc k) after is few t = (
   t.0,

@@ -1,5 +1,7 @@
 -- The table at the start.
-use Rattle.std.proofs.Common.{◌≡◌, ◌+◌, ◌<◌, ◌≤◌, ◌==◌, ◌++◌, ℕ, zero, suc, List, [], ◌∷◌, length, length-set, map, set, take, get_or, get_or-set_same, get_or-set_other, refl, ap, arith, ◌∙◌, sym, subst, Option, None, replicate, eq-eqb, ne_eqb, true, false, Bool}
+use Rattle.std.proofs.Common.{◌≡◌, ◌+◌, ◌<◌, ◌≤◌, ◌==◌, ◌++◌, ℕ, zero, suc, List, [], ◌∷◌, length, length-set, map, set}
+use Rattle.std.proofs.Common.{take, get_or, get_or-set_same, get_or-set_other, refl, ap, arith, ◌∙◌, sym, subst, Option}
+use Rattle.std.proofs.Common.{None, replicate, eq-eqb, ne_eqb, true, false, Bool}
 use Rattle.std.specs.Prelude.{slice_index, if◌then◌else◌}
 use Rattle.std.specs.declared.sync.Arc.{Arc}
 use mathlib.Core.Option.{some, some-injective, some-ne-none}

@@ -1,5 +1,7 @@
 -- Each step on a board is the core step of its kind, or leaves the core as it was.
-use Rattle.std.proofs.Common.{◌≡◌, ◌≢◌, ◌+◌, ◌-◌, ◌<◌, ◌≤◌, ◌==◌, ◌++◌, ℕ, zero, suc, List, [], ◌∷◌, length, map, set, replicate, get_or-set_same, get_or-set_other, refl, ap, arith, ◌∙◌, sym, subst, Bool, true, false, Option, Some, None, Result, eq-eqb, ne_eqb}
+use Rattle.std.proofs.Common.{◌≡◌, ◌≢◌, ◌+◌, ◌-◌, ◌<◌, ◌≤◌, ◌==◌, ◌++◌, ℕ, zero, suc, List, [], ◌∷◌, length, map, set}
+use Rattle.std.proofs.Common.{replicate, get_or-set_same, get_or-set_other, refl, ap, arith, ◌∙◌, sym, subst, Bool}
+use Rattle.std.proofs.Common.{true, false, Option, Some, None, Result, eq-eqb, ne_eqb}
 use Rattle.std.specs.Prelude.{slice_index, slice_get}
 use Rattle.std.specs.List.{range_with_len}
 use Rattle.std.specs.declared.sync.Arc.{Arc}
@@ -14,17 +16,21 @@ use Rattle.pass_core.specs.declared.plan.Plan.{Plan}
 use Rattle.pass_core.specs.declared.plan.PlanEdge.{PlanEdge}
 use Rattle.pass_core.specs.declared.published.Published.{Published}
 use Rattle.pass_core.specs.declared.step.Step.TheVariants.{Claim, Fetch, Fill, Subtract}
-use Rattle.pass_core.specs.CoreStates.{CoreState, Allows, after, IsMarked, VisitWasMade, IsFilled, IsFinished, numbers_into, edge_result, visit_result, beginning}
+use Rattle.pass_core.specs.CoreStates.{CoreState, Allows, after, IsMarked, VisitWasMade, IsFilled, IsFinished}
+use Rattle.pass_core.specs.CoreStates.{numbers_into, edge_result, visit_result, beginning}
 use Rattle.pass_core.specs.Laws.{ResultsMeetTheirEquation}
 use Rattle.pass_core.specs.Plans.{IsPlan, HasNoCycle, predecessors}
 use Rattle.pass_core.specs.Results.{NodeResult, node_result, judged_result, all_outs}
 use Rattle.ready_counters.specs.declared.view.View.{View}
-use Rattle.ready_counters.specs.Views.{nothing, one, all_of_it, lighter, together, times, with_claim, with_ticket, with_open, with_fill, with_subtract, with_fetch}
+use Rattle.ready_counters.specs.Views.{nothing, one, all_of_it, lighter, together, times, with_claim, with_ticket}
+use Rattle.ready_counters.specs.Views.{with_open, with_fill, with_subtract, with_fetch}
 use Rattle.ready_counters.specs.Sums.{total_of, claims, opens, fills, subtractions, fetches, draws}
 use Rattle.ready_counters.specs.Edges.{edge_source, edge_target, result_at, left_from}
 use Rattle.ready_counters.specs.Meaning.{claimed_word, HasWord, AreFirst, HasEdge, IsBoard}
 use Rattle.ready_counters.specs.Ends.{IsDoneBy}
-use Rattle.ready_counters.specs.Shows.{counter_of, held_at, was_done, core_of, BoardStep, Claiming, Ticketing, Opening, Filling, Subtracting, Fetching, Splitting, Joining, Looking, core_step, IsStep, LeadsBy}
+use Rattle.ready_counters.specs.Shows.{counter_of, held_at, was_done, core_of, BoardStep, Claiming, Ticketing, Opening}
+use Rattle.ready_counters.specs.Shows.{Filling, Subtracting, Fetching, Splitting, Joining, Looking, core_step, IsStep}
+use Rattle.ready_counters.specs.Shows.{LeadsBy}
 use Rattle.ready_counters.proofs.Sums.{sum_set, sum_same, sum_at, sum_snoc, times_append, times_here}
 use Rattle.ready_counters.proofs.Knowing.{filled_drawn, drawn_fetched, drawn_claimed, claim_mine}
 use Rattle.ready_counters.proofs.Left.{left_bound}
@@ -218,12 +224,14 @@ module _ {O A : Type 0} (mean : ℕ → List O → Result O Fault) (plan : Plan)
       allows_claim : Allows plan core (Claim (record { 0 = n }))
       allows_claim = (
         claimed_at n node ∙ ap Some
-            (ne_eqb (slice_index s.words n) claimed_word (λ t. let e : 0 ≡ claimed_word = sym free ∙ t in absurd (omega arith))),
+            (ne_eqb (slice_index s.words n) claimed_word
+            (λ t. let e : 0 ≡ claimed_word = sym free ∙ t in absurd (omega arith))),
         get_over (λ n. counter_of (slice_index s.words n)) 0 plan.count n n (omega arith) node
             ∙ ap (λ w. Some (counter_of w)) free,
       )
 
-      after_claim : core_of mean plan (set s.words n claimed_word) (set s.views id (with_claim v n)) ≡ after mean plan core
+      after_claim : core_of mean plan (set s.words n claimed_word) (set s.views id (with_claim v n))
+          ≡ after mean plan core
           (Claim (record { 0 = n }))
       after_claim = state_is _ _ _ _ _ _ _ _ _ _
           (same_over (λ k. counter_of (slice_index (set s.words n claimed_word) k))
@@ -235,7 +243,8 @@ module _ {O A : Type 0} (mean : ℕ → List O → Result O Fault) (plan : Plan)
           (λ ne. ap counter_of (get_or-set_other s.words n k claimed_word 0 ne))))
           (set_over (λ k. slice_index (set s.words n claimed_word) k == claimed_word)
           (λ k. slice_index s.words k == claimed_word) 0 plan.count n n true (omega arith) node
-          (eq-eqb (slice_index (set s.words n claimed_word) n) claimed_word (get_or-set_same s.words n claimed_word 0 (many n node)))
+          (eq-eqb (slice_index (set s.words n claimed_word) n) claimed_word
+          (get_or-set_same s.words n claimed_word 0 (many n node)))
           (λ k lo up ne. ap (λ w. w == claimed_word) (get_or-set_other s.words n k claimed_word 0 ne)))
           (filled_else s.words n claimed_word plan.count (result_at mean plan) (length plan.edges)
           (λ e l same. absurd (omega arith)))
@@ -265,7 +274,8 @@ module _ {O A : Type 0} (mean : ℕ → List O → Result O Fault) (plan : Plan)
             (target e inside) live mine fresh s holds here in omega arith
 
         free_word : slice_index s.words (edge_target plan.edges e) ≡ claimed_word → ⊥
-        free_word is = let a = the_word.1 in let b = few_left (edge_target plan.edges e) (target e inside) in omega arith
+        free_word is =
+            let a = the_word.1 in let b = few_left (edge_target plan.edges e) (target e inside) in omega arith
 
         allows_subtract : Allows plan core (Subtract e)
         allows_subtract = (
@@ -290,29 +300,38 @@ module _ {O A : Type 0} (mean : ℕ → List O → Result O Fault) (plan : Plan)
         after_subtract =
             state_is _ _ _ _ _ _ _ _ _ _
             (set_over (λ k. counter_of
-            (slice_index (set s.words (edge_target plan.edges e) (slice_index s.words (edge_target plan.edges e) - 1)) k))
+            (slice_index (set s.words (edge_target plan.edges e) (slice_index s.words (edge_target plan.edges e) - 1))
+            k))
             (λ k. counter_of (slice_index s.words k)) 0 plan.count (edge_target plan.edges e) (edge_target plan.edges e)
-            (slice_index (counters_in plan.count s.words) (edge_target plan.edges e) - 1) (omega arith) (target e inside)
+            (slice_index (counters_in plan.count s.words) (edge_target plan.edges e) - 1) (omega arith)
+            (target e inside)
             (ap counter_of (get_or-set_same s.words (edge_target plan.edges e)
             (slice_index s.words (edge_target plan.edges e) - 1) 0 (many (edge_target plan.edges e) (target e inside)))
             ∙ counter_less)
             (λ k lo up ne. ap counter_of
-            (get_or-set_other s.words (edge_target plan.edges e) k (slice_index s.words (edge_target plan.edges e) - 1) 0 ne)))
+            (get_or-set_other s.words (edge_target plan.edges e) k
+            (slice_index s.words (edge_target plan.edges e) - 1) 0 ne)))
             (same_over (λ k. slice_index
-            (set s.words (edge_target plan.edges e) (slice_index s.words (edge_target plan.edges e) - 1)) k == claimed_word)
+            (set s.words (edge_target plan.edges e) (slice_index s.words (edge_target plan.edges e) - 1)) k
+            == claimed_word)
             (λ k. slice_index s.words k == claimed_word) 0 plan.count
             (λ k lo up. dite (ℕ_discrete k (edge_target plan.edges e))
             (λ same. let a = the_word.1 in let b = few_left (edge_target plan.edges e) (target e inside) in
             let is : slice_index (set s.words (edge_target plan.edges e)
-            (slice_index s.words (edge_target plan.edges e) - 1)) k ≡ slice_index s.words (edge_target plan.edges e) - 1 =
-            ap (slice_index (set s.words (edge_target plan.edges e) (slice_index s.words (edge_target plan.edges e) - 1))) same
+            (slice_index s.words (edge_target plan.edges e) - 1)) k
+            ≡ slice_index s.words (edge_target plan.edges e) - 1 =
+            ap (slice_index (set s.words (edge_target plan.edges e)
+            (slice_index s.words (edge_target plan.edges e) - 1))) same
             ∙ get_or-set_same s.words (edge_target plan.edges e) (slice_index s.words (edge_target plan.edges e) - 1) 0
             (many (edge_target plan.edges e) (target e inside)) in
             ne_eqb _ claimed_word (λ t. absurd (omega arith))
-            ∙ sym (ne_eqb (slice_index s.words k) claimed_word (λ t. free_word (ap (slice_index s.words) (sym same) ∙ t))))
+            ∙ sym (ne_eqb (slice_index s.words k) claimed_word
+            (λ t. free_word (ap (slice_index s.words) (sym same) ∙ t))))
             (λ ne. ap (λ w. w == claimed_word)
-            (get_or-set_other s.words (edge_target plan.edges e) k (slice_index s.words (edge_target plan.edges e) - 1) 0 ne))))
-            (filled_else s.words (edge_target plan.edges e) (slice_index s.words (edge_target plan.edges e) - 1) plan.count
+            (get_or-set_other s.words (edge_target plan.edges e) k
+            (slice_index s.words (edge_target plan.edges e) - 1) 0 ne))))
+            (filled_else s.words (edge_target plan.edges e)
+            (slice_index s.words (edge_target plan.edges e) - 1) plan.count
             (result_at mean plan) (length plan.edges) (λ x l same. let t = target e inside in absurd (omega arith)))
             (done_more (subtractions (set s.views id (with_subtract v e))) (subtractions s.views)
             (length plan.edges) e inside

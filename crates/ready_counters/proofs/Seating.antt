@@ -1,5 +1,6 @@
 -- Splitting and joining seats keeps the rule, and so does the table at the start.
-use Rattle.std.proofs.Common.{◌≡◌, ◌+◌, ◌≤◌, ◌++◌, ℕ, List, [], ◌∷◌, length, set, refl, ap, arith, ◌∙◌, subst, ⊎_elim, Option}
+use Rattle.std.proofs.Common.{◌≡◌, ◌+◌, ◌≤◌, ◌++◌, ℕ, List, [], ◌∷◌, length, set, refl, ap, arith, ◌∙◌, subst, ⊎_elim}
+use Rattle.std.proofs.Common.{Option}
 use Rattle.std.specs.Prelude.{slice_index}
 use Rattle.std.specs.declared.sync.Arc.{Arc}
 use mathlib.Core.Option.{some}
@@ -94,7 +95,9 @@ both_view count edges v w live h k = record {
   gathered = λ e l. let x = tickets_append (edge_target edges e) v.tickets w.tickets in
       let y = times_append e v.fetched w.fetched in let a = h.gathered e l in let b = k.gathered e l in omega arith;
   targeted = λ e l. let x = times_append e v.fetched w.fetched in
-      let y = times_append (edge_target edges e) v.claimed w.claimed in let a = h.targeted e l in let b = k.targeted e l in
+      let y = times_append (edge_target edges e) v.claimed w.claimed in
+      let a = h.targeted e l in
+      let b = k.targeted e l in
       omega arith;
 }
 

@@ -1,5 +1,6 @@
 -- A ticket keeps the rule.
-use Rattle.std.proofs.Common.{◌≡◌, ◌+◌, ◌%◌, ◌^◌, ◌<◌, ◌≤◌, ℕ, suc, List, ◌∷◌, length, set, refl, ap, arith, ◌∙◌, sym, subst, Option}
+use Rattle.std.proofs.Common.{◌≡◌, ◌+◌, ◌%◌, ◌^◌, ◌<◌, ◌≤◌, ℕ, suc, List, ◌∷◌, length, set, refl, ap, arith, ◌∙◌, sym}
+use Rattle.std.proofs.Common.{subst, Option}
 use Rattle.std.specs.Prelude.{slice_index}
 use Rattle.std.specs.declared.sync.Arc.{Arc}
 use mathlib.Core.Option.{some}
@@ -17,7 +18,8 @@ use Rattle.ready_counters.specs.Sums.{fetches, draws, drawn_numbers, uses}
 use Rattle.ready_counters.specs.Views.{times, tickets_for, ticket_number, tickets_with}
 use Rattle.ready_counters.specs.Inside.{Draws}
 use Rattle.ready_counters.specs.Views.{with_ticket}
-use Rattle.ready_counters.proofs.Sums.{sum_set, sum_at, total_less, total_none, ticket_here, ticket_else, number_here, number_else, used_here, used_else, no_number, below_more, below_short}
+use Rattle.ready_counters.proofs.Sums.{sum_set, sum_at, total_less, total_none, ticket_here, ticket_else, number_here}
+use Rattle.ready_counters.proofs.Sums.{number_else, used_here, used_else, no_number, below_more, below_short}
 use Rattle.ready_counters.proofs.Frames.{at_ticket}
 use Rattle.ready_counters.proofs.Knowing.{filled_drawn, drawn_fetched, drawn_claimed}
 
@@ -165,7 +167,9 @@ module _ {O A : Type 0} (count : ℕ) (edges : List PlanEdge) (result : ℕ → 
           (λ same. let a : tickets_for (edge_target edges e) ((n, k) ∷ me.0.tickets) ≡ 1 + tickets_for n me.0.tickets =
           ap (λ x. tickets_for x ((n, k) ∷ me.0.tickets)) same ∙ ticket_here k me.0.tickets n in
           let r = ready e l same in omega arith)
-          (λ ne. let t = ticket_else k me.0.tickets (edge_target edges e) n ne in let h = before.gathered e l in omega arith);
+          (λ ne. let t = ticket_else k me.0.tickets (edge_target edges e) n ne in
+          let h = before.gathered e l in
+          omega arith);
       targeted = before.targeted;
     }
 

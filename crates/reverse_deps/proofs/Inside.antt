@@ -1,5 +1,6 @@
 -- The ends of links, and the nodes that requests are for, are nodes.
-use Rattle.std.proofs.Common.{◌≡◌, ◌<◌, ◌+◌, ℕ, suc, Bool, true, false, cond, List, [], ◌∷◌, Option, Some, None, Result, Ok, Err, length, refl, subst, arith}
+use Rattle.std.proofs.Common.{◌≡◌, ◌<◌, ◌+◌, ℕ, suc, Bool, true, false, cond, List, [], ◌∷◌, Option, Some, None, Result}
+use Rattle.std.proofs.Common.{Ok, Err, length, refl, subst, arith}
 use Rattle.std.specs.Prelude.{zip, ok_or, slice_get, if◌then◌else◌}
 use Rattle.std.specs.Option.{option_map, option_map_or, option_and_then}
 use Rattle.std.specs.List.{AllByRecursion, position_from, cons_option}
@@ -16,7 +17,8 @@ use Rattle.bp_props.specs.declared.module.Module.{Module}
 use Rattle.module_graph.specs.declared.graph.Node.{Node}
 use Rattle.mutator_rules.specs.declared.request.Request.{Request}
 use Rattle.reverse_deps.specs.Linked.{Link, link_of, links_in, links, same_way, edge_for}
-use Rattle.reverse_deps.specs.Resolved.{names_by_number, module_named, wrong_kind, request_fault, missing_variant, fitting, module_for, is_for, node_for, resolved_node}
+use Rattle.reverse_deps.specs.Resolved.{names_by_number, module_named, wrong_kind, request_fault, missing_variant}
+use Rattle.reverse_deps.specs.Resolved.{fitting, module_for, is_for, node_for, resolved_node}
 
 -- the number of a name is one of the list
 number_inside_names : (k : ℕ) (names : List (List ℕ)) (name : List ℕ) (n : ℕ) → first_number_from k names name ≡ Some n
@@ -39,7 +41,8 @@ named_inside mods name n is =
 fitting_same : (mods : List Module) (r : Request) (n m : ℕ) → fitting mods r n ≡ Ok m → n ≡ m
 fitting_same mods r n m is = by (option_and_then (λ (it : Module). wrong_kind r.kind it.kind) (slice_get mods n)) is
   where
-    by : (o : Option FaultKind) → option_map_or {U = Result ℕ Fault} (λ kind. Err (request_fault kind r)) o (Ok n) ≡ Ok m → n ≡ m
+    by : (o : Option FaultKind)
+        → option_map_or {U = Result ℕ Fault} (λ kind. Err (request_fault kind r)) o (Ok n) ≡ Ok m → n ≡ m
     by None h = cc
     by (Some kind) h = cc
 
@@ -47,21 +50,30 @@ fitting_same mods r n m is = by (option_and_then (λ (it : Module). wrong_kind r
 pub module_inside : (mods : List Module) (r : Request) (m : ℕ) → module_for mods r ≡ Ok m → m < length mods
 module_inside mods r m is = by (module_named mods r.name) refl is
   where
-    by : (o : Option ℕ) → module_named mods r.name ≡ o → then_do (ok_or o (request_fault MissingModule r)) (fitting mods r) ≡ Ok m → m < length mods
+    by : (o : Option ℕ) → module_named mods r.name ≡ o
+        → then_do (ok_or o (request_fault MissingModule r)) (fitting mods r) ≡ Ok m → m < length mods
     by None n_is h = cc
-    by (Some n) n_is h = let same = fitting_same mods r n m h in let inside = named_inside mods r.name n n_is in omega arith
+    by (Some n) n_is h =
+        let same = fitting_same mods r n m h in let inside = named_inside mods r.name n n_is in omega arith
 
 module _ {P : Type 0} where
-  number_inside : (nodes : List (Node P)) (o : Option ℕ) (fault : Fault) (n : NodeId) → ((k : ℕ) → o ≡ Some k → k < length nodes) → ok_or (option_map (λ k. record { 0 = k }) o) fault ≡ Ok n → n.0 < length nodes
+  number_inside : (nodes : List (Node P)) (o : Option ℕ) (fault : Fault) (n : NodeId)
+      → ((k : ℕ) → o ≡ Some k → k < length nodes) → ok_or (option_map (λ k. record { 0 = k }) o) fault ≡ Ok n
+      → n.0 < length nodes
   number_inside nodes None fault n inside is = cc
-  number_inside nodes (Some k) fault n inside is = let same : record { 0 = k } ≡ n = cc in subst (λ (x : NodeId). x.0 < length nodes) same (inside k refl)
+  number_inside nodes (Some k) fault n inside is =
+      let same : record { 0 = k } ≡ n = cc in subst (λ (x : NodeId). x.0 < length nodes) same (inside k refl)
 
   -- the node of a request is one of the nodes
-  pub node_inside : (mods : List Module) (nodes : List (Node P)) (r : Request) (n : NodeId) → resolved_node mods nodes r ≡ Ok n → n.0 < length nodes
+  pub node_inside : (mods : List Module) (nodes : List (Node P)) (r : Request) (n : NodeId)
+      → resolved_node mods nodes r ≡ Ok n → n.0 < length nodes
   node_inside mods nodes r n is = by (module_for mods r) is
     where
-      by : (o : Result ℕ Fault) → then_do o (λ m. ok_or (node_for nodes m r.want) (missing_variant r)) ≡ Ok n → n.0 < length nodes
-      by (Ok m) h = number_inside nodes (position_from (is_for m r.want) 0 nodes) (missing_variant r) n (λ k k_is. let lt = found_inside (is_for m r.want) 0 nodes k k_is in omega arith) h
+      by : (o : Result ℕ Fault) → then_do o (λ m. ok_or (node_for nodes m r.want) (missing_variant r)) ≡ Ok n
+          → n.0 < length nodes
+      by (Ok m) h =
+          number_inside nodes (position_from (is_for m r.want) 0 nodes) (missing_variant r) n
+          (λ k k_is. let lt = found_inside (is_for m r.want) 0 nodes k k_is in omega arith) h
       by (Err fault) h = cc
 
 module _ (count : ℕ) where
@@ -76,16 +88,24 @@ module _ (count : ℕ) where
       by true = (found, asker)
       by false = (asker, found)
 
-  way_inside : (way : Bool) (asked : List (NodeId × Request)) (found : List NodeId) → AllByRecursion (λ (a : NodeId × Request). a.0.0 < count) asked → AllByRecursion (λ (n : NodeId). n.0 < count) found
+  way_inside : (way : Bool) (asked : List (NodeId × Request)) (found : List NodeId)
+      → AllByRecursion (λ (a : NodeId × Request). a.0.0 < count) asked
+      → AllByRecursion (λ (n : NodeId). n.0 < count) found
       → AllByRecursion LinksInside (links_in way (zip asked found))
   way_inside way [] found asking within = tt
   way_inside way (a ∷ asked) [] asking within = tt
-  way_inside way (a ∷ asked) (f ∷ found) asking within = by (same_way way a.1.reverse) (way_inside way asked found asking.1 within.1)
+  way_inside way (a ∷ asked) (f ∷ found) asking within =
+      by (same_way way a.1.reverse) (way_inside way asked found asking.1 within.1)
     where
-      by : (b : Bool) → AllByRecursion LinksInside (links_in way (zip asked found)) → AllByRecursion LinksInside (cons_option (cond b (Some (link_of (a, f))) None) (links_in way (zip asked found)))
+      by : (b : Bool) → AllByRecursion LinksInside (links_in way (zip asked found)) → AllByRecursion LinksInside
+          (cons_option (cond b (Some (link_of (a, f))) None) (links_in way (zip asked found)))
       by true rest = (link_inside a f asking.0 within.0, rest)
       by false rest = rest
 
-  pub links_inside : (asked : List (NodeId × Request)) (found : List NodeId) → AllByRecursion (λ (a : NodeId × Request). a.0.0 < count) asked → AllByRecursion (λ (n : NodeId). n.0 < count) found
+  pub links_inside : (asked : List (NodeId × Request)) (found : List NodeId)
+      → AllByRecursion (λ (a : NodeId × Request). a.0.0 < count) asked
+      → AllByRecursion (λ (n : NodeId). n.0 < count) found
       → AllByRecursion LinksInside (links asked found)
-  links_inside asked found asking within = all_append LinksInside (links_in false (zip asked found)) (links_in true (zip asked found)) (way_inside false asked found asking within) (way_inside true asked found asking within)
+  links_inside asked found asking within =
+      all_append LinksInside (links_in false (zip asked found)) (links_in true (zip asked found))
+      (way_inside false asked found asking within) (way_inside true asked found asking within)

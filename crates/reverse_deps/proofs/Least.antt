@@ -1,5 +1,6 @@
 -- The first item of a list that passes a test, and the least node that a request is for.
-use Rattle.std.proofs.Common.{◌≡◌, ◌<◌, ◌+◌, ◌&&◌, ℕ, zero, suc, Bool, true, false, cond, List, [], ◌∷◌, Option, Some, None, nat_eq, refl, ap, sym, ◌∙◌, subst, arith, eq-eqb}
+use Rattle.std.proofs.Common.{◌≡◌, ◌<◌, ◌+◌, ◌&&◌, ℕ, zero, suc, Bool, true, false, cond, List, [], ◌∷◌, Option, Some}
+use Rattle.std.proofs.Common.{None, nat_eq, refl, ap, sym, ◌∙◌, subst, arith, eq-eqb}
 use Rattle.std.specs.Prelude.{slice_get}
 use Rattle.std.specs.Option.{option_map}
 use Rattle.std.specs.List.{position_from}
@@ -56,7 +57,8 @@ module _ {P : Type 0} (told : SameMeansEqual) (m : ℕ) (want : Wanted) where
   passed x is =
       let own = and_parts (nat_eq x.«module».0 m) (is_wanted want x.vars) is in
       let first =
-      and_parts (has_variation Target want.target x.vars) (has_variation Image want.image x.vars && has_variation Link want.link x.vars) own.1 in
+      and_parts (has_variation Target want.target x.vars)
+      (has_variation Image want.image x.vars && has_variation Link want.link x.vars) own.1 in
       let rest = and_parts (has_variation Image want.image x.vars) (has_variation Link want.link x.vars) first.1 in
       record {
         of_module = eqb-true x.«module».0 m own.0;
@@ -68,7 +70,8 @@ module _ {P : Type 0} (told : SameMeansEqual) (m : ℕ) (want : Wanted) where
   passes : (x : Node P) → IsFor m want x → is_for m want x ≡ true
   passes x is =
       and_from (nat_eq x.«module».0 m) (is_wanted want x.vars) (eq-eqb x.«module».0 m is.of_module)
-      (and_from (has_variation Target want.target x.vars) (has_variation Image want.image x.vars && has_variation Link want.link x.vars)
+      (and_from (has_variation Target want.target x.vars)
+      (has_variation Image want.image x.vars && has_variation Link want.link x.vars)
       ((told want.target (along Target x)).1 is.target)
       (and_from (has_variation Image want.image x.vars) (has_variation Link want.link x.vars)
       ((told want.image (along Image x)).1 is.image) ((told want.link (along Link x)).1 is.link)))

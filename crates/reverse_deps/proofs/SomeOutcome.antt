@@ -10,7 +10,8 @@ use Rattle.module_graph.specs.Graphs.{IsValid, NameNodes}
 use Rattle.module_graph.specs.Laws.{OneCycleMeaning}
 use Rattle.mutator_rules.specs.declared.request.Request.{Request}
 use Rattle.mutator_rules.specs.Conditions.{MayRun, indices_in}
-use Rattle.reverse_deps.specs.Applied.{AskInside, labels_of, edges_counted, AcyclicMeans, CountedMeans, found_for, ApplyMeans}
+use Rattle.reverse_deps.specs.Applied.{AskInside, labels_of, edges_counted, AcyclicMeans, CountedMeans, found_for}
+use Rattle.reverse_deps.specs.Applied.{ApplyMeans}
 use Rattle.reverse_deps.specs.Laws.{IsFitStill}
 use Rattle.reverse_deps.specs.Linked.{links, linked_nodes}
 use Rattle.reverse_deps.proofs.Inside.{links_inside}
@@ -31,7 +32,8 @@ came_from (Err fault) Next made h = cc
 
 module _ {P : Type 0} (mods : List Module) where
   module _ (one : OneCycleMeaning P) where
-    some_acyclic : (new : List (Node P)) (counted : Unit {0}) → NameNodes new → HasOutcome (AcyclicMeans mods new counted)
+    some_acyclic : (new : List (Node P)) (counted : Unit {0}) → NameNodes new
+        → HasOutcome (AcyclicMeans mods new counted)
     some_acyclic new counted ends = let said = one new (labels_of mods new) ends in by said.0 said.1
       where
         by : (said : Result (Unit {0}) Fault) → CycleMeans new (labels_of mods new) said
@@ -56,7 +58,8 @@ module _ {P : Type 0} (mods : List Module) where
       → ApplyMeans mods nodes asked (Ok new) → IsFitStill (length mods) nodes new
   applied_keeps nodes asked new valid may asking applied =
       let (found, found_is, rest) =
-      came_from (found_for mods nodes asked) (λ found. CountedMeans mods (linked_nodes nodes (links asked found))) new applied in
+      came_from (found_for mods nodes asked)
+      (λ found. CountedMeans mods (linked_nodes nodes (links asked found))) new applied in
       let graph : List (Node P) = linked_nodes nodes (links asked found) in
       let (counted, counted_is, acyclic) = came_from (edges_counted graph) (AcyclicMeans mods graph) new rest in
       subst (IsFitStill (length mods) nodes) (sym acyclic.0) (record {

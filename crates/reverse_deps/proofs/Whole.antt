@@ -14,7 +14,8 @@ use Rattle.module_graph.specs.Graphs.{all_edges, edges_of, IsValid}
 use Rattle.module_graph.specs.Walks.{NoneReturns}
 use Rattle.mutator_rules.specs.Conditions.{MayRun, indices_in}
 use Rattle.mutator_rules.specs.declared.request.Request.{Request}
-use Rattle.reverse_deps.specs.Applied.{AskInside, too_many, edges_counted, found_for, AcyclicMeans, CountedMeans, ApplyMeans}
+use Rattle.reverse_deps.specs.Applied.{AskInside, too_many, edges_counted, found_for, AcyclicMeans, CountedMeans}
+use Rattle.reverse_deps.specs.Applied.{ApplyMeans}
 use Rattle.reverse_deps.specs.Linked.{without_edges, links, linked_nodes}
 use Rattle.reverse_deps.specs.Resolved.{resolved_node}
 use Rattle.reverse_deps.proofs.Each.{all_made, as_many}
@@ -22,14 +23,18 @@ use Rattle.reverse_deps.proofs.Gained.{bare_linked, no_links}
 use Rattle.reverse_deps.proofs.Inside.{LinksInside, links_inside, node_inside}
 use Rattle.reverse_deps.proofs.Made.{may_linked, valid_linked}
 
-module _ {P : Type 0} (mods : List Module) (nodes : List (Node P)) (asked : List (NodeId × Request)) (found : List NodeId) (found_is : found_for mods nodes asked ≡ Ok found) where
+module _ {P : Type 0} (mods : List Module) (nodes : List (Node P)) (asked : List (NodeId × Request))
+    (found : List NodeId) (found_is : found_for mods nodes asked ≡ Ok found) where
   pub many_found : length found ≡ length asked
   many_found = as_many (λ (a : NodeId × Request). resolved_node mods nodes a.1) asked found found_is
 
   pub found_inside : AllByRecursion (λ (n : NodeId). n.0 < length nodes) found
-  found_inside = all_made (λ (a : NodeId × Request). resolved_node mods nodes a.1) (λ (n : NodeId). n.0 < length nodes) (λ a n is. node_inside mods nodes a.1 n is) asked found found_is
+  found_inside =
+      all_made (λ (a : NodeId × Request). resolved_node mods nodes a.1) (λ (n : NodeId). n.0 < length nodes)
+      (λ a n is. node_inside mods nodes a.1 n is) asked found found_is
 
-  module _ (asking : AskInside (length nodes) asked) (made : List (Node P)) (made_is : made ≡ linked_nodes nodes (links asked found)) where
+  module _ (asking : AskInside (length nodes) asked) (made : List (Node P))
+      (made_is : made ≡ linked_nodes nodes (links asked found)) where
     inside : AllByRecursion (LinksInside (length nodes)) (links asked found)
     inside = links_inside (length nodes) asked found asking found_inside
 
@@ -41,25 +46,31 @@ module _ {P : Type 0} (mods : List Module) (nodes : List (Node P)) (asked : List
       as_linked = subst (λ (xs : List (Node P)). edges_counted xs ≡ Ok tt) made_is counted
 
       pub may_made : MayRun (indices_in (length mods)) nodes → MayRun (indices_in (length mods)) made
-      may_made may = subst (MayRun (indices_in (length mods))) (sym made_is) (may_linked (indices_in (length mods)) nodes (links asked found) may inside as_linked)
+      may_made may =
+          subst (MayRun (indices_in (length mods))) (sym made_is)
+          (may_linked (indices_in (length mods)) nodes (links asked found) may inside as_linked)
 
       module _ (acyclic : NoneReturns (edges_of made)) where
         linked_acyclic : NoneReturns (edges_of (linked_nodes nodes (links asked found)))
         linked_acyclic = subst (λ (xs : List (Node P)). NoneReturns (edges_of xs)) made_is acyclic
 
         pub valid_made : IsValid nodes → IsValid made
-        valid_made valid = subst IsValid (sym made_is) (valid_linked nodes (links asked found) valid inside linked_acyclic)
+        valid_made valid =
+            subst IsValid (sym made_is) (valid_linked nodes (links asked found) valid inside linked_acyclic)
 
         pub means_made : ApplyMeans mods nodes asked (Ok made)
         means_made =
-            subst (λ (r : Result (List NodeId) Fault). GoesOn r (λ found. CountedMeans mods (linked_nodes nodes (links asked found))) (Ok made)) (sym found_is)
-            (subst (λ (r : Result (Unit {0}) Fault). GoesOn r (AcyclicMeans mods (linked_nodes nodes (links asked found))) (Ok made)) (sym as_linked) (made_is, linked_acyclic))
+            subst (λ (r : Result (List NodeId) Fault).
+            GoesOn r (λ found. CountedMeans mods (linked_nodes nodes (links asked found))) (Ok made)) (sym found_is)
+            (subst (λ (r : Result (Unit {0}) Fault). GoesOn r (AcyclicMeans mods
+            (linked_nodes nodes (links asked found))) (Ok made)) (sym as_linked) (made_is, linked_acyclic))
 
 -- where nothing is asked, a valid graph with few edges stays as it is
 few_counted : {P : Type 0} (nodes : List (Node P)) → length (all_edges nodes) ≤ MOST_EDGES
     → edges_counted nodes ≡ Ok tt
 few_counted nodes few =
-    ap (λ (o : Option Edge). option_map_or (λ (e : Edge). Err (too_many e)) o (Ok tt)) (slice_get_past (all_edges nodes) MOST_EDGES few)
+    ap (λ (o : Option Edge). option_map_or (λ (e : Edge). Err (too_many e)) o (Ok tt))
+    (slice_get_past (all_edges nodes) MOST_EDGES few)
 
 pub nothing_asked : {P : Type 0} (mods : List Module) (nodes : List (Node P)) → IsValid nodes
     → length (all_edges nodes) ≤ MOST_EDGES → ApplyMeans mods nodes [] (Ok nodes)

@@ -1,11 +1,13 @@
 -- A synthetic file is short.
-use Rattle.std.proofs.Common.{◌≡◌, ◌<◌, ◌≤◌, ◌+◌, ◌*◌, ◌%◌, ◌^◌, ℕ, zero, suc, Bool, true, false, List, [], ◌∷◌, ◌++◌, length, length-append, refl, arith}
+use Rattle.std.proofs.Common.{◌≡◌, ◌<◌, ◌≤◌, ◌+◌, ◌*◌, ◌%◌, ◌^◌, ℕ, zero, suc, Bool, true, false, List, [], ◌∷◌, ◌++◌}
+use Rattle.std.proofs.Common.{length, length-append, refl, arith}
 use Rattle.std.specs.Prelude.{codes, decimal, ◌==◌, if◌then◌else◌}
 use Rattle.std.specs.List.{flat_map, range_with_len}
 use Rattle.std.proofs.lemmas.Bool.Decides.{Decides-eqb, not_from_Decides}
 use Rattle.std.proofs.lemmas.Fmt.{length-decimal-le}
 use Rattle.bp_faults.specs.declared.limits.TheConstants.{LARGEST_FILE, MOST_SYNTHETIC_MODULES}
-use Rattle.synthetic_tree.specs.Modules.{near_dependency, far_dependency, place_in_file, dependencies, names_text, quoted_name, type_text, end_text, is_sanitized, module_text}
+use Rattle.synthetic_tree.specs.Modules.{near_dependency, far_dependency, place_in_file, dependencies, names_text}
+use Rattle.synthetic_tree.specs.Modules.{quoted_name, type_text, end_text, is_sanitized, module_text}
 use Rattle.synthetic_tree.specs.Blocks.{block_text, block_size}
 
 -- What holds of both branches holds of either.
@@ -37,8 +39,10 @@ listed_some : (seed i : ℕ) → i < MOST_SYNTHETIC_MODULES → 0 < place_in_fil
 listed_some seed i small some =
     let one = quoted_short (near_dependency seed i) [] (near_small seed i small some) in
     let last = quoted_short (far_dependency seed i) [] (far_small seed i small some) in
-    let two = quoted_short (near_dependency seed i) (codes ", " ++ quoted_name (far_dependency seed i) []) (near_small seed i small some) in
-    at_if (λ (ds : List ℕ). length (names_text ds) ≤ 20) (place_in_file i == 1) (near_dependency seed i ∷ []) (near_dependency seed i ∷ far_dependency seed i ∷ []) (omega (arith, one)) (omega (arith, two, last))
+    let two = quoted_short (near_dependency seed i) (codes ", " ++ quoted_name (far_dependency seed i) [])
+    (near_small seed i small some) in
+    at_if (λ (ds : List ℕ). length (names_text ds) ≤ 20) (place_in_file i == 1) (near_dependency seed i ∷ [])
+    (near_dependency seed i ∷ far_dependency seed i ∷ []) (omega (arith, one)) (omega (arith, two, last))
 
 listed_at : (seed i : ℕ) (b : Bool) → (place_in_file i == 0) ≡ b → i < MOST_SYNTHETIC_MODULES
     → length (names_text (if b then [] else if place_in_file i == 1 then near_dependency seed i ∷ []
@@ -52,10 +56,14 @@ listed_short : (seed i : ℕ) → i < MOST_SYNTHETIC_MODULES → length (names_t
 listed_short seed i small = listed_at seed i (place_in_file i == 0) refl small
 
 kind_short : (i : ℕ) → length (type_text i) ≤ 17
-kind_short i = at_if (λ (t : List ℕ). length t ≤ 17) (place_in_file i == 63) (codes "cc_binary") (codes "cc_library_static") (omega arith) (omega arith)
+kind_short i =
+    at_if (λ (t : List ℕ). length t ≤ 17) (place_in_file i == 63) (codes "cc_binary") (codes "cc_library_static")
+    (omega arith) (omega arith)
 
 end_short : (seed i : ℕ) → length (end_text seed i) ≤ 40
-end_short seed i = at_if (λ (t : List ℕ). length t ≤ 40) (is_sanitized seed i) (codes "    sanitize: { address: true },\n}\n") (codes "}\n") (omega arith) (omega arith)
+end_short seed i =
+    at_if (λ (t : List ℕ). length t ≤ 40) (is_sanitized seed i) (codes "    sanitize: { address: true },\n}\n")
+    (codes "}\n") (omega arith) (omega arith)
 
 module_short : (seed i : ℕ) → i < MOST_SYNTHETIC_MODULES → length (module_text seed i) ≤ 300
 module_short seed i small =
@@ -71,7 +79,12 @@ texts_short seed a zero small = omega arith
 texts_short seed a (suc n) small =
     let one = module_short seed a (omega arith) in
     let more = texts_short seed (a + 1) n (omega arith) in
-    omega (arith, one, more, length-append (module_text seed a) (flat_map (module_text seed) (range_with_len (a + 1) n)))
+    omega (
+      arith,
+      one,
+      more,
+      length-append (module_text seed a) (flat_map (module_text seed) (range_with_len (a + 1) n)),
+    )
 
 pub block_short : (seed modules b : ℕ) → modules ≤ MOST_SYNTHETIC_MODULES → 64 * b < modules
     → length (block_text seed modules b) ≤ LARGEST_FILE

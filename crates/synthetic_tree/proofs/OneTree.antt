@@ -1,5 +1,6 @@
 -- Two lists of the same numbers that ascend by one order are one list, so a seed has one tree.
-use Rattle.std.proofs.Common.{◌≡◌, ◌∙◌, ◌<◌, ◌⊎◌, inl, inr, ⊎_elim, ℕ, zero, suc, List, [], ◌∷◌, length, get_or, map, ap, arith, refl, subst, sym}
+use Rattle.std.proofs.Common.{◌≡◌, ◌∙◌, ◌<◌, ◌⊎◌, inl, inr, ⊎_elim, ℕ, zero, suc, List, [], ◌∷◌, length, get_or, map}
+use Rattle.std.proofs.Common.{ap, arith, refl, subst, sym}
 use Rattle.std.specs.List.{All, AllByRecursion, range_with_len}
 use Rattle.std.specs.List.Sorted.{IsPermutation, IsStrictlySortedBy}
 use Rattle.std.specs.Ordering.{ordering_reverse}
@@ -62,7 +63,8 @@ not_itself Less e is = cc
 not_itself Equal e is = cc
 not_itself Greater e is = cc
 
-one_order : (n : ℕ) (first second : List ℕ) → IsPermutation (range_with_len 0 n) first → IsPermutation (range_with_len 0 n) second
+one_order : (n : ℕ) (first second : List ℕ) → IsPermutation (range_with_len 0 n) first
+    → IsPermutation (range_with_len 0 n) second
     → IsStrictlySortedBy block_cmp first → IsStrictlySortedBy block_cmp second → first ≡ second
 one_order n first second moved moved_too sorted sorted_too =
     let all = range_with_len 0 n in
@@ -73,7 +75,8 @@ one_order n first second moved moved_too sorted sorted_too =
     (λ q has. kept second all (IsPermutation-sym all second moved_too) q (kept all first moved q has))
     (λ q has. kept first all (IsPermutation-sym all first moved) q (kept all second moved_too q has))
 
-pub one_tree : (seed modules : ℕ) (first second : List TreeFile) → AreTree seed modules first → AreTree seed modules second
+pub one_tree : (seed modules : ℕ) (first second : List TreeFile) → AreTree seed modules first
+    → AreTree seed modules second
     → first ≡ second
 one_tree seed modules first second one other =
     one.3 ∙ ap (λ (blocks : List ℕ). map (block_file seed modules) blocks)

@@ -26,12 +26,16 @@ true_false : (b : Bool) → b ≡ true → b ≡ false → ⊥
 true_false b p q = cc
 
 not_after : (v w : Variation) → is_spelled_before v w ≡ true → is_spelled_before w v ≡ false
-not_after v w h = ap is_lt (nat_list_cmp_total.antisymm (spelling w) (spelling v) ∙ ap ordering_reverse (less_if (slice_cmp nat_cmp (spelling v) (spelling w)) h))
+not_after v w h =
+    ap is_lt (nat_list_cmp_total.antisymm (spelling w) (spelling v)
+    ∙ ap ordering_reverse (less_if (slice_cmp nat_cmp (spelling v) (spelling w)) h))
 
-before_first : (w x y : Variation) → is_spelled_before w x ≡ true → is_spelled_before y x ≡ false → is_spelled_before y w ≡ false
+before_first : (w x y : Variation) → is_spelled_before w x ≡ true → is_spelled_before y x ≡ false
+    → is_spelled_before y w ≡ false
 before_first w x y wx yx =
     not_true (is_spelled_before y w) (λ yw. true_false (is_spelled_before y x)
-    (ap is_lt (nat_list_cmp_total.trans (spelling y) (spelling w) (spelling x) (less_if (slice_cmp nat_cmp (spelling y) (spelling w)) yw) (less_if (slice_cmp nat_cmp (spelling w) (spelling x)) wx))) yx)
+    (ap is_lt (nat_list_cmp_total.trans (spelling y) (spelling w) (spelling x) (less_if (slice_cmp nat_cmp (spelling y)
+    (spelling w)) yw) (less_if (slice_cmp nat_cmp (spelling w) (spelling x)) wx))) yx)
 
 abbrev Stand : List Variation → Type 0
 Stand xs = Apart (λ v w. is_spelled_before w v ≡ false) xs
@@ -40,8 +44,16 @@ inserted_stand : (w : Variation) (xs : List Variation) → Stand xs → Stand (l
 inserted_stand w [] h = (tt, tt)
 inserted_stand w (x ∷ xs) h = by (is_spelled_before w x) refl (inserted_stand w xs h.1)
   where
-    by : (b : Bool) → is_spelled_before w x ≡ b → Stand (list_with w xs) → Stand (cond b (w ∷ x ∷ xs) (x ∷ list_with w xs))
-    by true wx rest = ((not_after w x wx, all_map (λ y. is_spelled_before y x ≡ false) (λ y. is_spelled_before y w ≡ false) (λ y yx. before_first w x y wx yx) xs h.0), h)
+    by : (b : Bool) → is_spelled_before w x ≡ b → Stand (list_with w xs)
+        → Stand (cond b (w ∷ x ∷ xs) (x ∷ list_with w xs))
+    by true wx rest = (
+      (
+        not_after w x wx,
+        all_map (λ y. is_spelled_before y x ≡ false) (λ y. is_spelled_before y w ≡ false)
+            (λ y yx. before_first w x y wx yx) xs h.0,
+      ),
+      h,
+    )
     by false wx rest = (all_inserted (λ y. is_spelled_before y x ≡ false) w xs wx h.0, rest)
 
 added_stand : (own others : List Variation) (w : Variation) → Stand others → Stand (wants_with own others w)
@@ -51,6 +63,7 @@ added_stand own others w h = by (list_any (same w) own || list_any (same w) othe
     by true = h
     by false = inserted_stand w others h
 
-pub all_stand : (own others ws : List Variation) → Apart (λ v w. is_spelled_before w v ≡ false) others → Apart (λ v w. is_spelled_before w v ≡ false) (fold (wants_with own) others ws)
+pub all_stand : (own others ws : List Variation) → Apart (λ v w. is_spelled_before w v ≡ false) others
+    → Apart (λ v w. is_spelled_before w v ≡ false) (fold (wants_with own) others ws)
 all_stand own others [] h = h
 all_stand own others (w ∷ ws) h = all_stand own (wants_with own others w) ws (added_stand own others w h)

@@ -23,12 +23,24 @@ module _ {P : Type 0} (meet : OutsMeetTheirEquation (List Variation)) (plans : P
     (free : ValidPlansHaveNoCycle P) (come : PredecessorsAreArrivals P)
     (m : TransitionMeaning P) (nodes : List (Node P)) (lists : List (List Variation))
     (numbered : IsNumbered nodes) (valid : IsValid nodes) (wants : WantsMeans m nodes (Ok lists)) where
-  pub equation : (n : ℕ) → n < length nodes → (own : List Variation) × (m.split nodes n ≡ Ok own) × (get_or lists n [] ≡ own ++ others_of own (wanted_variations m nodes n (arrivals nodes n) (map (λ a. get_or lists a.0.0 []) (arrivals nodes n))))
+  pub equation : (n : ℕ) → n < length nodes
+      → (own : List Variation) × (m.split nodes n ≡ Ok own) × (get_or lists n [] ≡ own ++ others_of own
+      (wanted_variations m nodes n (arrivals nodes n) (map (λ a. get_or lists a.0.0 []) (arrivals nodes n))))
   equation n lt =
-      let h = meet (variations_meant m nodes) (plan_of TopDown nodes) lists n [] (plans nodes TopDown numbered) (free nodes TopDown valid) wants lt in
-      let before : map (λ k. get_or lists k []) (predecessors (plan_edges TopDown nodes) n) ≡ map (λ a. get_or lists a.0.0 []) (arrivals nodes n) = ap (map (λ k. get_or lists k [])) (come nodes n lt) ∙ map_twice (λ k. get_or lists k []) (λ a. a.0.0) (arrivals nodes n) in
-      let r = then_do_ok (m.split nodes n) (λ own. Ok (own ++ others_of own (wanted_variations m nodes n (arrivals nodes n) (map (λ a. get_or lists a.0.0 []) (arrivals nodes n))))) (get_or lists n []) (ap (variations_meant m nodes n) (sym before) ∙ h) in
-      (r.0, r.1, same_ok (get_or lists n []) (r.0 ++ others_of r.0 (wanted_variations m nodes n (arrivals nodes n) (map (λ a. get_or lists a.0.0 []) (arrivals nodes n)))) r.2)
+      let h = meet (variations_meant m nodes) (plan_of TopDown nodes) lists n [] (plans nodes TopDown numbered)
+      (free nodes TopDown valid) wants lt in
+      let before : map (λ k. get_or lists k []) (predecessors (plan_edges TopDown nodes) n)
+      ≡ map (λ a. get_or lists a.0.0 []) (arrivals nodes n) =
+      ap (map (λ k. get_or lists k [])) (come nodes n lt)
+      ∙ map_twice (λ k. get_or lists k []) (λ a. a.0.0) (arrivals nodes n) in
+      let r = then_do_ok (m.split nodes n) (λ own. Ok (own ++ others_of own
+      (wanted_variations m nodes n (arrivals nodes n) (map (λ a. get_or lists a.0.0 []) (arrivals nodes n)))))
+      (get_or lists n []) (ap (variations_meant m nodes n) (sym before) ∙ h) in (
+        r.0,
+        r.1,
+        same_ok (get_or lists n []) (r.0 ++ others_of r.0
+            (wanted_variations m nodes n (arrivals nodes n) (map (λ a. get_or lists a.0.0 []) (arrivals nodes n)))) r.2,
+      )
     where
       same_ok : {A E : Type 0} (x y : A) → ◌≡◌ {A = Result A E} (Ok y) (Ok x) → x ≡ y
       same_ok x y e = cc

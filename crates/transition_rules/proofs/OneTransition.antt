@@ -17,7 +17,8 @@ use Rattle.mutator_rules.specs.Outcomes.{KindOutcome, Made, FaultAt, NodesBeyond
 use Rattle.variant_graphs.specs.Limits.{IsFirstNodeBeyond, IsFirstEdgeBeyond}
 use Rattle.variant_graphs.specs.Payloads.{with_payloads}
 use Rattle.transition_rules.specs.Wants.{variations_meant}
-use Rattle.transition_rules.specs.Passes.{WantsMeans, MutatedMeans, varied_graph, MutateMeans, StepsOn, TransitionMeans, WantsMean}
+use Rattle.transition_rules.specs.Passes.{WantsMeans, MutatedMeans, varied_graph, MutateMeans, StepsOn, TransitionMeans}
+use Rattle.transition_rules.specs.Passes.{WantsMean}
 use Rattle.module_graph.specs.Graphs.{all_edges}
 
 same_some : {A : Type 0} (x y : A) → Some x ≡ Some y → x ≡ y
@@ -125,7 +126,8 @@ module _ {P : Type 0} (wants : AtMostOneOutcome (List Variation)) (once : AtMost
   same_step (NodesBeyond p) x y a b = a ∙ sym b
   same_step (EdgesBeyond p) x y a b = a ∙ sym b
 
-  pub one_transition : (x y : KindOutcome (List (Node P))) → TransitionMeans m nodes x → TransitionMeans m nodes y → x ≡ y
+  pub one_transition : (x y : KindOutcome (List (Node P))) → TransitionMeans m nodes x → TransitionMeans m nodes y
+      → x ≡ y
   one_transition x y a b =
       same_step b.0 x y
       (subst (λ first. StepsOn first (MutateMeans m) x) (one_wants wants m nodes a.0 b.0 a.1 b.1) a.2) b.2

@@ -14,7 +14,8 @@ use Rattle.module_graph.specs.declared.variation.Variation.{Variation}
 use Rattle.bp_faults.specs.declared.limits.TheConstants.{MOST_NODES}
 use Rattle.variant_graphs.specs.Inside.{total, before, begun, theirs, IsNumbering, IsFit, led_by, node_by}
 use Rattle.variant_graphs.specs.declared.numbering.Numbering.{Numbering}
-use Rattle.variant_graphs.specs.Splitting.{SplitRule, Splitting, splitting, variants_at, first_of, led_edge, variant_node}
+use Rattle.variant_graphs.specs.Splitting.{SplitRule, Splitting, splitting, variants_at, first_of, led_edge}
+use Rattle.variant_graphs.specs.Splitting.{variant_node}
 use Rattle.module_graph.specs.Axes.{axis_index}
 use Rattle.module_graph.specs.declared.graph.Node.{Node}
 use Rattle.std.specs.Option.{option_map}
@@ -126,9 +127,12 @@ module _ {P B : Type 0} (rule : SplitRule P B) (lists : List (List B)) (numberin
     «module» = x.«module»;
     vars = slice_set x.vars (axis_index rule.axis) (rule.variation b);
     payload = rule.payload x b;
-    edges = filter_map-same (led_by rule numbering n (rule.variation b)) (led_edge (splitting rule lists) n (rule.variation b))
+    edges =
+        filter_map-same (led_by rule numbering n (rule.variation b))
+        (led_edge (splitting rule lists) n (rule.variation b))
         x.edges
         (all_map (λ (e : Edge). e.to.0 < length lists)
-        (λ (e : Edge). led_by rule numbering n (rule.variation b) e ≡ led_edge (splitting rule lists) n (rule.variation b) e)
+        (λ (e : Edge). led_by rule numbering n (rule.variation b) e
+        ≡ led_edge (splitting rule lists) n (rule.variation b) e)
         (λ e lt. same_edge n (rule.variation b) e lt) x.edges ends) i;
   }

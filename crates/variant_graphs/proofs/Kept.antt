@@ -1,5 +1,6 @@
 -- What stays of a graph under new payloads and in a split.
-use Rattle.std.proofs.Common.{◌≡◌, ◌+◌, ◌<◌, ◌++◌, ℕ, zero, suc, List, [], ◌∷◌, map, length, refl, ap, ◌∙◌, sym, subst, length-append, arith}
+use Rattle.std.proofs.Common.{◌≡◌, ◌+◌, ◌<◌, ◌++◌, ℕ, zero, suc, List, [], ◌∷◌, map, length, refl, ap, ◌∙◌, sym, subst}
+use Rattle.std.proofs.Common.{length-append, arith}
 use Rattle.std.specs.Prelude.{⊤, Contains}
 use Rattle.std.proofs.lemmas.List.Elements.{recursion_from_All, All-contains_itself}
 use Rattle.std.specs.List.{AllByRecursion}
@@ -35,7 +36,9 @@ module _ {P : Type 0} where
   length-given (x ∷ xs) (p ∷ ps) = ap suc (length-given xs ps)
 
   -- what is made of the edges alone
-  numbered_given : {A : Type 0} (f : ℕ → List Edge → List A) (k : ℕ) (xs : List (Node P)) (ps : List P) → by_number (λ n (x : Node P). f n x.edges) k (with_payloads xs ps) ≡ by_number (λ n (x : Node P). f n x.edges) k xs
+  numbered_given : {A : Type 0} (f : ℕ → List Edge → List A) (k : ℕ) (xs : List (Node P)) (ps : List P)
+      → by_number (λ n (x : Node P). f n x.edges) k (with_payloads xs ps)
+      ≡ by_number (λ n (x : Node P). f n x.edges) k xs
   numbered_given f k [] ps = refl
   numbered_given f k (x ∷ xs) [] = refl
   numbered_given f k (x ∷ xs) (p ∷ ps) = ap (λ l. f k x.edges ++ l) (numbered_given f (k + 1) xs ps)
@@ -43,12 +46,17 @@ module _ {P : Type 0} where
   pub edges_given : (xs : List (Node P)) (ps : List P) → edges_of (with_payloads xs ps) ≡ edges_of xs
   edges_given xs ps = numbered_given (λ n es. map (outward n) es) 0 xs ps
 
-  pub plan_given : (dir : Direction) (xs : List (Node P)) (ps : List P) → plan_of dir (with_payloads xs ps) ≡ plan_of dir xs
-  plan_given BottomUp xs ps = λ i. record { count = length-given xs ps i; edges = numbered_given (λ n es. map (turned_edge n) es) 0 xs ps i }
-  plan_given TopDown xs ps = λ i. record { count = length-given xs ps i; edges = by_target (length-given xs ps i) (edges_given xs ps i) }
+  pub plan_given : (dir : Direction) (xs : List (Node P)) (ps : List P)
+      → plan_of dir (with_payloads xs ps) ≡ plan_of dir xs
+  plan_given BottomUp xs ps =
+      λ i. record { count = length-given xs ps i; edges = numbered_given (λ n es. map (turned_edge n) es) 0 xs ps i }
+  plan_given TopDown xs ps =
+      λ i. record { count = length-given xs ps i; edges = by_target (length-given xs ps i) (edges_given xs ps i) }
 
   -- what holds of each module, its variations and its edges
-  pub all_given : (Q : ModuleId → List Variation → List Edge → Type 0) (xs : List (Node P)) (ps : List P) → AllByRecursion (λ (x : Node P). Q x.«module» x.vars x.edges) xs → AllByRecursion (λ (x : Node P). Q x.«module» x.vars x.edges) (with_payloads xs ps)
+  pub all_given : (Q : ModuleId → List Variation → List Edge → Type 0) (xs : List (Node P)) (ps : List P)
+      → AllByRecursion (λ (x : Node P). Q x.«module» x.vars x.edges) xs
+      → AllByRecursion (λ (x : Node P). Q x.«module» x.vars x.edges) (with_payloads xs ps)
   all_given Q [] ps h = h
   all_given Q (x ∷ xs) [] h = h
   all_given Q (x ∷ xs) (p ∷ ps) h = (h.0, all_given Q xs ps h.1)
@@ -56,10 +64,13 @@ module _ {P : Type 0} where
   apart_given : (xs : List (Node P)) (ps : List P) → Apart Differ xs → Apart Differ (with_payloads xs ps)
   apart_given [] ps h = h
   apart_given (x ∷ xs) [] h = h
-  apart_given (x ∷ xs) (p ∷ ps) h = (all_given (λ m vars es. x.«module» ≡ m → x.vars ≡ vars → ⊥) xs ps h.0, apart_given xs ps h.1)
+  apart_given (x ∷ xs) (p ∷ ps) h =
+      (all_given (λ m vars es. x.«module» ≡ m → x.vars ≡ vars → ⊥) xs ps h.0, apart_given xs ps h.1)
 
   pub ends_given : (xs : List (Node P)) (ps : List P) → NameNodes xs → NameNodes (with_payloads xs ps)
-  ends_given xs ps h = subst (λ count. AllByRecursion (λ (x : Node P). AllByRecursion (λ (e : Edge). e.to.0 < count) x.edges) (with_payloads xs ps)) (sym (length-given xs ps))
+  ends_given xs ps h =
+      subst (λ count. AllByRecursion (λ (x : Node P). AllByRecursion (λ (e : Edge). e.to.0 < count) x.edges)
+      (with_payloads xs ps)) (sym (length-given xs ps))
       (all_given (λ m vars es. AllByRecursion (λ (e : Edge). e.to.0 < length xs) es) xs ps h)
 
   pub valid_given : (xs : List (Node P)) (ps : List P) → IsValid xs → IsValid (with_payloads xs ps)
@@ -77,11 +88,13 @@ module _ {P : Type 0} where
   }
 
   -- as many edges by node as there are
-  pub length-edges : (k : ℕ) (xs : List (Node P)) → length (by_number (λ n (x : Node P). map (outward n) x.edges) k xs) ≡ length (all_edges xs)
+  pub length-edges : (k : ℕ) (xs : List (Node P))
+      → length (by_number (λ n (x : Node P). map (outward n) x.edges) k xs) ≡ length (all_edges xs)
   length-edges k [] = refl
   length-edges k (x ∷ xs) =
       length-append (map (outward k) x.edges) (by_number (λ n (x : Node P). map (outward n) x.edges) (k + 1) xs)
-      ∙ ap (λ j. j + length (by_number (λ n (x : Node P). map (outward n) x.edges) (k + 1) xs)) (length-map x.edges (outward k))
+      ∙ ap (λ j. j + length (by_number (λ n (x : Node P). map (outward n) x.edges) (k + 1) xs))
+      (length-map x.edges (outward k))
       ∙ ap (λ j. length x.edges + j) (length-edges (k + 1) xs) ∙ sym (length-append x.edges (all_edges xs))
 
   pub numbered_within : (xs : List (Node P)) → NameNodes xs → IsWithinLimits xs → IsNumbered xs
@@ -92,13 +105,19 @@ module _ {P : Type 0} where
   }
 
 module _ {P B : Type 0} (s : Splitting P B) where
-  split_modules : (Q : ModuleId → Type 0) (k : ℕ) (xs : List (Node P)) → AllByRecursion (λ (x : Node P). Q x.«module») xs → AllByRecursion (λ (x : Node P). Q x.«module») (by_number (λ n x. map (variant_node s n x) (variants_at s n)) k xs)
+  split_modules : (Q : ModuleId → Type 0) (k : ℕ) (xs : List (Node P))
+      → AllByRecursion (λ (x : Node P). Q x.«module») xs → AllByRecursion (λ (x : Node P). Q x.«module»)
+      (by_number (λ n x. map (variant_node s n x) (variants_at s n)) k xs)
   split_modules Q k xs h =
-      all_by_number (λ (x : Node P). Q x.«module») (λ (x : Node P). Q x.«module») (k + length xs) (λ n x. map (variant_node s n x) (variants_at s n))
-      (λ n x lt q. all_image (λ (b : B). ⊤) (λ (y : Node P). Q y.«module») (variant_node s n x) (λ b _. q) (variants_at s n) (all_each (λ (b : B). ⊤) (λ b. tt) (variants_at s n))) k xs refl h
+      all_by_number (λ (x : Node P). Q x.«module») (λ (x : Node P). Q x.«module») (k + length xs)
+      (λ n x. map (variant_node s n x) (variants_at s n))
+      (λ n x lt q. all_image (λ (b : B). ⊤) (λ (y : Node P). Q y.«module») (variant_node s n x) (λ b _. q)
+      (variants_at s n) (all_each (λ (b : B). ⊤) (λ b. tt) (variants_at s n))) k xs refl h
 
   -- what holds of each node's module holds of each variant's
-  pub modules_stay : (Q : ModuleId → Type 0) (nodes : List (Node P)) → AllByRecursion (λ (x : Node P). Q x.«module») nodes → AllByRecursion (λ (x : Node P). Q x.«module») (split_nodes s nodes)
+  pub modules_stay : (Q : ModuleId → Type 0) (nodes : List (Node P))
+      → AllByRecursion (λ (x : Node P). Q x.«module») nodes
+      → AllByRecursion (λ (x : Node P). Q x.«module») (split_nodes s nodes)
   modules_stay Q nodes h = split_modules Q 0 nodes h
 
 -- the modules of nodes are among those of the nodes
@@ -149,7 +168,8 @@ module _ {P B : Type 0} (s : Splitting P B) where
   free_stays nodes axis differs free =
       all_by_number Free Free (0 + length nodes) (λ n x. map (variant_node s n x) (variants_at s n))
       (λ n x lt q. all_image (λ (b : B). ⊤) Free (variant_node s n x)
-      (λ b _. get_else x.vars (axis_index s.axis) (axis_index axis) (s.variation b) (indices_differ axis s.axis differs) ∙ q)
+      (λ b _. get_else x.vars (axis_index s.axis) (axis_index axis) (s.variation b) (indices_differ axis s.axis differs)
+      ∙ q)
       (variants_at s n) (all_each (λ (b : B). ⊤) (λ b. tt) (variants_at s n))) 0 nodes refl free
     where
       Free : Node P → Type 0

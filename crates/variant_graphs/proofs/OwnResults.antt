@@ -1,5 +1,6 @@
 -- A pass makes what nodes have of their own.
-use Rattle.std.proofs.Common.{◌≡◌, ◌∙◌, ◌<◌, ap, subst, sym, refl, arith, length, map, get_or, zero-add, ℕ, zero, suc, List, [], ◌∷◌, Some, Result, Ok}
+use Rattle.std.proofs.Common.{◌≡◌, ◌∙◌, ◌<◌, ap, subst, sym, refl, arith, length, map, get_or, zero-add, ℕ, zero, suc}
+use Rattle.std.proofs.Common.{List, [], ◌∷◌, Some, Result, Ok}
 use Rattle.std.specs.Prelude.{slice_get, Contains}
 use Rattle.std.specs.List.{AllByRecursion, range_with_len}
 use Rattle.std.proofs.lemmas.List.{length-map, same_lists}
@@ -11,7 +12,8 @@ use Rattle.bp_faults.specs.declared.fault.Fault.{Fault}
 use Rattle.pass_core.specs.Laws.{OneSolution, PredecessorsAreNodes}
 use Rattle.pass_core.specs.Outcomes.{PassOutcomeMeans}
 use Rattle.pass_core.specs.Plans.{IsPlan, HasNoCycle, predecessors}
-use Rattle.pass_core.specs.Results.{NodeResult, Done, Poisoned, all_outs, cons_if, judged_result, node_result, result_of_visit}
+use Rattle.pass_core.specs.Results.{NodeResult, Done, Poisoned, all_outs, cons_if, judged_result, node_result}
+use Rattle.pass_core.specs.Results.{result_of_visit}
 use Rattle.module_graph.specs.declared.direction.Direction.{Direction}
 use Rattle.module_graph.specs.declared.graph.Node.{Node}
 use Rattle.module_graph.specs.Planned.{plan_edges, plan_of}

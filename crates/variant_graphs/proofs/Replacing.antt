@@ -9,7 +9,9 @@ module _ {P : Type 0} where
   none_given [] = refl
   none_given (x ∷ xs) = refl
 
-  pub more_given : (xs : List (Node P)) (ps : List P) (p : P) (d : Node P) → length ps < length xs → set (with_payloads xs ps) (length ps) (with_payload (get_or (with_payloads xs ps) (length ps) d) p) ≡ with_payloads xs (ps ++ p ∷ [])
+  pub more_given : (xs : List (Node P)) (ps : List P) (p : P) (d : Node P) → length ps < length xs
+      → set (with_payloads xs ps) (length ps) (with_payload (get_or (with_payloads xs ps) (length ps) d) p)
+      ≡ with_payloads xs (ps ++ p ∷ [])
   more_given [] ps p d lt = absurd (omega arith)
   more_given (x ∷ xs) [] p d lt = ap (λ r. with_payload x p ∷ r) (none_given xs)
   more_given (x ∷ xs) (q ∷ ps) p d lt = ap (λ r. with_payload x q ∷ r) (more_given xs ps p d (omega arith))

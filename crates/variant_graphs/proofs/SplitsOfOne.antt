@@ -1,5 +1,6 @@
 -- A split in which each node has one variant, as it was itself.
-use Rattle.std.proofs.Common.{◌≡◌, ◌∙◌, ◌<◌, ◌≤◌, ◌+◌, ◌++◌, ap, refl, arith, length, map, zero-add, ℕ, zero, suc, List, [], ◌∷◌, Some}
+use Rattle.std.proofs.Common.{◌≡◌, ◌∙◌, ◌<◌, ◌≤◌, ◌+◌, ◌++◌, ap, refl, arith, length, map, zero-add, ℕ, zero, suc, List}
+use Rattle.std.proofs.Common.{[], ◌∷◌, Some}
 use Rattle.std.specs.Prelude.{slice_get, slice_set}
 use Rattle.std.specs.Option.{option_map}
 use Rattle.std.specs.List.{AllByRecursion, cons_option, filter_map}
@@ -12,7 +13,8 @@ use Rattle.module_graph.specs.declared.variation.Variation.TheVariants.{Empty}
 use Rattle.module_graph.specs.Axes.{axis_index}
 use Rattle.module_graph.specs.Graphs.{NameNodes}
 use Rattle.module_graph.specs.Numbered.{by_number}
-use Rattle.variant_graphs.specs.Splitting.{Splitting, first_of, led_edge, split_nodes, variant_node, variants_at, HasFreeAxis}
+use Rattle.variant_graphs.specs.Splitting.{Splitting, first_of, led_edge, split_nodes, variant_node, variants_at}
+use Rattle.variant_graphs.specs.Splitting.{HasFreeAxis}
 use Rattle.variant_graphs.proofs.NewNodes.{first_more, piece}
 
 -- an item is set where it stands

@@ -35,13 +35,15 @@ module _ (k : ℕ) (ts : List (ℕ × ℕ)) where
 -- a node without a ticket has no number
 pub no_number : (n : ℕ) (ts : List (ℕ × ℕ)) → tickets_for n ts ≡ 0 → ticket_number n ts ≡ 0
 no_number n [] z = refl
-no_number n (t ∷ ts) z = let h : tickets_for n ts ≡ 0 → ticket_number n ts ≡ 0 = no_number n ts in grind (arith, nat_tests)
+no_number n (t ∷ ts) z =
+    let h : tickets_for n ts ≡ 0 → ticket_number n ts ≡ 0 = no_number n ts in grind (arith, nat_tests)
 
 pub tickets_append : (x : ℕ) (xs ys : List (ℕ × ℕ)) → tickets_for x (xs ++ ys) ≡ tickets_for x xs + tickets_for x ys
 tickets_append x [] ys = omega arith
 tickets_append x (y ∷ xs) ys = let h = tickets_append x xs ys in omega arith
 
-pub number_append : (x : ℕ) (xs ys : List (ℕ × ℕ)) → ticket_number x (xs ++ ys) ≡ ticket_number x xs + ticket_number x ys
+pub number_append : (x : ℕ) (xs ys : List (ℕ × ℕ))
+    → ticket_number x (xs ++ ys) ≡ ticket_number x xs + ticket_number x ys
 number_append x [] ys = omega arith
 number_append x (y ∷ xs) ys = let h = number_append x xs ys in omega arith
 

@@ -1,5 +1,6 @@
 -- The edges into a node, by their numbers.
-use Rattle.std.proofs.Common.{◌≡◌, ◌+◌, ◌-◌, ◌<◌, ◌≤◌, ℕ, zero, suc, List, [], ◌∷◌, ◌++◌, length, map, take, drop, get_or, refl, ap, arith, ◌∙◌, sym, subst}
+use Rattle.std.proofs.Common.{◌≡◌, ◌+◌, ◌-◌, ◌<◌, ◌≤◌, ℕ, zero, suc, List, [], ◌∷◌, ◌++◌, length, map, take, drop}
+use Rattle.std.proofs.Common.{get_or, refl, ap, arith, ◌∙◌, sym, subst}
 use Rattle.std.specs.Prelude.{slice_index}
 use Rattle.std.proofs.lemmas.List.{get_or-take, get_or-drop, take_more, map-append}
 use Rattle.std.proofs.Math.Decide.{dec_lt}
@@ -11,7 +12,8 @@ use Rattle.pass_core.specs.InEdges.{edges_below, AreStarts}
 use Rattle.pass_core.specs.Laws.{InEdgesAreTogether, PlacesOfEdgesRise, PlacesTellTargets}
 use Rattle.ready_counters.specs.Edges.{edge_source, edge_target}
 
-edge_to : (edges : List PlanEdge) (i : ℕ) (d : PlanEdge) → i < length edges → (get_or edges i d).to.0 ≡ edge_target edges i
+edge_to : (edges : List PlanEdge) (i : ℕ) (d : PlanEdge) → i < length edges
+    → (get_or edges i d).to.0 ≡ edge_target edges i
 edge_to [] i d l = absurd (omega arith)
 edge_to (y ∷ ys) zero d l = refl
 edge_to (y ∷ ys) (suc i) d l = edge_to ys i d (omega arith)
@@ -78,7 +80,8 @@ module _ (together : InEdgesAreTogether) (rise : PlacesOfEdgesRise) (tell : Plac
   -- the edge at a place among them has this number
   pub into_at : (items : List PlanEdge) (i e : ℕ) (d : PlanEdge) → items ≡ in_edges plan.edges n → i < length items
       → e ≡ slice_index starts n + i
-      → (e < length plan.edges) × (e < slice_index starts (n + 1)) × ((get_or items i d).from.0 ≡ edge_source plan.edges e)
+      → (e < length plan.edges) × (e < slice_index starts (n + 1))
+      × ((get_or items i d).from.0 ≡ edge_source plan.edges e)
   into_at items i e d is l at =
       let b = begins in let f = ends in let up = (rise plan.edges n).0 in let most = (rise plan.edges (n + 1)).1 in
       let m = many_into in

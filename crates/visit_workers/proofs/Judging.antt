@@ -1,12 +1,15 @@
 -- Results that are all done, or not.
-use Rattle.std.proofs.Common.{◌≡◌, ◌+◌, ◌<◌, ◌++◌, ℕ, zero, suc, List, [], ◌∷◌, length, map, take, get_or, refl, ap, arith, ◌∙◌, sym, subst, if◌then◌else◌, Bool, true, false, Option, Some, None, Result, Global}
+use Rattle.std.proofs.Common.{◌≡◌, ◌+◌, ◌<◌, ◌++◌, ℕ, zero, suc, List, [], ◌∷◌, length, map, take, get_or, refl, ap}
+use Rattle.std.proofs.Common.{arith, ◌∙◌, sym, subst, if◌then◌else◌, Bool, true, false, Option, Some, None, Result}
+use Rattle.std.proofs.Common.{Global}
 use Rattle.std.specs.declared.sync.Arc.{Arc}
 use Rattle.std.specs.Arc.{arc_value}
 use Rattle.std.proofs.lemmas.List.{length-map}
 use Rattle.pass_core.specs.declared.published.Published.{Published}
 use Rattle.pass_core.specs.declared.published.Published.TheVariants.{Done, Bad, Poisoned}
 use Rattle.bp_faults.specs.declared.fault.Fault.{Fault}
-use Rattle.pass_core.specs.Results.{NodeResult, all_outs, cons_if, judged_result, result_of_visit as shown_as, node_result}
+use Rattle.pass_core.specs.Results.{NodeResult, all_outs, cons_if, judged_result, result_of_visit as shown_as}
+use Rattle.pass_core.specs.Results.{node_result}
 use Rattle.pass_core.specs.Plans.{IsPlan, HasNoCycle, predecessors}
 use Rattle.pass_core.specs.declared.plan.Plan.{Plan}
 use Rattle.pass_core.specs.Results.NodeResult.{Done as IsDone, Bad as IsBad, Poisoned as IsPoisoned}
@@ -20,7 +23,8 @@ module _ {O : Type 0} where
   none_more (IsBad f) rs h = refl
   none_more IsPoisoned rs h = refl
 
-  not_done : (p : Published O) (rs : List (NodeResult O)) → ((s : _) → p ≡ Done s → ⊥) → all_outs (published_result p ∷ rs) ≡ None
+  not_done : (p : Published O) (rs : List (NodeResult O)) → ((s : _) → p ≡ Done s → ⊥)
+      → all_outs (published_result p ∷ rs) ≡ None
   not_done (Done s) rs h = absurd (h s refl)
   not_done (Bad f) rs h = refl
   not_done Poisoned rs h = refl

@@ -1,5 +1,7 @@
 -- The numbers of the edges out of a node: each edge stands once in the list of its source, and in no other.
-use Rattle.std.proofs.Common.{◌≡◌, ◌+◌, ◌-◌, ◌<◌, ◌≤◌, ◌==◌, ◌++◌, ℕ, zero, suc, List, [], ◌∷◌, length, take, drop, set, get_or, get_or-set_same, get_or-set_other, refl, ap, arith, ◌∙◌, sym, subst, true, false, Bool, add-zero, eq-eqb, ne_eqb}
+use Rattle.std.proofs.Common.{◌≡◌, ◌+◌, ◌-◌, ◌<◌, ◌≤◌, ◌==◌, ◌++◌, ℕ, zero, suc, List, [], ◌∷◌, length, take, drop, set}
+use Rattle.std.proofs.Common.{get_or, get_or-set_same, get_or-set_other, refl, ap, arith, ◌∙◌, sym, subst, true, false}
+use Rattle.std.proofs.Common.{Bool, add-zero, eq-eqb, ne_eqb}
 use Rattle.std.specs.Prelude.{if◌then◌else◌, slice_index, All}
 use Rattle.std.specs.List.{AllByRecursion}
 use Rattle.std.proofs.lemmas.List.Elements.{All-push}
@@ -53,7 +55,8 @@ pub listed_once : (edges : List PlanEdge) (n e : ℕ) → e < length edges → e
 listed_once edges n e l f = let z : 0 + e ≡ e = omega arith in
     subst (λ y. times y (numbers_from 0 edges n) ≡ 1) z (from_once 0 edges n e l f)
 
-pub listed_never : (edges : List PlanEdge) (n e : ℕ) → (edge_source edges e ≡ n → ⊥) → times e (numbers_from 0 edges n) ≡ 0
+pub listed_never : (edges : List PlanEdge) (n e : ℕ) → (edge_source edges e ≡ n → ⊥)
+    → times e (numbers_from 0 edges n) ≡ 0
 listed_never edges n e ne =
     from_never 0 edges n e (λ i l is f. let s : i ≡ e = omega arith in ne (ap (edge_source edges) (sym s) ∙ f))
 

@@ -31,7 +31,8 @@ module _ {O : Type 0} where
   pub one_marked : (made : List (Made O)) (m : Made O) (marks : List Bool) → AreMarks marks made
       → AreMarks (set marks m.node.0 true) (made ++ m ∷ [])
   one_marked made m marks h n is =
-      let a : tickets_for n (pairs (made ++ m ∷ [])) ≡ tickets_for n (pairs made) + tickets_for n ((m.node.0, m.ticket) ∷ [])
+      let a : tickets_for n (pairs (made ++ m ∷ []))
+      ≡ tickets_for n (pairs made) + tickets_for n ((m.node.0, m.ticket) ∷ [])
       = ap (tickets_for n) (pairs_append made m) ∙ tickets_append n (pairs made) ((m.node.0, m.ticket) ∷ []) in
       dite (ℕ_discrete n m.node.0)
       (λ same. let b : tickets_for n ((m.node.0, m.ticket) ∷ []) ≡ 1 + 0 =

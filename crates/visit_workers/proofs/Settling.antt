@@ -1,5 +1,6 @@
 -- Seats that have done whatever they claimed.
-use Rattle.std.proofs.Common.{◌≡◌, ◌+◌, ◌<◌, ◌≤◌, ◌==◌, ◌++◌, ℕ, zero, suc, List, [], ◌∷◌, length, refl, ap, arith, ◌∙◌, sym, subst, true, false, Bool}
+use Rattle.std.proofs.Common.{◌≡◌, ◌+◌, ◌<◌, ◌≤◌, ◌==◌, ◌++◌, ℕ, zero, suc, List, [], ◌∷◌, length, refl, ap, arith, ◌∙◌}
+use Rattle.std.proofs.Common.{sym, subst, true, false, Bool}
 use Rattle.std.specs.Prelude.{if◌then◌else◌}
 use Rattle.std.proofs.lemmas.Bool.Decides.{nat_tests}
 use mathlib.Core.Logic.{dite}
@@ -10,7 +11,8 @@ use Rattle.ready_counters.specs.Edges.{left_from, left_of, lacks, edge_source, e
 use Rattle.ready_counters.specs.Views.{one, together, lighter, times, tickets_for}
 use Rattle.ready_counters.specs.Views.{with_claim, with_fetch, with_ticket, with_subtract}
 use Rattle.ready_counters.specs.Views.{with_filled}
-use Rattle.visit_workers.proofs.Counting.{times_append, tickets_append, times_here, times_else, ticket_here, ticket_else}
+use Rattle.visit_workers.proofs.Counting.{times_append, tickets_append, times_here, times_else, ticket_here}
+use Rattle.visit_workers.proofs.Counting.{ticket_else}
 use Rattle.std.proofs.Math.Decide.{dec_lt}
 use Rattle.visit_workers.specs.Links.{numbers_from}
 use Rattle.visit_workers.specs.Settled.{IsSettled, IsGathering, IsSpreading}
@@ -30,7 +32,9 @@ settled_both edges v w h k = record {
   ticketed = λ n. let a = tickets_append n v.tickets w.tickets in let b = times_append n v.claimed w.claimed in
       let c = h.ticketed n in let d = k.ticketed n in omega arith;
   fetched = λ e l. let a = times_append e v.fetched w.fetched in
-      let b = times_append (edge_target edges e) v.claimed w.claimed in let c = h.fetched e l in let d = k.fetched e l in
+      let b = times_append (edge_target edges e) v.claimed w.claimed in
+      let c = h.fetched e l in
+      let d = k.fetched e l in
       omega arith;
   filled = λ e l. let a = times_append e v.filled w.filled in
       let b = times_append (edge_source edges e) v.claimed w.claimed in let c = h.filled e l in let d = k.filled e l in
@@ -118,7 +122,8 @@ nothing_left done k (e ∷ es) n h =
 
 -- the sweep: where a settled seat has claimed all sources, nothing is left of the node's edges in its view
 pub sweep_ready : (edges : List PlanEdge) (v : View) (n : ℕ) → IsSettled edges v
-    → ((e : ℕ) → e < length edges → edge_target edges e ≡ n → 1 ≤ times (edge_source edges e) v.claimed) → left_of edges v n ≡ 0
+    → ((e : ℕ) → e < length edges → edge_target edges e ≡ n → 1 ≤ times (edge_source edges e) v.claimed)
+    → left_of edges v n ≡ 0
 sweep_ready edges v n h before =
     nothing_left (λ e. times e v.subtracted) 0 edges n
     (λ i l to. let a = before i l to in let b = h.subtracted i l in let s : 0 + i ≡ i = omega arith in

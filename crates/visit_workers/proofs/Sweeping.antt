@@ -1,5 +1,6 @@
 -- What an attempt reaches, and how the sweep goes on.
-use Rattle.std.proofs.Common.{◌≡◌, ◌+◌, ◌<◌, ◌≤◌, ℕ, zero, suc, List, [], ◌∷◌, ◌==◌, map, length, get_or, take, refl, ap, arith, ◌∙◌, sym, subst, Bool, true, false, cond}
+use Rattle.std.proofs.Common.{◌≡◌, ◌+◌, ◌<◌, ◌≤◌, ℕ, zero, suc, List, [], ◌∷◌, ◌==◌, map, length, get_or, take, refl}
+use Rattle.std.proofs.Common.{ap, arith, ◌∙◌, sym, subst, Bool, true, false, cond}
 use Rattle.std.specs.Prelude.{slice_index}
 use mathlib.Core.Logic.{dite}
 use native.Mathlib.Decide.{ℕ_discrete}
@@ -61,7 +62,8 @@ module _ (plan : Plan) (order : List ℕ) (legal : IsLegal plan order) where
       let c = source_of (Contains (take i order)) plan.edges (slice_index order i) (legal.after i l) e le to in
       let short = length-take-le i order (omega arith) in let k = c.1 in
       let lt : c.0 < i = omega arith in
-      let is : slice_index order c.0 ≡ edge_source plan.edges e = same_at order c.0 0 (edge_source plan.edges e) (omega arith)
+      let is : slice_index order c.0 ≡ edge_source plan.edges e =
+      same_at order c.0 0 (edge_source plan.edges e) (omega arith)
       ∙ sym (get_or-take i order c.0 (edge_source plan.edges e) lt) ∙ c.2 in
       subst (λ x. 1 ≤ times x v.claimed) is (before c.0 lt (omega arith)))))
       (λ ne. let b = before j (omega arith) inside in let g = r.0 (slice_index order j) in omega arith)

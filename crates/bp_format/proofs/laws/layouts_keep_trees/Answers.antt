@@ -11,4 +11,5 @@ returns c =
       rise = c.places_rise.ensures;
       one_list = c.one_token_list.ensures;
     } in
-    λ file text out ts us tree means listed parsed told. tree_same lex file text out ts us tree means.0 listed parsed told
+    λ file text out ts us tree means listed parsed told.
+    tree_same lex file text out ts us tree means.0 listed parsed told

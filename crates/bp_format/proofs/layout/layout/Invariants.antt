@@ -7,6 +7,7 @@ use Rattle.bp_format.proofs.layout.layout.Given as goal
 
 abbrev pub invariant-loop-at : goal.invariant-loop-at
 invariant-loop-at l = record {
-  laid : layout (pieces [] l.text l.tokens) ≡ string_bytes l.out ++ laid l.nest.items l.before (pieces l.nest.items l.text (drop l.at l.tokens));
+  laid : layout (pieces [] l.text l.tokens)
+      ≡ string_bytes l.out ++ laid l.nest.items l.before (pieces l.nest.items l.text (drop l.at l.tokens));
   short : length (string_bytes l.out) ≤ LARGEST_FILE;
 }

@@ -6,10 +6,15 @@ use Rattle.bp_lexer.proofs.class.run_len.Goals as goal
 -- the byte here is not of the class
 pub returns-else-in_class-clause-run : goal.returns-else-in_class-clause-run
 returns-else-in_class-clause-run c =
-    sym (prefix_len_is (in_class c.args.class) (drop c.args.from c.args.bytes.now) _ 0 (omega (arith, length-drop c.args.from c.args.bytes.now)) c.loop-count.invariant.passes
-    (λ h. ap (in_class c.args.class) (get_or-drop c.args.from c.args.bytes.now c.loop-count.count 0) ∙ sym c.in_class.ensures ∙ c.if-in_class.false))
+    sym (prefix_len_is (in_class c.args.class) (drop c.args.from c.args.bytes.now) _ 0
+    (omega (arith, length-drop c.args.from c.args.bytes.now)) c.loop-count.invariant.passes
+    (λ h. ap (in_class c.args.class) (get_or-drop c.args.from c.args.bytes.now c.loop-count.count 0)
+    ∙ sym c.in_class.ensures
+    ∙ c.if-in_class.false))
 
 -- no byte is left
 pub returns-after-loop-count-clause-run : goal.returns-after-loop-count-clause-run
 returns-after-loop-count-clause-run c =
-    sym (prefix_len_is (in_class c.args.class) (drop c.args.from c.args.bytes.now) _ 0 (omega (arith, length-drop c.args.from c.args.bytes.now)) c.loop-count.invariant.passes (λ h. absurd (omega (arith, length-drop c.args.from c.args.bytes.now))))
+    sym (prefix_len_is (in_class c.args.class) (drop c.args.from c.args.bytes.now) _ 0
+    (omega (arith, length-drop c.args.from c.args.bytes.now)) c.loop-count.invariant.passes
+    (λ h. absurd (omega (arith, length-drop c.args.from c.args.bytes.now))))

@@ -11,5 +11,7 @@ returns-in-Some c =
 
 pub returns-in-None : goal.returns-in-None
 returns-in-None c =
-    let none : (n : ℕ) → IsEnd (drop 2 c.args.text.now) n → ⊥ = rw take_rest at c.in-None.ensures in
-    (block_open c.args.text.now c.requires.first c.requires.second none, block_begins c.args.text.now c.requires.first c.requires.second)
+    let none : (n : ℕ) → IsEnd (drop 2 c.args.text.now) n → ⊥ = rw take_rest at c.in-None.ensures in (
+      block_open c.args.text.now c.requires.first c.requires.second none,
+      block_begins c.args.text.now c.requires.first c.requires.second,
+    )

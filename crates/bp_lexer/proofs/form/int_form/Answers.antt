@@ -1,7 +1,8 @@
 use Rattle.std.proofs.Common.{arith}
 use Rattle.bp_lexer.proofs.Ints.{int_longest}
 use Rattle.bp_lexer.proofs.form.int_form.Goals as goal
-use Rattle.bp_lexer.proofs.form.int_form.Goals.{else-text-eq45-via-then-text-eq45+else-more-eq0, else-text-eq45-via-else-text-eq45}
+use Rattle.bp_lexer.proofs.form.int_form.Goals.{else-text-eq45-via-then-text-eq45+else-more-eq0}
+use Rattle.bp_lexer.proofs.form.int_form.Goals.{else-text-eq45-via-else-text-eq45}
 
 pub returns : goal.returns
 returns c =

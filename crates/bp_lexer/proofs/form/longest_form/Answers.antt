@@ -4,7 +4,9 @@ use Rattle.bp_lexer.proofs.Marks.{BeginsNone, none_begins, none_opens}
 use Rattle.bp_lexer.proofs.form.longest_form.Goals as goal
 
 pub returns-then-in_class : goal.returns-then-in_class
-returns-then-in_class c = ident_longest c.args.text.now _ c.requires.nonempty (sym c.in_class.ensures ∙ c.if-in_class.true) (ap (λ n. 1 + n) c.run_len.ensures.run)
+returns-then-in_class c =
+    ident_longest c.args.text.now _ c.requires.nonempty (sym c.in_class.ensures ∙ c.if-in_class.true)
+    (ap (λ n. 1 + n) c.run_len.ensures.run)
 
 pub returns-in-None : goal.returns-in-None
 returns-in-None c =

@@ -8,4 +8,5 @@ use Rattle.bp_lexer.proofs.value.quoted_value.Goals as goal
 pub returns : goal.returns
 returns c =
     let none : list_any (λ b. b == 92) c.args.inner.now ≡ false = cc in
-    subst (λ l. IfOk c.from_str.result (λ value. value ≡ l)) (sym (plain_text c.args.inner.now c.utf8.inner none)) c.from_str.ensures
+    subst (λ l. IfOk c.from_str.result (λ value. value ≡ l))
+    (sym (plain_text c.args.inner.now c.utf8.inner none)) c.from_str.ensures

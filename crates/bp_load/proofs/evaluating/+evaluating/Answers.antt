@@ -23,11 +23,15 @@ evaluate_below-returns-in_err-evaluation g t c =
     let base = pairs_of c.args.base in
     let trunk = c.in_ok-trunk.trunk.items in
     let branches = c.in_ok-trunk.branches.items in
-    let above : IsTrunk (directories_of files) c.trunk-count.result = subst (λ fs. IsTrunk (directories_of fs) c.trunk-count.result) c.as_slice-2.ensures.value c.trunk-count.ensures.above in
-    let refused = err_from_is_err_and c.from_residual-in_err-evaluation.result c.from_residual-in_err-evaluation.ensures.1 in
+    let above : IsTrunk (directories_of files) c.trunk-count.result = subst (λ fs.
+    IsTrunk (directories_of fs) c.trunk-count.result) c.as_slice-2.ensures.value c.trunk-count.ensures.above in
+    let refused =
+    err_from_is_err_and c.from_residual-in_err-evaluation.result c.from_residual-in_err-evaluation.ensures.1 in
     rw (refused.1, refused.2)
-    (answered show c.in_err-evaluation.field-0.0 (all_turned base no_turn (map placed_of trunk)) (evaluated_in base [] (map placed_of files)) c.in_err-evaluation.ensures.turn
-    (λ fault is. evaluated_branches files trunk branches c.trunk-count.result c.in_ok-trunk.ensures.front c.in_ok-trunk.ensures.back base c.requires above (Err fault) is))
+    (answered show c.in_err-evaluation.field-0.0 (all_turned base no_turn (map placed_of trunk))
+    (evaluated_in base [] (map placed_of files)) c.in_err-evaluation.ensures.turn
+    (λ fault is. evaluated_branches files trunk branches c.trunk-count.result c.in_ok-trunk.ensures.front
+    c.in_ok-trunk.ensures.back base c.requires above (Err fault) is))
 
 pub evaluate_below-returns : goal.evaluate_below-returns
 evaluate_below-returns g t c =
@@ -35,17 +39,21 @@ evaluate_below-returns g t c =
     let base = pairs_of c.args.base in
     let trunk = c.in_ok-trunk.trunk.items in
     let branches = c.in_ok-trunk.branches.items in
-    let above : IsTrunk (directories_of files) c.trunk-count.result = subst (λ fs. IsTrunk (directories_of fs) c.trunk-count.result) c.as_slice-2.ensures.value c.trunk-count.ensures.above in
+    let above : IsTrunk (directories_of files) c.trunk-count.result = subst (λ fs.
+    IsTrunk (directories_of fs) c.trunk-count.result) c.as_slice-2.ensures.value c.trunk-count.ensures.above in
     let evaluation = c.in_ok-evaluation.evaluation in
     let below = pairs_of c.finish-below.result.0 in
     let last = innermost (turn_of evaluation).opened in
-    let parts : evaluated_in base [] (map placed_of files) ≡ and_then (Ok (turn_of evaluation).modules) (evaluated_in (scope_in base last) [] (map placed_of branches)) =
-    evaluated_branches files trunk branches c.trunk-count.result c.in_ok-trunk.ensures.front c.in_ok-trunk.ensures.back base c.requires above (Ok (turn_of evaluation)) c.in_ok-evaluation.ensures.turn in
+    let parts : evaluated_in base [] (map placed_of files)
+    ≡ and_then (Ok (turn_of evaluation).modules) (evaluated_in (scope_in base last) [] (map placed_of branches)) =
+    evaluated_branches files trunk branches c.trunk-count.result c.in_ok-trunk.ensures.front c.in_ok-trunk.ensures.back
+    base c.requires above (Ok (turn_of evaluation)) c.in_ok-evaluation.ensures.turn in
     let scope : below ≡ scope_in base last = c.finish-below.ensures.scope base c.in_ok-evaluation.ensures.below in
     let modules : show c.finish-below.result.1 ≡ (turn_of evaluation).modules = c.finish-below.ensures.modules in
     subst (Answers show c.joined.result)
     (sym (parts ∙ (λ i. and_then (Ok (sym modules i)) (evaluated_in (sym scope i) [] (map placed_of branches)))))
-    (both_answered show raws_joined (Ok (show c.finish-below.result.1)) (evaluated_in below [] (map placed_of branches)) (Ok c.finish-below.result.1) c.evaluate_branches-back.result c.joined.result
+    (both_answered show raws_joined (Ok (show c.finish-below.result.1)) (evaluated_in below [] (map placed_of branches))
+    (Ok c.finish-below.result.1) c.evaluate_branches-back.result c.joined.result
     refl c.evaluate_branches-back.ensures c.joined.ensures)
 
 pub evaluate_branches-returns : goal.evaluate_branches-returns
@@ -53,8 +61,12 @@ evaluate_branches-returns g t c =
     let base = pairs_of c.args.base in
     let front = c.in_ok-front.front.items in
     let back = c.in_ok-front.back.items in
-    let begins : IsBranch (directories_of c.args.files.items) c.cut-at.result = subst (λ fs. IsBranch (directories_of fs) c.cut-at.result) c.as_slice-2.ensures.value c.cut-at.ensures.branch in
+    let begins : IsBranch (directories_of c.args.files.items) c.cut-at.result =
+    subst (λ fs. IsBranch (directories_of fs) c.cut-at.result) c.as_slice-2.ensures.value c.cut-at.ensures.branch in
     subst (Answers show c.joined.result)
-    (sym (evaluated_halves c.args.files.items front back c.cut-at.result c.in_ok-front.ensures.front c.in_ok-front.ensures.back base c.requires.order begins))
-    (both_answered show raws_joined (evaluated_in base [] (map placed_of front)) (evaluated_in base [] (map placed_of back)) c.join-front.result.0 c.join-front.result.1 c.joined.result
-    c.join-front.ensures.first (subst (λ b. Answers show c.join-front.result.1 (evaluated_in b [] (map placed_of back))) c.in_ok-copy.ensures c.join-front.ensures.second) c.joined.ensures)
+    (sym (evaluated_halves c.args.files.items front back c.cut-at.result c.in_ok-front.ensures.front
+    c.in_ok-front.ensures.back base c.requires.order begins))
+    (both_answered show raws_joined (evaluated_in base [] (map placed_of front))
+    (evaluated_in base [] (map placed_of back)) c.join-front.result.0 c.join-front.result.1 c.joined.result
+    c.join-front.ensures.first (subst (λ b. Answers show c.join-front.result.1 (evaluated_in b [] (map placed_of back)))
+    c.in_ok-copy.ensures c.join-front.ensures.second) c.joined.ensures)

@@ -11,5 +11,6 @@ use Rattle.bp_load.proofs.evaluating.evaluate_by.Goals as goal
 pub returns : goal.returns
 returns g c =
     let files = map placed_of c.args.files.items in
-    subst (Answers (λ (modules : Vec (List ℕ × RawModule) Global). map placed_raw modules.items) c.evaluate_below.result)
+    subst (Answers (λ (modules : Vec (List ℕ × RawModule) Global). map placed_raw modules.items)
+    c.evaluate_below.result)
     (ap (λ base. evaluated_in base [] files) c.in_ok-none.ensures ∙ without_base [] files) c.evaluate_below.ensures

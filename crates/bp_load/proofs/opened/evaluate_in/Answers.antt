@@ -15,7 +15,9 @@ returns-in_err-evaluation c =
     let base = pairs_of c.args.base in
     let refused = err_from_is_err_and c.from_residual.result c.from_residual.ensures.1 in
     rw (refused.1, refused.2)
-    (answered (λ (modules : Vec (List ℕ × RawModule) Global). map placed_raw modules.items) c.in_err-evaluation.field-0.0 (all_turned base no_turn files) (evaluated_in base [] files) c.in_err-evaluation.ensures.turn
+    (answered (λ (modules : Vec (List ℕ × RawModule) Global). map placed_raw modules.items)
+    c.in_err-evaluation.field-0.0 (all_turned base no_turn files)
+    (evaluated_in base [] files) c.in_err-evaluation.ensures.turn
     (λ fault is. sym (turned_first base files c.requires) ∙ ap modules_of is))
 
 pub returns : goal.returns

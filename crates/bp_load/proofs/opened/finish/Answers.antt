@@ -10,5 +10,6 @@ returns-clause-scope c base is =
     let e = c.args.evaluation in
     let os = reverse e.opened.items in
     c.outer.ensures.pairs
-    ∙ ap (λ n. outer_pairs n e.scope) (c.outer_names.ensures ∙ ap (λ l. names_in e.base (reverse l)) c.as_slice.ensures.value)
+    ∙ ap (λ n. outer_pairs n e.scope)
+    (c.outer_names.ensures ∙ ap (λ l. names_in e.base (reverse l)) c.as_slice.ensures.value)
     ∙ innermost_scope e.scope e.base base os is.1

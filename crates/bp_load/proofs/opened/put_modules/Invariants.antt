@@ -4,4 +4,5 @@ use Rattle.bp_load.specs.Inherited.{placed_raw, in_directory}
 use Rattle.bp_load.proofs.opened.put_modules.Given as goal
 
 abbrev pub invariant-loop-module : goal.invariant-loop-module
-invariant-loop-module l = map placed_raw l.modules.items ≡ map placed_raw l.fn.modules.items ++ in_directory l.dir (map raw_of l.yielded)
+invariant-loop-module l =
+    map placed_raw l.modules.items ≡ map placed_raw l.fn.modules.items ++ in_directory l.dir (map raw_of l.yielded)

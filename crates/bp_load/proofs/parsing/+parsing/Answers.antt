@@ -14,8 +14,11 @@ returns g t c =
     let number = c.args.number in
     subst (λ files. Tells (λ parsed. map placed_of parsed.items) (Phase SourceFileMeans number files) c.joined.result)
     (sym (sources_append front back) ∙ ap sources_given cut.whole)
-    (told_joined placed_of (Phase SourceFileMeans number (sources_given front)) (Phase SourceFileMeans (number + length (sources_given front)) (sources_given back))
-    (Phase SourceFileMeans number (sources_given front ++ sources_given back)) (phase_halves SourceFileMeans number (sources_given front) (sources_given back))
+    (told_joined placed_of (Phase SourceFileMeans number (sources_given front))
+    (Phase SourceFileMeans (number + length (sources_given front)) (sources_given back))
+    (Phase SourceFileMeans number (sources_given front ++ sources_given back)) (phase_halves SourceFileMeans number
+    (sources_given front) (sources_given back))
     c.join-front.result.0 c.join-front.result.1 c.joined.result c.join-front.ensures.first
-    (subst (λ n. Tells (λ parsed. map placed_of parsed.items) (Phase SourceFileMeans n (sources_given back)) c.join-front.result.1)
+    (subst (λ n.
+    Tells (λ parsed. map placed_of parsed.items) (Phase SourceFileMeans n (sources_given back)) c.join-front.result.1)
     (cut.next ∙ ap (λ k. number + k) (sym (length_sources front))) c.join-front.ensures.second) c.joined.ensures)

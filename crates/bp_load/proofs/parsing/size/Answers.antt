@@ -16,12 +16,18 @@ files-preserved c =
     let i = c.files.file-index in
     let file = c.file-item.result in
     let source : Source = (file.0, file.1.items) in
-    let short : length file.1.items ≤ LARGEST_FILE = short_at files i file c.requires.short (omega arith) c.file-item.is in
-    let more : sum_by bytes_of (take (i + 1) (sources_given files)) ≡ sum_by bytes_of (take i (sources_given files)) + sum_by bytes_of (source ∷ []) =
-    ap (sum_by bytes_of) (take_source files i file (omega arith) c.file-item.is) ∙ sum_by-append bytes_of (take i (sources_given files)) (source ∷ []) in
-    (omega (arith, short, c.files.invariant.0, c.len-bytes.ensures), omega (arith, more, c.files.invariant.1, c.len-bytes.ensures))
+    let short : length file.1.items ≤ LARGEST_FILE =
+    short_at files i file c.requires.short (omega arith) c.file-item.is in
+    let more : sum_by bytes_of (take (i + 1) (sources_given files))
+    ≡ sum_by bytes_of (take i (sources_given files)) + sum_by bytes_of (source ∷ []) =
+    ap (sum_by bytes_of) (take_source files i file (omega arith) c.file-item.is)
+    ∙ sum_by-append bytes_of (take i (sources_given files)) (source ∷ []) in (
+      omega (arith, short, c.files.invariant.0, c.len-bytes.ensures),
+      omega (arith, more, c.files.invariant.1, c.len-bytes.ensures),
+    )
 
 pub returns : goal.returns
 returns c =
     let files = c.args.files.now in
-    c.files.invariant.1 ∙ ap (sum_by bytes_of) (take_all c.files.file-index (sources_given files) (omega (arith, length_sources files)))
+    c.files.invariant.1
+    ∙ ap (sum_by bytes_of) (take_all c.files.file-index (sources_given files) (omega (arith, length_sources files)))

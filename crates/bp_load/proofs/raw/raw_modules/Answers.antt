@@ -14,7 +14,9 @@ use Rattle.bp_load.proofs.raw.raw_modules.Goals as goal
 
 -- what is parsed stands in the order of the files
 pub evaluate_all-requires : goal.evaluate_all-requires
-evaluate_all-requires c = subst (IsStrictlySortedBy directory_cmp) (sym (each_directories (sources_given c.args.files.now) (map placed_of c.in_ok-parsed.parsed.items) c.in_ok-parsed.ensures)) c.requires.order
+evaluate_all-requires c =
+    subst (IsStrictlySortedBy directory_cmp) (sym (each_directories (sources_given c.args.files.now)
+    (map placed_of c.in_ok-parsed.parsed.items) c.in_ok-parsed.ensures)) c.requires.order
 
 pub returns-in_err-parsed : goal.returns-in_err-parsed
 returns-in_err-parsed c =

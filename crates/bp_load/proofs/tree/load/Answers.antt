@@ -16,7 +16,8 @@ use Rattle.bp_load.proofs.tree.load.Goals as goal
 pub evaluate_by-requires-after_bounds : goal.evaluate_by-requires-after_bounds
 evaluate_by-requires-after_bounds g c κs within =
     subst (IsStrictlySortedBy directory_cmp)
-    (sym (each_directories (sources_given c.args.files.now) (map placed_of c.in_ok-parsed.parsed.items) c.in_ok-parsed.ensures))
+    (sym (each_directories (sources_given c.args.files.now)
+    (map placed_of c.in_ok-parsed.parsed.items) c.in_ok-parsed.ensures))
     c.requires.order
 
 pub returns-in_err-parsed : goal.returns-in_err-parsed

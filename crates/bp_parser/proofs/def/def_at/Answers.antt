@@ -6,7 +6,8 @@ use Rattle.bp_parser.specs.Words.{all_words}
 use Rattle.bp_parser.specs.Machine.{an_expr, entries}
 use Rattle.bp_parser.proofs.Steps.{value_stop}
 use Rattle.bp_parser.proofs.PartsRead.{ident_here}
-use Rattle.bp_parser.proofs.DefsRead.{to_body, to_assigned, to_extended, to_value_of, mark_behind_name, defs_stop_within}
+use Rattle.bp_parser.proofs.DefsRead.{to_body, to_assigned, to_extended, to_value_of, mark_behind_name}
+use Rattle.bp_parser.proofs.DefsRead.{defs_stop_within}
 use Rattle.bp_parser.proofs.def.def_at.Goals as goal
 
 pub returns-in_err-body-clause-stops : goal.returns-in_err-body-clause-stops
@@ -18,7 +19,8 @@ returns-in_err-body-clause-stops c =
     let here = ident_here text c.args.words.now c.args.at token c.in_ok-token.ensures.ok.0 c.in_ok-token.ensures.ok.1 in
     rw (p.1, p.2)
     (defs_stop_within (entries [] ∷ []) ws c.args.at (c.args.at + 1 + 1) c.in_err-body.field-0.0
-    (to_body ws c.args.at token.place (word_of text token) (here, c.in_ok-token.ensures.ok.2) ((c.is_mark.ensures.yes c.if-is_mark.true).here text))
+    (to_body ws c.args.at token.place (word_of text token) (here, c.in_ok-token.ensures.ok.2)
+    ((c.is_mark.ensures.yes c.if-is_mark.true).here text))
     c.in_err-body.ensures.stops)
 
 pub returns-then-is_mark-clause-goes_on : goal.returns-then-is_mark-clause-goes_on
@@ -27,7 +29,8 @@ returns-then-is_mark-clause-goes_on c =
     let ws = all_words text c.args.words.now in
     let token = c.in_ok-token.token in
     let here = ident_here text c.args.words.now c.args.at token c.in_ok-token.ensures.ok.0 c.in_ok-token.ensures.ok.1 in
-    to_body ws c.args.at token.place (word_of text token) (here, c.in_ok-token.ensures.ok.2) ((c.is_mark.ensures.yes c.if-is_mark.true).here text) ∙
+    to_body ws c.args.at token.place (word_of text token) (here, c.in_ok-token.ensures.ok.2)
+    ((c.is_mark.ensures.yes c.if-is_mark.true).here text) ∙
     c.in_ok-body.ensures.goes_on [] refl
 
 pub returns-in_err-value-clause-stops : goal.returns-in_err-value-clause-stops
@@ -39,7 +42,8 @@ returns-in_err-value-clause-stops c =
     let here = ident_here text c.args.words.now c.args.at token c.in_ok-token.ensures.ok.0 c.in_ok-token.ensures.ok.1 in
     rw (p.1, p.2)
     (defs_stop_within (an_expr ∷ []) ws c.args.at (c.args.at + 2) c.in_err-value.field-0.0
-    (to_assigned ws c.args.at token.place (word_of text token) (here, c.in_ok-token.ensures.ok.2) ((c.is_mark-2.ensures.yes c.if-is_mark-2.true).here text))
+    (to_assigned ws c.args.at token.place (word_of text token) (here, c.in_ok-token.ensures.ok.2)
+    ((c.is_mark-2.ensures.yes c.if-is_mark-2.true).here text))
     c.in_err-value.ensures.stops)
 
 pub returns-then-is_mark-2-clause-spells : goal.returns-then-is_mark-2-clause-spells
@@ -49,8 +53,13 @@ returns-then-is_mark-2-clause-spells c =
     let token = c.in_ok-token.token in
     let here = ident_here text c.args.words.now c.args.at token c.in_ok-token.ensures.ok.0 c.in_ok-token.ensures.ok.1 in
     let same : c.in_ok-name.name ≡ word_of text token = c.in_ok-name.ensures ∙ c.text.ensures in
-    rw same
-    (drop (c.args.at + 1) ws, drop (c.args.at + 2) ws, (here, c.in_ok-token.ensures.ok.2), mark_behind_name Equal ws c.args.at ((c.is_mark-2.ensures.yes c.if-is_mark-2.true).here text), c.in_ok-value.ensures.spells)
+    rw same (
+      drop (c.args.at + 1) ws,
+      drop (c.args.at + 2) ws,
+      (here, c.in_ok-token.ensures.ok.2),
+      mark_behind_name Equal ws c.args.at ((c.is_mark-2.ensures.yes c.if-is_mark-2.true).here text),
+      c.in_ok-value.ensures.spells,
+    )
 
 pub returns-then-is_mark-2-clause-goes_on : goal.returns-then-is_mark-2-clause-goes_on
 returns-then-is_mark-2-clause-goes_on c =
@@ -58,7 +67,8 @@ returns-then-is_mark-2-clause-goes_on c =
     let ws = all_words text c.args.words.now in
     let token = c.in_ok-token.token in
     let here = ident_here text c.args.words.now c.args.at token c.in_ok-token.ensures.ok.0 c.in_ok-token.ensures.ok.1 in
-    to_assigned ws c.args.at token.place (word_of text token) (here, c.in_ok-token.ensures.ok.2) ((c.is_mark-2.ensures.yes c.if-is_mark-2.true).here text) ∙
+    to_assigned ws c.args.at token.place (word_of text token) (here, c.in_ok-token.ensures.ok.2)
+    ((c.is_mark-2.ensures.yes c.if-is_mark-2.true).here text) ∙
     c.in_ok-value.ensures.goes_on [] refl
 
 pub returns-in_err-value-2-clause-stops : goal.returns-in_err-value-2-clause-stops
@@ -70,7 +80,8 @@ returns-in_err-value-2-clause-stops c =
     let here = ident_here text c.args.words.now c.args.at token c.in_ok-token.ensures.ok.0 c.in_ok-token.ensures.ok.1 in
     rw (p.1, p.2)
     (defs_stop_within (an_expr ∷ []) ws c.args.at (c.args.at + 2) c.in_err-value-2.field-0.0
-    (to_extended ws c.args.at token.place (word_of text token) (here, c.in_ok-token.ensures.ok.2) ((c.is_mark-3.ensures.yes c.if-is_mark-3.true).here text))
+    (to_extended ws c.args.at token.place (word_of text token) (here, c.in_ok-token.ensures.ok.2)
+    ((c.is_mark-3.ensures.yes c.if-is_mark-3.true).here text))
     c.in_err-value-2.ensures.stops)
 
 pub returns-then-is_mark-3-clause-spells : goal.returns-then-is_mark-3-clause-spells
@@ -80,8 +91,13 @@ returns-then-is_mark-3-clause-spells c =
     let token = c.in_ok-token.token in
     let here = ident_here text c.args.words.now c.args.at token c.in_ok-token.ensures.ok.0 c.in_ok-token.ensures.ok.1 in
     let same : c.in_ok-name.name ≡ word_of text token = c.in_ok-name.ensures ∙ c.text.ensures in
-    rw same
-    (drop (c.args.at + 1) ws, drop (c.args.at + 2) ws, (here, c.in_ok-token.ensures.ok.2), mark_behind_name PlusEqual ws c.args.at ((c.is_mark-3.ensures.yes c.if-is_mark-3.true).here text), c.in_ok-value-2.ensures.spells)
+    rw same (
+      drop (c.args.at + 1) ws,
+      drop (c.args.at + 2) ws,
+      (here, c.in_ok-token.ensures.ok.2),
+      mark_behind_name PlusEqual ws c.args.at ((c.is_mark-3.ensures.yes c.if-is_mark-3.true).here text),
+      c.in_ok-value-2.ensures.spells,
+    )
 
 pub returns-then-is_mark-3-clause-goes_on : goal.returns-then-is_mark-3-clause-goes_on
 returns-then-is_mark-3-clause-goes_on c =
@@ -89,7 +105,8 @@ returns-then-is_mark-3-clause-goes_on c =
     let ws = all_words text c.args.words.now in
     let token = c.in_ok-token.token in
     let here = ident_here text c.args.words.now c.args.at token c.in_ok-token.ensures.ok.0 c.in_ok-token.ensures.ok.1 in
-    to_extended ws c.args.at token.place (word_of text token) (here, c.in_ok-token.ensures.ok.2) ((c.is_mark-3.ensures.yes c.if-is_mark-3.true).here text) ∙
+    to_extended ws c.args.at token.place (word_of text token) (here, c.in_ok-token.ensures.ok.2)
+    ((c.is_mark-3.ensures.yes c.if-is_mark-3.true).here text) ∙
     c.in_ok-value-2.ensures.goes_on [] refl
 
 pub returns-clause-stops : goal.returns-clause-stops
@@ -97,8 +114,10 @@ returns-clause-stops c =
     let text = c.args.text.now in
     let ws = all_words text c.args.words.now in
     let token = c.in_ok-token.token in
-    let here = ident_here text c.args.words.now c.args.at token c.in_ok-token.ensures.ok.0 c.in_ok-token.ensures.ok.1 in (
+    let here =
+    ident_here text c.args.words.now c.args.at token c.in_ok-token.ensures.ok.0 c.in_ok-token.ensures.ok.1 in (
       to_value_of ws c.args.at token.place (word_of text token) (here, c.in_ok-token.ensures.ok.2) ∙
-          value_stop (drop (c.args.at + 1) ws) (c.args.at + 1) [] (c.is_mark.ensures.other c.if-is_mark.false text) (c.is_mark-2.ensures.other c.if-is_mark-2.false text) (c.is_mark-3.ensures.other c.if-is_mark-3.false text),
+          value_stop (drop (c.args.at + 1) ws) (c.args.at + 1) [] (c.is_mark.ensures.other c.if-is_mark.false text)
+          (c.is_mark-2.ensures.other c.if-is_mark-2.false text) (c.is_mark-3.ensures.other c.if-is_mark-3.false text),
       tt,
     )

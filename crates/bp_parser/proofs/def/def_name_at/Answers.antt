@@ -10,7 +10,8 @@ returns-in_err-name-clause-err c =
     let text = c.args.text.now in
     let wrong = c.in_err-name.ensures.err in
     rw (p.1, p.2)
-    (defs_stop_at (all_words text c.args.words.now) c.args.at c.args.at c.in_err-name.field-0.0 wrong.0 (no_name_here text c.args.words.now c.args.at c.requires.within wrong.1))
+    (defs_stop_at (all_words text c.args.words.now) c.args.at c.args.at c.in_err-name.field-0.0 wrong.0
+    (no_name_here text c.args.words.now c.args.at c.requires.within wrong.1))
 
 pub returns-then-is_truth-clause-err : goal.returns-then-is_truth-clause-err
 returns-then-is_truth-clause-err c =

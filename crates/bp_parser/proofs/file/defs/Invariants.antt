@@ -8,7 +8,8 @@ use Rattle.bp_parser.proofs.file.defs.Given as goal
 abbrev pub invariant-reading : goal.invariant-reading
 invariant-reading l = record {
   within : l.next ≤ length l.words;
-  spells : (more : List Definition) → SpellsFile more (drop l.next (all_words l.text l.words)) → SpellsFile (map definition_of l.defs.items ++ more) (all_words l.text l.words);
+  spells : (more : List Definition) → SpellsFile more (drop l.next (all_words l.text l.words))
+      → SpellsFile (map definition_of l.defs.items ++ more) (all_words l.text l.words);
   goes_on : stuck (all_words l.text l.words) 0 [] ≡ stuck (drop l.next (all_words l.text l.words)) l.next [];
 }
 

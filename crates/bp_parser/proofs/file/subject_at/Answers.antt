@@ -9,5 +9,7 @@ returns-in_ok-from_str-in-Some c =
     let ws = all_words text c.args.words.now in
     let w : Word = as_word text c.in-Some.token in (
       sym (word_value (λ (v : Word). v.at) _ ws c.args.at w _ c.in-Some.ensures.some.here),
-      c.in_ok-from_str-in-Some.ensures ∙ c.text.ensures ∙ sym (word_value (λ (v : Word). v.text) _ ws c.args.at w _ c.in-Some.ensures.some.here),
+      c.in_ok-from_str-in-Some.ensures
+          ∙ c.text.ensures
+          ∙ sym (word_value (λ (v : Word). v.text) _ ws c.args.at w _ c.in-Some.ensures.some.here),
     )

@@ -4,7 +4,9 @@ use Rattle.bp_parser.proofs.TokensAt.{mark_found, mark_other}
 use Rattle.bp_parser.proofs.words.is_mark.Goals as goal
 
 pub returns-in-Some-clause-yes : goal.returns-in-Some-clause-yes
-returns-in-Some-clause-yes c = λ yes. mark_found c.args.mark c.args.words.now c.args.at c.in-Some.token.now c.in-Some.ensures.lookup.3 (search rules)
+returns-in-Some-clause-yes c =
+    λ yes.
+    mark_found c.args.mark c.args.words.now c.args.at c.in-Some.token.now c.in-Some.ensures.lookup.3 (search rules)
 
 pub returns-in-Some-clause-other : goal.returns-in-Some-clause-other
 returns-in-Some-clause-other c = λ other.

@@ -31,6 +31,7 @@ pub returns-clause-tells : goal.returns-clause-tells
 returns-clause-tells g c =
     let nodes = c.args.graph.nodes in
     subst (λ (ms : List Module). TellsPass c.args.shop.now.way {T = Graph Props} {V = List (Node Props)} (λ g. g.nodes)
-    (MakeMeans c.args.shop.now.mods.now (Some PerSource) (splits source_variants ms) nodes) (plan_of BottomUp nodes) c.args.pass
+    (MakeMeans c.args.shop.now.mods.now (Some PerSource) (splits source_variants ms) nodes) (plan_of BottomUp nodes)
+    c.args.pass
     c.args.journal.now.items c.make.new.journal.items c.make.result)
     c.new-rule.ensures c.make.ensures.tells

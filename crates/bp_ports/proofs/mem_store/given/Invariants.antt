@@ -7,4 +7,6 @@ use Rattle.bp_ports.proofs.mem_store.given.Given as goal
 
 -- none of the files so far has the path
 abbrev pub invariant-loop-file : goal.invariant-loop-file
-invariant-loop-file l = find (slice_cmp nat_cmp) l.path (entries_of (drop l.file-index l.files)) ≡ find (slice_cmp nat_cmp) l.path (entries_of l.files)
+invariant-loop-file l =
+    find (slice_cmp nat_cmp) l.path (entries_of (drop l.file-index l.files))
+    ≡ find (slice_cmp nat_cmp) l.path (entries_of l.files)

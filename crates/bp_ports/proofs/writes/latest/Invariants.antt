@@ -7,5 +7,6 @@ use Rattle.bp_ports.proofs.writes.latest.Given as goal
 abbrev pub invariant-loop-span : goal.invariant-loop-span
 invariant-loop-span l = record {
   fits : total (drop l.span-index l.spans) ≡ length l.rest;
-  same : held_after (drop l.span-index l.spans) l.rest l.path (option_copied l.found) ≡ held_after l.spans l.run l.path (option_copied l.held);
+  same : held_after (drop l.span-index l.spans) l.rest l.path (option_copied l.found)
+      ≡ held_after l.spans l.run l.path (option_copied l.held);
 }

@@ -11,4 +11,5 @@ pub returns-clause-gives : goal.returns-clause-gives
 returns-clause-gives g c =
     job_made c.args.paths.now c.args.configuration.now _ c.in_ok-typed.typed.items c.make-made.result
     c.in_ok-typed.ensures.gives
-    (subst (λ typed. MakesOf c.args.configuration.now typed c.make-made.result) c.deref.ensures.value c.make-made.ensures.makes)
+    (subst (λ typed. MakesOf c.args.configuration.now typed c.make-made.result) c.deref.ensures.value
+    c.make-made.ensures.makes)

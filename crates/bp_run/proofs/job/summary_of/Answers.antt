@@ -17,8 +17,11 @@ size_at : (typed : List Module) (sizes given : List Sizes) → given ≡ sizes �
     → (nodes : List (Node Props)) × GraphAfter typed synth_config (suc k) (Ok nodes)
     × (slice_index_or given k none ≡ sizes_of nodes)
 size_at typed sizes given same are k within none =
-    let here = are.each k within in
-    (here.0, here.1, ap (λ s. slice_index_or s k none) same ∙ get_or_from_slice_get sizes k (sizes_of here.0) none here.2)
+    let here = are.each k within in (
+      here.0,
+      here.1,
+      ap (λ s. slice_index_or s k none) same ∙ get_or_from_slice_get sizes k (sizes_of here.0) none here.2,
+    )
 
 pub returns : goal.returns
 returns c =

@@ -10,6 +10,7 @@ use Rattle.bp_run.proofs.load.load_listed.Goals as goal
 
 pub returns-clause-gives : goal.returns-clause-gives
 returns-clause-gives g c =
-    tree_loaded c.args.paths.now _ (sources_given c.in_ok-files.files.items) c.load_files.result c.in_ok-files.ensures.gives
+    tree_loaded c.args.paths.now _
+    (sources_given c.in_ok-files.files.items) c.load_files.result c.in_ok-files.ensures.gives
     (subst (λ files. GivesOrStops {T = Vec Module Global} {V = List Module} (λ typed. typed.items)
     (LoadMeans (sources_given files)) Never c.load_files.result) c.deref.ensures.value c.load_files.ensures.gives)

@@ -8,5 +8,6 @@ returns-in_err-inputs-clause-gives g c =
 
 pub returns-clause-gives : goal.returns-clause-gives
 returns-clause-gives g c =
-    read_then_made c.args.words.now c.args.paths.now _ c.order_number-number.result c.order_number-number.ensures c.in_ok-inputs.inputs c.replay_inputs.result
+    read_then_made c.args.words.now c.args.paths.now _ c.order_number-number.result c.order_number-number.ensures
+    c.in_ok-inputs.inputs c.replay_inputs.result
     c.in_ok-inputs.ensures.gives c.replay_inputs.ensures.gives

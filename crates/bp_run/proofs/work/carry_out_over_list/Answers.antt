@@ -48,7 +48,8 @@ returns-in-Ok-do_job g c =
     c.deliver.result
     (subst (λ told. IfSome told (λ files. ListedFilesMake conf files c.in-Ok.paths.items (Ok made)))
     c.in-Ok.ensures.files
-    (subst (λ paths. IfSome (g.S.Store.files c.read_list.new.store) (λ files. ListedFilesMake conf files paths (Ok made)))
+    (subst (λ paths.
+    IfSome (g.S.Store.files c.read_list.new.store) (λ files. ListedFilesMake conf files paths (Ok made)))
     c.deref.ensures.value c.in-Ok-do_job.ensures.gives))
     c.in-Ok-do_job.ensures.asked
     (ends_later conf made old new (g.S.Store.files c.do_job.new.store) reads

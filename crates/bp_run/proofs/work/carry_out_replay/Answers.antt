@@ -53,5 +53,6 @@ returns-in-Ok-do_replay g c =
     c.deref.ensures.value c.in-Ok-do_replay.ensures.gives))
     (writes_later words.out made old new (g.S.Store.files c.do_replay.new.store) reads
     (g.S.Store.write_faults c.do_replay.new.store) c.write_text.result
-    (c.in-Ok-do_replay.ensures.files ∙ c.in-Ok.ensures.files) (c.in-Ok-do_replay.ensures.writes ∙ c.in-Ok.ensures.writes)
+    (c.in-Ok-do_replay.ensures.files ∙ c.in-Ok.ensures.files) (c.in-Ok-do_replay.ensures.writes
+    ∙ c.in-Ok.ensures.writes)
     c.write_text.ensures)

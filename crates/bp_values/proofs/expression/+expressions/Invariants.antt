@@ -11,7 +11,8 @@ use Rattle.bp_values.proofs.expression.+expressions.Given as goal
 abbrev pub invariant-items_of-items : goal.invariant-items_of-items
 invariant-items_of-items l =
     val_items (pairs_of l.scope) (trees_then (map tree_of l.items) no_tree)
-    ≡ then_do (val_items (pairs_of l.scope) (trees_then (map tree_of (drop l.expr-index l.items)) no_tree)) (λ rest. Ok (l.list.items ++ rest))
+    ≡ then_do (val_items (pairs_of l.scope) (trees_then (map tree_of (drop l.expr-index l.items)) no_tree))
+    (λ rest. Ok (l.list.items ++ rest))
 
 abbrev pub invariant-add_terms-terms : goal.invariant-add_terms-terms
 invariant-add_terms-terms l =
@@ -21,7 +22,8 @@ invariant-add_terms-terms l =
 abbrev pub invariant-all_entries-entries : goal.invariant-all_entries-entries
 invariant-all_entries-entries l =
     val_entries (pairs_of l.scope) (entries_then (map entry_of l.entries) no_entry)
-    ≡ then_do (val_entries (pairs_of l.scope) (entries_then (map entry_of (drop l.entry-index l.entries)) no_entry)) (λ rest. Ok (map field_of l.list.items ++ rest))
+    ≡ then_do (val_entries (pairs_of l.scope) (entries_then (map entry_of (drop l.entry-index l.entries)) no_entry))
+    (λ rest. Ok (map field_of l.list.items ++ rest))
 
 abbrev pub invariant-add_maps-terms : goal.invariant-add_maps-terms
 invariant-add_maps-terms l =

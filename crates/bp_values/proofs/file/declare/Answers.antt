@@ -16,11 +16,16 @@ returns-clause-known c =
     let known = known_of c.args.state.now in
     let body = map_of c.args.body.now in
     let fields = map field_of c.in_ok-entries.entries.items in
-    let same : entries_then (map entry_of c.as_slice.result.now) no_entry ≡ body.entries = search (rules, the_lemmas, the_views) in
-    let kept : map raw_of c.push.new.self.items ≡ known.modules ++ (record { kind = c.args.kind.now; at = c.args.at; entries = fields }) ∷ [] =
+    let same : entries_then (map entry_of c.as_slice.result.now) no_entry ≡ body.entries =
+    search (rules, the_lemmas, the_views) in
+    let kept : map raw_of c.push.new.self.items
+    ≡ known.modules ++ (record { kind = c.args.kind.now; at = c.args.at; entries = fields }) ∷ [] =
     ap (map raw_of) c.in_ok-push.ensures.items ∙ map-append raw_of c.args.state.now.modules.items _
     ∙ ap (λ k. known.modules ++ (record { kind = k; at = c.args.at; entries = fields }) ∷ []) c.in_ok-copy.ensures in
-    is_declared (pairs_of c.args.state.now.scope) known.is_used (is_noted c.mark_entries.new.used) known.modules (map raw_of c.push.new.self.items)
+    is_declared (pairs_of c.args.state.now.scope) known.is_used (is_noted c.mark_entries.new.used) known.modules
+    (map raw_of c.push.new.self.items)
     c.args.kind.now c.args.at body fields c.in_ok-entries.ensures
-    (λ q. c.in_ok-mark_entries.ensures q ∙ ap (noted_entries (known.is_used q) q) same ∙ entries_noted body.entries (known.is_used q) q)
+    (λ q. c.in_ok-mark_entries.ensures q
+    ∙ ap (noted_entries (known.is_used q) q) same
+    ∙ entries_noted body.entries (known.is_used q) q)
     kept

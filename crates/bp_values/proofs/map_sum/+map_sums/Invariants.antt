@@ -19,4 +19,5 @@ decreases-add_at l = 4 * depth (meaning l.other) + 4
 
 abbrev pub invariant-add_indexed-loop-index : goal.invariant-add_indexed-loop-index
 invariant-add_indexed-loop-index l =
-    SumsLeft l.at (found_index l.names) (map field_of l.fn.first.items) (map field_of l.fn.second.items) l.entries.items l.below l.index-iterator
+    SumsLeft l.at (found_index l.names) (map field_of l.fn.first.items)
+    (map field_of l.fn.second.items) l.entries.items l.below l.index-iterator

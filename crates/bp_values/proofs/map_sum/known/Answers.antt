@@ -9,4 +9,5 @@ pub returns-in-Some-2 : goal.returns-in-Some-2
 returns-in-Some-2 c =
     let fields = map field_of c.args.entries.now in
     let indexed = subst (λ (o : Option IndexTable). Indices o (names_in fields)) c.in-Some-2.is c.in_ok-names.ensures in
-    made_known c.in-Some-2.names c.new-in-Some-2.result fields indexed (nothing_known c.new-in-Some-2.result fields c.new-in-Some-2.ensures.empty)
+    made_known c.in-Some-2.names c.new-in-Some-2.result fields indexed
+    (nothing_known c.new-in-Some-2.result fields c.new-in-Some-2.ensures.empty)

@@ -7,5 +7,8 @@ use Rattle.bp_values.proofs.map_sum.split.Given as goal
 
 abbrev pub invariant-loop-entry : goal.invariant-loop-entry
 invariant-loop-entry l =
-    ((i : ℕ) → value_for (found_index l.names) i (map field_of l.fn.second.items) ≡ option_or (value_at_index l.shared i) (value_for (found_index l.names) i (map field_of l.entry-iterator.rest.items)))
-    × (unindexed_fields (found_index l.names) (map field_of l.fn.second.items) ≡ map field_of l.others.items ++ unindexed_fields (found_index l.names) (map field_of l.entry-iterator.rest.items))
+    ((i : ℕ)
+    → value_for (found_index l.names) i (map field_of l.fn.second.items) ≡ option_or (value_at_index l.shared i)
+    (value_for (found_index l.names) i (map field_of l.entry-iterator.rest.items)))
+    × (unindexed_fields (found_index l.names) (map field_of l.fn.second.items)
+    ≡ map field_of l.others.items ++ unindexed_fields (found_index l.names) (map field_of l.entry-iterator.rest.items))

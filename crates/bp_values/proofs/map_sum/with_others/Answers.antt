@@ -12,8 +12,11 @@ returns-in-Some-clause-indices c =
     let before = map field_of c.args.entries.items in
     let others = map field_of c.args.others.items in
     let fields = map field_of c.append.new.self.items in
-    let all : fields ≡ before ++ others = ap (map field_of) c.in_ok-append.ensures.items ∙ map-append field_of c.args.entries.items c.args.others.items in
+    let all : fields ≡ before ++ others =
+    ap (map field_of) c.in_ok-append.ensures.items ∙ map-append field_of c.args.entries.items c.args.others.items in
     let whole : map field_of c.as_slice.result.now ≡ fields = search rules in
     let indexed = subst (λ (l : List Field). Indices c.in_ok-names.field-0 (names_in l)) whole c.in_ok-names.ensures in
-    made_known c.in-Some.names c.args.below fields (subst (λ (o : Option IndexTable). Indices o (names_in fields)) c.in-Some.is indexed)
-    (subst (λ (l : List Field). AreKnown c.args.below l) (sym all) (known_before c.args.below before others c.requires.known))
+    made_known c.in-Some.names c.args.below fields
+    (subst (λ (o : Option IndexTable). Indices o (names_in fields)) c.in-Some.is indexed)
+    (subst (λ (l : List Field). AreKnown c.args.below l) (sym all)
+    (known_before c.args.below before others c.requires.known))

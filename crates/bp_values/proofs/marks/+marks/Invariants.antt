@@ -1,5 +1,6 @@
 use Rattle.std.proofs.Common.{◌≡◌, ℕ, List, map, drop}
-use Rattle.bp_parser.specs.Trees.{tree_of, entry_of, term_of, trees_then, terms_then, entries_then, no_tree, no_term, no_entry}
+use Rattle.bp_parser.specs.Trees.{tree_of, entry_of, term_of, trees_then, terms_then, entries_then, no_tree, no_term}
+use Rattle.bp_parser.specs.Trees.{no_entry}
 use Rattle.bp_values.specs.Inside.{is_noted, noted_items, noted_terms, noted_entries}
 use Rattle.bp_values.proofs.marks.+marks.Given as goal
 

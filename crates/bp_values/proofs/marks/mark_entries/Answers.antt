@@ -7,4 +7,5 @@ use Rattle.bp_values.proofs.marks.mark_entries.Goals as goal
 pub returns-then-are_idle : goal.returns-then-are_idle
 returns-then-are_idle c =
     let idle : (q : List ℕ) → is_noted c.args.used.now q ≡ true = search rules in
-    λ q. all_entries_noted (entries_then (map entry_of c.args.entries.now) no_entry) (is_noted c.args.used.now q) q (idle q)
+    λ q.
+    all_entries_noted (entries_then (map entry_of c.args.entries.now) no_entry) (is_noted c.args.used.now q) q (idle q)

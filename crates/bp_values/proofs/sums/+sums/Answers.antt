@@ -17,10 +17,14 @@ sum_each-loop-entry-preserved t c =
     let value = meaning (out-Entry e).value in (
       tt,
       tt,
-      each_step left rest e c.args.at (map field_of c.args.second.now) (map field_of c.loop-entry.entries.items) (map field_of c.push.new.self.items)
-          (sum_fields c.args.at (fields_then (map field_of c.args.first.items) no_field) (map field_of c.args.second.now)) (meaning c.in_ok-value.value) is c.loop-entry.invariant.2
+      each_step left rest e c.args.at (map field_of c.args.second.now) (map field_of c.loop-entry.entries.items)
+          (map field_of c.push.new.self.items)
+          (sum_fields c.args.at (fields_then (map field_of c.args.first.items) no_field)
+          (map field_of c.args.second.now)) (meaning c.in_ok-value.value) is c.loop-entry.invariant.2
           (ap (λ o. combined_value value (sum c.args.at value) o) (sym c.find.ensures) ∙ c.in_ok-value.ensures)
-          (ap (map field_of) c.in_ok-push.ensures.items ∙ map-append field_of c.loop-entry.entries.items (c.make_entry.result ∷ []) ∙ ap (λ f. map field_of c.loop-entry.entries.items ++ f ∷ []) c.make_entry.ensures),
+          (ap (map field_of) c.in_ok-push.ensures.items
+          ∙ map-append field_of c.loop-entry.entries.items (c.make_entry.result ∷ [])
+          ∙ ap (λ f. map field_of c.loop-entry.entries.items ++ f ∷ []) c.make_entry.ensures),
     )
 
 pub unite_copy-returns-in_err-entries : goal.unite_copy-returns-in_err-entries
@@ -28,7 +32,8 @@ unite_copy-returns-in_err-entries t c =
     let first = map field_of c.args.first.items in
     let second = map field_of c.args.second.now in
     let r : c.from_residual-in_err-entries.result ≡ Err c.in_err-entries.field-0.0 = search rules in
-    let h = passes meaning c.from_residual-in_err-entries.result c.in_err-entries.field-0.0 (sum_fields c.args.at (fields_then first no_field) second) (λ hs. Ok (body (hs ++ others second first))) (search rules) r in
+    let h = passes meaning c.from_residual-in_err-entries.result c.in_err-entries.field-0.0 (sum_fields c.args.at
+    (fields_then first no_field) second) (λ hs. Ok (body (hs ++ others second first))) (search rules) r in
     rw (sum_bodies c.args.at first second) h
 
 pub unite_copy-returns : goal.unite_copy-returns
@@ -40,8 +45,12 @@ unite_copy-returns t c =
     let index : IsIndex table second = search rules in
     let each : sum_fields c.args.at (fields_then first no_field) second ≡ Ok summed = search rules in
     let found : HasMet c.in_ok-met.met table summed = search rules in
-    let combined_value = met_alike table c.in_ok-met.met summed first (λ q. summed_names c.args.at q first second summed each) found in
-    let left : map field_of c.in_ok-others.others.items ≡ others second first = c.in_ok-others.ensures ∙ others_of table c.in_ok-met.met first second index combined_value in
+    let combined_value =
+    met_alike table c.in_ok-met.met summed first (λ q. summed_names c.args.at q first second summed each) found in
+    let left : map field_of c.in_ok-others.others.items ≡ others second first =
+    c.in_ok-others.ensures ∙ others_of table c.in_ok-met.met first second index combined_value in
     let all : map field_of c.append.new.self.items ≡ summed ++ others second first =
-    ap (map field_of) c.in_ok-append.ensures.items ∙ map-append field_of c.in_ok-entries.entries.items c.in_ok-others.others.items ∙ ap (λ l. summed ++ l) left in
+    ap (map field_of) c.in_ok-append.ensures.items
+    ∙ map-append field_of c.in_ok-entries.entries.items c.in_ok-others.others.items
+    ∙ ap (λ l. summed ++ l) left in
     rw (sum_bodies c.args.at first second, each, ← all) (ap (λ v. Ok v) (sym c.map_value.ensures))

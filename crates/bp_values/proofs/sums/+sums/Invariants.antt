@@ -9,4 +9,5 @@ invariant-sum_each-loop-entry l =
     ((goal.iterator-sum_each-loop-entry).can_next l.entry-iterator)
     × ((goal.iterator-sum_each-loop-entry).is_finite l.entry-iterator)
     × (sum_fields l.at (fields_then (map field_of l.fn.first.items) no_field) (map field_of l.second)
-    ≡ prefixed (map field_of l.entries.items) (sum_fields l.at (fields_then (map field_of l.entry-iterator.rest.items) no_field) (map field_of l.second)))
+    ≡ prefixed (map field_of l.entries.items)
+    (sum_fields l.at (fields_then (map field_of l.entry-iterator.rest.items) no_field) (map field_of l.second)))

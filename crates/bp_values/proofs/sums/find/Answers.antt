@@ -11,17 +11,20 @@ returns-in-None c =
 
 pub bounds-entries-number : goal.bounds-entries-number
 bounds-entries-number c =
-    let e : index_of c.args.name.now (map field_of c.args.entries.now) ≡ Some c.in-Some.number = cc (c.requires.indices c.args.name.now) in
+    let e : index_of c.args.name.now (map field_of c.args.entries.now) ≡ Some c.in-Some.number =
+    cc (c.requires.indices c.args.name.now) in
     index_within c.args.name.now c.args.entries.now c.in-Some.number e
 
 pub offset_bounds-entries-number : goal.offset_bounds-entries-number
 offset_bounds-entries-number c =
-    let e : index_of c.args.name.now (map field_of c.args.entries.now) ≡ Some c.in-Some.number = cc (c.requires.indices c.args.name.now) in
+    let e : index_of c.args.name.now (map field_of c.args.entries.now) ≡ Some c.in-Some.number =
+    cc (c.requires.indices c.args.name.now) in
     let h = index_within c.args.name.now c.args.entries.now c.in-Some.number e in
     search rules
 
 pub returns-in-Some : goal.returns-in-Some
 returns-in-Some c =
-    let e : index_of c.args.name.now (map field_of c.args.entries.now) ≡ Some c.in-Some.number = cc (c.requires.indices c.args.name.now) in
+    let e : index_of c.args.name.now (map field_of c.args.entries.now) ≡ Some c.in-Some.number =
+    cc (c.requires.indices c.args.name.now) in
     let h = value_there c.args.name.now c.args.entries.now c.in-Some.number c.index-entries-number.result e in
     ap (λ x. Some (field_of x).value) c.index-entries-number.is ∙ h

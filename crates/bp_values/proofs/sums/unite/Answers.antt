@@ -13,7 +13,9 @@ returns-in_err-entries c =
     let first = map field_of c.args.first.items in
     let second = map field_of c.args.second.items in
     let r : c.from_residual-in_err-entries.result ≡ Err c.in_err-entries.field-0.0 = search rules in
-    let h = passes (λ (es : Vec Entry Global). body (map field_of es.items)) c.from_residual-in_err-entries.result c.in_err-entries.field-0.0 (sum_fields c.args.at (fields_then first no_field) second) (λ hs. Ok (body (hs ++ others second first))) (search rules) r in
+    let h = passes (λ (es : Vec Entry Global). body (map field_of es.items)) c.from_residual-in_err-entries.result
+    c.in_err-entries.field-0.0 (sum_fields c.args.at (fields_then first no_field) second)
+    (λ hs. Ok (body (hs ++ others second first))) (search rules) r in
     rw (sum_bodies c.args.at first second) h
 
 pub returns : goal.returns
@@ -25,8 +27,12 @@ returns c =
     let index : IsIndex table second = search rules in
     let each : sum_fields c.args.at (fields_then first no_field) second ≡ Ok summed = search rules in
     let found : HasMet c.in_ok-met.met table summed = search rules in
-    let met = met_alike table c.in_ok-met.met summed first (λ q. summed_names c.args.at q first second summed each) found in
-    let left : map field_of c.in_ok-others.others.items ≡ others second first = c.in_ok-others.ensures ∙ others_of table c.in_ok-met.met first second index met in
+    let met =
+    met_alike table c.in_ok-met.met summed first (λ q. summed_names c.args.at q first second summed each) found in
+    let left : map field_of c.in_ok-others.others.items ≡ others second first =
+    c.in_ok-others.ensures ∙ others_of table c.in_ok-met.met first second index met in
     let all : map field_of c.append.new.self.items ≡ summed ++ others second first =
-    ap (map field_of) c.in_ok-append.ensures.items ∙ map-append field_of c.in_ok-entries.entries.items c.in_ok-others.others.items ∙ ap (λ l. summed ++ l) left in
+    ap (map field_of) c.in_ok-append.ensures.items
+    ∙ map-append field_of c.in_ok-entries.entries.items c.in_ok-others.others.items
+    ∙ ap (λ l. summed ++ l) left in
     rw (sum_bodies c.args.at first second, each, ← all) refl

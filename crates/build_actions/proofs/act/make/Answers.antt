@@ -20,7 +20,8 @@ returns c =
     let out = c.in_ok-output.output in
     let wholes =
     c.in_ok-whole.ensures ∙ ap (λ es. results_of (λ (e : Edge). is_whole e.kind) es ins) c.as_slice.ensures in
-    (λ k. record { statements = c.new.ensures k; objects = c.new-2.ensures k; output = Some out; files = c.new-3.ensures k })
+    (λ k.
+    record { statements = c.new.ensures k; objects = c.new-2.ensures k; output = Some out; files = c.new-3.ensures k })
     ∙ made_is c.args.modules.now c.args.graph.now.nodes m x ins c.args.files.items compiler steps objects out
     c.in_ok-product.product c.push.new.self.items
     (c.in_ok-compiler.ensures ∙ ap (needed_compiler m x) c.as_slice-list.ensures.value)

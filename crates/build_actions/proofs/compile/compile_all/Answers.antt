@@ -8,7 +8,8 @@ pub returns : goal.returns
 returns c =
     let others = compile_steps c.args.compiler c.in-Some.others.now in
     c.in_ok-push_some.ensures
-    ∙ (λ k. (c.in_ok-add_steps.ensures ∙ ap (λ l. l ++ others) c.in_ok-statements.ensures.items) k ++ cons_option (c.in_ok-compile_last.ensures k) [])
+    ∙ (λ k. (c.in_ok-add_steps.ensures ∙ ap (λ l. l ++ others) c.in_ok-statements.ensures.items) k
+    ++ cons_option (c.in_ok-compile_last.ensures k) [])
     ∙ sym
     (ap (compile_steps c.args.compiler) c.in-Some.ensures.cases.0
     ∙ filter_map-append (step_of_file c.args.compiler) c.in-Some.others.now (c.in-Some.last.now ∷ []))

@@ -1,4 +1,5 @@
-use Rattle.std.proofs.Common.{◌≡◌, ◌++◌, cond, ◌+◌, ◌<◌, ℕ, List, [], ◌∷◌, Bor, ap, sym, map, take, drop, length, get_or, ◌∙◌, append_assoc}
+use Rattle.std.proofs.Common.{◌≡◌, ◌++◌, cond, ◌+◌, ◌<◌, ℕ, List, [], ◌∷◌, Bor, ap, sym, map, take, drop, length}
+use Rattle.std.proofs.Common.{get_or, ◌∙◌, append_assoc}
 use Rattle.std.proofs.lemmas.List.{take_more, drop_more, get_or-map, length-map}
 use Rattle.bp_names.specs.Meaning.{knows, Learns, IsSetOf}
 use Rattle.bp_names.specs.Laws.{SetsGrowWithLists}

@@ -9,4 +9,7 @@ pub loop-edge-preserved : goal.loop-edge-preserved
 loop-edge-preserved c =
     c.in_ok-push_some.ensures
     ∙ (λ k. c.loop-edge.invariant k ++ cons_option (c.in_ok-data_output.ensures k) [])
-    ∙ sym (filter_map_more (data_output c.args.modules.now c.args.graph.now.nodes) c.args.edges.now c.loop-edge.edge-index (record { kind = Defaults; to = record { 0 = 0 }; at = record { file = 0; line = 0; col = 0 } }) c.loop-edge-test.true)
+    ∙ sym (filter_map_more (data_output c.args.modules.now c.args.graph.now.nodes) c.args.edges.now
+    c.loop-edge.edge-index
+    (record { kind = Defaults; to = record { 0 = 0 }; at = record { file = 0; line = 0; col = 0 } })
+    c.loop-edge-test.true)

@@ -6,4 +6,5 @@ use Rattle.command_words.proofs.Sound.{sound}
 use Rattle.command_words.proofs.laws.each_configuration_is_sound.Goals as goal
 
 pub returns : goal.returns
-returns c = λ words configuration given. subst (λ (x : Option Configuration). IfSome x IsSoundConfiguration) given (sound words)
+returns c =
+    λ words configuration given. subst (λ (x : Option Configuration). IfSome x IsSoundConfiguration) given (sound words)

@@ -15,10 +15,12 @@ loop-word-preserved c =
       | in-Some+in_ok-push-2 w ↦
           let parts = (rw w.in-Some.is at c.halves.ensures) ∙ word in
           ap (λ (v : Vec (Bor (List ℕ)) Global). said v.items) w.plain-is
-          ∙ ap said (w.in_ok-push-2.ensures.items ∙ ap (λ (ws : List (Bor (List ℕ))). ws ++ w.in-Some.second ∷ []) first)
+          ∙ ap said
+          (w.in_ok-push-2.ensures.items ∙ ap (λ (ws : List (Bor (List ℕ))). ws ++ w.in-Some.second ∷ []) first)
           ∙ two_put c.loop-word.plain.items c.halves.result.0 w.in-Some.second
           ∙ ap (λ (ws : List (List ℕ)). before ++ ws) parts
-          ∙ ap (λ (ws : List (List ℕ)). ws ++ parts_of_word (get_or c.args.words.now c.loop-word.word-index c.word-item.result)) c.loop-word.invariant
+          ∙ ap (λ (ws : List (List ℕ)). ws
+          ++ parts_of_word (get_or c.args.words.now c.loop-word.word-index c.word-item.result)) c.loop-word.invariant
           ∙ sym more
       | in_default w ↦
           let parts = (rw w.in_default.is at c.halves.ensures) ∙ word in
@@ -26,6 +28,7 @@ loop-word-preserved c =
           ∙ ap said first
           ∙ one_put c.loop-word.plain.items c.halves.result.0
           ∙ ap (λ (ws : List (List ℕ)). before ++ ws) parts
-          ∙ ap (λ (ws : List (List ℕ)). ws ++ parts_of_word (get_or c.args.words.now c.loop-word.word-index c.word-item.result)) c.loop-word.invariant
+          ∙ ap (λ (ws : List (List ℕ)). ws
+          ++ parts_of_word (get_or c.args.words.now c.loop-word.word-index c.word-item.result)) c.loop-word.invariant
           ∙ sym more
     ]

@@ -4,4 +4,5 @@ use Rattle.command_words.specs.Values.{is_same_target}
 use Rattle.command_words.proofs.targets.has_none_twice.Given as goal
 
 abbrev pub invariant-loop-i : goal.invariant-loop-i
-invariant-loop-i l = has_none_twice is_same_target [] l.targets ≡ has_none_twice is_same_target (take l.i l.targets) (drop l.i l.targets)
+invariant-loop-i l =
+    has_none_twice is_same_target [] l.targets ≡ has_none_twice is_same_target (take l.i l.targets) (drop l.i l.targets)

@@ -18,7 +18,8 @@ returns-in_err-col c =
     let a = c.in_ok-path in
     let l = c.in_ok-line in
     rw c.from_residual-in_err-col.ensures
-    (no_col c.args.text.now a.path a.behind_path a.ensures.cases l.line l.behind_line.now l.ensures c.in_err-col.ensures)
+    (no_col c.args.text.now a.path a.behind_path a.ensures.cases l.line l.behind_line.now l.ensures
+    c.in_err-col.ensures)
 
 pub returns-in_err-behind_error : goal.returns-in_err-behind_error
 returns-in_err-behind_error c =
@@ -26,7 +27,8 @@ returns-in_err-behind_error c =
     let l = c.in_ok-line in
     let k = c.in_ok-col in
     rw c.from_residual-in_err-behind_error.ensures
-    (no_error c.args.text.now a.path a.behind_path a.ensures.cases l.line l.behind_line.now l.ensures k.col k.behind_col.now k.ensures c.in_err-behind_error.ensures.cases)
+    (no_error c.args.text.now a.path a.behind_path a.ensures.cases l.line l.behind_line.now l.ensures k.col
+    k.behind_col.now k.ensures c.in_err-behind_error.ensures.cases)
 
 pub returns-in_err-number : goal.returns-in_err-number
 returns-in_err-number c =
@@ -35,7 +37,9 @@ returns-in_err-number c =
     let k = c.in_ok-col in
     let p = c.in_ok-behind_error in
     rw c.from_residual-in_err-number.ensures
-    (no_number c.args.text.now a.path a.behind_path a.ensures.cases l.line l.behind_line.now l.ensures k.col k.behind_col.now k.ensures p.behind_error.now (stripped (codes " error ") k.behind_col.now p.behind_error.now p.ensures.cases) c.in_err-number.ensures)
+    (no_number c.args.text.now a.path a.behind_path a.ensures.cases l.line l.behind_line.now l.ensures k.col
+    k.behind_col.now k.ensures p.behind_error.now
+    (stripped (codes " error ") k.behind_col.now p.behind_error.now p.ensures.cases) c.in_err-number.ensures)
 
 pub returns-in_err-ended : goal.returns-in_err-ended
 returns-in_err-ended c =
@@ -45,7 +49,9 @@ returns-in_err-ended c =
     let p = c.in_ok-behind_error in
     let n = c.in_ok-number in
     rw c.from_residual-in_err-ended.ensures
-    (no_space c.args.text.now a.path a.behind_path a.ensures.cases l.line l.behind_line.now l.ensures k.col k.behind_col.now k.ensures p.behind_error.now (stripped (codes " error ") k.behind_col.now p.behind_error.now p.ensures.cases) n.number n.behind_number.now n.ensures
+    (no_space c.args.text.now a.path a.behind_path a.ensures.cases l.line l.behind_line.now l.ensures k.col
+    k.behind_col.now k.ensures p.behind_error.now (stripped (codes " error ") k.behind_col.now p.behind_error.now
+    p.ensures.cases) n.number n.behind_number.now n.ensures
     (strip_prefix_char 32 n.behind_number.now None c.in_err-ended.ensures.cases (lit< tt)))
 
 pub returns-in_err-what : goal.returns-in_err-what
@@ -57,7 +63,10 @@ returns-in_err-what c =
     let n = c.in_ok-number in
     let s = c.in_ok-ended in
     rw c.from_residual-in_err-what.ensures
-    (no_end c.args.text.now a.path a.behind_path a.ensures.cases l.line l.behind_line.now l.ensures k.col k.behind_col.now k.ensures p.behind_error.now (stripped (codes " error ") k.behind_col.now p.behind_error.now p.ensures.cases) n.number n.behind_number.now n.ensures s.ended.now (strip_prefix_char 32 n.behind_number.now (Some s.ended) s.ensures.cases (lit< tt))
+    (no_end c.args.text.now a.path a.behind_path a.ensures.cases l.line l.behind_line.now l.ensures k.col
+    k.behind_col.now k.ensures p.behind_error.now
+    (stripped (codes " error ") k.behind_col.now p.behind_error.now p.ensures.cases) n.number n.behind_number.now
+    n.ensures s.ended.now (strip_prefix_char 32 n.behind_number.now (Some s.ended) s.ensures.cases (lit< tt))
     (strip_suffix_char 10 s.ended.now None c.in_err-what.ensures.cases (lit< tt)))
 
 pub returns : goal.returns
@@ -69,4 +78,8 @@ returns c =
     let n = c.in_ok-number in
     let s = c.in_ok-ended in
     let w = c.in_ok-what in
-    line_is c.args.text.now a.path a.behind_path a.ensures.cases l.line l.behind_line.now l.ensures k.col k.behind_col.now k.ensures p.behind_error.now (stripped (codes " error ") k.behind_col.now p.behind_error.now p.ensures.cases) n.number n.behind_number.now n.ensures s.ended.now (strip_prefix_char 32 n.behind_number.now (Some s.ended) s.ensures.cases (lit< tt)) w.what.now (strip_suffix_char 10 s.ended.now (Some w.what) w.ensures.cases (lit< tt)) c.utf8.text
+    line_is c.args.text.now a.path a.behind_path a.ensures.cases l.line l.behind_line.now l.ensures k.col
+    k.behind_col.now k.ensures p.behind_error.now
+    (stripped (codes " error ") k.behind_col.now p.behind_error.now p.ensures.cases) n.number n.behind_number.now
+    n.ensures s.ended.now (strip_prefix_char 32 n.behind_number.now (Some s.ended) s.ensures.cases (lit< tt)) w.what.now
+    (strip_suffix_char 10 s.ended.now (Some w.what) w.ensures.cases (lit< tt)) c.utf8.text

@@ -8,7 +8,8 @@ pub returns : goal.returns
 returns c = λ fault files utf8 plain line col. record {
   whole =
       regrouped (path_at files fault.at.file) (decimal fault.at.line) (decimal fault.at.col)
-      (decimal (fault_number fault.kind)) (fault_text fault.kind) (subject_tail (what_of fault.kind fault.subject fault.chain));
+      (decimal (fault_number fault.kind)) (fault_text fault.kind)
+      (subject_tail (what_of fault.kind fault.subject fault.chain));
   utf8 = utf8;
   path = plain;
   line = line;

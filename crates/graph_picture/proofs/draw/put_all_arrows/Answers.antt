@@ -17,5 +17,6 @@ loop-n-preserved c =
     (flat_map arrow_drawn (shown_arrows (take n variants) marks))
     (lines_for marks (map (λ (b : Arrow). (n, b)) v.edges)) c.loop-n.invariant
     (c.in_ok-put_arrows.ensures
-    ∙ ap (λ (l : List Arrow). c.loop-n.text.items ++ lines_for marks (map (λ (b : Arrow). (n, b)) l)) c.as_slice.ensures)
+    ∙ ap (λ (l : List Arrow). c.loop-n.text.items ++ lines_for marks (map (λ (b : Arrow). (n, b)) l))
+    c.as_slice.ensures)
     ∙ ap (λ (l : List ℕ). old ++ l) (sym (all_taken marks variants n v c.loop-n-test.true c.index-variants-n.is))

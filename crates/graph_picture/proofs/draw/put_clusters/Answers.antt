@@ -14,4 +14,5 @@ loop-m-preserved c =
     let cluster = c.index-clusters-m.result in
     behind old c.loop-m.text.items c.put_cluster.new.text.items (by_number f 0 (take m clusters)) (f m cluster)
     c.loop-m.invariant c.in_ok-put_cluster.ensures
-    ∙ ap (λ (l : List ℕ). old ++ l) (sym (by_number_taken f clusters m cluster c.loop-m-test.true c.index-clusters-m.is))
+    ∙ ap (λ (l : List ℕ). old ++ l)
+    (sym (by_number_taken f clusters m cluster c.loop-m-test.true c.index-clusters-m.is))

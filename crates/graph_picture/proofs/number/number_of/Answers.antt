@@ -7,7 +7,8 @@ use Rattle.graph_picture.proofs.number.number_of.Goals as goal
 
 pub returns-in_default : goal.returns-in_default
 returns-in_default c = λ n lt is.
-    c.in_default.not-Ok n (parse-decimal 32 n c.args.text.now c.parse.result lt (omega arith) is c.parse.ensures.value.0)
+    c.in_default.not-Ok n
+    (parse-decimal 32 n c.args.text.now c.parse.result lt (omega arith) is c.parse.ensures.value.0)
 
 pub returns : goal.returns
 returns c = λ n lt is.

@@ -11,5 +11,7 @@ loop-item-preserved c =
     let items = c.args.items.now in
     let i = c.loop-item.item-index in
     subst (λ (names : List (List ℕ)). IsSetOf names c.learn.new.self)
-    (sym (map-take-more (λ (item : Item). item.text) items i item c.as_str.result.now c.loop-item-test.true c.item-item.is c.as_str.ensures))
-    (c.sets_grow_with_lists.ensures (item_names (take i items)) c.loop-item.names c.learn.new.self c.as_str.result.now c.loop-item.invariant c.in_ok-learn.ensures.known)
+    (sym (map-take-more (λ (item : Item). item.text) items i item c.as_str.result.now c.loop-item-test.true
+    c.item-item.is c.as_str.ensures))
+    (c.sets_grow_with_lists.ensures (item_names (take i items)) c.loop-item.names c.learn.new.self c.as_str.result.now
+    c.loop-item.invariant c.in_ok-learn.ensures.known)

@@ -10,4 +10,5 @@ use Rattle.info_mutators.proofs.exports.note_all_handed_on.Given as goal
 
 abbrev pub invariant-loop-dependency : goal.invariant-loop-dependency
 invariant-loop-dependency l = (own : Props) → AreExportNames own l.names
-    → values_behind l.seen.keys ≡ insert_all bytes_eq (values_behind l.fn.seen.keys) (flat_map (export_part own) (take l.dependency-index l.dependencies))
+    → values_behind l.seen.keys ≡ insert_all bytes_eq (values_behind l.fn.seen.keys)
+    (flat_map (export_part own) (take l.dependency-index l.dependencies))

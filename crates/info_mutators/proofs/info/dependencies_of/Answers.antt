@@ -20,11 +20,17 @@ loop-place-preserved c =
     let node = c.index-as_slice-edge.result in
     let first = get_or edges place no_edge in
     let is_node = c.index-as_slice-edge.is ∙ ap (λ l. get_or l first.to.0 node) c.as_slice.ensures in
-    let inside = All-from_recursion (λ (e : Edge). e.to.0 < length nodes) edges c.requires.ends place no_edge c.loop-place-test.true in
-    let is = depends_is mods nodes first (arc_value arc) node c.index-mods-node.result c.requires.may.accepted inside is_node c.index-mods-node.is in
+    let inside = All-from_recursion (λ (e : Edge). e.to.0 < length nodes) edges c.requires.ends place no_edge
+    c.loop-place-test.true in
+    let is = depends_is mods nodes first
+    (arc_value arc) node c.index-mods-node.result c.requires.may.accepted inside is_node c.index-mods-node.is in
     let arcs = get_mapped arc_value c.args.made.now place arc ∙ ap arc_value (sym c.index-made-place.is) in
     c.in_ok-push.ensures.items
     ∙ ap (λ (l : List Dependency). l ++ c.new.result ∷ []) c.loop-place.invariant
     ∙ ap (λ (d : Dependency). dependencies_of mods nodes (take place edges) made ++ d ∷ [])
-    (c.new.ensures ∙ ap (λ m. named first m (get_or mods node.module.0 c.index-mods-node.result).name) c.deref.ensures ∙ is ∙ ap (λ (m : Split Props). dependency_along mods nodes (first, m)) (sym arcs))
-    ∙ sym (depends_more mods nodes edges made place no_edge (arc_value arc) c.loop-place-test.true (length-map c.args.made.now arc_value ∙ c.requires.each))
+    (c.new.ensures
+    ∙ ap (λ m. named first m (get_or mods node.module.0 c.index-mods-node.result).name) c.deref.ensures
+    ∙ is
+    ∙ ap (λ (m : Split Props). dependency_along mods nodes (first, m)) (sym arcs))
+    ∙ sym (depends_more mods nodes edges made place no_edge (arc_value arc) c.loop-place-test.true
+    (length-map c.args.made.now arc_value ∙ c.requires.each))

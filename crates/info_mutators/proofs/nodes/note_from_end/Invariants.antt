@@ -8,7 +8,8 @@ use Rattle.info_mutators.proofs.nodes.note_from_end.Given as goal
 abbrev pub invariant-loop-place : goal.invariant-loop-place
 invariant-loop-place l = record {
   within : l.place ≤ length l.nodes;
-  left : if_short (insert_all nat_eq l.notes (reverse (numbers (take l.place l.nodes)))) ≡ if_short (insert_all nat_eq l.fn.notes (reverse (numbers l.nodes)));
+  left : if_short (insert_all nat_eq l.notes (reverse (numbers (take l.place l.nodes))))
+      ≡ if_short (insert_all nat_eq l.fn.notes (reverse (numbers l.nodes)));
 }
 
 abbrev pub decreases-loop-place : goal.decreases-loop-place

@@ -10,7 +10,8 @@ use Rattle.info_mutators.proofs.nodes.note_line.Given as goal
 abbrev pub invariant-loop-place : goal.invariant-loop-place
 invariant-loop-place l = record {
   within : l.place ≤ length l.dependencies;
-  end : if_short l.notes ≡ if_short (insert_all nat_eq l.fn.notes (reverse (flat_map (λ d. numbers (line_part d.node d.props d.kind)) (drop l.place l.dependencies))));
+  end : if_short l.notes ≡ if_short (insert_all nat_eq l.fn.notes
+      (reverse (flat_map (λ d. numbers (line_part d.node d.props d.kind)) (drop l.place l.dependencies))));
 }
 
 abbrev pub decreases-loop-place : goal.decreases-loop-place

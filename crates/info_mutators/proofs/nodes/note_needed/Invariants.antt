@@ -7,4 +7,6 @@ use Rattle.info_mutators.specs.Kept.{if_short}
 use Rattle.info_mutators.proofs.nodes.note_needed.Given as goal
 
 abbrev pub invariant-loop-dependency : goal.invariant-loop-dependency
-invariant-loop-dependency l = if_short l.notes ≡ if_short (insert_all nat_eq l.fn.notes (flat_map (λ d. numbers (needed_part d)) (take l.dependency-index l.dependencies)))
+invariant-loop-dependency l =
+    if_short l.notes ≡ if_short (insert_all nat_eq l.fn.notes
+    (flat_map (λ d. numbers (needed_part d)) (take l.dependency-index l.dependencies)))

@@ -10,7 +10,11 @@ use Rattle.info_mutators.proofs.nodes.slibs_of.Goals as goal
 
 pub returns : goal.returns
 returns c =
-    slibs_noted c.args.dependencies.now c.note_shared.new.notes c.note_needed.new.notes (option_map (λ list. list.items) c.into_short.result)
-    (c.in_ok-note_shared.ensures ∙ ap (λ (ns : List ℕ). if_short (insert_all nat_eq ns (flat_map (λ (d : Dependency). numbers (shared_part d.node d.kind)) c.args.dependencies.now))) c.in_ok-notes.ensures)
+    slibs_noted c.args.dependencies.now c.note_shared.new.notes c.note_needed.new.notes
+    (option_map (λ list. list.items) c.into_short.result)
+    (c.in_ok-note_shared.ensures
+    ∙ ap (λ (ns : List ℕ). if_short (insert_all nat_eq ns
+    (flat_map (λ (d : Dependency). numbers (shared_part d.node d.kind)) c.args.dependencies.now)))
+    c.in_ok-notes.ensures)
     c.in_ok-note_needed.ensures
     (items_numbers c.into_short.result ∙ c.into_short.ensures)

@@ -5,5 +5,6 @@ use Rattle.info_mutators.proofs.paths.note_all.Goals as goal
 
 pub loop-path-preserved : goal.loop-path-preserved
 loop-path-preserved c =
-    one_noted bytes_eq (values_behind c.args.seen.now.keys) (values_behind c.loop-path.seen.keys) (values_behind c.note_if_short.new.seen.keys) c.args.paths.now c.loop-path.path-index c.path-item.result
+    one_noted bytes_eq (values_behind c.args.seen.now.keys) (values_behind c.loop-path.seen.keys)
+    (values_behind c.note_if_short.new.seen.keys) c.args.paths.now c.loop-path.path-index c.path-item.result
     c.loop-path-test.true c.path-item.is c.loop-path.invariant c.in_ok-note_if_short.ensures

@@ -6,5 +6,7 @@ use Rattle.info_mutators.proofs.paths.note_exported.Goals as goal
 
 pub loop-dependency-preserved : goal.loop-dependency-preserved
 loop-dependency-preserved c =
-    part_noted bytes_eq include_part c.args.dependencies.now c.loop-dependency.dependency-index c.dependency-item.result c.loop-dependency-test.true c.dependency-item.is
-    (values_behind c.args.seen.now.keys) (values_behind c.loop-dependency.seen.keys) (values_behind c.note_exports.new.seen.keys) c.loop-dependency.invariant c.in_ok-note_exports.ensures
+    part_noted bytes_eq include_part c.args.dependencies.now c.loop-dependency.dependency-index c.dependency-item.result
+    c.loop-dependency-test.true c.dependency-item.is
+    (values_behind c.args.seen.now.keys) (values_behind c.loop-dependency.seen.keys)
+    (values_behind c.note_exports.new.seen.keys) c.loop-dependency.invariant c.in_ok-note_exports.ensures

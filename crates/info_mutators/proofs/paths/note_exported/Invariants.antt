@@ -8,4 +8,6 @@ use Rattle.info_mutators.specs.Kept.{if_short}
 use Rattle.info_mutators.proofs.paths.note_exported.Given as goal
 
 abbrev pub invariant-loop-dependency : goal.invariant-loop-dependency
-invariant-loop-dependency l = if_short (values_behind l.seen.keys) ≡ if_short (insert_all bytes_eq (values_behind l.fn.seen.keys) (flat_map include_part (take l.dependency-index l.dependencies)))
+invariant-loop-dependency l =
+    if_short (values_behind l.seen.keys) ≡ if_short (insert_all bytes_eq (values_behind l.fn.seen.keys)
+    (flat_map include_part (take l.dependency-index l.dependencies)))

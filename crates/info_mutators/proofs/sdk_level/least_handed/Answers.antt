@@ -14,8 +14,13 @@ loop-place-preserved c =
     let ins = map arc_value c.args.ins.now in
     let place = c.loop-place.place in
     let arc = c.index-ins-place.result in
-    let read = c.deref.ensures ∙ sym (get_mapped arc_value c.args.ins.now place arc ∙ ap arc_value (sym c.index-ins-place.is)) in
+    let read = c.deref.ensures
+    ∙ sym (get_mapped arc_value c.args.ins.now place arc ∙ ap arc_value (sym c.index-ins-place.is)) in
     c.with_edge-least.ensures
-    ∙ ap (λ l. cond (is_level_handed (get_or kinds place Defaults)) (Some (lesser l c.level.result)) l) c.loop-place.invariant
-    ∙ ap (λ (level : ℕ). cond (is_level_handed (get_or kinds place Defaults)) (Some (lesser (least (handed_levels (take place kinds) ins)) level)) (least (handed_levels (take place kinds) ins))) (c.level.ensures ∙ ap (λ (p : Props). p.level) read)
-    ∙ sym (least_handed_more kinds ins place Defaults (arc_value arc) c.loop-place-test.true (length-map c.args.ins.now arc_value ∙ c.requires))
+    ∙ ap (λ l. cond (is_level_handed (get_or kinds place Defaults)) (Some (lesser l c.level.result)) l)
+    c.loop-place.invariant
+    ∙ ap (λ (level : ℕ). cond (is_level_handed (get_or kinds place Defaults))
+    (Some (lesser (least (handed_levels (take place kinds) ins)) level)) (least (handed_levels (take place kinds) ins)))
+    (c.level.ensures ∙ ap (λ (p : Props). p.level) read)
+    ∙ sym (least_handed_more kinds ins place Defaults (arc_value arc) c.loop-place-test.true
+    (length-map c.args.ins.now arc_value ∙ c.requires))

@@ -7,5 +7,6 @@ use Rattle.linkage_mutator.proofs.per_source.by_source.Given as goal
 abbrev pub invariant-loop-place : goal.invariant-loop-place
 invariant-loop-place l = record {
   bare : l.bare ≡ with_sources l.own [];
-  made : l.variants ++ by_number (variant_of_source l.own) (l.place + 1) (drop l.place l.sources) ≡ by_number (variant_of_source l.own) 1 l.sources;
+  made : l.variants ++ by_number (variant_of_source l.own) (l.place + 1) (drop l.place l.sources)
+      ≡ by_number (variant_of_source l.own) 1 l.sources;
 }

@@ -4,4 +4,6 @@ use Rattle.module_graph.specs.Names.{name_at}
 use Rattle.module_graph.proofs.cycle.chain_of.Given as goal
 
 abbrev pub invariant-loop-edge : goal.invariant-loop-edge
-invariant-loop-edge l = l.chain.items ≡ name_at l.names l.node ∷ map (λ (e : Edge). name_at l.names e.to.0) (l.fn.first ∷ take l.edge-index l.rest)
+invariant-loop-edge l =
+    l.chain.items
+    ≡ name_at l.names l.node ∷ map (λ (e : Edge). name_at l.names e.to.0) (l.fn.first ∷ take l.edge-index l.rest)

@@ -8,4 +8,5 @@ pub returns-clause-is_plan : goal.returns-clause-is_plan
 returns-clause-is_plan g c =
     let count = ap length c.as_slice.ensures in
     let edges = c.new.ensures ∙ c.in_ok-edges.ensures in
-    subst (λ (plan : Plan). IsPlan plan) (sym (λ i. record { count = count i; edges = edges i })) (plan_of_is_plan c.args.dir c.args.g.now.nodes c.requires)
+    subst (λ (plan : Plan). IsPlan plan) (sym (λ i. record { count = count i; edges = edges i }))
+    (plan_of_is_plan c.args.dir c.args.g.now.nodes c.requires)

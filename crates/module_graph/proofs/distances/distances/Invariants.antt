@@ -5,7 +5,8 @@ use Rattle.module_graph.proofs.distances.distances.Given as goal
 
 abbrev pub invariant-loop-front : goal.invariant-loop-front
 invariant-loop-front l =
-    IsGrowing l.plan.edges l.s l.level l.front.items 0 l.found.items [] × (l.level + unfound l.found.items ≤ l.plan.count)
+    IsGrowing l.plan.edges l.s l.level l.front.items 0 l.found.items []
+    × (l.level + unfound l.found.items ≤ l.plan.count)
     × AllByRecursion (λ n. n < l.plan.count) l.front.items × (length l.found.items ≡ l.plan.count)
 
 abbrev pub decreases-loop-front : goal.decreases-loop-front

@@ -6,4 +6,5 @@ use Rattle.module_graph.proofs.listing.put_edges.Given as goal
 
 -- the lines of the edges so far
 abbrev pub invariant-loop-edge : goal.invariant-loop-edge
-invariant-loop-edge l = string_bytes l.text ≡ string_bytes l.fn.text ++ flat_map ended_line (map edge_line (take l.edge-index l.edges))
+invariant-loop-edge l =
+    string_bytes l.text ≡ string_bytes l.fn.text ++ flat_map ended_line (map edge_line (take l.edge-index l.edges))

@@ -7,5 +7,8 @@ use Rattle.module_graph.proofs.names.variant_name.Goals as goal
 
 pub loop-variation-preserved : goal.loop-variation-preserved
 loop-variation-preserved c =
-    c.in_ok-append.ensures ∙ ap (λ name. name_with name (spelling (get_or c.as_slice-variation-items.result.now c.loop-variation.variation-index Empty))) c.loop-variation.invariant
+    c.in_ok-append.ensures
+    ∙ ap (λ name.
+    name_with name (spelling (get_or c.as_slice-variation-items.result.now c.loop-variation.variation-index Empty)))
+    c.loop-variation.invariant
     ∙ name_more c.as_slice-variation-items.result.now c.loop-variation.variation-index Empty c.loop-variation-test.true

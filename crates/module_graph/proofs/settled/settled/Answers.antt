@@ -1,4 +1,5 @@
-use Rattle.std.proofs.Common.{◌≡◌, ◌∙◌, ◌<◌, ◌≤◌, ◌⊎◌, ⊎_elim, ℕ, List, take, slice_index, length, arith, subst, sym, ap}
+use Rattle.std.proofs.Common.{◌≡◌, ◌∙◌, ◌<◌, ◌≤◌, ◌⊎◌, ⊎_elim, ℕ, List, take, slice_index, length, arith, subst, sym}
+use Rattle.std.proofs.Common.{ap}
 use Rattle.std.proofs.lemmas.Bool.Decides.{nat_tests}
 use Rattle.bp_faults.proofs.Lists.{all_map}
 use Rattle.pass_core.specs.declared.plan.PlanEdge.{PlanEdge}
@@ -21,19 +22,25 @@ loop-n-preserved g c =
     let nodes = c.as_slice-nodes.result.now in
     let x = c.index-nodes-n.result in
     let inv = c.loop-n.invariant in
-    let is_least : IsLeast numbers x.edges least = subst (λ (es : List Edge). IsLeast numbers es least) (c.as_slice.ensures ∙ ap (λ (y : Node _). y.edges) (sym c.index-nodes-n.is)) (c.least_target-least.ensures.below, c.least_target-least.ensures.met) in
+    let is_least : IsLeast numbers x.edges least = subst (λ (es : List Edge). IsLeast numbers es least)
+    (c.as_slice.ensures ∙ ap (λ (y : Node _). y.edges) (sym c.index-nodes-n.is))
+    (c.least_target-least.ensures.below, c.least_target-least.ensures.met) in
     let above = is_least.0 in
     let lt : n < length nodes = omega arith in
     let is : c.from-number.result ≡ number n = c.from-number.ensures in
     let climbs : number n ≤ least = omega (arith, is, c.if-least-number.false) in
-    let strict : n < r → number n < least = λ lt. let counted = c.narrowed-first.ensures.counted in grind (arith, nat_tests) in (
+    let strict : n < r → number n < least =
+    λ lt. let counted = c.narrowed-first.ensures.counted in grind (arith, nat_tests) in (
       omega arith,
       all_edges_more (λ (e : PlanEdge). number e.from.0 ≤ number e.to.0) nodes n x lt c.index-nodes-n.is inv.1
-          (all_map (λ (e : Edge). least ≤ number e.to.0) (λ (e : Edge). number n ≤ number e.to.0) (λ e h. omega arith) x.edges above),
+          (all_map (λ (e : Edge). least ≤ number e.to.0) (λ (e : Edge). number n ≤ number e.to.0)
+          (λ e h. omega arith) x.edges above),
       all_edges_more (λ (e : PlanEdge). e.from.0 < r → number e.from.0 < number e.to.0) nodes n x lt c.index-nodes-n.is
-          (all_map (λ (e : PlanEdge). e.from.0 < c.loop-n.first → number e.from.0 < number e.to.0) (λ (e : PlanEdge). e.from.0 < r → number e.from.0 < number e.to.0)
+          (all_map (λ (e : PlanEdge). e.from.0 < c.loop-n.first → number e.from.0 < number e.to.0)
+          (λ (e : PlanEdge). e.from.0 < r → number e.from.0 < number e.to.0)
           (λ e h lt. h (omega arith)) (edges_of (take n nodes)) inv.2)
-          (all_map (λ (e : Edge). least ≤ number e.to.0) (λ (e : Edge). n < r → number n < number e.to.0) (λ e h lt. let s = strict lt in omega arith) x.edges above),
+          (all_map (λ (e : Edge). least ≤ number e.to.0) (λ (e : Edge). n < r → number n < number e.to.0)
+          (λ e h lt. let s = strict lt in omega arith) x.edges above),
       λ parts below. ⊎_elim
           (λ kept. subst (Returns (edges_of nodes)) (sym kept) (inv.3 parts (omega arith)))
           (λ here.
@@ -51,17 +58,23 @@ returns-then-least-number-clause-exact g c = λ parts some.
     let least = c.least_target-least.result in
     let nodes = c.as_slice-nodes.result.now in
     let x = c.index-nodes-n.result in
-    let is_least : IsLeast numbers x.edges least = subst (λ (es : List Edge). IsLeast numbers es least) (c.as_slice.ensures ∙ ap (λ (y : Node _). y.edges) (sym c.index-nodes-n.is)) (c.least_target-least.ensures.below, c.least_target-least.ensures.met) in
+    let is_least : IsLeast numbers x.edges least = subst (λ (es : List Edge). IsLeast numbers es least)
+    (c.as_slice.ensures ∙ ap (λ (y : Node _). y.edges) (sym c.index-nodes-n.is))
+    (c.least_target-least.ensures.below, c.least_target-least.ensures.met) in
     let lt : n < length nodes = omega arith in
     let is : c.from-number.result ≡ slice_index numbers n = c.from-number.ensures in
-    let here : AreParts (edges_of nodes) numbers = subst (λ (ns : List (Node _)). AreParts (edges_of ns) numbers) (sym c.as_slice-nodes.ensures) parts in
+    let here : AreParts (edges_of nodes) numbers =
+    subst (λ (ns : List (Node _)). AreParts (edges_of ns) numbers) (sym c.as_slice-nodes.ensures) parts in
     let no : ⊥ = ⊎_elim
-    (λ target. never_down numbers nodes n x lt c.index-nodes-n.is here least target (let less = c.if-least-number.true in omega arith))
+    (λ target. never_down numbers nodes n x lt c.index-nodes-n.is here least target
+    (let less = c.if-least-number.true in omega arith))
     (λ max. let fits = c.from-number.type_inv in let less = c.if-least-number.true in omega arith) is_least.1 in
     absurd no
 
 pub returns-clause-none : goal.returns-clause-none
 returns-clause-none g c =
     let number : ℕ → ℕ = λ n. slice_index c.args.numbers.now n in
-    subst (λ (es : List PlanEdge). (n : ℕ) → n < c.loop-n.first → Returns es n → ⊥) (ap edges_of c.as_slice-nodes.ensures)
-    (none_below c.as_slice-nodes.result.now c.loop-n.n c.loop-n.first number (omega arith) c.loop-n.invariant.1 c.loop-n.invariant.2)
+    subst (λ (es : List PlanEdge). (n : ℕ) → n < c.loop-n.first → Returns es n → ⊥)
+    (ap edges_of c.as_slice-nodes.ensures)
+    (none_below c.as_slice-nodes.result.now c.loop-n.n c.loop-n.first number
+    (omega arith) c.loop-n.invariant.1 c.loop-n.invariant.2)

@@ -9,6 +9,8 @@ use Rattle.module_graph.proofs.settled.settled.Given as goal
 abbrev pub invariant-loop-n : goal.invariant-loop-n
 invariant-loop-n g l =
     (l.first ≤ length l.nodes)
-    × AllByRecursion (λ (e : PlanEdge). slice_index l.numbers e.from.0 ≤ slice_index l.numbers e.to.0) (edges_of (take l.n l.nodes))
-    × AllByRecursion (λ (e : PlanEdge). e.from.0 < l.first → slice_index l.numbers e.from.0 < slice_index l.numbers e.to.0) (edges_of (take l.n l.nodes))
+    × AllByRecursion (λ (e : PlanEdge). slice_index l.numbers e.from.0 ≤ slice_index l.numbers e.to.0)
+    (edges_of (take l.n l.nodes))
+    × AllByRecursion (λ (e : PlanEdge). e.from.0 < l.first
+    → slice_index l.numbers e.from.0 < slice_index l.numbers e.to.0) (edges_of (take l.n l.nodes))
     × IsFirstByParts (edges_of l.nodes) l.numbers (length l.nodes) l.first

@@ -16,8 +16,11 @@ returns-in-Some g c =
     let many : c.in_ok-plan.plan.count ≡ length nodes = ap (λ (p : Plan). p.count) c.in_ok-plan.ensures.exact in
     let lt : n < length nodes = omega arith in
     let are = distances_unsorted (length nodes) (edges_of nodes) (edges_of_ends nodes c.requires.numbered.ends) n found
-    (subst (λ (es : List PlanEdge). AreDistances es n found) (ap (λ (p : Plan). p.edges) c.in_ok-plan.ensures.exact) c.in_ok-found.ensures.exact) in
-    let near = near_read nodes c.as_slice.result.now n c.index-as_slice-n.result c.as_slice-edges.result.now found c.deref-in-loop-n.result.now (Some c.in-Some.first) lt c.as_slice.ensures c.as_slice-edges.ensures c.deref-in-loop-n.ensures.value c.in-Some.ensures in (
+    (subst (λ (es : List PlanEdge). AreDistances es n found)
+    (ap (λ (p : Plan). p.edges) c.in_ok-plan.ensures.exact) c.in_ok-found.ensures.exact) in
+    let near = near_read nodes c.as_slice.result.now n c.index-as_slice-n.result c.as_slice-edges.result.now found
+    c.deref-in-loop-n.result.now (Some c.in-Some.first) lt c.as_slice.ensures c.as_slice-edges.ensures
+    c.deref-in-loop-n.ensures.value c.in-Some.ensures in (
       lt,
       record { returns = goes_back nodes n found are c.in-Some.first near; least = c.loop-n.invariant },
       c.in_ok-found.ensures.many ∙ many,
@@ -33,13 +36,17 @@ loop-n-preserved g c =
     let many : c.in_ok-plan.plan.count ≡ length nodes = ap (λ (p : Plan). p.count) c.in_ok-plan.ensures.exact in
     let lt : n < length nodes = omega arith in
     let are = distances_unsorted (length nodes) (edges_of nodes) (edges_of_ends nodes c.requires.numbered.ends) n found
-    (subst (λ (es : List PlanEdge). AreDistances es n found) (ap (λ (p : Plan). p.edges) c.in_ok-plan.ensures.exact) c.in_ok-found.ensures.exact) in
-    let none = near_read nodes c.as_slice.result.now n c.index-as_slice-n.result c.as_slice-edges.result.now found c.deref-in-loop-n.result.now None lt c.as_slice.ensures c.as_slice-edges.ensures c.deref-in-loop-n.ensures.value
-    (subst (IsNearestFound c.deref-in-loop-n.result.now c.as_slice-edges.result.now) c.in_default.is c.nearest.ensures) in
+    (subst (λ (es : List PlanEdge). AreDistances es n found)
+    (ap (λ (p : Plan). p.edges) c.in_ok-plan.ensures.exact) c.in_ok-found.ensures.exact) in
+    let none = near_read nodes c.as_slice.result.now n c.index-as_slice-n.result c.as_slice-edges.result.now found
+    c.deref-in-loop-n.result.now None lt c.as_slice.ensures c.as_slice-edges.ensures c.deref-in-loop-n.ensures.value
+    (subst (IsNearestFound c.deref-in-loop-n.result.now c.as_slice-edges.result.now) c.in_default.is
+    c.nearest.ensures) in
     below_more (λ m. Returns (edges_of nodes) m → ⊥) n c.loop-n.invariant (goes_nowhere nodes n found are none)
 
 pub returns : goal.returns
 returns g c = λ n r.
-    let many : c.in_ok-plan.plan.count ≡ length c.args.g.now.nodes = ap (λ (p : Plan). p.count) c.in_ok-plan.ensures.exact in
+    let many : c.in_ok-plan.plan.count ≡ length c.args.g.now.nodes =
+    ap (λ (p : Plan). p.count) c.in_ok-plan.ensures.exact in
     let inside = returning_inside c.args.g.now.nodes c.requires.numbered.ends n r in
     c.loop-n.invariant n (omega (arith, c.loop-n-test.false)) r

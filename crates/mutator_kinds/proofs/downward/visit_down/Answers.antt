@@ -20,11 +20,13 @@ run_by_way-requires-clause-takes g c = λ κs outlives n lt.
     let inside : n < length nodes = subst (λ (p : Plan). n < p.count) exact lt in (
       record { may_run = c.requires.may; inside = inside },
       c.in_ok-kinds.ensures,
-      ap (λ (p : Plan). length (predecessors p.edges n)) exact ∙ ap length (c.predecessors_are_arrivals.ensures nodes n inside)
+      ap (λ (p : Plan). length (predecessors p.edges n)) exact
+          ∙ ap length (c.predecessors_are_arrivals.ensures nodes n inside)
           ∙ length-map (arrivals nodes n) (λ a. a.0.0) ∙ sym (length-map (arrivals nodes n) (λ a. a.1)),
     )
 
 pub returns : goal.returns
 returns g c =
-    subst (λ (p : Plan). AnswersWay c.args.way.now (from_above (g.M.TopDown.meaning c.args.rule.now) c.args.g.now.nodes) p c.args.pass c.args.before.now c.run_by_way.result)
+    subst (λ (p : Plan). AnswersWay c.args.way.now (from_above (g.M.TopDown.meaning c.args.rule.now) c.args.g.now.nodes)
+    p c.args.pass c.args.before.now c.run_by_way.result)
     c.in_ok-plan.ensures.exact c.run_by_way.ensures

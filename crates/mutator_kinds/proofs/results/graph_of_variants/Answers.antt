@@ -10,19 +10,24 @@ use Rattle.mutator_kinds.proofs.results.graph_of_variants.Goals as goal
 
 pub split_graph-requires-clause-splits : goal.split_graph-requires-clause-splits
 split_graph-requires-clause-splits g c =
-    subst (λ lists. IsSplitting (splitting (rule_along c.args.axis) lists) c.args.g.now.nodes) (sym c.in_ok-lists.ensures)
-    (is_splitting c.args.axis c.args.g.now.nodes (map arc_value c.args.outs.items) (length-map c.args.outs.items arc_value ∙ c.requires.many) c.requires.fit.differ)
+    subst (λ lists. IsSplitting (splitting (rule_along c.args.axis) lists) c.args.g.now.nodes)
+    (sym c.in_ok-lists.ensures)
+    (is_splitting c.args.axis c.args.g.now.nodes (map arc_value c.args.outs.items)
+    (length-map c.args.outs.items arc_value ∙ c.requires.many) c.requires.fit.differ)
 
 pub returns-in_err-graph : goal.returns-in_err-graph
 returns-in_err-graph g c =
-    split_passed _ c.args.g.now.nodes (map arc_value c.args.outs.items) c.args.axis c.in_ok-lists.lists.items c.in_err-graph.field-0.0
+    split_passed _ c.args.g.now.nodes
+    (map arc_value c.args.outs.items) c.args.axis c.in_ok-lists.lists.items c.in_err-graph.field-0.0
     c.from_residual-in_err-graph.result c.in_ok-lists.ensures c.in_err-graph.ensures
     c.from_residual-in_err-graph.ensures.0 c.from_residual-in_err-graph.ensures.1
 
 pub returns : goal.returns
 returns g c =
-    let made = subst (λ lists. (c.in_ok-graph.graph.nodes ≡ split_nodes (splitting (rule_along c.args.axis) lists) c.args.g.now.nodes)
-    × IsWithinLimits (split_nodes (splitting (rule_along c.args.axis) lists) c.args.g.now.nodes)) c.in_ok-lists.ensures c.in_ok-graph.ensures in (
+    let made = subst (λ lists.
+    (c.in_ok-graph.graph.nodes ≡ split_nodes (splitting (rule_along c.args.axis) lists) c.args.g.now.nodes)
+    × IsWithinLimits (split_nodes (splitting (rule_along c.args.axis) lists) c.args.g.now.nodes)) c.in_ok-lists.ensures
+    c.in_ok-graph.ensures in (
       made.1,
       made.0,
       c.new.ensures.items

@@ -18,7 +18,9 @@ returns-clause-valid g c =
     let many = length-map items arc_value ∙ c.in_ok-run.ensures.many in
     let new = c.in_ok-made.ensures.1 ∙ ap (λ o. new_nodes o nodes (map arc_value items)) c.axis.ensures in
     subst (λ (l : List (Node _)). IsValid l) (sym new)
-    (valid_after nodes (map arc_value items) many (g.M.BottomUp.splits_along c.args.rule.now) c.splits_stay_valid.ensures c.new_payloads_stay_valid.ensures c.requires.valid c.requires.free c.in_ok-run.ensures.fit.differ)
+    (valid_after nodes (map arc_value items) many
+    (g.M.BottomUp.splits_along c.args.rule.now) c.splits_stay_valid.ensures c.new_payloads_stay_valid.ensures
+    c.requires.valid c.requires.free c.in_ok-run.ensures.fit.differ)
 
 pub returns-clause-may : goal.returns-clause-may
 returns-clause-may g c =
@@ -26,11 +28,14 @@ returns-clause-may g c =
     let items = c.in_ok-run.run'.outs.items in
     let many = length-map items arc_value ∙ c.in_ok-run.ensures.many in
     let new = c.in_ok-made.ensures.1 ∙ ap (λ o. new_nodes o nodes (map arc_value items)) c.axis.ensures in
-    let within = subst (λ o. IsWithinLimits (new_nodes o nodes (map arc_value items))) c.axis.ensures c.in_ok-made.ensures.0 in
+    let within =
+    subst (λ o. IsWithinLimits (new_nodes o nodes (map arc_value items))) c.axis.ensures c.in_ok-made.ensures.0 in
     let accepts = g.M.BottomUp.accepts c.args.rule.now in
     subst (λ (l : List (Node _)). MayRun accepts l) (sym new)
     (may_still accepts nodes _ c.requires.may
-    (modules_after nodes (map arc_value items) many (g.M.BottomUp.splits_along c.args.rule.now) c.splits_keep_modules.ensures c.new_payloads_keep_modules.ensures c.requires.may.numbered c.in_ok-run.ensures.fit.differ within))
+    (modules_after nodes (map arc_value items) many
+    (g.M.BottomUp.splits_along c.args.rule.now) c.splits_keep_modules.ensures c.new_payloads_keep_modules.ensures
+    c.requires.may.numbered c.in_ok-run.ensures.fit.differ within))
 
 pub returns-clause-free : goal.returns-clause-free
 returns-clause-free g c =
@@ -40,4 +45,5 @@ returns-clause-free g c =
     let many = length-map items arc_value ∙ c.in_ok-run.ensures.many in
     let new = c.in_ok-made.ensures.1 ∙ ap (λ o. new_nodes o nodes (map arc_value items)) c.axis.ensures in
     subst (λ (l : List (Node _)). StayFree along nodes l) (sym new)
-    (free_after nodes (map arc_value items) many along c.other_axes_stay_free.ensures c.new_payloads_leave_axes_free.ensures)
+    (free_after nodes
+    (map arc_value items) many along c.other_axes_stay_free.ensures c.new_payloads_leave_axes_free.ensures)

@@ -16,8 +16,10 @@ loop-n-preserved c =
     let items = c.in_ok-push.ensures.items in
     let at = c.loop-n.invariant.2 in
     let longer = ap length items ∙ length-append c.loop-n.nodes.items (_ ∷ []) in (
-      subst (λ (l : List (Node NodeId)). OwnModules 0 l) (sym items) (own_pushed 0 c.loop-n.nodes.items _ c.loop-n.invariant.0 (omega (arith, at))),
+      subst (λ (l : List (Node NodeId)). OwnModules 0 l) (sym items)
+          (own_pushed 0 c.loop-n.nodes.items _ c.loop-n.invariant.0 (omega (arith, at))),
       subst (λ (l : List (Node NodeId)). HasFreeAxis PerSource l) (sym items)
-          (all_pushed (λ (x : Node NodeId). slice_get x.vars 3 ≡ Some Empty) c.loop-n.nodes.items _ c.loop-n.invariant.1 (ap (λ v. slice_get v 3) c.empty.ensures)),
+          (all_pushed (λ (x : Node NodeId). slice_get x.vars 3 ≡ Some Empty) c.loop-n.nodes.items _ c.loop-n.invariant.1
+          (ap (λ v. slice_get v 3) c.empty.ensures)),
       omega (arith, longer, at),
     )

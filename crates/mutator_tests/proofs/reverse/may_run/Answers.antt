@@ -1,4 +1,5 @@
-use Rattle.std.proofs.Common.{◌≡◌, ◌∙◌, ◌+◌, ◌<◌, ◌≤◌, ◌^◌, ◌++◌, Bool, List, [], ◌∷◌, ℕ, ap, subst, sym, refl, arith, take, length, map}
+use Rattle.std.proofs.Common.{◌≡◌, ◌∙◌, ◌+◌, ◌<◌, ◌≤◌, ◌^◌, ◌++◌, Bool, List, [], ◌∷◌, ℕ, ap, subst, sym, refl, arith}
+use Rattle.std.proofs.Common.{take, length, map}
 use Rattle.std.specs.List.{AllByRecursion}
 use Rattle.std.proofs.lemmas.Bool.Decides.{nat_tests}
 use Rattle.bp_faults.proofs.Lists.{all_map, all_pushed, take-more, take-past}
@@ -19,7 +20,8 @@ module _ {P : Type 0} (places : ℕ) where
       → by_number (λ n (x : Node P). map (outward n) x.edges) k xs ≡ []
   no_edges k [] all = refl
   no_edges k (x ∷ xs) all =
-      ap (λ (es : List Edge). map (outward k) es ++ by_number (λ n (y : Node P). map (outward n) y.edges) (k + 1) xs) all.0.0
+      ap (λ (es : List Edge). map (outward k) es ++ by_number (λ n (y : Node P). map (outward n) y.edges) (k + 1) xs)
+      all.0.0
       ∙ no_edges (k + 1) xs all.1
 
   bare_run : (nodes : List (Node P)) → length nodes < 2 ^ 32 → AllByRecursion (IsBare places) nodes
@@ -41,8 +43,10 @@ loop-node-preserved c =
     let i = c.loop-node.node-index in
     let x = c.node-item.result in
     subst (AllByRecursion (IsBare places)) (sym (take-more nodes i x c.loop-node-test.true c.node-item.is))
-    (all_pushed (IsBare places) (take i nodes) x c.loop-node.invariant
-    (sym c.as_slice-edges.ensures ∙ none_left c.as_slice-edges.result.now (omega (arith, c.if-edges-gt0.false)), c.if-node-mods.false))
+    (all_pushed (IsBare places) (take i nodes) x c.loop-node.invariant (
+      sym c.as_slice-edges.ensures ∙ none_left c.as_slice-edges.result.now (omega (arith, c.if-edges-gt0.false)),
+      c.if-node-mods.false,
+    ))
 
 pub returns : goal.returns
 returns c told =

@@ -6,4 +6,6 @@ use Rattle.ninja_file.proofs.well_formed.are_statements.Given as goal
 
 -- the first statements are well formed
 abbrev pub invariant-loop-statement : goal.invariant-loop-statement
-invariant-loop-statement l = (texts : List (List ℕ)) → IsSetOf texts l.names → (k : ℕ) (d : Statement) → k < l.statement-index → IsStatement texts (get_or l.statements k d)
+invariant-loop-statement l =
+    (texts : List (List ℕ)) → IsSetOf texts l.names → (k : ℕ) (d : Statement) → k < l.statement-index
+    → IsStatement texts (get_or l.statements k d)

@@ -7,4 +7,7 @@ use Rattle.ninja_lines.proofs.joined_lines.dangles.Goals.{then-not-behind, else-
 pub loop-byte-preserved : goal.loop-byte-preserved
 loop-byte-preserved c =
     let e = dangles-drop c.loop-byte.behind c.args.text.now c.loop-byte.byte-index c.loop-byte-test.true in
-    elim c.if-not-behind.branch [ then-not-behind w ↦ grind (arith, nat_tests) | else-not-behind w ↦ grind (arith, nat_tests) ]
+    elim c.if-not-behind.branch [
+      | then-not-behind w ↦ grind (arith, nat_tests)
+      | else-not-behind w ↦ grind (arith, nat_tests)
+    ]

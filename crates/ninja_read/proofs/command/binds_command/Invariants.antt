@@ -5,4 +5,5 @@ use Rattle.ninja_read.proofs.command.binds_command.Given as goal
 
 -- what is left decides
 abbrev pub invariant-loop-line : goal.invariant-loop-line
-invariant-loop-line l = binds_command (map shown_line (drop l.line-index l.lines)) ≡ binds_command (map shown_line l.lines)
+invariant-loop-line l =
+    binds_command (map shown_line (drop l.line-index l.lines)) ≡ binds_command (map shown_line l.lines)

@@ -5,4 +5,5 @@ use Rattle.ninja_read.proofs.head.paths.Given as goal
 
 -- the paths that are there and those of the words that are left are all
 abbrev pub invariant-loop-word : goal.invariant-loop-word
-invariant-loop-word l = option_map (λ more. l.paths.items ++ more) (paths_of (texts (drop l.word-index l.words))) ≡ paths_of (texts l.words)
+invariant-loop-word l =
+    option_map (λ more. l.paths.items ++ more) (paths_of (texts (drop l.word-index l.words))) ≡ paths_of (texts l.words)

@@ -7,7 +7,9 @@ use Rattle.ninja_read.proofs.value.rule_value.Given as goal
 
 -- the pieces that are there and those of what is left are all
 abbrev pub invariant-loop-at : goal.invariant-loop-at
-invariant-loop-at l = shadow (Utf8 l.rest) × (l.at ≡ dollar_at l.rest) × (option_map (built_pieces l.pieces) (pieces_from in_text l.rest) ≡ pieces_of l.written)
+invariant-loop-at l =
+    shadow (Utf8 l.rest) × (l.at ≡ dollar_at l.rest)
+    × (option_map (built_pieces l.pieces) (pieces_from in_text l.rest) ≡ pieces_of l.written)
 
 abbrev pub decreases-loop-at : goal.decreases-loop-at
 decreases-loop-at l = length l.rest

@@ -10,5 +10,6 @@ returns-then-least_of_all-gt-LARGEST_OUTPUT c is =
       arith,
       c.if-least_of_all-gt-LARGEST_OUTPUT.true,
       file_has c.args.f.now,
-      subst (λ (all : List Statement). c.least_of_all.result ≤ length (statements_text all)) c.as_slice-statements.ensures c.least_of_all.ensures,
+      subst (λ (all : List Statement). c.least_of_all.result ≤ length (statements_text all))
+          c.as_slice-statements.ensures c.least_of_all.ensures,
     )

@@ -5,4 +5,6 @@ use Rattle.pass_core.proofs.height.every_climb.Goals as goal
 
 pub loop-n-preserved : goal.loop-n-preserved
 loop-n-preserved c =
-    c.in_ok-push.ensures.items ∙ ap (λ l. l ++ start_at c.loop-n.n ∷ []) c.loop-n.invariant ∙ sym (map-range_with_len_more start_at 0 c.loop-n.n c.loop-n.n (omega arith))
+    c.in_ok-push.ensures.items
+    ∙ ap (λ l. l ++ start_at c.loop-n.n ∷ []) c.loop-n.invariant
+    ∙ sym (map-range_with_len_more start_at 0 c.loop-n.n c.loop-n.n (omega arith))

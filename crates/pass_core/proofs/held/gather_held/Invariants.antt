@@ -6,4 +6,5 @@ use Rattle.pass_core.specs.Results.{all_outs}
 use Rattle.pass_core.proofs.held.gather_held.Given as goal
 
 abbrev pub invariant-loop-result : goal.invariant-loop-result
-invariant-loop-result g l = all_outs (map (λ h. result_in (Some (shown_in h))) (take l.result-index l.held)) ≡ Some (map arc_value l.ins.items)
+invariant-loop-result g l =
+    all_outs (map (λ h. result_in (Some (shown_in h))) (take l.result-index l.held)) ≡ Some (map arc_value l.ins.items)

@@ -3,4 +3,6 @@ use Rattle.pass_core.proofs.Progress.{results_when_finished}
 use Rattle.pass_core.proofs.laws.finished_has_results.Goals as goal
 
 pub returns : goal.returns
-returns g c = λ mean plan steps s is free reached done. results_when_finished mean plan is free s (reached_sound mean plan is free steps s reached) done
+returns g c =
+    λ mean plan steps s is free reached done.
+    results_when_finished mean plan is free s (reached_sound mean plan is free steps s reached) done

@@ -3,4 +3,6 @@ use Rattle.pass_core.proofs.Progress.{never_stuck}
 use Rattle.pass_core.proofs.laws.never_stuck.Goals as goal
 
 pub returns : goal.returns
-returns g c = λ mean plan steps s is free reached unfinished. never_stuck mean plan is free s (reached_sound mean plan is free steps s reached) unfinished
+returns g c =
+    λ mean plan steps s is free reached unfinished.
+    never_stuck mean plan is free s (reached_sound mean plan is free steps s reached) unfinished

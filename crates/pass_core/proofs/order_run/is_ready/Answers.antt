@@ -7,25 +7,35 @@ use Rattle.pass_core.proofs.order_run.is_ready.Goals as goal
 pub bounds-visited-edge : goal.bounds-visited-edge
 bounds-visited-edge c =
     let d : PlanEdge = record { from = record { 0 = 0 }; to = record { 0 = 0 } } in
-    rw c.requires.many (source_below c.args.plan.now.edges c.edges_into-edge-items.result.now c.args.plan.now.count c.args.n.0 c.requires.plan.ends c.edges_into-edge-items.ensures c.loop-edge.edge-index d c.loop-edge-test.true)
+    rw c.requires.many (source_below c.args.plan.now.edges c.edges_into-edge-items.result.now c.args.plan.now.count
+    c.args.n.0 c.requires.plan.ends c.edges_into-edge-items.ensures c.loop-edge.edge-index d c.loop-edge-test.true)
 
 pub returns-then-not-visited-edge : goal.returns-then-not-visited-edge
 returns-then-not-visited-edge c =
     let d : PlanEdge = record { from = record { 0 = 0 }; to = record { 0 = 0 } } in
     let k = (get_or c.edges_into-edge-items.result.now c.loop-edge.edge-index d).from.0 in
-    let lt : k < c.args.plan.now.count = source_below c.args.plan.now.edges c.edges_into-edge-items.result.now c.args.plan.now.count c.args.n.0 c.requires.plan.ends c.edges_into-edge-items.ensures c.loop-edge.edge-index d c.loop-edge-test.true in (
+    let lt : k < c.args.plan.now.count =
+    source_below c.args.plan.now.edges c.edges_into-edge-items.result.now c.args.plan.now.count c.args.n.0
+    c.requires.plan.ends c.edges_into-edge-items.ensures c.loop-edge.edge-index d c.loop-edge-test.true in (
       (λ no. cc),
       λ is. absurd (not_both c.args.visited.now k
-          (marked_source c.args.plan.now.edges c.edges_into-edge-items.result.now c.args.plan.now.count c.args.n.0 c.requires.plan.ends c.edges_into-edge-items.ensures c.loop-edge.edge-index d c.loop-edge-test.true c.args.visited.now is.2)
-          (mark_read c.args.visited.now k false (subst (λ x. k < x) (sym c.requires.many) lt) c.if-not-visited-edge.true)),
+          (marked_source c.args.plan.now.edges c.edges_into-edge-items.result.now c.args.plan.now.count c.args.n.0
+          c.requires.plan.ends c.edges_into-edge-items.ensures c.loop-edge.edge-index d c.loop-edge-test.true
+          c.args.visited.now is.2)
+          (mark_read c.args.visited.now k false
+          (subst (λ x. k < x) (sym c.requires.many) lt) c.if-not-visited-edge.true)),
     )
 
 pub loop-edge-preserved : goal.loop-edge-preserved
 loop-edge-preserved c =
     let d : PlanEdge = record { from = record { 0 = 0 }; to = record { 0 = 0 } } in
     let k = (get_or c.edges_into-edge-items.result.now c.loop-edge.edge-index d).from.0 in
-    let lt : k < c.args.plan.now.count = source_below c.args.plan.now.edges c.edges_into-edge-items.result.now c.args.plan.now.count c.args.n.0 c.requires.plan.ends c.edges_into-edge-items.ensures c.loop-edge.edge-index d c.loop-edge-test.true in
-    marked_one_more c.args.plan.now.edges c.edges_into-edge-items.result.now c.args.plan.now.count c.args.n.0 c.requires.plan.ends c.edges_into-edge-items.ensures c.loop-edge.edge-index d c.loop-edge-test.true c.args.visited.now c.loop-edge.invariant
+    let lt : k < c.args.plan.now.count =
+    source_below c.args.plan.now.edges c.edges_into-edge-items.result.now c.args.plan.now.count c.args.n.0
+    c.requires.plan.ends c.edges_into-edge-items.ensures c.loop-edge.edge-index d c.loop-edge-test.true in
+    marked_one_more c.args.plan.now.edges c.edges_into-edge-items.result.now c.args.plan.now.count c.args.n.0
+    c.requires.plan.ends c.edges_into-edge-items.ensures c.loop-edge.edge-index d c.loop-edge-test.true
+    c.args.visited.now c.loop-edge.invariant
     (mark_read c.args.visited.now k true (subst (λ x. k < x) (sym c.requires.many) lt) c.if-not-visited-edge.false)
 
 pub returns : goal.returns
@@ -33,8 +43,11 @@ returns c =
     let inside : c.args.n.0 < c.args.plan.now.count = omega arith in (
       (λ yes. (
         inside,
-        mark_read c.args.visited.now c.args.n.0 false (subst (λ x. c.args.n.0 < x) (sym c.requires.many) inside) c.if-visited-n.false,
-        marked_whole c.args.plan.now.edges c.edges_into-edge-items.result.now c.args.n.0 c.loop-edge.edge-index c.args.visited.now c.edges_into-edge-items.ensures c.loop-edge.auto.edge-index-end c.loop-edge-test.false c.loop-edge.invariant,
+        mark_read c.args.visited.now c.args.n.0 false
+            (subst (λ x. c.args.n.0 < x) (sym c.requires.many) inside) c.if-visited-n.false,
+        marked_whole c.args.plan.now.edges c.edges_into-edge-items.result.now c.args.n.0 c.loop-edge.edge-index
+            c.args.visited.now c.edges_into-edge-items.ensures c.loop-edge.auto.edge-index-end c.loop-edge-test.false
+            c.loop-edge.invariant,
       )),
       λ h. refl,
     )

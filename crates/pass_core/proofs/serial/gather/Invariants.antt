@@ -5,4 +5,5 @@ use Rattle.pass_core.specs.Plans.{sources}
 use Rattle.pass_core.proofs.serial.gather.Given as goal
 
 abbrev pub invariant-loop-edge : goal.invariant-loop-edge
-invariant-loop-edge g l = all_of (map (made_at l.made) (sources (take l.edge-index l.edges))) ≡ Some (map arc_value l.ins.items)
+invariant-loop-edge g l =
+    all_of (map (made_at l.made) (sources (take l.edge-index l.edges))) ≡ Some (map arc_value l.ins.items)

@@ -3,4 +3,6 @@ use Rattle.pass_core.specs.Plans.{HasNoCycle}
 use Rattle.pass_tests.proofs.visits.two_edges.Goals as goal
 
 pub returns-clause-free : goal.returns-clause-free
-returns-clause-free c = subst (λ es. HasNoCycle es) (sym (c.new.ensures ∙ c.in_ok-from_array.ensures.items)) (record { rank = λ n. n; rises = (omega arith, (omega arith, tt)) })
+returns-clause-free c =
+    subst (λ es. HasNoCycle es) (sym (c.new.ensures ∙ c.in_ok-from_array.ensures.items))
+    (record { rank = λ n. n; rises = (omega arith, (omega arith, tt)) })

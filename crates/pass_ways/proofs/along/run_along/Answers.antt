@@ -16,7 +16,8 @@ returns-in-Ok g c =
     let taken = taken_is c.args.lines.now.lines.now _ _ _ _ _ c.lines_from.ensures c.in_ok-order.ensures in (
       c.in-Ok.ensures.1,
       made_along c.args.lines.now.lines.now c.args.before.now c.requires.follows c.args.pass
-          c.args.plan.now c.in_ok-order.order.items taken c.new.result c.new.ensures (subst (λ l. IsLegal c.args.plan.now
+          c.args.plan.now c.in_ok-order.order.items taken c.new.result c.new.ensures
+          (subst (λ l. IsLegal c.args.plan.now
           (numbers l)) (c.deref.ensures.value ∙ sym c.new.ensures) c.in-Ok.ensures.0),
     )
 

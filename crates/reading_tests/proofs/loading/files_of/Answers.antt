@@ -5,14 +5,19 @@ use Rattle.std.proofs.lemmas.List.Elements.{All-push}
 use Rattle.bp_load.specs.Trees.{Source, sources_given}
 use Rattle.reading_tests.proofs.loading.files_of.Goals as goal
 
-sources_push : (files : List (List ℕ × Vec ℕ Global)) (path : List ℕ) (bytes : Vec ℕ Global) → sources_given (files ++ (path, bytes) ∷ []) ≡ sources_given files ++ (path, bytes.items) ∷ []
+sources_push : (files : List (List ℕ × Vec ℕ Global)) (path : List ℕ) (bytes : Vec ℕ Global)
+    → sources_given (files ++ (path, bytes) ∷ []) ≡ sources_given files ++ (path, bytes.items) ∷ []
 sources_push files path bytes = map-append {B = Source} (λ f. (f.0, f.1.items)) files ((path, bytes) ∷ [])
 
 pub loop-path-preserved : goal.loop-path-preserved
 loop-path-preserved c =
     let files = c.loop-path.files.items in
     let bytes = c.in_ok-bytes_of.field-0 in
-    let more : sources_given c.push.new.self.items ≡ sources_given files ++ (c.in-Some.path, bytes.items) ∷ [] = ap sources_given c.in_ok-push.ensures.items ∙ sources_push files c.in-Some.path bytes in (
-      ap (map (λ (f : Source). f.0)) more ∙ map-append (λ (f : Source). f.0) (sources_given files) ((c.in-Some.path, bytes.items) ∷ []) ∙ ap (λ (ps : List (List ℕ)). ps ++ c.in-Some.path ∷ []) c.loop-path.invariant.0,
-      subst (All (λ (f : Source). length f.1 ≤ 2 ^ 20)) (sym more) (All-push (λ (f : Source). length f.1 ≤ 2 ^ 20) (sources_given files) (c.in-Some.path, bytes.items) c.loop-path.invariant.1 c.in_ok-bytes_of.ensures),
+    let more : sources_given c.push.new.self.items ≡ sources_given files ++ (c.in-Some.path, bytes.items) ∷ [] =
+    ap sources_given c.in_ok-push.ensures.items ∙ sources_push files c.in-Some.path bytes in (
+      ap (map (λ (f : Source). f.0)) more
+          ∙ map-append (λ (f : Source). f.0) (sources_given files) ((c.in-Some.path, bytes.items) ∷ [])
+          ∙ ap (λ (ps : List (List ℕ)). ps ++ c.in-Some.path ∷ []) c.loop-path.invariant.0,
+      subst (All (λ (f : Source). length f.1 ≤ 2 ^ 20)) (sym more) (All-push (λ (f : Source). length f.1 ≤ 2 ^ 20)
+          (sources_given files) (c.in-Some.path, bytes.items) c.loop-path.invariant.1 c.in_ok-bytes_of.ensures),
     )

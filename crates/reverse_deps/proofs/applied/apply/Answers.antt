@@ -7,7 +7,8 @@ use Rattle.reverse_deps.proofs.applied.apply.Goals as goal
 
 pub with_links-requires-clause-many : goal.with_links-requires-clause-many
 with_links-requires-clause-many g c =
-    ap length c.deref.ensures.value ∙ many_found c.args.mods.now c.args.g.nodes c.args.asked.now c.in_ok-found.found.items c.in_ok-found.ensures
+    ap length c.deref.ensures.value
+    ∙ many_found c.args.mods.now c.args.g.nodes c.args.asked.now c.in_ok-found.found.items c.in_ok-found.ensures
 
 pub with_links-requires-clause-found : goal.with_links-requires-clause-found
 with_links-requires-clause-found g c =
@@ -16,25 +17,35 @@ with_links-requires-clause-found g c =
 
 pub refuse_cycle-requires : goal.refuse_cycle-requires
 refuse_cycle-requires g c =
-    may_made c.args.mods.now c.args.g.nodes c.args.asked.now c.in_ok-found.found.items c.in_ok-found.ensures c.requires.asking c.in_ok-made.made.nodes
-    (c.in_ok-made.ensures ∙ ap (λ found. linked_nodes c.args.g.nodes (links c.args.asked.now found)) c.deref.ensures.value) c.in_ok-count_edges.ensures c.requires.may
+    may_made c.args.mods.now c.args.g.nodes c.args.asked.now c.in_ok-found.found.items c.in_ok-found.ensures
+    c.requires.asking c.in_ok-made.made.nodes
+    (c.in_ok-made.ensures ∙ ap (λ found. linked_nodes c.args.g.nodes (links c.args.asked.now found))
+    c.deref.ensures.value) c.in_ok-count_edges.ensures c.requires.may
 
 pub returns-clause-means : goal.returns-clause-means
 returns-clause-means g c =
-    means_made c.args.mods.now c.args.g.nodes c.args.asked.now c.in_ok-found.found.items c.in_ok-found.ensures c.requires.asking c.in_ok-made.made.nodes
-    (c.in_ok-made.ensures ∙ ap (λ found. linked_nodes c.args.g.nodes (links c.args.asked.now found)) c.deref.ensures.value) c.in_ok-count_edges.ensures c.in_ok-refuse_cycle.ensures
+    means_made c.args.mods.now c.args.g.nodes c.args.asked.now c.in_ok-found.found.items c.in_ok-found.ensures
+    c.requires.asking c.in_ok-made.made.nodes
+    (c.in_ok-made.ensures ∙ ap (λ found. linked_nodes c.args.g.nodes (links c.args.asked.now found))
+    c.deref.ensures.value) c.in_ok-count_edges.ensures c.in_ok-refuse_cycle.ensures
 
 pub returns-clause-bare : goal.returns-clause-bare
 returns-clause-bare g c =
-    bare_made c.args.mods.now c.args.g.nodes c.args.asked.now c.in_ok-found.found.items c.in_ok-found.ensures c.requires.asking c.in_ok-made.made.nodes
-    (c.in_ok-made.ensures ∙ ap (λ found. linked_nodes c.args.g.nodes (links c.args.asked.now found)) c.deref.ensures.value)
+    bare_made c.args.mods.now c.args.g.nodes c.args.asked.now c.in_ok-found.found.items c.in_ok-found.ensures
+    c.requires.asking c.in_ok-made.made.nodes
+    (c.in_ok-made.ensures
+    ∙ ap (λ found. linked_nodes c.args.g.nodes (links c.args.asked.now found)) c.deref.ensures.value)
 
 pub returns-clause-may : goal.returns-clause-may
 returns-clause-may g c =
-    may_made c.args.mods.now c.args.g.nodes c.args.asked.now c.in_ok-found.found.items c.in_ok-found.ensures c.requires.asking c.in_ok-made.made.nodes
-    (c.in_ok-made.ensures ∙ ap (λ found. linked_nodes c.args.g.nodes (links c.args.asked.now found)) c.deref.ensures.value) c.in_ok-count_edges.ensures c.requires.may
+    may_made c.args.mods.now c.args.g.nodes c.args.asked.now c.in_ok-found.found.items c.in_ok-found.ensures
+    c.requires.asking c.in_ok-made.made.nodes
+    (c.in_ok-made.ensures ∙ ap (λ found. linked_nodes c.args.g.nodes (links c.args.asked.now found))
+    c.deref.ensures.value) c.in_ok-count_edges.ensures c.requires.may
 
 pub returns-clause-valid : goal.returns-clause-valid
 returns-clause-valid g c =
-    valid_made c.args.mods.now c.args.g.nodes c.args.asked.now c.in_ok-found.found.items c.in_ok-found.ensures c.requires.asking c.in_ok-made.made.nodes
-    (c.in_ok-made.ensures ∙ ap (λ found. linked_nodes c.args.g.nodes (links c.args.asked.now found)) c.deref.ensures.value) c.in_ok-count_edges.ensures c.in_ok-refuse_cycle.ensures
+    valid_made c.args.mods.now c.args.g.nodes c.args.asked.now c.in_ok-found.found.items c.in_ok-found.ensures
+    c.requires.asking c.in_ok-made.made.nodes
+    (c.in_ok-made.ensures ∙ ap (λ found. linked_nodes c.args.g.nodes (links c.args.asked.now found))
+    c.deref.ensures.value) c.in_ok-count_edges.ensures c.in_ok-refuse_cycle.ensures

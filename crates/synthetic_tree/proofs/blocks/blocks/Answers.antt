@@ -11,22 +11,29 @@ use Rattle.synthetic_tree.proofs.blocks.blocks.Goals as goal
 
 pub loop-block-preserved : goal.loop-block-preserved
 loop-block-preserved c =
-    c.in_ok-push.ensures.items ∙ ap (λ (bs : List ℕ). bs ++ c.loop-block.block ∷ []) c.loop-block.invariant ∙ sym (range-more 0 c.loop-block.block c.loop-block.block (omega arith))
+    c.in_ok-push.ensures.items
+    ∙ ap (λ (bs : List ℕ). bs ++ c.loop-block.block ∷ []) c.loop-block.invariant
+    ∙ sym (range-more 0 c.loop-block.block c.loop-block.block (omega arith))
 
 pub returns-clause-all : goal.returns-clause-all
 returns-clause-all c =
     let all : c.loop-block.block ≡ block_count c.args.modules = omega arith in
-    subst (λ (bs : List ℕ). IsPermutation bs c.sort_by.new.self.items) (c.loop-block.invariant ∙ ap (range_with_len 0) all) c.in_ok-sort_by.ensures.permutation
+    subst (λ (bs : List ℕ). IsPermutation bs c.sort_by.new.self.items)
+    (c.loop-block.invariant ∙ ap (range_with_len 0) all) c.in_ok-sort_by.ensures.permutation
 
 pub returns-clause-order : goal.returns-clause-order
 returns-clause-order c =
     let all : c.loop-block.block ≡ block_count c.args.modules = omega arith in
-    let moved = subst (λ (bs : List ℕ). IsPermutation bs c.sort_by.new.self.items) (c.loop-block.invariant ∙ ap (range_with_len 0) all) c.in_ok-sort_by.ensures.permutation in
-    let sorted = c.in_ok-sort_by.ensures.sorted (λ a b. is_lt (block_cmp a b)) (ranks_by nat_list_cmp_total block_directory) (answers_always _ _ _ (λ f a r g k. search rules)) in
+    let moved = subst (λ (bs : List ℕ). IsPermutation bs c.sort_by.new.self.items)
+    (c.loop-block.invariant ∙ ap (range_with_len 0) all) c.in_ok-sort_by.ensures.permutation in
+    let sorted = c.in_ok-sort_by.ensures.sorted (λ a b. is_lt (block_cmp a b))
+    (ranks_by nat_list_cmp_total block_directory) (answers_always _ _ _ (λ f a r g k. search rules)) in
     ascend (block_count c.args.modules) c.sort_by.new.self.items (omega arith) moved sorted
 
 pub returns-clause-within : goal.returns-clause-within
 returns-clause-within c =
     let all : c.loop-block.block ≡ block_count c.args.modules = omega arith in
-    let moved = subst (λ (bs : List ℕ). IsPermutation bs c.sort_by.new.self.items) (c.loop-block.invariant ∙ ap (range_with_len 0) all) c.in_ok-sort_by.ensures.permutation in
-    All-permutation (λ b. 64 * b < c.args.modules) (range_with_len 0 (block_count c.args.modules)) c.sort_by.new.self.items moved (within c.args.modules)
+    let moved = subst (λ (bs : List ℕ). IsPermutation bs c.sort_by.new.self.items)
+    (c.loop-block.invariant ∙ ap (range_with_len 0) all) c.in_ok-sort_by.ensures.permutation in
+    All-permutation (λ b. 64 * b < c.args.modules)
+    (range_with_len 0 (block_count c.args.modules)) c.sort_by.new.self.items moved (within c.args.modules)

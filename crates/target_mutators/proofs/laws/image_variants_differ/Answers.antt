@@ -5,4 +5,6 @@ use Rattle.target_mutators.proofs.Differ.{images_differ}
 use Rattle.target_mutators.proofs.laws.image_variants_differ.Goals as goal
 
 pub returns : goal.returns
-returns c mods nodes = c.split_results_differ.ensures image_variants mods nodes (λ m x. images_differ (variation_on Target x.vars) x.payload)
+returns c mods nodes =
+    c.split_results_differ.ensures image_variants mods nodes
+    (λ m x. images_differ (variation_on Target x.vars) x.payload)

@@ -18,7 +18,13 @@ loop-i-preserved g c =
     let b = c.index-lists-i.result in
     let d : NodeId × EdgeKind = (record { 0 = 0 }, Defaults) in
     let a = get_or c.args.arriving.now i d in
-    let list : c.as_slice.result.now ≡ arc_value (get_or c.args.lists.now i b) = c.as_slice.ensures ∙ c.deref.ensures ∙ ap arc_value c.index-lists-i.is in
-    c.in_ok-add_handed.ensures ∙ ap (λ (l : List Variation). fold (wants_with own) l (map (handed_variation m nodes n a) c.as_slice.result.now)) c.loop-i.invariant
-    ∙ ap (λ (l : List Variation). fold (wants_with own) (others_of own (wanted_variations m nodes n (take i c.args.arriving.now) (map arc_value (take i c.args.lists.now)))) (map (handed_variation m nodes n a) l)) list
-    ∙ sym (wanted_more m nodes n arc_value own c.args.arriving.now c.args.lists.now i d b c.loop-i-test.true c.requires.many)
+    let list : c.as_slice.result.now ≡ arc_value (get_or c.args.lists.now i b) =
+    c.as_slice.ensures ∙ c.deref.ensures ∙ ap arc_value c.index-lists-i.is in
+    c.in_ok-add_handed.ensures
+    ∙ ap (λ (l : List Variation). fold (wants_with own) l (map (handed_variation m nodes n a) c.as_slice.result.now))
+    c.loop-i.invariant
+    ∙ ap (λ (l : List Variation). fold (wants_with own)
+    (others_of own (wanted_variations m nodes n (take i c.args.arriving.now) (map arc_value (take i c.args.lists.now))))
+    (map (handed_variation m nodes n a) l)) list
+    ∙ sym (wanted_more m nodes n arc_value own c.args.arriving.now c.args.lists.now i d b c.loop-i-test.true
+    c.requires.many)

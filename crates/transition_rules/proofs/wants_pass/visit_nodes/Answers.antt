@@ -28,6 +28,7 @@ run_by_way-requires-clause-takes g c = λ κs lives n lt.
 pub returns : goal.returns
 returns g c =
     subst
-    (λ (p : Plan). AnswersWay c.args.way.now (variations_meant (g.M.Transition.meaning c.args.rule.now) c.args.g.now.nodes)
+    (λ (p : Plan).
+    AnswersWay c.args.way.now (variations_meant (g.M.Transition.meaning c.args.rule.now) c.args.g.now.nodes)
     p c.args.pass c.args.before.now c.run_by_way.result)
     c.in_ok-plan.ensures.exact c.run_by_way.ensures

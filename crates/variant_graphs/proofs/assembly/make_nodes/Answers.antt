@@ -42,8 +42,10 @@ add_variants-requires-clause-may g c =
     let many = c.requires.many in
     let at = c.loop-list.invariant.1 in
     let lt : c.loop-list.n < length c.args.g.now.nodes = omega (arith, turn.0) in
-    let node_is : node ≡ get_or nodes n node = c.index-nodes-n.is ∙ ap (λ l. get_or l n node) c.as_slice-nodes.ensures in
-    all_map (λ (e : Edge). e.to.0 < length nodes) (g.S.Splitter.may_lead c.args.s.now n) (λ e inside. c.requires.may n e lt inside)
+    let node_is : node ≡ get_or nodes n node =
+    c.index-nodes-n.is ∙ ap (λ l. get_or l n node) c.as_slice-nodes.ensures in
+    all_map (λ (e : Edge). e.to.0 < length nodes) (g.S.Splitter.may_lead c.args.s.now n)
+    (λ e inside. c.requires.may n e lt inside)
     node.edges (ends_of_node nodes c.requires.numbered.ends n node lt node_is)
 
 pub add_variants-requires-clause-to : goal.add_variants-requires-clause-to
@@ -59,7 +61,8 @@ add_variants-requires-clause-to g c =
     let many = c.requires.many in
     let at = c.loop-list.invariant.1 in
     let lt : c.loop-list.n < length c.args.g.now.nodes = omega (arith, turn.0) in
-    let node_is : node ≡ get_or nodes n node = c.index-nodes-n.is ∙ ap (λ l. get_or l n node) c.as_slice-nodes.ensures in
+    let node_is : node ≡ get_or nodes n node =
+    c.index-nodes-n.is ∙ ap (λ l. get_or l n node) c.as_slice-nodes.ensures in
     let s = splitting (g.S.Splitter.rule c.args.s.now) c.args.variants.items in
     let long = begins_long s c.args.numbering.now c.requires.numbering in
     all_map (λ (e : Edge). e.to.0 < length nodes) (λ (e : Edge). e.to.0 + 1 < length c.args.numbering.now.begins.items)
@@ -81,14 +84,16 @@ loop-list-preserved g c =
     let many = c.requires.many in
     let at = c.loop-list.invariant.1 in
     let lt : c.loop-list.n < length c.args.g.now.nodes = omega (arith, turn.0) in
-    let node_is : node ≡ get_or nodes n node = c.index-nodes-n.is ∙ ap (λ l. get_or l n node) c.as_slice-nodes.ensures in
+    let node_is : node ≡ get_or nodes n node =
+    c.index-nodes-n.is ∙ ap (λ l. get_or l n node) c.as_slice-nodes.ensures in
     let ends = subst (λ k. AllByRecursion (λ (e : Edge). e.to.0 < k) node.edges) (sym many)
     (ends_of_node nodes c.requires.numbered.ends n node lt node_is) in
     let listed : c.in-Some.list ≡ variants_at s n =
     turn.1 ∙ ap (λ k. get_or lists k c.in-Some.list) (sym at) ∙ same_at lists n c.in-Some.list [] (omega arith) in
     let longer = length-append c.loop-list.yielded (c.in-Some.list ∷ []) in (
       c.in_ok-add_variants.ensures
-          ∙ ap (λ (l : List (Node _)). l ++ map (node_by rule c.args.numbering.now n node) c.in-Some.list) c.loop-list.invariant.0
+          ∙ ap (λ (l : List (Node _)). l ++ map (node_by rule c.args.numbering.now n node) c.in-Some.list)
+          c.loop-list.invariant.0
           ∙ (λ i. split_nodes s (take n nodes)
           ++ map (λ b. same_variant rule lists c.args.numbering.now c.requires.numbering n node b ends i) (listed i))
           ∙ ap (λ y. split_nodes s (take n nodes) ++ map (variant_node s n y) (variants_at s n)) node_is

@@ -20,7 +20,8 @@ returns-then-count-total g c =
       lt2,
       omega arith,
       omega arith,
-      ap (option_map (λ (x : Node _). x.«module»)) (slice_get-get_or c.args.g.now.nodes n c.index-as_slice-n.result lt2 ∙ ap (λ nodes. Some (get_or nodes n c.index-as_slice-n.result)) (sym c.as_slice.ensures)),
+      ap (option_map (λ (x : Node _). x.«module»)) (slice_get-get_or c.args.g.now.nodes n c.index-as_slice-n.result lt2
+          ∙ ap (λ nodes. Some (get_or nodes n c.index-as_slice-n.result)) (sym c.as_slice.ensures)),
     )
 
 pub loop-n-preserved : goal.loop-n-preserved

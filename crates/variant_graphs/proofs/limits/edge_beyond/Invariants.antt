@@ -7,4 +7,6 @@ abbrev pub invariant-loop-n : goal.invariant-loop-n
 invariant-loop-n g l = (l.total ≡ length (new_places l.counts (take l.n l.g.nodes))) × (l.total ≤ MOST_EDGES)
 
 abbrev pub invariant-loop-copy : goal.invariant-loop-copy
-invariant-loop-copy g l = (l.total ≡ length (new_places l.counts (take l.n l.g.nodes)) + length (copies_of l._copy (kept_places l.counts l.edges))) × (l.total ≤ MOST_EDGES)
+invariant-loop-copy g l =
+    (l.total ≡ length (new_places l.counts (take l.n l.g.nodes))
+    + length (copies_of l._copy (kept_places l.counts l.edges))) × (l.total ≤ MOST_EDGES)

@@ -39,7 +39,8 @@ loop-out-preserved g c =
     let was = c.index_mut-node.result.now in (
       ap (λ (y : Node _). set c.loop-out.nodes.items c.loop-out.n (with_payload y c.in_ok-payload.payload))
           c.index_mut-node.ensures.value
-          ∙ given_step arc_value c.args.nodes.now.items c.loop-out.nodes.items c.loop-out.yielded c.loop-out.n c.in-Some.out
+          ∙ given_step arc_value c.args.nodes.now.items c.loop-out.nodes.items c.loop-out.yielded c.loop-out.n
+          c.in-Some.out
           c.in_ok-payload.payload was lt c.loop-out.invariant.0 at c.in_ok-payload.ensures,
       omega arith,
     )

@@ -11,5 +11,8 @@ sized v = search rules
 pub returns : goal.returns
 returns c =
     let path = c.args.file.now in
-    let all = YieldsList-end (YieldsList-from_str_split 47 path (lit< tt) (cc) (cc) (cc)) c.loop-part.yielded _ c.loop-part.yielded_by _ _ c.in-None.is c.next.ensures.steps in
-    c.pop.ensures.rest ∙ ap (λ n. take (n - 1) c.loop-part.components.items) (sized c.loop-part.components) ∙ ap (λ ps. take (length ps - 1) ps) (c.loop-part.invariant ∙ all.0)
+    let all = YieldsList-end (YieldsList-from_str_split 47 path (lit< tt) (cc) (cc) (cc)) c.loop-part.yielded _
+    c.loop-part.yielded_by _ _ c.in-None.is c.next.ensures.steps in
+    c.pop.ensures.rest
+    ∙ ap (λ n. take (n - 1) c.loop-part.components.items) (sized c.loop-part.components)
+    ∙ ap (λ ps. take (length ps - 1) ps) (c.loop-part.invariant ∙ all.0)

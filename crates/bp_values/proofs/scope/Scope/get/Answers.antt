@@ -6,4 +6,7 @@ use Rattle.bp_values.proofs.Pairs.{lookup_pairs, borrowed}
 use Rattle.bp_values.proofs.scope.Scope.get.Goals as goal
 
 pub returns : goal.returns
-returns c = borrowed c.get.result ∙ ap (option_map meaning) c.get.ensures.value ∙ lookup_pairs (bytes_eq c.args.name.now) c.args.self.now.values.entries
+returns c =
+    borrowed c.get.result
+    ∙ ap (option_map meaning) c.get.ensures.value
+    ∙ lookup_pairs (bytes_eq c.args.name.now) c.args.self.now.values.entries

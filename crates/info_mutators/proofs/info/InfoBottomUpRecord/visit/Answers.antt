@@ -15,8 +15,10 @@ returns-in-Some c =
     let node = c.at-at.result.node.now in
     let ins = map arc_value c.args.ins.now in
     ap (λ (ms : List Module). info_meant ms nodes c.args.n.0 ins) (sym c.self.view_is)
-    ∙ meant_made mods nodes c.args.n.0 ins c.at-at.result.module.now node c.at-at.ensures c.in_ok-dependencies.dependencies.items
+    ∙ meant_made mods nodes c.args.n.0 ins c.at-at.result.module.now node c.at-at.ensures
+    c.in_ok-dependencies.dependencies.items
     (c.in_ok-dependencies.ensures ∙ ap (λ es. dependencies_of mods nodes es ins) c.as_slice-edges.ensures)
-    c.in-Some.made _ (sym c.in-Some.is ∙ c.in_ok-made.ensures ∙ ap (λ ds. cond (has_short_lists node.payload ds) (Some (with_lists node.payload ds)) None) c.deref.ensures.value)
+    c.in-Some.made _ (sym c.in-Some.is ∙ c.in_ok-made.ensures
+    ∙ ap (λ ds. cond (has_short_lists node.payload ds) (Some (with_lists node.payload ds)) None) c.deref.ensures.value)
     (c.in_ok-one_variant-in-Some.ensures
     ∙ ap (λ (asked : List Request). one_variant c.in-Some.made asked) (c.new-in-Some.ensures ∙ c.new.ensures.items))

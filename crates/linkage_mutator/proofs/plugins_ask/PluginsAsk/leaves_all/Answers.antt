@@ -10,6 +10,7 @@ pub returns-clause-alone : goal.returns-clause-alone
 returns-clause-alone c =
     λ is.
     let nodes = c.args.g.now.nodes in
-    c.leaves_all_by_each.ensures (λ m x ins. Ok (one_variant x.payload (plugins_asked c.args.self.now m x))) c.args.self.now nodes
+    c.leaves_all_by_each.ensures (λ m x ins. Ok (one_variant x.payload (plugins_asked c.args.self.now m x)))
+    c.args.self.now nodes
     c.requires (leave_plugins c.args.self.now nodes
     (ap (list_all is_no_plugin) (sym c.as_slice.ensures) ∙ sym c.are_no_plugins.ensures ∙ is))

@@ -13,14 +13,18 @@ returns c =
     let node = c.index-as_slice-n.result in
     let is : node ≡ get_or nodes n node = c.index-as_slice-n.is ∙ ap (λ l. get_or l n node) c.as_slice.ensures in
     let inside = c.requires.inside in
-    let has_module = all_within (λ (x : Node _). x.«module».0 < length mods) nodes n node inside is c.requires.may_run.accepted in
+    let has_module =
+    all_within (λ (x : Node _). x.«module».0 < length mods) nodes n node inside is c.requires.may_run.accepted in
     let node_is = slice_get_read nodes _ n node refl inside is in
-    let module_is = slice_get_read mods _ node.«module».0 c.index-mods-node.result refl has_module c.index-mods-node.is in
+    let module_is =
+    slice_get_read mods _ node.«module».0 c.index-mods-node.result refl has_module c.index-mods-node.is in
     let here = get_or_from_slice_get nodes n node node_empty node_is in
     record {
       node_is = node_is;
       module_is = module_is;
       node_here = here;
-      module_here = ap (λ (x : Node _). module_at mods x.«module».0) here ∙ get_or_from_slice_get mods node.«module».0 _ module_empty module_is;
+      module_here =
+          ap (λ (x : Node _). module_at mods x.«module».0) here
+          ∙ get_or_from_slice_get mods node.«module».0 _ module_empty module_is;
       targets_are = targets_at nodes n node inside is;
     }

@@ -14,16 +14,20 @@ at-kinds-requires g c =
 
 pub visit-requires-clause-kinds : goal.visit-requires-clause-kinds
 visit-requires-clause-kinds g c =
-    c.at-kinds.ensures ∙ kinds_read c.args.self.now.graph.now.nodes c.args.self.now.kinds.now c.args.n.0 [] c.requires.1 c.requires.0.inside
+    c.at-kinds.ensures
+    ∙ kinds_read c.args.self.now.graph.now.nodes c.args.self.now.kinds.now c.args.n.0 [] c.requires.1
+    c.requires.0.inside
 
 pub visit-requires-clause-each : goal.visit-requires-clause-each
 visit-requires-clause-each g c =
     c.requires.2 ∙ sym (ap length (c.at-kinds.ensures
-    ∙ kinds_read c.args.self.now.graph.now.nodes c.args.self.now.kinds.now c.args.n.0 [] c.requires.1 c.requires.0.inside))
+    ∙ kinds_read c.args.self.now.graph.now.nodes c.args.self.now.kinds.now c.args.n.0 [] c.requires.1
+    c.requires.0.inside))
 
 pub returns : goal.returns
 returns g c =
     let nodes = c.args.self.now.graph.now.nodes in
     let kinds : c.at-kinds.result.now ≡ kinds_into nodes c.args.n.0 =
     c.at-kinds.ensures ∙ kinds_read nodes c.args.self.now.kinds.now c.args.n.0 [] c.requires.1 c.requires.0.inside in
-    subst (λ (l : List EdgeKind). Answers (λ out. out) c.visit.result (g.M.TopDown.meaning c.args.self.now.rule.now nodes c.args.n.0 l (map arc_value c.args.ins.now))) kinds c.visit.ensures
+    subst (λ (l : List EdgeKind). Answers (λ out. out) c.visit.result (g.M.TopDown.meaning c.args.self.now.rule.now
+    nodes c.args.n.0 l (map arc_value c.args.ins.now))) kinds c.visit.ensures

@@ -12,6 +12,12 @@ pub returns : goal.returns
 returns c =
     let old : Book = shown_book c.args.self.now in
     let s = c.args.statement in (
-      statement_taken c.args.number old s (ap (λ r. bytes_eq r (codes "phony") || has_text (names_of_rules old) r) (sym c.as_str.ensures) ∙ sym c.if-not-knows.ensures) ∙ ap Some (sym c.in_ok-begin.ensures.shown),
-      learnt_new c.begin.new.self old (Build c.args.number s) c.in_ok-begin.ensures.shown (ap keys_of c.requires.no_vars) (subst (λ ts. IsSetOf ts c.begin.new.self.names) (names_with_statement old c.args.number s) (subst (λ n. IsSetOf (names_of_rules old) n) (sym c.in_ok-begin.ensures.names) c.requires.learnt.names)) c.in_ok-begin.ensures.keys,
+      statement_taken c.args.number old s (ap (λ r. bytes_eq r (codes "phony") || has_text (names_of_rules old) r)
+          (sym c.as_str.ensures) ∙ sym c.if-not-knows.ensures)
+          ∙ ap Some (sym c.in_ok-begin.ensures.shown),
+      learnt_new c.begin.new.self old (Build c.args.number s) c.in_ok-begin.ensures.shown (ap keys_of
+          c.requires.no_vars)
+          (subst (λ ts. IsSetOf ts c.begin.new.self.names) (names_with_statement old c.args.number s)
+          (subst (λ n. IsSetOf (names_of_rules old) n) (sym c.in_ok-begin.ensures.names) c.requires.learnt.names))
+          c.in_ok-begin.ensures.keys,
     )

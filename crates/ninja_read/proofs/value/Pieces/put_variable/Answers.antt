@@ -8,5 +8,6 @@ pub returns : goal.returns
 returns c = λ more.
     let old = c.args.self.now in
     ap (λ t. c.push.new.self.items ++ with_text t more) c.in_ok-end_text.ensures.0
-    ∙ ap (λ x. x ++ more) (c.in_ok-push.ensures.items ∙ ap (λ n. c.end_text.new.self.done.items ++ Var n ∷ []) c.in_ok-from_str.ensures ∙ ap (λ x. x ++ Var c.args.name.now ∷ []) c.in_ok-end_text.ensures.1)
+    ∙ ap (λ x. x ++ more) (c.in_ok-push.ensures.items ∙ ap (λ n. c.end_text.new.self.done.items ++ Var n ∷ [])
+    c.in_ok-from_str.ensures ∙ ap (λ x. x ++ Var c.args.name.now ∷ []) c.in_ok-end_text.ensures.1)
     ∙ variable_put old.done.items old.text c.args.name.now more

@@ -13,7 +13,10 @@ returns c =
       c.saturating_add.ensures,
       c.saturating_add-paths.ensures,
       statement_has s c.least_of_all.result c.least_of_all-2.result c.least_of_all-3.result
-          (subst (λ (outs : List (List ℕ)). c.least_of_all.result ≤ length (spaced_paths outs)) c.as_slice.ensures c.least_of_all.ensures)
-          (subst (λ (ins : List (List ℕ)). c.least_of_all-2.result ≤ length (spaced_paths ins)) c.as_slice-2.ensures c.least_of_all-2.ensures)
-          (subst (λ (vars : List (List ℕ × List ℕ)). c.least_of_all-3.result ≤ length (flat_map (λ v. ended_line (variable_line v)) vars)) c.as_slice-3.ensures c.least_of_all-3.ensures),
+          (subst (λ (outs : List (List ℕ)). c.least_of_all.result ≤ length (spaced_paths outs)) c.as_slice.ensures
+          c.least_of_all.ensures)
+          (subst (λ (ins : List (List ℕ)). c.least_of_all-2.result ≤ length (spaced_paths ins)) c.as_slice-2.ensures
+          c.least_of_all-2.ensures)
+          (subst (λ (vars : List (List ℕ × List ℕ)). c.least_of_all-3.result
+          ≤ length (flat_map (λ v. ended_line (variable_line v)) vars)) c.as_slice-3.ensures c.least_of_all-3.ensures),
     )

@@ -25,7 +25,8 @@ held_by-held-requires-clause-ends g c =
     let f = c.self.inside in
     let inside : c.args.n.0 < f.plan.count = omega arith in
     rw (c.deref-2.ensures.value, c.deref.ensures.value)
-    (subst (λ x. slice_index f.starts.items (c.args.n.0 + 1) ≤ x) (sym (sym (length-map f.filled.items shown_in) ∙ kept.sound.filled_many)) (starts_end f.plan f.starts.items kept.is_plan kept.are_starts c.args.n.0 inside))
+    (subst (λ x. slice_index f.starts.items (c.args.n.0 + 1) ≤ x) (sym (sym (length-map f.filled.items shown_in)
+    ∙ kept.sound.filled_many)) (starts_end f.plan f.starts.items kept.is_plan kept.are_starts c.args.n.0 inside))
 
 pub publish_last-requires-clause-takes : goal.publish_last-requires-clause-takes
 publish_last-requires-clause-takes g c =
@@ -33,12 +34,15 @@ publish_last-requires-clause-takes g c =
     let f = c.self.inside in
     let inside : c.args.n.0 < f.plan.count = omega arith in
     let s = state_of f.counters.items f.claimed.items f.filled.items f.subtracted.items f.fetched.items in
-    let many : length f.filled.items ≡ length f.plan.edges = sym (length-map f.filled.items shown_in) ∙ kept.sound.filled_many in
+    let many : length f.filled.items ≡ length f.plan.edges =
+    sym (length-map f.filled.items shown_in) ∙ kept.sound.filled_many in
     let slice = rw (c.deref-2.ensures.value, c.deref.ensures.value) at c.held_by-held.ensures in
-    subst (λ k. g.V.Visit.takes f.visitor c.args.n.0 k) (slice_many f.plan f.starts.items kept.is_plan kept.are_starts c.args.n.0 inside f.filled.items many c.held_by-held.result.now slice) (kept.takes_plan c.args.n.0 inside)
+    subst (λ k. g.V.Visit.takes f.visitor c.args.n.0 k) (slice_many f.plan f.starts.items kept.is_plan kept.are_starts
+    c.args.n.0 inside f.filled.items many c.held_by-held.result.now slice) (kept.takes_plan c.args.n.0 inside)
 
 pub overflow_add-self : goal.overflow_add-self
-overflow_add-self g c = let most = steps_most _ _ _ _ _ _ _ _ c.self.invariant in let few = c.self.invariant.is_plan.few in search rules
+overflow_add-self g c =
+    let most = steps_most _ _ _ _ _ _ _ _ c.self.invariant in let few = c.self.invariant.is_plan.few in search rules
 
 pub invariant_of-self-2 : goal.invariant_of-self-2
 invariant_of-self-2 g c =
@@ -46,17 +50,28 @@ invariant_of-self-2 g c =
     let f = c.self.inside in
     let inside : c.args.n.0 < f.plan.count = omega arith in
     let s = state_of f.counters.items f.claimed.items f.filled.items f.subtracted.items f.fetched.items in
-    let many : length f.filled.items ≡ length f.plan.edges = sym (length-map f.filled.items shown_in) ∙ kept.sound.filled_many in
+    let many : length f.filled.items ≡ length f.plan.edges =
+    sym (length-map f.filled.items shown_in) ∙ kept.sound.filled_many in
     let slice = rw (c.deref-2.ensures.value, c.deref.ensures.value) at c.held_by-held.ensures in
     let may : Allows f.plan s (Claim c.args.n) = (
-      mark_shows f.claimed.items c.args.n.0 c.index.result.now false (subst (λ x. c.args.n.0 < x) (sym kept.sound.claimed_many) inside) c.index.ensures c.if-index.false,
-      slice_get_read f.counters.items (length f.counters.items) c.args.n.0 c.index-else-index.result.now refl (subst (λ x. c.args.n.0 < x) (sym kept.sound.counters_many) inside) c.index-else-index.ensures ∙ ap Some c.if-index-ne0.false,
+      mark_shows f.claimed.items c.args.n.0 c.index.result.now false
+          (subst (λ x. c.args.n.0 < x) (sym kept.sound.claimed_many) inside) c.index.ensures c.if-index.false,
+      slice_get_read f.counters.items (length f.counters.items) c.args.n.0 c.index-else-index.result.now refl
+          (subst (λ x. c.args.n.0 < x) (sym kept.sound.counters_many) inside) c.index-else-index.ensures
+          ∙ ap Some c.if-index-ne0.false,
     ) in
-    let counted : c.index-2.result.now ≡ slice_index f.unfetched.items c.args.n.0 = c.index-2.ensures ∙ same_at f.unfetched.items c.args.n.0 c.index-2.result.now 0 (subst (λ x. c.args.n.0 < x) (sym kept.unfetched_many) inside) in
-    claim_core (g.V.Visit.meaning f.visitor) (g.V.Visit.takes f.visitor) f.plan f.starts.items s f.unfetched.items f.published.items f.steps kept c.args.n may inside c.publish_last.new.published.items
-    (publishes_as c.args.n.0 _ (visit_result (g.V.Visit.meaning f.visitor) f.plan s c.args.n.0) f.published.items c.publish_last.new.published.items
-    (test_zero c.index-2.result.now (slice_index f.unfetched.items c.args.n.0) 0 counted) (zero_test c.index-2.result.now (slice_index f.unfetched.items c.args.n.0) 0 counted)
-    (slice_judged f.plan f.starts.items kept.is_plan kept.are_starts c.args.n.0 inside f.filled.items many c.held_by-held.result.now slice (g.V.Visit.meaning f.visitor c.args.n.0)) c.in_ok-publish_last.ensures.done)
+    let counted : c.index-2.result.now ≡ slice_index f.unfetched.items c.args.n.0 =
+    c.index-2.ensures
+    ∙ same_at f.unfetched.items c.args.n.0 c.index-2.result.now 0
+    (subst (λ x. c.args.n.0 < x) (sym kept.unfetched_many) inside) in
+    claim_core (g.V.Visit.meaning f.visitor) (g.V.Visit.takes f.visitor) f.plan f.starts.items s f.unfetched.items
+    f.published.items f.steps kept c.args.n may inside c.publish_last.new.published.items
+    (publishes_as c.args.n.0 _ (visit_result (g.V.Visit.meaning f.visitor) f.plan s c.args.n.0) f.published.items
+    c.publish_last.new.published.items
+    (test_zero c.index-2.result.now (slice_index f.unfetched.items c.args.n.0) 0 counted)
+    (zero_test c.index-2.result.now (slice_index f.unfetched.items c.args.n.0) 0 counted)
+    (slice_judged f.plan f.starts.items kept.is_plan kept.are_starts c.args.n.0 inside f.filled.items many
+    c.held_by-held.result.now slice (g.V.Visit.meaning f.visitor c.args.n.0)) c.in_ok-publish_last.ensures.done)
 
 pub returns : goal.returns
 returns g c =
@@ -65,7 +80,10 @@ returns g c =
     let inside : c.args.n.0 < f.plan.count = omega arith in
     let s = state_of f.counters.items f.claimed.items f.filled.items f.subtracted.items f.fetched.items in
     let may : Allows f.plan s (Claim c.args.n) = (
-      mark_shows f.claimed.items c.args.n.0 c.index.result.now false (subst (λ x. c.args.n.0 < x) (sym kept.sound.claimed_many) inside) c.index.ensures c.if-index.false,
-      slice_get_read f.counters.items (length f.counters.items) c.args.n.0 c.index-else-index.result.now refl (subst (λ x. c.args.n.0 < x) (sym kept.sound.counters_many) inside) c.index-else-index.ensures ∙ ap Some c.if-index-ne0.false,
+      mark_shows f.claimed.items c.args.n.0 c.index.result.now false
+          (subst (λ x. c.args.n.0 < x) (sym kept.sound.claimed_many) inside) c.index.ensures c.if-index.false,
+      slice_get_read f.counters.items (length f.counters.items) c.args.n.0 c.index-else-index.result.now refl
+          (subst (λ x. c.args.n.0 < x) (sym kept.sound.counters_many) inside) c.index-else-index.ensures
+          ∙ ap Some c.if-index-ne0.false,
     ) in
     rw (← c.self.view_is) (may, refl)

@@ -14,7 +14,8 @@ join_seat-requires g c =
       subst (λ k. 0 < k) (sym c.args.self.now.sized) (omega arith),
       join_allows (plan_on_board c.args.self.now).count (plan_on_board c.args.self.now).edges
           (result_at (g.V.Visit.meaning (visitor_of c.args.self.now))
-          (plan_on_board c.args.self.now)) c.args.seat.now.seat.id c.args.seat.now.seat.me.0 c.into_inner-theirs.result.id
+          (plan_on_board c.args.self.now)) c.args.seat.now.seat.id c.args.seat.now.seat.me.0
+          c.into_inner-theirs.result.id
           c.into_inner-theirs.result.me.0 c.args.seat.now.live,
     )
 

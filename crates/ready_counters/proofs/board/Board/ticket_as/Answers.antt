@@ -6,7 +6,8 @@ use Rattle.ready_counters.proofs.board.Board.ticket_as.Goals as goal
 
 pub fetch_add-requires : goal.fetch_add-requires
 fetch_add-requires g c =
-    let many = many_targets (plan_on_board c.args.self.now).edges c.args.self.now.targets.items c.args.self.now.targeted in
+    let many =
+    many_targets (plan_on_board c.args.self.now).edges c.args.self.now.targets.items c.args.self.now.targeted in
     let word : c.args.self.now.count + c.len.result ≡ (plan_on_board c.args.self.now).count + length
     (plan_on_board c.args.self.now).edges = omega (arith, c.len.ensures, c.args.self.now.counted) in (
       c.requires.seat,

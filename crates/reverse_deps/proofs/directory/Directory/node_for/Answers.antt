@@ -9,5 +9,7 @@ pub returns : goal.returns
 returns g c =
     let nodes = c.args.g.now.nodes in
     c.first_wanted.ensures
-    ∙ ap (find (is_wanted_at nodes c.args.want)) (c.as_slice.ensures ∙ get_or_read c.args.self.now.nodes.items _ _ (omega (arith, c.requires.directory.many)) c.index.ensures [] ∙ c.requires.directory.each c.args.m c.requires.inside)
+    ∙ ap (find (is_wanted_at nodes c.args.want)) (c.as_slice.ensures
+    ∙ get_or_read c.args.self.now.nodes.items _ _ (omega (arith, c.requires.directory.many)) c.index.ensures []
+    ∙ c.requires.directory.each c.args.m c.requires.inside)
     ∙ first_of_module nodes c.args.m c.args.want

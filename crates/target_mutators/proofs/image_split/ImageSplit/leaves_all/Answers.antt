@@ -9,6 +9,7 @@ pub returns-clause-alone : goal.returns-clause-alone
 returns-clause-alone c =
     λ is.
     let nodes = c.args.g.now.nodes in
-    c.leaves_all_by_each.ensures (λ m x ins. Ok (record { variants = image_variants m x; requests = [] })) c.args.self.now nodes
+    c.leaves_all_by_each.ensures (λ m x ins. Ok (record { variants = image_variants m x; requests = [] }))
+    c.args.self.now nodes
     c.requires (leave_images nodes
     (ap (list_all is_in_system_alone) (sym c.as_slice.ensures) ∙ sym c.are_in_system_alone.ensures ∙ is))
