@@ -6,7 +6,7 @@ use Rattle.bp_faults.specs.Faults.{fault_on, file_start}
 use Rattle.bp_faults.specs.declared.fault.Fault.{Fault}
 use Rattle.bp_faults.specs.declared.kind.FaultKind.TheVariants.{NoModule, NotList}
 use Rattle.bp_faults.specs.declared.place.Place.{Place}
-use Rattle.bp_parser.specs.Trees.{Tree, Leaf, Items, Body, Sum, Str, Entries, no_entry, entry_and, Definition}
+use Rattle.bp_parser.specs.Trees.{Tree, Leaf, Items, Str, Entries, no_entry, entry_and, Definition}
 use Rattle.bp_parser.specs.Trees.{Assigns, first_place}
 use Rattle.bp_parser.specs.Trees.{Extends, Declares}
 use Rattle.bp_format.specs.declared.spot.Spot.{Spot}

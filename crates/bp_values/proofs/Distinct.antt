@@ -21,8 +21,8 @@ use Rattle.bp_faults.specs.declared.fault.Fault.{Fault}
 use Rattle.bp_faults.specs.declared.place.Place.{Place}
 use Rattle.bp_faults.specs.declared.place.Item.{Item}
 use Rattle.bp_parser.specs.Trees as tree
-use Rattle.bp_parser.specs.Trees.{Tree, Atom, Trees, Terms, Entries, no_tree, tree_and, no_term, term_and, no_entry}
-use Rattle.bp_parser.specs.Trees.{entry_and, Map, Definition, Assigns, Extends, Declares}
+use Rattle.bp_parser.specs.Trees.{Tree, Atom, Trees, Terms, Entries, no_term, term_and, no_entry}
+use Rattle.bp_parser.specs.Trees.{entry_and, Definition, Assigns, Extends, Declares}
 use Rattle.bp_parser.specs.Names as written
 use Rattle.bp_parser.specs.Names.{AreDistinct, DefinitionHasDistinctNames}
 use Rattle.bp_values.specs.Values.{Meaning, Truth, Number, Str, Items, Body, Fields, no_field, field_and, Field}

@@ -1,15 +1,15 @@
 -- The nearest names of what a line says is unknown, and the note that they end.
-use Rattle.std.proofs.Common.{◌≡◌, ◌≤◌, ℕ, List, Vec, ◌++◌, Option, Some, None, Result, Ok, Err, sym, ap, subst, ◌∙◌}
-use Rattle.std.specs.Prelude.{IfOk, MatchOption}
+use Rattle.std.proofs.Common.{◌≡◌, ◌≤◌, ℕ, List, ◌++◌, Option, Some, None, sym, subst}
+use Rattle.std.specs.Prelude.{MatchOption}
 use Rattle.std.specs.FinMap.{get}
 use Rattle.bp_faults.specs.declared.limits.TheConstants.{LARGEST_ORDER_FILE}
 use Rattle.bp_ports.specs.Files.{Files}
 use Rattle.fault_view.specs.declared.fault_line.FaultLine.{FaultLine}
-use Rattle.fault_view.specs.Lines.{IsLineOf, IsReadAs, IsNoFaultLine}
+use Rattle.fault_view.specs.Lines.{IsReadAs, IsNoFaultLine}
 use Rattle.fault_view.specs.Unknown.{unknown_of}
 use Rattle.fault_view.specs.View.{Softly, AreNearest, IsNoteWith, IsNote, IsBehind, shown_of, bytes_within, names_line}
 use Rattle.fault_view.specs.Inside.{IsReadNote}
-use Rattle.fault_view.proofs.Soft.{softly_both, softly_map, softly_always}
+use Rattle.fault_view.proofs.Soft.{softly_both, softly_map}
 
 module _ (told : Option Files) (list : Option (List ℕ)) (f : FaultLine) where
   -- an excerpt and the nearest names are the note

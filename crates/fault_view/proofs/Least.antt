@@ -1,5 +1,5 @@
 -- The nearest names, by the least reach.
-use Rattle.std.proofs.Common.{◌≡◌, ◌<◌, ◌≤◌, ◌*◌, min, ℕ, Bool, true, false, ◌&&◌, nat_lt, nat_le, cond, List, [], ◌∷◌}
+use Rattle.std.proofs.Common.{◌≡◌, ◌≤◌, min, ℕ, Bool, true, false, ◌&&◌, nat_lt, nat_le, cond, List, [], ◌∷◌}
 use Rattle.std.proofs.Common.{◌++◌, length, arith, refl, sym, ◌∙◌}
 use Rattle.std.specs.List.{filter, list_all}
 use Rattle.std.specs.Str.{chars}

@@ -1,11 +1,8 @@
 -- The names that begin at each of some tokens, one token after another.
 use Rattle.std.proofs.Common.{◌≡◌, ◌<◌, ◌+◌, ℕ, zero, suc, List, [], ◌∷◌, ◌++◌, drop, length, Option, Some, None, refl}
-use Rattle.std.proofs.Common.{arith, sym, ap, ◌∙◌, append_assoc, append-nil, add-one}
+use Rattle.std.proofs.Common.{arith, sym, ap, ◌∙◌, append_assoc}
 use Rattle.std.specs.List.{cons_option}
-use Rattle.bp_faults.specs.declared.fault.Fault.{Fault}
 use Rattle.bp_lexer.specs.declared.token.Token.{Token}
-use Rattle.bp_lexer.specs.Laws.{OneMeaning}
-use Rattle.bp_lexer.specs.Meaning.{LexMeans}
 use Rattle.fault_view.specs.ModuleNames.{first_name, token_names}
 
 -- one token more

@@ -1,6 +1,5 @@
 -- What bp_faults prints of a fault is the line that says it.
-use Rattle.std.proofs.Common.{◌≡◌, ◌<◌, ◌^◌, ℕ, List, ◌∷◌, ◌++◌, lit<, sym, ap, ◌∙◌, append_assoc, codes}
-use Rattle.std.specs.Fmt.{decimal}
+use Rattle.std.proofs.Common.{◌≡◌, ◌<◌, ◌^◌, ℕ, List, ◌++◌, lit<, sym, ap, ◌∙◌, append_assoc, codes}
 use Rattle.bp_faults.specs.declared.kind.FaultKind.{FaultKind}
 use Rattle.bp_faults.specs.declared.kind.FaultKind.TheVariants as K
 use Rattle.bp_faults.specs.Kinds.{fault_number}

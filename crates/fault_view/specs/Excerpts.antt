@@ -1,5 +1,5 @@
 -- A line of a file as it is shown, with a caret under a column.
-use Rattle.std.specs.Prelude.{ℕ, ◌+◌, ◌-◌, false, Bool, ◌&&◌, ◌==◌, nat_lt, nat_le, List, [], ◌∷◌, ◌++◌, length, map}
+use Rattle.std.specs.Prelude.{ℕ, ◌-◌, false, Bool, ◌&&◌, ◌==◌, nat_lt, nat_le, List, ◌++◌, length, map}
 use Rattle.std.specs.Prelude.{take, replicate}
 use Rattle.std.specs.Prelude.{codes, encode_utf8_all, if◌then◌else◌, Option, Some, None, slice_get}
 use Rattle.std.specs.List.{flat_map, slice_split}

@@ -1,12 +1,12 @@
 -- The text that is printed: all lines that come in, and a note behind each fault line.
-use Rattle.std.specs.Prelude.{◌≡◌, ◌≤◌, ℕ, List, [], ◌∷◌, ◌++◌, length, nat_le, ◌==◌, if◌then◌else◌, codes, ⊤}
+use Rattle.std.specs.Prelude.{◌≡◌, ℕ, List, [], ◌∷◌, ◌++◌, length, nat_le, ◌==◌, if◌then◌else◌, codes, ⊤}
 use Rattle.std.specs.Prelude.{Option, Some, None, IfSome}
 use Rattle.std.specs.FinMap.{get}
 use Rattle.std.specs.Option.{option_and_then}
 use Rattle.std.specs.Str.Lines.{lines}
 use Rattle.bp_faults.specs.declared.limits.TheConstants.{LARGEST_FILE, LARGEST_LIST_FILE, LARGEST_ORDER_FILE}
 use Rattle.bp_ports.specs.Causes.{Rose}
-use Rattle.bp_ports.specs.Files.{Files, WhereTold}
+use Rattle.bp_ports.specs.Files.{Files}
 use Rattle.fault_view.specs.declared.fault_line.FaultLine.{FaultLine}
 use Rattle.fault_view.specs.declared.unknown.Unknown.{Unknown}
 use Rattle.fault_view.specs.declared.unknown.Unknown.TheVariants.{ModuleType, Property, Module}

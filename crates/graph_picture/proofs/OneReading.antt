@@ -1,6 +1,6 @@
 -- A text is the text of one graph alone.
-use Rattle.std.proofs.Common.{◌≡◌, ◌≢◌, ◌+◌, ◌*◌, ◌==◌, ◌<◌, ◌≤◌, ◌^◌, ◌%◌, ◌++◌, ◌∙◌, ℕ, zero, suc, Bool, true, false}
-use Rattle.std.proofs.Common.{cond, List, [], ◌∷◌, length, map, get_or, All, ap, sym, subst, refl, arith, lit<}
+use Rattle.std.proofs.Common.{◌≡◌, ◌≢◌, ◌+◌, ◌==◌, ◌<◌, ◌≤◌, ◌^◌, ◌%◌, ◌++◌, ◌∙◌, ℕ, suc}
+use Rattle.std.proofs.Common.{cond, List, [], ◌∷◌, length, map, get_or, ap, sym, refl, arith, lit<}
 use Rattle.std.proofs.Common.{append_assoc, length-append}
 use Rattle.std.specs.Fmt.{decimal}
 use Rattle.std.specs.List.{AllByRecursion, flat_map}
@@ -16,9 +16,8 @@ use Rattle.module_graph.specs.Numbered.{by_number}
 use Rattle.graph_picture.specs.declared.variant.Arrow.{Arrow}
 use Rattle.graph_picture.specs.declared.variant.Variant.{Variant}
 use Rattle.graph_picture.specs.Laws.{OneReading}
-use Rattle.graph_picture.specs.Lines.{HasNo, IsVariant, IsPrintedWord, arrow_line, all_variant_lines, variants_text}
+use Rattle.graph_picture.specs.Lines.{HasNo, IsVariant, arrow_line, all_variant_lines}
 use Rattle.graph_picture.specs.Lines.{variant_line, variant_lines}
-use Rattle.graph_picture.proofs.Numbered.{by_number-append}
 use Rattle.graph_picture.proofs.Parts.{cut_once}
 use Rattle.graph_picture.proofs.Puts.{starts}
 use Rattle.bp_faults.specs.Characters.{ended_line}

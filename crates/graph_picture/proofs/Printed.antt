@@ -1,6 +1,6 @@
 -- What is printed of a module graph is the text of its nodes as variants.
 use Rattle.std.proofs.Common.{◌≡◌, ◌≢◌, ◌+◌, ◌<◌, ◌≤◌, ◌^◌, ◌++◌, ◌∙◌, ℕ, zero, suc, true, false, List, [], ◌∷◌, length}
-use Rattle.std.proofs.Common.{map, get_or, ap, sym, subst, refl, arith, IsUtf8}
+use Rattle.std.proofs.Common.{map, get_or, ap, sym, subst, refl, arith}
 use Rattle.std.specs.List.{AllByRecursion, flat_map}
 use Rattle.std.proofs.lemmas.Bool.Decides.{nat_tests}
 use Rattle.std.proofs.lemmas.List.Elements.{All-from_recursion}
@@ -9,14 +9,13 @@ use Rattle.bp_faults.proofs.Lists.{all_map}
 use Rattle.module_graph.specs.declared.graph.Edge.{Edge}
 use Rattle.module_graph.specs.declared.graph.Node.{Node}
 use Rattle.module_graph.specs.GraphText.{dashed_name, edge_line, node_line, node_lines}
-use Rattle.module_graph.specs.Graphs.{NameNodes}
 use Rattle.module_graph.specs.Laws.{VariantNamesArePlain}
 use Rattle.module_graph.specs.Names.{is_label_byte, name_at, variant_name_of}
 use Rattle.module_graph.specs.Numbered.{by_number}
 use Rattle.graph_picture.specs.declared.variant.Arrow.{Arrow}
 use Rattle.graph_picture.specs.declared.variant.Variant.{Variant}
 use Rattle.graph_picture.specs.Laws.{PrintedGraphsAreGraphs}
-use Rattle.graph_picture.specs.Lines.{IsGraph, IsVariant, IsPrintedWord, LeadInside, arrow_line, variants_text}
+use Rattle.graph_picture.specs.Lines.{IsVariant, IsPrintedWord, LeadInside, arrow_line}
 use Rattle.graph_picture.specs.Lines.{variant_lines}
 use Rattle.graph_picture.specs.Printed.{arrow_for, variant_for, variants_for}
 use Rattle.bp_faults.specs.Characters.{ended_line}

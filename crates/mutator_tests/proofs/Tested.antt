@@ -1,6 +1,6 @@
 -- The graphs of the tests.
 use Rattle.std.proofs.Common.{◌≡◌, ◌≢◌, ◌∙◌, ◌+◌, ◌<◌, ◌≤◌, ◌^◌, ◌++◌, ℕ, zero, suc, List, [], ◌∷◌, length, map, get_or}
-use Rattle.std.proofs.Common.{take, refl, ap, sym, subst, arith, zero-add, Option, Result, Ok, Err}
+use Rattle.std.proofs.Common.{take, ap, sym, subst, arith, zero-add, Option, Result, Ok, Err}
 use Rattle.std.specs.List.{AllByRecursion, AllPairs, range_with_len}
 use Rattle.std.specs.Option.{option_map_or}
 use Rattle.std.proofs.lemmas.List.{length-append, length-map}
@@ -18,7 +18,7 @@ use Rattle.module_graph.specs.Laws.{OneMoreNode}
 use Rattle.mutator_rules.specs.declared.split.Split.{Split}
 use Rattle.mutator_rules.specs.Idle.{LeavesAll}
 use Rattle.mutator_kinds.specs.BottomUp.{ResultsDiffer}
-use Rattle.mutator_tests.specs.Kinds.{OwnModules, numbered_variant, split_into, split_at, staying, number_at}
+use Rattle.mutator_tests.specs.Kinds.{OwnModules, numbered_variant, split_at, staying, number_at}
 
 pub own_pushed : (k : ℕ) (xs : List (Node NodeId)) (x : Node NodeId) → OwnModules k xs → x.«module».0 ≡ k + length xs
     → OwnModules k (xs ++ x ∷ [])

@@ -1,6 +1,6 @@
 -- What the line at an index begins.
-use Rattle.std.proofs.Common.{◌≡◌, ℕ, ◌+◌, ◌<◌, ◌≤◌, true, false, List, [], ◌∷◌, ◌++◌, length, drop, get_or, add-one}
-use Rattle.std.proofs.Common.{drop-cons, Option, Some, None, ap, sym, ◌∙◌, refl, arith}
+use Rattle.std.proofs.Common.{◌≡◌, ℕ, ◌+◌, ◌<◌, true, false, List, [], ◌∷◌, ◌++◌, length, drop, get_or, add-one}
+use Rattle.std.proofs.Common.{drop-cons, Some, None, ap, sym, ◌∙◌, refl, arith}
 use Rattle.std.specs.Borrow.{Bor}
 use Rattle.std.specs.Str.{is_utf8}
 use Rattle.std.proofs.lemmas.List.{get_or-map, length-map}

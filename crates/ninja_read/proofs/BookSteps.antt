@@ -1,6 +1,6 @@
 -- What a line makes of the book.
 use Rattle.std.proofs.Common.{◌≡◌, ℕ, Bool, true, false, cond, not, ◌&&◌, ◌||◌, List, [], ◌∷◌, ◌++◌, map, Option, Some}
-use Rattle.std.proofs.Common.{None, option_map, option_and_then, Bor, codes, append-nil, ap, sym, subst, ◌∙◌, refl}
+use Rattle.std.proofs.Common.{None, option_map, option_and_then, codes, append-nil, ap, sym, subst, ◌∙◌, refl}
 use Rattle.std.proofs.lemmas.List.{map-append}
 use Rattle.std.proofs.lemmas.List.Folds.{list_any-append}
 use Rattle.std.proofs.lemmas.Option.{same_Some}

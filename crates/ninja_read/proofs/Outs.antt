@@ -2,7 +2,6 @@
 use Rattle.std.proofs.Common.{◌≡◌, ℕ, ◌+◌, ◌<◌, ◌≤◌, Bool, true, false, cond, not, ◌||◌, List, [], ◌∷◌, ◌++◌, length}
 use Rattle.std.proofs.Common.{take, drop, get_or, Some, Bor, append_assoc, ap, sym, subst, ◌∙◌}
 use Rattle.std.proofs.lemmas.List.{at_drop_more, take_more, take_all, drop_all}
-use Rattle.std.specs.Str.{bytes_eq}
 use Rattle.bp_names.specs.Meaning.{knows, Learns, IsSetOf}
 use Rattle.ninja_read.specs.Book.{has_text}
 use Rattle.ninja_read.specs.Meaning.{repeats, stray}

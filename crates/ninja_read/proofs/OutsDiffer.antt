@@ -1,6 +1,6 @@
 -- A text that is read names no out twice.
 use Rattle.std.proofs.Common.{◌≡◌, ℕ, Bool, true, false, cond, ◌||◌, List, [], ◌∷◌, ◌++◌, Option, Some, None, Result}
-use Rattle.std.proofs.Common.{Ok, append_assoc, append-nil, sym, subst, ◌∙◌, refl, arith}
+use Rattle.std.proofs.Common.{Ok, append_assoc, append-nil, sym, subst, refl, arith}
 use Rattle.std.specs.List.{flat_map, IsDistinct}
 use Rattle.std.specs.Str.{bytes_eq}
 use Rattle.std.proofs.lemmas.Cmp.{nat_list_eq_equiv}

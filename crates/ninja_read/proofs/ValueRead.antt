@@ -1,5 +1,5 @@
 -- Reading the written form of a value, a part at a time.
-use Rattle.std.proofs.Common.{◌≡◌, ℕ, suc, ◌+◌, ◌<◌, ◌≤◌, Bool, true, false, cond, List, [], ◌∷◌, ◌++◌, eqb, eqb-true}
+use Rattle.std.proofs.Common.{◌≡◌, ℕ, suc, ◌<◌, ◌≤◌, Bool, true, false, cond, List, [], ◌∷◌, ◌++◌, eqb, eqb-true}
 use Rattle.std.proofs.Common.{length, take, drop, IsUtf8, IsCharBoundary, Option, Some, None, option_map, append_assoc}
 use Rattle.std.proofs.Common.{append-nil, ap, sym, ◌∙◌, refl, arith}
 use Rattle.std.proofs.lemmas.Bool.Decides.{nat_tests}

@@ -1,12 +1,11 @@
 -- What a reader answers of a text that was written.
-use Rattle.std.proofs.Common.{◌≡◌, ℕ, List, IsUtf8, Result, Ok, Err, ap, sym, subst, ◌∙◌}
+use Rattle.std.proofs.Common.{◌≡◌, ℕ, IsUtf8, Result, Ok, Err, ap, sym, subst, ◌∙◌}
 use Rattle.ninja_file.specs.declared.file.NinjaFile.{NinjaFile}
-use Rattle.ninja_file.specs.Meaning.{IsWellFormed}
 use Rattle.ninja_read.specs.declared.reader.NinjaError.{NinjaError}
 use Rattle.ninja_read.specs.declared.reader.NinjaError.TheVariants.{BadLine, OutOfMemory}
 use Rattle.ninja_read.specs.Meaning.{reading, Reads}
 use Rattle.ninja_write.specs.Laws.{LinesAreLines}
-use Rattle.ninja_text.specs.Meaning.{IsWritten, ReadBackMeans, WrittenIsReadBack}
+use Rattle.ninja_text.specs.Meaning.{ReadBackMeans, WrittenIsReadBack}
 use Rattle.ninja_text.proofs.Files.{read_back}
 
 same_Ok : (a b : NinjaFile) → ◌≡◌ {A = Result NinjaFile ℕ} (Ok a) (Ok b) → b ≡ a

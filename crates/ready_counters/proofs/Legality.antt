@@ -7,7 +7,7 @@ use mathlib.Core.Logic.{dite}
 use native.Mathlib.Decide.{ℕ_discrete}
 use Rattle.pass_core.specs.declared.plan.Plan.{Plan}
 use Rattle.pass_core.specs.declared.plan.PlanEdge.{PlanEdge}
-use Rattle.pass_core.specs.Plans.{predecessors, HaveEndsBelow}
+use Rattle.pass_core.specs.Plans.{HaveEndsBelow}
 use Rattle.pass_core.specs.Orders.{IsLegal}
 use Rattle.bp_faults.proofs.Lists.{contains_earlier}
 use Rattle.ready_counters.proofs.Entering.{all_sources}

@@ -17,7 +17,7 @@ use Rattle.pass_core.specs.declared.plan.PlanEdge.{PlanEdge}
 use Rattle.pass_core.specs.declared.published.Published.{Published}
 use Rattle.pass_core.specs.declared.step.Step.TheVariants.{Claim, Fetch, Fill, Subtract}
 use Rattle.pass_core.specs.CoreStates.{CoreState, Allows, after, IsMarked, VisitWasMade, IsFilled, IsFinished}
-use Rattle.pass_core.specs.CoreStates.{numbers_into, edge_result, visit_result, beginning}
+use Rattle.pass_core.specs.CoreStates.{edge_result, visit_result, beginning}
 use Rattle.pass_core.specs.Laws.{ResultsMeetTheirEquation}
 use Rattle.pass_core.specs.Plans.{IsPlan, HasNoCycle, predecessors}
 use Rattle.pass_core.specs.Results.{NodeResult, node_result, judged_result, all_outs}

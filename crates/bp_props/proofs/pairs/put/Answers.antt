@@ -1,6 +1,6 @@
-use Rattle.std.proofs.Common.{◌≡◌, length, Ok, Err, ap, sym, ◌∙◌, arith, subst}
+use Rattle.std.proofs.Common.{length, Ok, Err, ap, sym, ◌∙◌, arith, subst}
 use Rattle.std.specs.List.{insert, remove}
-use Rattle.bp_props.specs.Groups.{Ascends, groups_with, group_of, put_behind}
+use Rattle.bp_props.specs.Groups.{Ascends, group_of, put_behind}
 use Rattle.bp_props.specs.Group.{group_merged}
 use Rattle.std.proofs.lemmas.List.Edits.{length-insert}
 use Rattle.bp_props.proofs.Indices.{at_index, put_at, ascends_with, insert_back, length-updated_at}

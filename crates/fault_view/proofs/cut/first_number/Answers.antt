@@ -1,4 +1,3 @@
-use Rattle.std.proofs.Common.{Some, None}
 use Rattle.fault_view.proofs.Cuts.{uncut_is_none, unnumbered_is_none, number_is_first}
 use Rattle.fault_view.proofs.cut.first_number.Goals as goal
 

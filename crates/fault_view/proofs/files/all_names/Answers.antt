@@ -1,4 +1,4 @@
-use Rattle.std.proofs.Common.{ap, sym, subst, ◌∙◌, ◌∷◌, ℕ, List}
+use Rattle.std.proofs.Common.{subst, ◌∙◌}
 use Rattle.fault_view.specs.View.{Softly, AreFileNames}
 use Rattle.fault_view.proofs.Soft.{reads_next, reads_last, path_and_rest, none_left}
 use Rattle.fault_view.proofs.files.all_names.Goals as goal

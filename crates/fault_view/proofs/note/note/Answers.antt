@@ -1,4 +1,4 @@
-use Rattle.std.proofs.Common.{ap, subst, ◌∙◌, ◌≡◌, ◌++◌, ℕ, List, string_bytes, option_map}
+use Rattle.std.proofs.Common.{ap, subst, ◌∙◌, ◌≡◌, ◌++◌, string_bytes, option_map}
 use Rattle.std.specs.FinMap.{get}
 use Rattle.std.specs.Option.{option_copied}
 use Rattle.bp_faults.specs.declared.limits.TheConstants.{LARGEST_ORDER_FILE}

@@ -1,4 +1,3 @@
-use Rattle.std.proofs.Common.{Some, None}
 use Rattle.fault_view.proofs.Prefixes.{stripped_is}
 use Rattle.fault_view.proofs.unknown.behind.Goals as goal
 

@@ -1,4 +1,4 @@
-use Rattle.std.proofs.Common.{◌≡◌, ◌≤◌, ◌<◌, ◌^◌, length, arith, ap}
+use Rattle.std.proofs.Common.{length, arith, ap}
 use Rattle.std.proofs.lemmas.List.{length-map}
 use Rattle.ninja_lines.proofs.LinesRead.{length-lines}
 use Rattle.ninja_lines.proofs.joined_lines.joined.Goals as goal

@@ -1,4 +1,4 @@
-use Rattle.std.proofs.Common.{length, subst, sym}
+use Rattle.std.proofs.Common.{subst, sym}
 use Rattle.bp_lexer.specs.declared.token.Token.{Token}
 use Rattle.bp_lexer.specs.Meaning.{IsToken, IsTokenList}
 use Rattle.reading_tests.proofs.lexer.first_value.Goals as goal

@@ -1,5 +1,4 @@
 use Rattle.std.proofs.Common.{◌≡◌, [], length, ℕ, ◌<◌, List, ◌∷◌, zero, suc, get_or, ap, sym, ◌∙◌, arith}
-use Rattle.std.proofs.lemmas.Bool.Decides.{nat_tests}
 use Rattle.std.proofs.lemmas.List.{length-map}
 use Rattle.bp_props.specs.declared.props.Props.{Props}
 use Rattle.module_graph.specs.declared.graph.Edge.{Edge}

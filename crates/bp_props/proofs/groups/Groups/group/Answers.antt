@@ -1,4 +1,4 @@
-use Rattle.std.proofs.Common.{◌≡◌, length, Some, Ok, Err, ap, sym, ◌∙◌, arith}
+use Rattle.std.proofs.Common.{length, Some, Ok, Err, ap, sym, ◌∙◌, arith}
 use Rattle.bp_props.specs.Groups.{group_of}
 use Rattle.bp_props.proofs.Indices.{at_index}
 use Rattle.bp_props.proofs.groups.Groups.group.Goals as goal

@@ -1,4 +1,4 @@
-use Rattle.std.proofs.Common.{◌≡◌, length, Ok, Err, ap, sym, ◌∙◌, arith, subst}
+use Rattle.std.proofs.Common.{length, Ok, Err, ap, sym, ◌∙◌, arith, subst}
 use Rattle.bp_props.specs.Groups.{Ascends, groups_with}
 use Rattle.bp_props.proofs.Indices.{at_index, set_at, ascends_with}
 use Rattle.bp_props.proofs.groups.Groups.insert.Goals as goal
