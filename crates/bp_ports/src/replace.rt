@@ -18,7 +18,7 @@ const NEW_FILES: usize = 3;
 const LEFT_OVER_AFTER: u64 = 600;
 
 fn suffix(number: usize) -> &'static str
-    requires { number < 3 }
+    requires { number < NEW_FILES }
     ensures { result.now ≡ new_suffix number }
 {
     match number {
@@ -30,7 +30,7 @@ fn suffix(number: usize) -> &'static str
 
 // The path of a new file beside the one at this path, made where no memory is taken.
 fn path_beside(path: &str, number: usize) -> Option<ArrayString<LONGEST>>
-    requires { number < 3 }
+    requires { number < NEW_FILES }
     ensures path { IfSome result (λ beside. beside.bytes ≡ new_path path.now number) }
     ensures long { IfNone result (LONGEST < length (new_path path.now number)) }
 {
