@@ -3,7 +3,6 @@ pub mod Reading
 pub mod Progress
 pub mod Meeting
 pub mod Making
-pub mod OneTree
 pub mod OneJob
 pub mod Ending
 pub mod Delivered

@@ -31,6 +31,7 @@ use Rattle.bp_load.specs.Loaded.{LoadMeans}
 use Rattle.bp_load.specs.Laws.{OneList, OneLoad}
 use Rattle.command_words.specs.declared.configuration.Graph.{Graph as GraphWords}
 use Rattle.command_words.specs.declared.configuration.Synth.{Synth as SynthWords}
+use Rattle.synthetic_tree.specs.Laws.{OneTree}
 use Rattle.synthetic_tree.specs.declared.summary.Summary.{Summary}
 use Rattle.synthetic_tree.specs.Summary.{summary_text}
 use Rattle.bp_run.specs.declared.words.Configuration.{Configuration}
@@ -39,7 +40,6 @@ use Rattle.bp_run.specs.Job.{GraphGives, HasNodeCount, HasEdgeCount, IsSummary, 
 use Rattle.bp_run.specs.Laws.{OneJob}
 use Rattle.bp_run.specs.Tree.{read_of, sources_of, ListFileMeans, ListedFilesLoad, ListLoads, SynthLoads, TreeMeans}
 use Rattle.bp_run.specs.Words.{config_of}
-use Rattle.bp_run.proofs.OneTree.{one_tree}
 
 -- two outcomes of one result
 apart : {A E : Type 0} (r : Result A E) (a : A) (e : E) → r ≡ Ok a → r ≡ Err e → ⊥
@@ -63,7 +63,7 @@ pass_once one mean plan (Err e) (Err f) x y =
     ap (λ (at : ℕ × Fault). Err at.1)
     (one_error (Err (x.0, e)) (x.0, e) (y.0, f) refl (one mean plan (Err (x.0, e)) (Err (y.0, f)) x.1 y.1))
 
-module _ (list : OneList) (load : OneLoad) (graph : OneGraph) (pass : AtMostOneOutcome Actions) where
+module _ (list : OneList) (load : OneLoad) (tree : OneTree) (graph : OneGraph) (pass : AtMostOneOutcome Actions) where
   actions_once : (typed : List Module) (c : Config) → IsOnce (ActionsMean typed c)
   actions_once typed c =
       then_once (GraphAfter typed c mutator_count) (λ nodes. PassMeans (acts_at typed nodes) (plan_of BottomUp nodes))
@@ -148,7 +148,7 @@ module _ (list : OneList) (load : OneLoad) (graph : OneGraph) (pass : AtMostOneO
 
   synth_loads_once : (words : SynthWords) → IsOnce (SynthLoads words)
   synth_loads_once words a b x y =
-      load y.0 a b (subst (λ files. LoadMeans files a) (one_tree words.seed words.modules x.0 y.0 x.1 y.1) x.2) y.2
+      load y.0 a b (subst (λ files. LoadMeans files a) (tree words.seed words.modules x.0 y.0 x.1 y.1) x.2) y.2
 
   tree_once : (c : Configuration) (files : Files) → IsOnce (TreeMeans c files)
   tree_once (Build words) files = list_loads_once words.list files

@@ -8,7 +8,7 @@ use bp_load::laws::{one_list, one_load};
 use bp_pipeline::laws::{earlier_graphs, one_graph, one_order, some_graph, some_order, some_text};
 use build_actions::Actions;
 use pass_core::laws::at_most_one_outcome;
-use synthetic_tree::laws::some_tree;
+use synthetic_tree::laws::{one_tree, some_tree};
 
 /// A job has one outcome, since each of its phases has.
 pub fn one_job()
@@ -16,6 +16,7 @@ pub fn one_job()
 {
     one_list();
     one_load();
+    one_tree();
     one_graph();
     at_most_one_outcome::<Actions>();
 }
