@@ -147,7 +147,7 @@ pub fn requests(alloc: Global, reverse: bool) -> Result<Vec<(NodeId, Request)>, 
 END
 cat > src/checks.rt << 'END'
 ghost use Rattle.std.specs.Prelude.{IsTrue, length};
-ghost use Rattle.mutator_rules.specs.Conditions.{MayRun, places_in};
+ghost use Rattle.mutator_rules.specs.Conditions.{MayRun, indices_in};
 ghost use Rattle.reverse_deps.specs.Applied.{AskInside};
 
 use bp_faults::NodeId;

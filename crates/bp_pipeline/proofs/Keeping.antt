@@ -182,10 +182,10 @@ next_free p pass at old free (Ok g) stay =
     (λ axis is. own_axis p axis (ap axis_of at ∙ is)) free stay
 next_free p pass at old free (Err e) stay = tt
 
--- A rule that accepts the modules of a list may be run where places in the list may.
-pub may_places : {P : Type 0} (Accepts : ℕ → Type 0) (count : ℕ) (nodes : List (Node P))
+-- A rule that accepts the modules of a list may be run where indices in the list may.
+pub may_indices : {P : Type 0} (Accepts : ℕ → Type 0) (count : ℕ) (nodes : List (Node P))
     → ((m : ℕ) → Accepts m ↔ indices_in count m) → MayRun Accepts nodes → MayRun (indices_in count) nodes
-may_places Accepts count nodes same may = record {
+may_indices Accepts count nodes same may = record {
   numbered = may.numbered;
   accepted =
       all_map (λ (x : Node _). Accepts x.«module».0) (λ (x : Node _). indices_in count x.«module».0)

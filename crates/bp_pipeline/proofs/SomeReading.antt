@@ -98,7 +98,7 @@ missing_or_all xs (suc n) = ⊎_elim
     (missing_or_all xs n)
 
 -- A list of which each entry was ready, and that has all nodes, is legal.
-module _ (plan : Plan) (order : List ℕ) (ready : (place : ℕ) → place < length order → IsReadyAt plan order place) where
+module _ (plan : Plan) (order : List ℕ) (ready : (index : ℕ) → index < length order → IsReadyAt plan order index) where
   inside : AllByRecursion (λ n. n < plan.count) order
   inside =
       recursion_from_All (λ n. n < plan.count) order
@@ -112,13 +112,13 @@ module _ (plan : Plan) (order : List ℕ) (ready : (place : ℕ) → place < len
   legal_whole : ((q : ℕ) → q < plan.count → Contains order q) → IsLegal plan order
   legal_whole all = record {
     each_once = record { nodes = inside; each = all; once = apart };
-    after = λ place lt. (ready place lt).after;
+    after = λ index lt. (ready index lt).after;
   }
 
   -- one node more that is ready
-  ready_more : (n : ℕ) → IsReadyAfter plan order n → (place : ℕ) → place < length (order ++ n ∷ [])
-      → IsReadyAt plan (order ++ n ∷ []) place
-  ready_more n here place lt =
+  ready_more : (n : ℕ) → IsReadyAfter plan order n → (index : ℕ) → index < length (order ++ n ∷ [])
+      → IsReadyAt plan (order ++ n ∷ []) index
+  ready_more n here index lt =
       let many = length-append order (n ∷ []) in
       ⊎_elim
       (λ same. subst (IsReadyAt plan (order ++ n ∷ [])) (sym same)
@@ -126,13 +126,13 @@ module _ (plan : Plan) (order : List ℕ) (ready : (place : ℕ) → place < len
       (sym (take-append_seam order (n ∷ [])))
       (subst (IsReadyAfter plan order) (sym (get_or-append_seam order n [] 0)) here)))
       (λ differ. ⊎_elim
-      (λ less. subst (λ l. IsReadyAfter plan l (slice_index (order ++ n ∷ []) place))
-      (sym (take-append-le place order (n ∷ []) (omega (arith, less))))
-      (subst (IsReadyAfter plan (take place order)) (sym (get_or-append order (n ∷ []) 0 place less))
-      (ready place less)))
+      (λ less. subst (λ l. IsReadyAfter plan l (slice_index (order ++ n ∷ []) index))
+      (sym (take-append-le index order (n ∷ []) (omega (arith, less))))
+      (subst (IsReadyAfter plan (take index order)) (sym (get_or-append order (n ∷ []) 0 index less))
+      (ready index less)))
       (λ more. absurd (omega (arith, many, more, lt)))
       differ)
-      (cases_order place (length order))
+      (cases_order index (length order))
 
 say_joined : (lines : List OrderLine) (said more : List (ℕ × NodeId)) → Say lines said
     → Say (lines_behind lines said) more → Say lines (said ++ more)
@@ -152,7 +152,7 @@ module _ (short : PartsAreShort) (lines : List OrderLine) (file : ℕ) (before :
   said order = before ++ visits pass order
 
   abbrev AreReady : List ℕ → Type 0
-  AreReady order = (place : ℕ) → place < length order → IsReadyAt plan order place
+  AreReady order = (index : ℕ) → index < length order → IsReadyAt plan order index
 
   say_more : (order : List NodeId) (l : OrderLine) (ls : List OrderLine) (n : NodeId) → Say lines (said order)
       → lines_behind lines (said order) ≡ l ∷ ls → l.entry ≡ Some (pass, n) → Say lines (said (order ++ n ∷ []))
@@ -221,5 +221,5 @@ module _ (short : PartsAreShort) (lines : List OrderLine) (file : ℕ) (before :
 
   pub reading : Say lines before → Reading
   reading say =
-      read_from plan.count [] (omega arith) (λ place lt. absurd (omega arith))
+      read_from plan.count [] (omega arith) (λ index lt. absurd (omega arith))
       (subst (Say lines) (sym (append-nil before)) say)

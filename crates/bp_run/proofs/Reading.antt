@@ -39,7 +39,7 @@ one_more i = omega arith
 none_more : (n : ℕ) → n ≡ n + 0
 none_more n = omega arith
 
--- a path in its place
+-- the path at an index
 from_here : (paths : List (List ℕ)) (i : ℕ) (path : List ℕ) → i < length paths → path ≡ get_or paths i path
     → drop i paths ≡ path ∷ drop (i + 1) paths
 from_here paths i path within is = drop-cons paths i path within ∙ ap (λ p. p ∷ drop (suc i) paths) (sym is)

@@ -108,7 +108,7 @@ fits s out outs path ins implicit order_only rule vars = record {
   values = vars.values;
 }
 
--- the rule at a place
+-- the rule at an index
 pub rule_at : (k : ℕ) (rule : List ℕ) → k < 7 → get_or (codes "phony" ∷ six) k rule ≡ rule
     → Contains (codes "phony" ∷ six) rule
 rule_at k rule lt is = (k, lt, is)

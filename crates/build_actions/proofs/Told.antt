@@ -230,8 +230,8 @@ module _ (ms : List Module) (nodes : List (Node Props)) where
         (told.names_differ p q a lt (slice_get_within ms q b hb)))
 
     -- a name is that of one module
-    one_place : (p q : ℕ) (a b : Module) → slice_get ms p ≡ Some a → slice_get ms q ≡ Some b → a.name ≡ b.name → p ≡ q
-    one_place p q a b ha hb same = by (cases_order p q)
+    one_index : (p q : ℕ) (a b : Module) → slice_get ms p ≡ Some a → slice_get ms q ≡ Some b → a.name ≡ b.name → p ≡ q
+    one_index p q a b ha hb same = by (cases_order p q)
       where
         by : (p ≡ q) ⊎ ((p < q) ⊎ (q < p)) → p ≡ q
         by (inl e) = e
@@ -259,8 +259,8 @@ module _ (ms : List Module) (nodes : List (Node Props)) where
         (name_free b.x.module.0 b.m b.owner) whole in
         let variants = before_slash (variant_name_of a.x.vars) (variant_name_of b.x.vars) a.below.rest b.below.rest
         (variant_free i a.x a.node) (variant_free j b.x b.node) names.1 in
-        let place = one_place a.x.module.0 b.x.module.0 a.m b.m a.owner b.owner names.0 in
-        variants_apart i j a.x b.x a.node b.node lt (λ k. record { 0 = place k }) variants.0
+        let index = one_index a.x.module.0 b.x.module.0 a.m b.m a.owner b.owner names.0 in
+        variants_apart i j a.x b.x a.node b.node lt (λ k. record { 0 = index k }) variants.0
 
     no_all : (n : ℕ) (o : List ℕ) → IsOf n o → Differ o all_path
     no_all n o a same =

@@ -83,9 +83,9 @@ fn given(
         ≡ results_of (leads_to_files modules.now graph.now.nodes node.now) edges.now (map arc_value ins.now)) }
 {
     let mut given = Vec::new(alloc);
-    for (place, edge) in edges.iter().enumerate() {
+    for (index, edge) in edges.iter().enumerate() {
         let wanted = leads_to_files(modules, graph, node, edge);
-        push_result(&mut given, ins, place, wanted)?;
+        push_result(&mut given, ins, index, wanted)?;
     }
     Ok(given)
 }

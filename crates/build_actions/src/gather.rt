@@ -83,35 +83,35 @@ pub fn keep_first(alloc: Global, texts: &[&str]) -> Result<Vec<Text>, OutOfMemor
     }
 }
 
-// The result at a place, shared, where it is wanted and there.
+// The result at an index, shared, where it is wanted and there.
 fn shared(
     ins: &[Arc<Actions>],
-    place: usize,
+    index: usize,
     wanted: bool,
 ) -> Result<Option<Arc<Actions>>, OutOfMemory>
     ensures { IfOk result (λ made. option_map arc_value made
-        ≡ if wanted then option_map arc_value (slice_get ins.now place) else None) }
+        ≡ if wanted then option_map arc_value (slice_get ins.now index) else None) }
 {
     if !wanted {
         return Ok(None);
     }
-    match ins.get(place) {
+    match ins.get(index) {
         Some(made) => Ok(Some(made.clone()?)),
         None => Ok(None),
     }
 }
 
-/// Puts the result at a place at the end, where it is wanted and there.
+/// Puts the result at an index at the end, where it is wanted and there.
 pub fn push_result(
     given: &mut Vec<Arc<Actions>>,
     ins: &[Arc<Actions>],
-    place: usize,
+    index: usize,
     wanted: bool,
 ) -> Result<(), OutOfMemory>
     ensures { OnOk result (map arc_value given.new.items
         ≡ map arc_value given.old.items
-        ++ cons_option (if wanted then slice_get (map arc_value ins.now) place else None) []) }
+        ++ cons_option (if wanted then slice_get (map arc_value ins.now) index else None) []) }
 {
-    push_some(given, shared(ins, place, wanted)?)?;
+    push_some(given, shared(ins, index, wanted)?)?;
     Ok(())
 }

@@ -42,8 +42,8 @@ pub fn whole_of(
         ≡ results_of (λ e. is_whole e.kind) edges.now (map arc_value ins.now)) }
 {
     let mut whole = Vec::new(alloc);
-    for (place, edge) in edges.iter().enumerate() {
-        push_result(&mut whole, ins, place, is_whole(edge.kind))?;
+    for (index, edge) in edges.iter().enumerate() {
+        push_result(&mut whole, ins, index, is_whole(edge.kind))?;
     }
     Ok(whole)
 }

@@ -44,8 +44,8 @@ pub fn followed(
     ensures { IfOk result (λ all. all ≡ records_followed (defaults_given edges.now (map arc_value ins.now))) }
 {
     let mut all = None;
-    for (place, edge) in edges.iter().enumerate() {
-        if let Some(one) = record_along(edge, &ins[place]) {
+    for (index, edge) in edges.iter().enumerate() {
+        if let Some(one) = record_along(edge, &ins[index]) {
             join(alloc, &mut all, one)?;
         }
     }

@@ -8,7 +8,7 @@ use Rattle.graph_picture.specs.declared.variant.Arrow.{Arrow}
 use Rattle.graph_picture.specs.declared.variant.Variant.{Variant}
 use Rattle.graph_picture.specs.Inside.{IsVariantOf}
 use Rattle.graph_picture.specs.Lines.{HasNo, IsPrintedWord, variant_line}
-use Rattle.graph_picture.proofs.Parts.{utf8_sides, has_no_left, has_no_right, cut_once, from_places}
+use Rattle.graph_picture.proofs.Parts.{utf8_sides, has_no_left, has_no_right, cut_once, from_indices}
 
 module _ (n : ℕ) (line head : List ℕ) (head_is : head ≡ decimal n ++ (32 ∷ [])) where
   behind_head : (names : List ℕ) → head ++ names ≡ decimal n ++ (32 ∷ names)
@@ -32,7 +32,7 @@ module _ (n : ℕ) (line head : List ℕ) (head_is : head ≡ decimal n ++ (32 �
         (first : (i : ℕ) → i < length owner → get_or owner i 0 ≢ 32) where
       pub longer_is_none : (k : ℕ) → k < length own → get_or own k 0 ≡ 32 → IsVariantOf n line None
       longer_is_none k lt at v is e =
-          let r = cut_once 32 owner own v.module v.variation (from_places 32 owner first) is.owner.no_space
+          let r = cut_once 32 owner own v.module v.variation (from_indices 32 owner first) is.owner.no_space
           (sym parts ∙ names_are v e) in
           is.variation.no_space k 0 (omega (arith, ap length r.1)) (ap (λ (l : List ℕ). get_or l k 0) (sym r.1) ∙ at)
 
@@ -47,12 +47,12 @@ module _ (n : ℕ) (line head : List ℕ) (head_is : head ≡ decimal n ++ (32 �
             record {
               owner = subst IsPrintedWord (sym o) (record {
                 text = texts.0;
-                no_space = from_places 32 owner first;
+                no_space = from_indices 32 owner first;
                 no_end = has_no_left 10 owner (32 ∷ own) joined;
               });
               variation = subst IsPrintedWord (sym w) (record {
                 text = texts.1;
-                no_space = from_places 32 own plain;
+                no_space = from_indices 32 own plain;
                 no_end = has_no_right 10 (32 ∷ []) own (has_no_right 10 owner (32 ∷ own) joined);
               });
               targets = subst (AllByRecursion (λ (a : Arrow). a.to < 2 ^ 32)) (sym none) tt;

@@ -11,7 +11,7 @@ use Rattle.graph_picture.specs.Inside.{FindsFirst, IsOutside}
 use Rattle.graph_picture.specs.Lines.{LeadInside, variant_line, arrow_line, variant_lines, all_variant_lines}
 use Rattle.graph_picture.proofs.Numbered.{by_number-append, by_number_more}
 
--- a list before a place, there, and behind it
+-- a list before an index, there, and behind it
 cut_at : {X : Type 0} (xs : List X) (i : ℕ) (x : X) → i < length xs → x ≡ get_or xs i x
     → xs ≡ take i xs ++ (x ∷ drop (i + 1) xs)
 cut_at xs i x lt is = sym (take-append-drop i xs) ∙ ap (λ (l : List _). take i xs ++ l) (drop-here xs i x lt is)

@@ -42,7 +42,7 @@ pub has_no_right : (b : ℕ) (xs ys : List ℕ) → HasNo b (xs ++ ys) → HasNo
 has_no_right b xs ys h =
     λ k d lt e. h (length xs + k) d (omega (arith, length-append xs ys)) (get_or-append-add xs ys k d ∙ e)
 
--- the first place of a byte
+-- the first index of a byte
 pub cut_once : (c : ℕ) (xs ys us vs : List ℕ) → HasNo c xs → HasNo c us → xs ++ (c ∷ ys) ≡ us ++ (c ∷ vs)
     → (xs ≡ us) × (ys ≡ vs)
 cut_once c [] ys [] vs h k e = let same : c ∷ ys ≡ c ∷ vs = e in (λ i. [], cc)
@@ -61,7 +61,7 @@ more : (c x : ℕ) (xs : List ℕ) → x ≢ c → HasNo c xs → HasNo c (x ∷
 more c x xs here rest zero d lt = here
 more c x xs here rest (suc i) d lt = rest i d (omega arith)
 
--- the two forms of a fact at each place
-pub from_places : (c : ℕ) (xs : List ℕ) → ((i : ℕ) → i < length xs → get_or xs i 0 ≢ c) → HasNo c xs
-from_places c [] h = λ i d lt. absurd (omega arith)
-from_places c (x ∷ xs) h = more c x xs (h 0 (omega arith)) (from_places c xs (λ j k. h (suc j) (omega arith)))
+-- the two forms of a fact at each index
+pub from_indices : (c : ℕ) (xs : List ℕ) → ((i : ℕ) → i < length xs → get_or xs i 0 ≢ c) → HasNo c xs
+from_indices c [] h = λ i d lt. absurd (omega arith)
+from_indices c (x ∷ xs) h = more c x xs (h 0 (omega arith)) (from_indices c xs (λ j k. h (suc j) (omega arith)))

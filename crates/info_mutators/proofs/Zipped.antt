@@ -1,4 +1,4 @@
--- Edges beside what was made of their ends, up to a place.
+-- Edges beside what was made of their ends, up to an index.
 use Rattle.std.proofs.Common.{◌≡◌, ◌<◌, ◌+◌, ◌++◌, ◌||◌, ℕ, zero, suc, List, [], ◌∷◌, Bool, true, false, cond, length}
 use Rattle.std.proofs.Common.{map, get_or, take, drop, min, Some, refl, sym, ap, ◌∙◌, arith, append-nil}
 use Rattle.std.specs.List.{zip, filter, list_any}

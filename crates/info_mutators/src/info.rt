@@ -36,10 +36,10 @@ fn dependencies_of<'a, 'm>(
         (λ list. list.items ≡ dependencies_of mods.now g.now.nodes edges.now (map arc_value made.now)) }
 {
     let mut list = Vec::with_capacity(alloc, edges.len())?;
-    for (place, edge) in edges.iter().enumerate() {
+    for (index, edge) in edges.iter().enumerate() {
         let node = &g.nodes.as_slice()[edge.to.0 as usize];
         let name = &mods[node.module.0 as usize].name;
-        list.push(Dependency::new(edge.kind, edge.to, name, &made[place]))?;
+        list.push(Dependency::new(edge.kind, edge.to, name, &made[index]))?;
     }
     Ok(list)
 }

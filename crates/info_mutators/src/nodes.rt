@@ -27,10 +27,10 @@ fn note_all(notes: &mut Notes, nodes: &[NodeId]) -> Result<(), OutOfMemory>
 fn note_from_end(notes: &mut Notes, nodes: &[NodeId]) -> Result<(), OutOfMemory>
     ensures { OnOk result (NotesNumbers notes.old (reverse (numbers nodes.now)) notes.new) }
 {
-    let mut place = nodes.len() - notes.shared_tail(nodes);
-    while place > 0 {
-        place -= 1;
-        notes.note(nodes[place])?;
+    let mut index = nodes.len() - notes.shared_tail(nodes);
+    while index > 0 {
+        index -= 1;
+        notes.note(nodes[index])?;
     }
     Ok(())
 }
@@ -56,10 +56,10 @@ fn note_line(notes: &mut Notes, dependencies: &[Dependency]) -> Result<(), OutOf
     ensures { OnOk result (NotesNumbers notes.old
         (reverse (flat_map (λ d. numbers (line_part d.node d.props d.kind)) dependencies.now)) notes.new) }
 {
-    let mut place = dependencies.len();
-    while place > 0 {
-        place -= 1;
-        note_line_part(notes, &dependencies[place])?;
+    let mut index = dependencies.len();
+    while index > 0 {
+        index -= 1;
+        note_line_part(notes, &dependencies[index])?;
     }
     Ok(())
 }

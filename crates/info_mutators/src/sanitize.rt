@@ -45,8 +45,8 @@ fn has_sanitized(edges: &[Edge], ins: &[Arc<Record<'_>>]) -> bool
     requires { length ins.now ≡ length edges.now }
     ensures { result ≡ has_sanitized edges.now (map arc_value ins.now) }
 {
-    for (place, edge) in edges.iter().enumerate() {
-        if is_sanitized(edge.kind, &ins[place]) {
+    for (index, edge) in edges.iter().enumerate() {
+        if is_sanitized(edge.kind, &ins[index]) {
             return true;
         }
     }

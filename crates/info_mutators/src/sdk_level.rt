@@ -51,8 +51,8 @@ fn least_handed(kinds: &[EdgeKind], ins: &[Arc<Record<'_>>]) -> Option<u32>
     ensures { result ≡ least (handed_levels kinds.now (map arc_value ins.now)) }
 {
     let mut least = None;
-    for (place, kind) in kinds.iter().enumerate() {
-        least = with_edge(least, *kind, ins[place].level());
+    for (index, kind) in kinds.iter().enumerate() {
+        least = with_edge(least, *kind, ins[index].level());
     }
     least
 }

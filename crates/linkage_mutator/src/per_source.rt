@@ -77,8 +77,8 @@ fn by_source<'m>(
     let mut bare = own.to_props(alloc)?;
     bare.base.srcs.items = Seq::new(Vec::new(alloc));
     let mut variants = Seq::new(Vec::with_capacity(alloc, sources.len())?);
-    for (place, source) in sources.iter().enumerate() {
-        let variation = Variation::PerSource(place as u64 + 1);
+    for (index, source) in sources.iter().enumerate() {
+        let variation = Variation::PerSource(index as u64 + 1);
         variants.push((variation, with_source(alloc, &bare, source)?))?;
     }
     Ok(variants)

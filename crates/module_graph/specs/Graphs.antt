@@ -12,7 +12,7 @@ abbrev pub outward : ℕ → Edge → PlanEdge
 outward n e = record { from = record { 0 = n }; to = e.to }
 
 module _ {P : Type 0} where
-  -- The edges of a graph, each from its node to its target, by node and place.
+  -- The edges of a graph, each from its node to its target, by node and index.
   abbrev pub edges_of : List (Node P) → List PlanEdge
   edges_of nodes = by_number (λ n (x : Node P). map (outward n) x.edges) 0 nodes
 

@@ -80,7 +80,7 @@ module _ (P : Type 0) where
   PredecessorsAreTargets =
       (nodes : List (Node P)) (n : ℕ) → predecessors (plan_edges BottomUp nodes) n ≡ targets nodes n
 
-  -- From the top down the predecessors of a node are the sources of the edges that lead to it, by node and place.
+  -- From the top down the predecessors of a node are the sources of the edges that lead to it, by node and index.
   abbrev pub PredecessorsAreSources : Type 0
   PredecessorsAreSources =
       (nodes : List (Node P)) (n : ℕ) → n < length nodes

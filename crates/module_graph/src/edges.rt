@@ -28,7 +28,7 @@ fn count_edges<P>(g: &Graph<P>) -> usize {
     count
 }
 
-/// The edges of a graph by node and place, as a pass in a direction has them.
+/// The edges of a graph by node and index, as a pass in a direction has them.
 pub fn edges_along<P>(
     alloc: Global,
     g: &Graph<P>,

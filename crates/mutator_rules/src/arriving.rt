@@ -14,7 +14,7 @@ use pass_core::{Plan, starts_of};
 use std::alloc::Global;
 use std::marker::Model;
 
-/// What is kept of the edges that lead to each node, by source and place. Contracts see a list for each node; all lie
+/// What is kept of the edges that lead to each node, by source and index. Contracts see a list for each node; all lie
 /// in one list, and a table says where those of each node begin, and last where all end.
 #[derive(Debug, Drop)]
 pub struct Arriving<T> {
@@ -62,7 +62,7 @@ fn fill<P>(g: &Graph<P>, next: &mut Vec<u32>, items: &mut Vec<(NodeId, EdgeKind)
     }
 }
 
-/// The edges that lead to each node, by source and place: the source and the kind of each. The plan is that from the
+/// The edges that lead to each node, by source and index: the source and the kind of each. The plan is that from the
 /// top down.
 pub fn arrivals_of<P>(
     alloc: Global,

@@ -14,7 +14,7 @@ use Rattle.order_text.proofs.Digits.{decimal_by_digits, lacks}
 abbrev pub Lacks : List ℕ → ℕ → Type 0
 Lacks xs c = (i : ℕ) → i < length xs → get_or xs i 0 ≢ c
 
--- a list has one first place at which an element stands
+-- a list has one first index at which an element stands
 pub cut_once : (c : ℕ) (xs ys us vs : List ℕ) → Lacks xs c → Lacks us c → xs ++ (c ∷ ys) ≡ us ++ (c ∷ vs)
     → (xs ≡ us) × (ys ≡ vs)
 cut_once c [] ys [] vs h k e = let same : c ∷ ys ≡ c ∷ vs = e in (λ i. [], cc)

@@ -99,17 +99,17 @@ split_good stay keep others s nodes p own good is limits = record {
       (good.free axis (omega (arith, later)));
 }
 
-chosen_within : (v : Variation) (ws : List Variation) (place : ℕ) → chosen v ws ≡ Some place → place < length ws
-chosen_within v [] place is = absurd (cc)
-chosen_within v (w ∷ ws) place is = by (position (same v) (w ∷ ws)) refl
+chosen_within : (v : Variation) (ws : List Variation) (index : ℕ) → chosen v ws ≡ Some index → index < length ws
+chosen_within v [] index is = absurd (cc)
+chosen_within v (w ∷ ws) index is = by (position (same v) (w ∷ ws)) refl
   where
-    by : (o : Option ℕ) → position (same v) (w ∷ ws) ≡ o → place < length (w ∷ ws)
+    by : (o : Option ℕ) → position (same v) (w ∷ ws) ≡ o → index < length (w ∷ ws)
     by None found =
-        let t : Some 0 ≡ Some place = ap (λ o. Some (unwrap_or o 0)) (sym found) ∙ is in
-        let z : 0 ≡ place = cc in omega (arith, z)
+        let t : Some 0 ≡ Some index = ap (λ o. Some (unwrap_or o 0)) (sym found) ∙ is in
+        let z : 0 ≡ index = cc in omega (arith, z)
     by (Some i) found =
-        let t : Some i ≡ Some place = ap (λ o. Some (unwrap_or o 0)) (sym found) ∙ is in
-        let z : i ≡ place = cc in
+        let t : Some i ≡ Some index = ap (λ o. Some (unwrap_or o 0)) (sym found) ∙ is in
+        let z : i ≡ index = cc in
         let within = (position-Some (same v) (w ∷ ws) i w found).0 in omega (arith, z, within)
 
 chosen_none : (v : Variation) (ws : List Variation) → chosen v ws ≡ None → length ws ≡ 0
@@ -132,8 +132,8 @@ module _ (axis : Axis) (nodes : List (Node Props)) (outs : List (Split Props)) w
   splits_so many differ = record {
     many = length-map outs (λ (made : Split Props). made.variants) ∙ many;
     differ = differ_all outs differ;
-    within = λ n v e place is.
-        let within = chosen_within v (map (λ (b : Variation × Props). b.0) (theirs e.to.0)) place is in
+    within = λ n v e index is.
+        let within = chosen_within v (map (λ (b : Variation × Props). b.0) (theirs e.to.0)) index is in
         let same_length = length-map (theirs e.to.0) (λ (b : Variation × Props). b.0) in
         omega (arith, within, same_length);
     led = λ n lt. all_each

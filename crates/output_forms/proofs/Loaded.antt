@@ -154,17 +154,17 @@ told before (m ∷ ms) done h few =
     let most = rest.few in
     record { few = omega (arith, longer, most); new = (t.1, less.0); apart = (less.1, rest.apart) }
 
-at_place : (P : Module → Type 0) (ms : List Module) (j : ℕ) (d : Module) → AllByRecursion P ms → j < length ms
+at_index : (P : Module → Type 0) (ms : List Module) (j : ℕ) (d : Module) → AllByRecursion P ms → j < length ms
     → P (slice_index_or ms j d)
-at_place P [] j d h lt = absurd (omega (arith, lt))
-at_place P (m ∷ ms) zero d h lt = h.0
-at_place P (m ∷ ms) (suc j) d h lt = at_place P ms j d h.1 (omega (arith, lt))
+at_index P [] j d h lt = absurd (omega (arith, lt))
+at_index P (m ∷ ms) zero d h lt = h.0
+at_index P (m ∷ ms) (suc j) d h lt = at_index P ms j d h.1 (omega (arith, lt))
 
 pairs : (ms : List Module) → Apart ms → (i j : ℕ) (d : Module) → i < j → j < length ms
     → Differs (slice_index_or ms i d) (slice_index_or ms j d)
 pairs [] h i j d ij jl = absurd (omega (arith, jl))
 pairs (m ∷ ms) h zero zero d ij jl = absurd (omega (arith, ij))
-pairs (m ∷ ms) h zero (suc j) d ij jl = at_place (Differs m) ms j d h.0 (omega (arith, jl))
+pairs (m ∷ ms) h zero (suc j) d ij jl = at_index (Differs m) ms j d h.0 (omega (arith, jl))
 pairs (m ∷ ms) h (suc i) zero d ij jl = absurd (omega (arith, ij))
 pairs (m ∷ ms) h (suc i) (suc j) d ij jl = pairs ms h.1 i j d (omega (arith, ij)) (omega (arith, jl))
 

@@ -79,29 +79,29 @@ module _ {O A : Type 0} (results : ℕ → NodeResult O) (count : ℕ) where
   filled_there (Some x) h = refl
 
   module _ (order : List ℕ) (made : List (Option (Arc O A))) (is : IsMade results count order made) where
-    -- where the whole order is made, something stands in each place
+    -- where the whole order is made, something stands in each slot
     pub all_filled : ((n : ℕ) → n < count → Contains order n) → All IsSome made
     all_filled each k d lk =
         filled_there (get_or made k d)
         (subst (λ (r : Option (Option (Arc O A))). IsSome (value_of r)) (slice_get-get_or made k d lk)
         (all_contained (λ n. IsSome (made_at made n)) order k is.filled (each k (subst (λ x. k < x) is.many lk))))
 
-  from_place : (a : ℕ) (outs : List (Arc O A))
+  from_index : (a : ℕ) (outs : List (Arc O A))
       → ((k : ℕ) (o : O) → made_at (map Some outs) k ≡ Some o → results (a + k) ≡ Done o)
       → map Done (map arc_value outs) ≡ map results (range_with_len a (length outs))
-  from_place a [] right = refl
-  from_place a (x ∷ outs) right =
+  from_index a [] right = refl
+  from_index a (x ∷ outs) right =
       let first : Done (arc_value x) ≡ results a = sym (ap results (sym (add-zero a)) ∙ right 0 (arc_value x) refl) in
-      let rest : map Done (map arc_value outs) ≡ map results (range_with_len (a + 1) (length outs)) = from_place (a + 1)
+      let rest : map Done (map arc_value outs) ≡ map results (range_with_len (a + 1) (length outs)) = from_index (a + 1)
       outs (λ k o e. let n : (a + 1) + k ≡ a + suc k = omega arith in ap results n ∙ right (suc k) o e) in
       λ j. first j ∷ rest j
 
-  -- what stands in the places is the results by node number
+  -- what stands in the slots is the results by node number
   pub outs_right : (done : List ℕ) (made : List (Option (Arc O A))) → IsMade results count done made
       → (outs : List (Arc O A)) → map Some outs ≡ made
       → map Done (map arc_value outs) ≡ map results (range_with_len 0 count)
   outs_right done made is outs same =
-      from_place 0 outs (λ k o e. ap results (zero-add k) ∙ is.right k o (ap (λ l. made_at l k) (sym same) ∙ e))
+      from_index 0 outs (λ k o e. ap results (zero-add k) ∙ is.right k o (ap (λ l. made_at l k) (sym same) ∙ e))
       ∙ ap (λ (n : ℕ). map results (range_with_len 0 n)) (sym (length-map outs Some) ∙ ap length same ∙ is.many)
 
 module _ (plan : Plan) (nodes : List NodeId) (serial : IsSerial plan (numbers nodes)) (i : ℕ) (d : NodeId)

@@ -54,22 +54,22 @@ module _ {O : Type 0} (mean : ℕ → List O → Result O Fault) (takes : ℕ �
       subst (λ (x : Option (Published O)). IsSome x)
       (sym (get_or_from_slice_get published k (Some there.0) d there.1)) refl
 
-  from_place : (a : ℕ) (outs : List (Published O)) → ((k : ℕ) (p : Published O)
+  from_index : (a : ℕ) (outs : List (Published O)) → ((k : ℕ) (p : Published O)
       → slice_get (map Some outs) k ≡ Some (Some p) → published_result p ≡ node_result mean plan (a + k))
       → map published_result outs ≡ map (node_result mean plan) (range_with_len a (length outs))
-  from_place a [] right = refl
-  from_place a (x ∷ outs) right =
+  from_index a [] right = refl
+  from_index a (x ∷ outs) right =
       let first : published_result x ≡ node_result mean plan a =
       right 0 x refl ∙ ap (node_result mean plan) (add-zero a) in
       let rest : map published_result outs ≡ map (node_result mean plan) (range_with_len (a + 1) (length outs)) =
-      from_place (a + 1) outs
+      from_index (a + 1) outs
       (λ k p h. let n : a + suc k ≡ (a + 1) + k = omega arith in right (suc k) p h ∙ ap (node_result mean plan) n) in
       λ j. first j ∷ rest j
 
   pub outs_are : (outs : List (Published O)) → map Some outs ≡ published
       → map published_result outs ≡ map (node_result mean plan) (range_with_len 0 plan.count)
   outs_are outs same =
-      from_place 0 outs (λ k p h. (core.right k p (ap (λ l. slice_get l k) (sym same) ∙ h)).0
+      from_index 0 outs (λ k p h. (core.right k p (ap (λ l. slice_get l k) (sym same) ∙ h)).0
       ∙ ap (node_result mean plan) (sym (zero-add k)))
       ∙ ap (λ (n : ℕ). map (node_result mean plan) (range_with_len 0 n))
       (sym (length-map outs Some) ∙ ap length same ∙ core.published_many)

@@ -1,4 +1,4 @@
--- The in-edges of a node hold what stands between two places of the table.
+-- The in-edges of a node hold what stands between two indices of the table.
 use Rattle.std.proofs.Common.{◌≡◌, ◌+◌, ◌-◌, ◌<◌, ◌≤◌, ℕ, List, map, length, take, drop, ap, arith, ◌∙◌, sym, Option}
 use Rattle.std.proofs.Common.{Some, Result, zero-add}
 use Rattle.std.specs.Prelude.{slice_get, slice_index}

@@ -46,7 +46,7 @@ le_first e [] i d h lt = absurd (omega arith)
 le_first e (x ∷ es) zero d h lt = h.0
 le_first e (x ∷ es) (suc i) d h lt = le_first e es i d h.1 (omega arith)
 
--- an edge leads below n where it stands before the place at which such edges end
+-- an edge leads below n where it stands before the index at which such edges end
 pub stands_if_below : (es : List PlanEdge) (n i : ℕ) (d : PlanEdge) → StandByTarget es → i < length es
     → (get_or es i d).to.0 < n → i < edges_below es n
 stands_if_below [] n i d by lt is = absurd (omega arith)
@@ -79,7 +79,7 @@ take_first a x xs ys h = let e : suc a - 0 ≡ suc (a - 0) = omega arith in rw e
 pub sub_suc : (a b : ℕ) → suc a - suc b ≡ a - b
 sub_suc a b = omega arith
 
--- the edges into a node are those between two of these places
+-- the edges into a node are those between two of these indices
 pub placed : (es : List PlanEdge) (n : ℕ) → StandByTarget es
     → take (edges_below es (n + 1) - edges_below es n) (drop (edges_below es n) es) ≡ in_edges es n
 placed [] n by = refl

@@ -15,7 +15,7 @@ module _ (plan : Plan) (order : List ℕ) (serial : IsSerial plan order) where
   pub node_at : (i d : ℕ) → i < length order → get_or order i d < plan.count
   node_at i d lt = All-from_recursion (λ n. n < plan.count) order serial.each_once.nodes i d lt
 
-  -- a node that comes before another stands at an earlier place
+  -- a node that comes before another stands at an earlier index
   stands_earlier : (m i k d : ℕ) → i < length order → k < length order → get_or order k m ≡ m
       → IsBefore plan m (get_or order i d) → k < i
   stands_earlier m i k d li lk there before = dite (dec_lt k i)

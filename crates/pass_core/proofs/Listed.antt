@@ -20,13 +20,13 @@ use Rattle.pass_core.proofs.Marks.{still_marked, now_marked, not_both, get_blank
 use Rattle.pass_core.proofs.Unique.{outcome_unique}
 
 -- After some entries of a list, each of them ready, what was visited is marked.
-pub record IsChecked (plan : Plan) (order : List ℕ) (place : ℕ) (visited : List Bool) : Type 0 where
+pub record IsChecked (plan : Plan) (order : List ℕ) (index : ℕ) (visited : List Bool) : Type 0 where
   pub many : length visited ≡ plan.count
-  pub nodes : AllByRecursion (λ n. n < plan.count) (take place order)
-  pub marked : AllByRecursion (IsMarked visited) (take place order)
-  pub seen : (k : ℕ) → IsMarked visited k → (j : ℕ) × (j < place) × (get_or order j k ≡ k)
-  pub counted : marks visited ≡ place
-  pub ready : (earlier : ℕ) → earlier < place → IsReadyAt plan order earlier
+  pub nodes : AllByRecursion (λ n. n < plan.count) (take index order)
+  pub marked : AllByRecursion (IsMarked visited) (take index order)
+  pub seen : (k : ℕ) → IsMarked visited k → (j : ℕ) × (j < index) × (get_or order j k ≡ k)
+  pub counted : marks visited ≡ index
+  pub ready : (earlier : ℕ) → earlier < index → IsReadyAt plan order earlier
 
 some_unmarked : (bs : List Bool) → marks bs < length bs → (k : ℕ) × (k < length bs) × IsUnmarked bs k
 some_unmarked [] h = absurd (omega arith)
@@ -53,70 +53,70 @@ module _ (plan : Plan) (order : List ℕ) where
     ready = λ earlier lt. absurd (omega arith);
   }
 
-  module _ (place : ℕ) (visited : List Bool) (checked : IsChecked plan order place visited) where
-    pub place_small : place ≤ plan.count
-    place_small = let most = marks_most visited in omega (arith, checked.many, checked.counted)
+  module _ (index : ℕ) (visited : List Bool) (checked : IsChecked plan order index visited) where
+    pub index_small : index ≤ plan.count
+    index_small = let most = marks_most visited in omega (arith, checked.many, checked.counted)
 
-    module _ (n : ℕ) (lt : place < length order) (here : slice_index order place ≡ n) where
-      contained : (k : ℕ) → IsMarked visited k → Contains (take place order) k
-      contained k h = let t = checked.seen k h in contains_taken order k place t.0 t.1 (omega arith) t.2
+    module _ (n : ℕ) (lt : index < length order) (here : slice_index order index ≡ n) where
+      contained : (k : ℕ) → IsMarked visited k → Contains (take index order) k
+      contained k h = let t = checked.seen k h in contains_taken order k index t.0 t.1 (omega arith) t.2
 
       ready_here : n < plan.count → IsUnmarked visited n → AllByRecursion (IsMarked visited) (predecessors plan.edges n)
-          → IsReadyAt plan order place
-      ready_here inside free after = subst (IsReadyAfter plan (take place order)) (sym here) (record {
+          → IsReadyAt plan order index
+      ready_here inside free after = subst (IsReadyAfter plan (take index order)) (sym here) (record {
         inside = inside;
         unvisited =
-            λ c. not_both visited n (all_contained (IsMarked visited) (take place order) n checked.marked c) free;
-        after = all_map (IsMarked visited) (Contains (take place order)) contained (predecessors plan.edges n) after;
+            λ c. not_both visited n (all_contained (IsMarked visited) (take index order) n checked.marked c) free;
+        after = all_map (IsMarked visited) (Contains (take index order)) contained (predecessors plan.edges n) after;
       })
 
       -- what makes the next node ready shows in the marks
-      pub ready_shows : IsReadyAt plan order place
+      pub ready_shows : IsReadyAt plan order index
           → (n < plan.count) × IsUnmarked visited n × AllByRecursion (IsMarked visited) (predecessors plan.edges n)
       ready_shows at =
-          let is : IsReadyAfter plan (take place order) n = subst (IsReadyAfter plan (take place order)) here at in (
+          let is : IsReadyAfter plan (take index order) n = subst (IsReadyAfter plan (take index order)) here at in (
             is.inside,
             ⊎_elim (λ h. absurd (is.unvisited (contained n h))) (λ free. free)
                 (marked_or visited n (subst (λ x. n < x) (sym checked.many) is.inside)),
-            all_map (Contains (take place order)) (IsMarked visited) (λ m c. all_contained (IsMarked visited)
-                (take place order) m checked.marked c) (predecessors plan.edges n) is.after,
+            all_map (Contains (take index order)) (IsMarked visited) (λ m c. all_contained (IsMarked visited)
+                (take index order) m checked.marked c) (predecessors plan.edges n) is.after,
           )
 
-      pub refused_at : (IsReadyAt plan order place → ⊥) → IsFirstRefused plan order place
+      pub refused_at : (IsReadyAt plan order index → ⊥) → IsFirstRefused plan order index
       refused_at refused = record { inside = lt; ready = checked.ready; refused = refused }
 
-      taken_more : take (place + 1) order ≡ take place order ++ n ∷ []
-      taken_more = take_more order place 0 lt ∙ ap (λ x. take place order ++ x ∷ []) here
+      taken_more : take (index + 1) order ≡ take index order ++ n ∷ []
+      taken_more = take_more order index 0 lt ∙ ap (λ x. take index order ++ x ∷ []) here
 
       module _ (inside : n < plan.count) (free : IsUnmarked visited n)
           (after : AllByRecursion (IsMarked visited) (predecessors plan.edges n)) where
-        seen_more : (k : ℕ) → IsMarked (slice_set visited n true) k → (j : ℕ) × (j < place + 1) × (get_or order j k ≡ k)
+        seen_more : (k : ℕ) → IsMarked (slice_set visited n true) k → (j : ℕ) × (j < index + 1) × (get_or order j k ≡ k)
         seen_more k h =
-            ⊎_elim (λ same. (place, omega arith, same_at order place k 0 lt ∙ here ∙ sym same)) (λ before. let t =
+            ⊎_elim (λ same. (index, omega arith, same_at order index k 0 lt ∙ here ∙ sym same)) (λ before. let t =
             checked.seen k before in (t.0, let e = t.1 in omega arith, t.2)) (marked_before visited n k h)
 
-        ready_more : (earlier : ℕ) → earlier < place + 1 → IsReadyAt plan order earlier
+        ready_more : (earlier : ℕ) → earlier < index + 1 → IsReadyAt plan order earlier
         ready_more earlier e =
-            dite (dec_lt earlier place) (λ less. checked.ready earlier less) (λ last. let same : place ≡ earlier =
+            dite (dec_lt earlier index) (λ less. checked.ready earlier less) (λ last. let same : index ≡ earlier =
             omega arith in subst (IsReadyAt plan order) same (ready_here inside free after))
 
-        pub checked_more : IsChecked plan order (place + 1) (slice_set visited n true)
+        pub checked_more : IsChecked plan order (index + 1) (slice_set visited n true)
         checked_more = record {
           many = length-set visited n true ∙ checked.many;
           nodes =
               subst (AllByRecursion (λ n. n < plan.count)) (sym taken_more)
-              (all_pushed (λ n. n < plan.count) (take place order) n checked.nodes inside);
+              (all_pushed (λ n. n < plan.count) (take index order) n checked.nodes inside);
           marked = subst (AllByRecursion (IsMarked (slice_set visited n true))) (sym taken_more)
-              (all_pushed (IsMarked (slice_set visited n true)) (take place order) n
+              (all_pushed (IsMarked (slice_set visited n true)) (take index order) n
               (all_map (IsMarked visited) (IsMarked (slice_set visited n true)) (λ k h. still_marked visited n k h)
-              (take place order) checked.marked) (now_marked visited n free));
+              (take index order) checked.marked) (now_marked visited n free));
           seen = seen_more;
           counted = marks_more visited n free ∙ omega (arith, checked.counted);
           ready = ready_more;
         }
 
-    module _ (whole : place ≡ length order) where
-      all_taken : take place order ≡ order
+    module _ (whole : index ≡ length order) where
+      all_taken : take index order ≡ order
       all_taken = ap (λ i. take i order) whole ∙ take-length order
 
       pub short_if : length order < plan.count → IsShort plan order (length order)
@@ -153,19 +153,19 @@ module _ (plan : Plan) (order : List ℕ) where
 
   module _ (legal : IsLegal plan order) where
     -- each entry of a legal order is ready
-    legal_ready : (place : ℕ) → place < length order → IsReadyAt plan order place
-    legal_ready place lt = record {
+    legal_ready : (index : ℕ) → index < length order → IsReadyAt plan order index
+    legal_ready index lt = record {
       inside =
-          all_contained (λ n. n < plan.count) order (slice_index order place) legal.each_once.nodes
-          (place, lt, same_at order place (slice_index order place) 0 lt);
-      unvisited = λ c. let t = taken_at order (slice_index order place) place (omega arith) c in
-          legal.each_once.once t.0 place (slice_index order place) t.1 lt
-          (t.2 ∙ sym (same_at order place (slice_index order place) 0 lt));
-      after = legal.after place lt;
+          all_contained (λ n. n < plan.count) order (slice_index order index) legal.each_once.nodes
+          (index, lt, same_at order index (slice_index order index) 0 lt);
+      unvisited = λ c. let t = taken_at order (slice_index order index) index (omega arith) c in
+          legal.each_once.once t.0 index (slice_index order index) t.1 lt
+          (t.2 ∙ sym (same_at order index (slice_index order index) 0 lt));
+      after = legal.after index lt;
     }
 
-    pub never_refused : (place : ℕ) → IsFirstRefused plan order place → ⊥
-    never_refused place first = first.refused (legal_ready place first.inside)
+    pub never_refused : (index : ℕ) → IsFirstRefused plan order index → ⊥
+    never_refused index first = first.refused (legal_ready index first.inside)
 
     pub never_short : (many : ℕ) → IsShort plan order many → ⊥
     never_short many short = short.missing.2 (legal.each_once.each short.missing.0 short.missing.1)

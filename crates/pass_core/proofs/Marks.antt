@@ -1,4 +1,4 @@
--- Marked and filled places: how many there are, and what one more changes.
+-- Marked indices and filled slots: how many there are, and what one more changes.
 use Rattle.std.proofs.Common.{◌≡◌, ◌<◌, ◌≤◌, ℕ, zero, suc, Bool, true, false, List, [], ◌∷◌, map, length, replicate}
 use Rattle.std.proofs.Common.{refl, ap, arith, ◌∙◌, sym, subst, Option, Some, None, ◌⊎◌, inl, inr}
 use Rattle.std.specs.Prelude.{slice_get, slice_set, is_some}
@@ -36,7 +36,7 @@ pub marks_none : (n : ℕ) → marks (replicate n false) ≡ 0
 marks_none zero = refl
 marks_none (suc n) = marks_none n
 
--- a place is marked or isn't
+-- an index is marked or isn't
 pub marked_or : (bs : List Bool) (k : ℕ) → k < length bs → (IsMarked bs k) ⊎ (IsUnmarked bs k)
 marked_or [] k lt = absurd (omega arith)
 marked_or (true ∷ bs) zero lt = inl refl
@@ -51,7 +51,7 @@ get_blank zero x k y h = cc
 get_blank (suc n) x zero y h = cc
 get_blank (suc n) x (suc k) y h = get_blank n x k y h
 
--- what is marked stays marked, and what becomes marked is the place or was marked
+-- what is marked stays marked, and what becomes marked is the index or was marked
 pub still_marked : (bs : List Bool) (j k : ℕ) → IsMarked bs k → IsMarked (slice_set bs j true) k
 still_marked bs j k h = dite (ℕ_discrete k j)
     (λ same. subst (λ x. IsMarked (slice_set bs j true) x) (sym same)

@@ -295,7 +295,7 @@ some_at [] k lt = absurd (omega arith)
 some_at (h ∷ hs) zero lt = refl
 some_at (h ∷ hs) (suc k) lt = some_at hs k (omega arith)
 
--- where each place is filled, the heights stand there by node number
+-- where each slot is filled, the heights stand there by node number
 pub heights_settled : (plan : Plan) (settled : List (Option ℕ)) → AreSettled plan settled → (hs : List ℕ)
     → map Some hs ≡ settled → hs ≡ map (height plan) (range_with_len 0 plan.count)
 heights_settled plan settled right hs same =

@@ -19,7 +19,7 @@ none_numbered k n (e ∷ es) h =
     rw (ne_eqb e.to.0 n other) (none_numbered (suc k) n es h.1)
 
 module _ {X Y : Type 0} (f : ℕ → Y) (g : X → Y) where
-  -- what stands for the edges into a node is what stands between two of these places
+  -- what stands for the edges into a node is what stands between two of these indices
   pub placed_values : (es : List PlanEdge) (xs : List X) (k n : ℕ) → StandByTarget es → length xs ≡ length es
       → ((i : ℕ) (x : X) → slice_get xs i ≡ Some x → f (k + i) ≡ g x)
       → map f (numbers_into k es n)

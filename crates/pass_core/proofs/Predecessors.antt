@@ -47,7 +47,7 @@ pub in_edges_few : (es : List PlanEdge) (n : ℕ) → length (in_edges es n) ≤
 in_edges_few [] n = omega arith
 in_edges_few (e ∷ es) n = let rest = in_edges_few es n in grind (arith, nat_tests)
 
--- what holds of each source holds of the source of the edge at a place
+-- what holds of each source holds of the source of the edge at an index
 pub source_at : (P : ℕ → Type 0) (es : List PlanEdge) (i : ℕ) (d : PlanEdge) → AllByRecursion P (sources es)
     → i < length es → P (get_or es i d).from.0
 source_at P es i d h lt =

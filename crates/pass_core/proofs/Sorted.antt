@@ -56,7 +56,7 @@ module _ (plan : Plan) where
     rises_from_pairs xs (λ i j d lt lj. h (suc i) (suc j) d (omega arith) (omega arith)),
   )
 
-  -- a node put into its place
+  -- a node put where it belongs
   abbrev put_at : (n x : ℕ) (xs rest : List ℕ) → (IsBefore plan n x) ⊎ ((IsBefore plan x n) ⊎ (n ≡ x)) → List ℕ
   put_at n x xs rest (inl here) = n ∷ x ∷ xs
   put_at n x xs rest (inr (inl later)) = x ∷ rest

@@ -39,7 +39,7 @@ pub record IsSound {O : Type 0} (mean : ℕ → List O → Result O Fault) (plan
   pub counted : (n : ℕ) → n < plan.count → slice_index s.counters n ≡ unmarked_count plan.edges s.subtracted n
   pub awaited : (n : ℕ) → IsMarked s.claimed n → unmarked_count plan.edges s.subtracted n ≡ 0
 
--- What stands at each place, as a result where it is published.
+-- What stands in each slot, as a result where it is published.
 abbrev pub shown_in : {O : Type 0} → Option (Published O) → Option (NodeResult O)
 shown_in x = option_map published_result x
 

@@ -61,7 +61,7 @@ module _ {O : Type 0} where
   abbrev pub IsUnfilled : CoreState O → ℕ → Type 0
   IsUnfilled s e = slice_get s.filled e ≡ Some None
 
-  -- What stands at a place, where nothing counts as poisoned.
+  -- What stands in a slot, where nothing counts as poisoned.
   abbrev pub result_in : Option (Option (NodeResult O)) → NodeResult O
   result_in (Some (Some r)) = r
   result_in (Some None) = Poisoned

@@ -13,21 +13,22 @@ use Rattle.pass_core.specs.Results.{NodeResult, Bad, all_outs, judged_result, no
 use Rattle.pass_core.specs.Orders.{IsSerial, IsLegal}
 use Rattle.pass_core.specs.Outcomes.{IsFirstUndone, PassOutcomeMeans, PassMeans}
 
--- Where edges stand by target, the edges into a node are those between two places.
+-- Where edges stand by target, the edges into a node are those between two indices.
 abbrev pub InEdgesAreTogether : Type 0
 InEdgesAreTogether =
     (edges : List PlanEdge) (n : ℕ) → StandByTarget edges
     → take (edges_below edges (n + 1) - edges_below edges n) (drop (edges_below edges n) edges) ≡ in_edges edges n
 
--- These places rise with the nodes, and none is past the edges.
-abbrev pub PlacesOfEdgesRise : Type 0
-PlacesOfEdgesRise =
+-- These indices rise with the nodes, and none is past the edges.
+abbrev pub StartsOfEdgesRise : Type 0
+StartsOfEdgesRise =
     (edges : List PlanEdge) (n : ℕ)
     → (edges_below edges n ≤ edges_below edges (n + 1)) × (edges_below edges n ≤ length edges)
 
--- Where edges stand by target, an edge leads below a node exactly where its number is below the node's place.
-abbrev pub PlacesTellTargets : Type 0
-PlacesTellTargets =
+-- Where edges stand by target, an edge leads below a node exactly where its index is below that at which the in-edges
+-- of the node begin.
+abbrev pub IndicesTellTargets : Type 0
+IndicesTellTargets =
     (edges : List PlanEdge) (n i : ℕ) (e : PlanEdge) → StandByTarget edges → i < length edges
     → ((slice_index_or edges i e).to.0 < n) ↔ (i < edges_below edges n)
 
@@ -72,11 +73,11 @@ abbrev pub SerialIsLegal : Type 0
 SerialIsLegal =
     (plan : Plan) (order : List ℕ) → IsPlan plan → HasNoCycle plan.edges → IsSerial plan order → IsLegal plan order
 
--- In the serial order the nodes that come before that at a place stand at earlier places.
+-- In the serial order the nodes that come before that at an index stand at earlier indices.
 abbrev pub EarlierNodesStandEarlier : Type 0
 EarlierNodesStandEarlier =
-    (plan : Plan) (order : List ℕ) (m place : ℕ) → IsSerial plan order → m < plan.count → place < length order
-    → IsBefore plan m (slice_index order place) → Contains (take place order) m
+    (plan : Plan) (order : List ℕ) (m index : ℕ) → IsSerial plan order → m < plan.count → index < length order
+    → IsBefore plan m (slice_index order index) → Contains (take index order) m
 
 -- A value by recursion over predecessors is what the step makes of the predecessors' values.
 abbrev pub RecursionMeetsItsEquation : Type 0 → Type 0

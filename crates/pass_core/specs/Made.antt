@@ -8,7 +8,7 @@ use Rattle.pass_core.specs.declared.error.PassError.TheVariants.{At, OutOfMemory
 use Rattle.pass_core.specs.Results.{NodeResult, Done, Bad, cons_if}
 
 module _ {O A : Type 0} where
-  -- What is held at a place, where something is.
+  -- What is held in a slot, where something is.
   abbrev pub value_of : Option (Option (Arc O A)) → Option O
   value_of None = None
   value_of (Some None) = None

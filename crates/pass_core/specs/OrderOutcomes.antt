@@ -19,20 +19,20 @@ pub record IsReadyAfter (plan : Plan) (before : List ℕ) (n : ℕ) : Type 0 whe
   pub unvisited : Contains before n → ⊥
   pub after : AllByRecursion (Contains before) (predecessors plan.edges n)
 
--- The entry at a place of a list is ready after the entries before it.
+-- The entry at an index of a list is ready after the entries before it.
 abbrev pub IsReadyAt : Plan → List ℕ → ℕ → Type 0
-IsReadyAt plan order place = IsReadyAfter plan (take place order) (slice_index order place)
+IsReadyAt plan order index = IsReadyAfter plan (take index order) (slice_index order index)
 
--- The entry at a place is the first that isn't ready.
-pub record IsFirstRefused (plan : Plan) (order : List ℕ) (place : ℕ) : Type 0 where
-  pub inside : place < length order
-  pub ready : (earlier : ℕ) → earlier < place → IsReadyAt plan order earlier
-  pub refused : IsReadyAt plan order place → ⊥
+-- The entry at an index is the first that isn't ready.
+pub record IsFirstRefused (plan : Plan) (order : List ℕ) (index : ℕ) : Type 0 where
+  pub inside : index < length order
+  pub ready : (earlier : ℕ) → earlier < index → IsReadyAt plan order earlier
+  pub refused : IsReadyAt plan order index → ⊥
 
 -- No entry is refused, and a list of that length is short of nodes.
 pub record IsShort (plan : Plan) (order : List ℕ) (many : ℕ) : Type 0 where
   pub whole : many ≡ length order
-  pub ready : (place : ℕ) → place < length order → IsReadyAt plan order place
+  pub ready : (index : ℕ) → index < length order → IsReadyAt plan order index
   pub missing : (n : ℕ) × (n < plan.count) × (Contains order n → ⊥)
 
 -- What a run along a list comes to.
@@ -46,14 +46,14 @@ module _ {O : Type 0} where
   -- ready, or the list is short.
   abbrev pub IsOrderOutcome : (ℕ → List O → Result O Fault) → Plan → List ℕ → OrderOutcome O → Type 0
   IsOrderOutcome mean plan order (Ran outcome) = IsLegal plan order × PassOutcomeMeans mean plan outcome
-  IsOrderOutcome mean plan order (Refused place) = IsFirstRefused plan order place
+  IsOrderOutcome mean plan order (Refused index) = IsFirstRefused plan order index
   IsOrderOutcome mean plan order (Short many) = IsShort plan order many
 
   -- A run answers its outcome, where an `Arc` counts as what it holds, or that memory ran out.
   abbrev pub AnswersOrder : (ℕ → List O → Result O Fault) → Plan → List ℕ
       → Result (Vec (Arc O Global) Global) OrderError → Type 0
   AnswersOrder mean plan order (Ok outs) = IsOrderOutcome mean plan order (Ran (Ok (map arc_value outs.items)))
-  AnswersOrder mean plan order (Err (NotReady place)) = IsOrderOutcome mean plan order (Refused place)
+  AnswersOrder mean plan order (Err (NotReady index)) = IsOrderOutcome mean plan order (Refused index)
   AnswersOrder mean plan order (Err (Ends many)) = IsOrderOutcome mean plan order (Short many)
   AnswersOrder mean plan order (Err (At n fault)) = IsOrderOutcome mean plan order (Ran (Err (n.0, fault)))
   AnswersOrder mean plan order (Err OutOfMemory) = ⊤
@@ -61,7 +61,7 @@ module _ {O : Type 0} where
 -- A list is found to be a legal order, or not, or memory is wanted.
 abbrev pub AnswersLegality : Plan → List ℕ → Result Unit OrderError → Type 0
 AnswersLegality plan order (Ok done) = IsLegal plan order
-AnswersLegality plan order (Err (NotReady place)) = IsFirstRefused plan order place
+AnswersLegality plan order (Err (NotReady index)) = IsFirstRefused plan order index
 AnswersLegality plan order (Err (Ends many)) = IsShort plan order many
 AnswersLegality plan order (Err (At n fault)) = ⊥
 AnswersLegality plan order (Err OutOfMemory) = ⊤

@@ -19,8 +19,8 @@ pub record HasEachOnce (plan : Plan) (order : List ℕ) : Type 0 where
 -- A legal order has each node once, each after all its predecessors.
 pub record IsLegal (plan : Plan) (order : List ℕ) : Type 0 where
   pub each_once : HasEachOnce plan order
-  pub after : (place : ℕ) → place < length order
-      → AllByRecursion (Contains (take place order)) (predecessors plan.edges (slice_index order place))
+  pub after : (index : ℕ) → index < length order
+      → AllByRecursion (Contains (take index order)) (predecessors plan.edges (slice_index order index))
 
 -- The serial order has each node once, by height and then by number.
 pub record IsSerial (plan : Plan) (order : List ℕ) : Type 0 where

@@ -8,7 +8,7 @@ use Rattle.pass_core.specs.declared.height.Climb.{Climb}
 use Rattle.pass_core.specs.Plans.{predecessors}
 use Rattle.pass_core.specs.Heights.{unroll, height}
 
--- What stands at a place, where there is one and something stands there.
+-- What stands in a slot, where there is one and something stands there.
 abbrev pub inner_option : Option (Option ℕ) → Option ℕ
 inner_option None = None
 inner_option (Some x) = x
@@ -17,7 +17,7 @@ inner_option (Some x) = x
 abbrev pub settled_at : List (Option ℕ) → ℕ → Option ℕ
 settled_at settled n = inner_option (slice_get settled n)
 
--- There is a place for each node, and what stands there is the node's height.
+-- There is a slot for each node, and what stands there is the node's height.
 pub record AreSettled (plan : Plan) (settled : List (Option ℕ)) : Type 0 where
   pub many : length settled ≡ plan.count
   pub right : (n h : ℕ) → settled_at settled n ≡ Some h → h ≡ height plan n

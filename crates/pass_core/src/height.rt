@@ -7,8 +7,8 @@ ghost use Rattle.pass_core.specs.Settling.{settled_at, AreSettled, AreAllSettled
 ghost use Rattle.pass_core.specs.Settling.{IsPath, IsAdvanced, gone_up, start_at};
 
 use crate::in_edges::{edges_into, starts_of};
-use crate::places::{empty_places, unwrapped};
 use crate::plan::Plan;
+use crate::slots::{empty_slots, unwrapped};
 use bp_faults::{NodeId, OutOfMemory};
 use std::alloc::Global;
 
@@ -112,7 +112,7 @@ fn settle(alloc: Global, plan: &Plan, starts: &[u32]) -> Result<Vec<Option<u32>>
     requires starts { AreStarts plan.now starts.now }
     ensures { IfOk result (λ settled. AreAllSettled plan.now settled.items) }
 {
-    let mut settled = empty_places(alloc, plan.count)?;
+    let mut settled = empty_slots(alloc, plan.count)?;
     let mut path = every_climb(alloc, plan.count)?;
     while let Some(climb) = path.pop() {
         advance(plan, starts, climb, &mut settled, &mut path)?;

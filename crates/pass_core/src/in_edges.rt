@@ -7,7 +7,7 @@ use crate::plan::{Plan, PlanEdge};
 use bp_faults::{NodeId, OutOfMemory};
 use std::alloc::Global;
 
-/// Where the edges into a node end, which begin at a place.
+/// Where the edges into a node end, which begin at an index.
 fn end_of(edges: &[PlanEdge], n: u32, begin: usize) -> usize
     requires by_target { StandByTarget edges.now }
     requires begins { begin ≡ edges_below edges.now n }

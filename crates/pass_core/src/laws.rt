@@ -1,6 +1,6 @@
 //! What holds of every plan without a cycle: each law is the contract of a function that does nothing.
 
-ghost use Rattle.pass_core.specs.Laws.{InEdgesAreTogether, PlacesOfEdgesRise, PlacesTellTargets};
+ghost use Rattle.pass_core.specs.Laws.{InEdgesAreTogether, StartsOfEdgesRise, IndicesTellTargets};
 ghost use Rattle.pass_core.specs.Laws.{PredecessorsAreNodes, PredecessorsAreLess, PredecessorsComeBefore};
 ghost use Rattle.pass_core.specs.Laws.{HeightsMeetTheirEquation, HeightsAreBelowTheCount, RecursionMeetsItsEquation};
 ghost use Rattle.pass_core.specs.Laws.{OneSerialOrder, SerialIsLegal, EarlierNodesStandEarlier};
@@ -16,14 +16,14 @@ pub fn in_edges_are_together()
     ensures { InEdgesAreTogether }
 {}
 
-/// The places where the in-edges of the nodes begin rise with the nodes.
-pub fn places_of_edges_rise()
-    ensures { PlacesOfEdgesRise }
+/// The indices at which the in-edges of the nodes begin rise with the nodes.
+pub fn starts_of_edges_rise()
+    ensures { StartsOfEdgesRise }
 {}
 
-/// The place of an edge tells whether it leads below a node.
-pub fn places_tell_targets()
-    ensures { PlacesTellTargets }
+/// The index of an edge tells whether it leads below a node.
+pub fn indices_tell_targets()
+    ensures { IndicesTellTargets }
 {}
 
 /// The predecessors of a node are nodes.

@@ -16,10 +16,10 @@ mod order;
 mod order_error;
 mod order_run;
 mod pass;
-mod places;
 mod plan;
 mod published;
 mod serial;
+mod slots;
 mod step;
 mod visit;
 

@@ -3,9 +3,9 @@ ghost use Rattle.std.specs.List.{range_with_len};
 
 use crate::held::{held_by, publish_last};
 use crate::in_edges::{in_degrees, starts_of};
-use crate::places::{empty_places, no_marks, unwrapped};
 use crate::plan::Plan;
 use crate::published::Published;
+use crate::slots::{empty_slots, no_marks, unwrapped};
 use crate::step::{Step, StepError};
 use crate::visit::Visit;
 use bp_faults::{NodeId, OutOfMemory};
@@ -173,8 +173,8 @@ impl<V: Visit + Drop> Core<V> {
         let claimed = no_marks(alloc, count)?;
         let subtracted = no_marks(alloc, many)?;
         let fetched = no_marks(alloc, many)?;
-        let filled = empty_places(alloc, many as u32)?;
-        let published = empty_places(alloc, plan.count)?;
+        let filled = empty_slots(alloc, many as u32)?;
+        let published = empty_slots(alloc, plan.count)?;
         Ok(Core {
             plan,
             visitor: v,

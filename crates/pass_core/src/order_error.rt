@@ -6,7 +6,7 @@ use thiserror::Error;
 /// Why a run along a list of nodes has no results.
 #[derive(Debug, Drop, Error)]
 pub enum OrderError {
-    /// The place from 0 of the first entry that is no node, was visited, or has an unvisited predecessor.
+    /// The index from 0 of the first entry that is no node, was visited, or has an unvisited predecessor.
     #[error("an entry isn't ready")]
     NotReady(u32),
     /// The list ends before every node is visited. It has that many entries.

@@ -10,9 +10,9 @@ ghost use Rattle.pass_core.specs.Plans.{IsPlan, HasNoCycle};
 use crate::error::PassError;
 use crate::in_edges::{edges_into, starts_of};
 use crate::order_error::OrderError;
-use crate::places::{empty_places, no_marks, unwrapped};
 use crate::plan::Plan;
 use crate::serial::{run_serial, visit_at};
+use crate::slots::{empty_slots, no_marks, unwrapped};
 use crate::visit::Visit;
 use bp_faults::{NodeId, OutOfMemory};
 use std::alloc::Global;
@@ -48,9 +48,9 @@ pub fn check_order(
     ensures { AnswersLegality plan.now (numbers order.now) result }
 {
     let mut visited = no_marks(alloc, plan.count as usize)?;
-    for (place, n) in order.iter().enumerate() {
+    for (index, n) in order.iter().enumerate() {
         if !is_ready(plan, starts, *n, &visited) {
-            return Err(OrderError::NotReady(place as u32));
+            return Err(OrderError::NotReady(index as u32));
         }
         visited[n.0 as usize] = true;
     }
@@ -76,7 +76,7 @@ fn visit_along<V: Visit>(
     ensures { IfOk result
         (λ r. IfSome r (λ outs. PassOutcomeMeans (V.meaning v.now) plan.now (Ok (map arc_value outs.items)))) }
 {
-    let mut made = empty_places(alloc, plan.count)?;
+    let mut made = empty_slots(alloc, plan.count)?;
     let mut ins = Vec::new(alloc);
     for n in order {
         match visit_at(alloc, plan, v, starts, *n, &made, &mut ins) {

@@ -12,8 +12,8 @@ ghost use Rattle.pass_core.specs.Results.{node_result};
 use crate::error::PassError;
 use crate::in_edges::{edges_into, starts_of};
 use crate::order::serial_order;
-use crate::places::{empty_places, unwrapped};
 use crate::plan::{Plan, PlanEdge};
+use crate::slots::{empty_slots, unwrapped};
 use crate::visit::{Visit, VisitError};
 use bp_faults::{NodeId, OutOfMemory};
 use std::alloc::Global;
@@ -85,7 +85,7 @@ fn run_along<V: Visit>(
     requires serial { IsSerial plan.now (numbers order.now) }
     ensures { AnswersPass (V.meaning v.now) plan.now result }
 {
-    let mut made = empty_places(alloc, plan.count)?;
+    let mut made = empty_slots(alloc, plan.count)?;
     let mut ins = Vec::new(alloc);
     for n in order {
         let out = visit_at(alloc, plan, v, starts, *n, &made, &mut ins)?;

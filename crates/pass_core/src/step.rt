@@ -2,7 +2,7 @@ use bp_faults::{NodeId, OutOfMemory};
 use std::alloc::AllocError;
 use thiserror::Error;
 
-/// What may happen next in a pass. Edges are named by their places in the plan, from 0.
+/// What may happen next in a pass. Edges are named by their indices in the plan, from 0.
 #[derive(Clone, Copy, Debug, PartialEq, Eq)]
 pub enum Step {
     /// The node is claimed. Without in-edges its visit is made.

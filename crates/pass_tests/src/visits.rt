@@ -109,7 +109,7 @@ fn along(alloc: Global, plan: &Plan, refused: CountBut, order: &[NodeId]) -> (&'
 {
     match run_order(alloc, plan, &refused, order) {
         Ok(_) => ("results", 0),
-        Err(OrderError::NotReady(place)) => ("not ready", place),
+        Err(OrderError::NotReady(index)) => ("not ready", index),
         Err(OrderError::Ends(many)) => ("ends", many),
         Err(OrderError::At(n, _)) => ("fault", n.0),
         Err(OrderError::OutOfMemory) => ("memory", 0),
@@ -308,8 +308,8 @@ fn an_order_visits_each_node_once(rt: HostRuntime) -> Result<(), Fail> {
 #[test]
 fn laws_at_a_type() {
     laws::in_edges_are_together();
-    laws::places_of_edges_rise();
-    laws::places_tell_targets();
+    laws::starts_of_edges_rise();
+    laws::indices_tell_targets();
     laws::predecessors_are_nodes();
     laws::predecessors_are_less();
     laws::predecessors_come_before();

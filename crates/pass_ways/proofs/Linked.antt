@@ -56,13 +56,13 @@ nodes_inside count size k order h =
     (all_dropped (λ (n : NodeId). n.0 < count) (k * size) order (all_before (λ (n : NodeId). n.0) (λ n. n < count)
     order h))
 
--- the node at a place is one of the plan
-pub node_inside : (plan : Plan) (order : List NodeId) (place : ℕ) (d : NodeId) → IsLegal plan (numbers order) → place <
-    length order → (get_or order place d).0 < plan.count
-node_inside plan order place d legal lt =
-    let inside : place < length (numbers order) = omega (arith, length-map order (λ (n : NodeId). n.0)) in
-    subst (λ n. n < plan.count) (get_or-map (λ (n : NodeId). n.0) order place d 0 lt) ((legal_ready plan (numbers
-    order) legal place inside).inside)
+-- the node at an index is one of the plan
+pub node_inside : (plan : Plan) (order : List NodeId) (index : ℕ) (d : NodeId) → IsLegal plan (numbers order) → index <
+    length order → (get_or order index d).0 < plan.count
+node_inside plan order index d legal lt =
+    let inside : index < length (numbers order) = omega (arith, length-map order (λ (n : NodeId). n.0)) in
+    subst (λ n. n < plan.count) (get_or-map (λ (n : NodeId). n.0) order index d 0 lt) ((legal_ready plan (numbers
+    order) legal index inside).inside)
 
 -- the edges into a node begin at nodes of the plan
 pub sources_inside : (plan : Plan) (edges : List PlanEdge) (n : ℕ) → IsPlan plan → edges ≡ in_edges plan.edges n →
@@ -143,21 +143,21 @@ told_below plan order table size many legal positive enough told m lt =
     let is : slice_index table m ≡ c.0 / size = ap (slice_index table) (sym there) ∙ told.tells c.0 c.1 in
     subst (λ s. s < many) (sym is) (div_below c.0 size many positive (let e = c.1 in omega (arith, enough)))
 
--- one place more
-pub tells_more : (plan : Plan) (order table : List ℕ) (size place n : ℕ) → IsLegal plan order → place < length order →
-    slice_index order place ≡ n → n < length table
-    → TellsStretches plan.count size order place table → TellsStretches plan.count size order (place + 1) (slice_set
-    table n (place / size))
-tells_more plan order table size place n legal lt here inside told = record {
-  many = length-set table n (place / size) ∙ told.many;
-  tells = λ k less. dite (ℕ_discrete k place)
-      (λ same. subst (λ i. slice_index (slice_set table n (place / size)) (slice_index order i) ≡ i / size) (sym same)
-      (subst (λ m. slice_index (slice_set table n (place / size)) m ≡ place / size) (sym here) (get_or-set_same table n
-      (place / size) 0 inside)))
+-- one index more
+pub tells_more : (plan : Plan) (order table : List ℕ) (size index n : ℕ) → IsLegal plan order → index < length order →
+    slice_index order index ≡ n → n < length table
+    → TellsStretches plan.count size order index table → TellsStretches plan.count size order (index + 1) (slice_set
+    table n (index / size))
+tells_more plan order table size index n legal lt here inside told = record {
+  many = length-set table n (index / size) ∙ told.many;
+  tells = λ k less. dite (ℕ_discrete k index)
+      (λ same. subst (λ i. slice_index (slice_set table n (index / size)) (slice_index order i) ≡ i / size) (sym same)
+      (subst (λ m. slice_index (slice_set table n (index / size)) m ≡ index / size) (sym here) (get_or-set_same table n
+      (index / size) 0 inside)))
       (λ other.
-      let before : k < place = omega arith in
-      let apart : slice_index order k ≡ n → ⊥ = λ e. legal.each_once.once k place 0 before lt (e ∙ sym here) in
-      get_or-set_other table n (slice_index order k) (place / size) 0 apart ∙ told.tells k before);
+      let before : k < index = omega arith in
+      let apart : slice_index order k ≡ n → ⊥ = λ e. legal.each_once.once k index 0 before lt (e ∙ sym here) in
+      get_or-set_other table n (slice_index order k) (index / size) 0 apart ∙ told.tells k before);
 }
 
 module _ (edges more : List PlanEdge) where

@@ -23,7 +23,7 @@ all_from_each : (P : ℕ → Type 0) (xs : List ℕ) → ((i : ℕ) → i < leng
 all_from_each P [] h = tt
 all_from_each P (x ∷ xs) h = (h 0 (omega arith), all_from_each P xs (λ i lt. h (suc i) (omega arith)))
 
-module _ (plan : Plan) (order : List ℕ) (ready : (place : ℕ) → place < length order → IsReadyAt plan order place) where
+module _ (plan : Plan) (order : List ℕ) (ready : (index : ℕ) → index < length order → IsReadyAt plan order index) where
   pub ready_inside : AllByRecursion (λ n. n < plan.count) order
   ready_inside = all_from_each (λ n. n < plan.count) order (λ i lt. (ready i lt).inside)
 
@@ -40,11 +40,11 @@ module _ (plan : Plan) (order : List ℕ) where
   pub refused_part : (k : ℕ) → IsFirstRefused plan order k → length order ≤ plan.count → IsPart plan (take k order)
   refused_part k first few =
       let many : length (take k order) ≡ k = length-take-le k order (let e = first.inside in omega arith) in
-      let ready : (place : ℕ) → place < length (take k order) → IsReadyAt plan (take k order) place = λ place lt.
-      let less : place < k = omega arith in
-      subst (λ (l : List ℕ). IsReadyAfter plan l (slice_index (take k order) place)) (sym (take_take order k place
+      let ready : (index : ℕ) → index < length (take k order) → IsReadyAt plan (take k order) index = λ index lt.
+      let less : index < k = omega arith in
+      subst (λ (l : List ℕ). IsReadyAfter plan l (slice_index (take k order) index)) (sym (take_take order k index
       (omega arith)))
-      (subst (IsReadyAfter plan (take place order)) (sym (get_or-take k order place 0 less)) (first.ready place less))
+      (subst (IsReadyAfter plan (take index order)) (sym (get_or-take k order index 0 less)) (first.ready index less))
       in
       let e = first.inside in
       record { ready = ready; missing = one_lacks (take k order) plan.count (omega arith) }

@@ -16,7 +16,7 @@ module _ (plan : Plan) where
         []) xs)) k),
   )
 
-  -- from and to the form by places
+  -- from and to the form by indices
   pub ready_at : (before xs : List ℕ) → AreReady plan before xs → (k : ℕ) → k < length xs → IsReadyAfter plan (before
       ++ take k xs) (slice_index xs k)
   ready_at before [] h k lt = absurd (omega arith)

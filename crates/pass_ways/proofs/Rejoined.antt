@@ -25,9 +25,9 @@ use Rattle.pass_ways.proofs.Stretched.{joined_stretches-map}
 use Rattle.pass_ways.proofs.Told.{legal_ready}
 
 module _ (plan : Plan) (order : List ℕ) (legal : IsLegal plan order) where
-  -- a node stands at one place
-  one_place : (i j : ℕ) → i < length order → j < length order → slice_index order i ≡ slice_index order j → i ≡ j
-  one_place i j a b same = ⊎_elim
+  -- a node stands at one index
+  one_index : (i j : ℕ) → i < length order → j < length order → slice_index order i ≡ slice_index order j → i ≡ j
+  one_index i j a b same = ⊎_elim
       (λ e. e)
       (λ apart. ⊎_elim
       (λ less. absurd (legal.each_once.once i j 0 less b same))
@@ -97,7 +97,7 @@ module _ (plan : Plan) (order : List ℕ) (legal : IsLegal plan order) where
             (λ earlier.
             let from = from_joined size order before (slice_index order (t * size + k)) earlier in
             let at = from_stretch size order from.0 (slice_index order (t * size + k)) from.2 in
-            let same : at.0 ≡ t * size + k = one_place at.0 (t * size + k) at.1 inside at.3 in
+            let same : at.0 ≡ t * size + k = one_index at.0 (t * size + k) at.1 inside at.3 in
             let one : from.0 ≡ t = sym at.2 ∙ ap (λ p. p / size) same ∙ here in
             ready.unvisited (subst (Contains before) one from.1))
             (λ again.
@@ -108,7 +108,7 @@ module _ (plan : Plan) (order : List ℕ) (legal : IsLegal plan order) where
             let within : t * size + again.0 < length order = omega (arith, inside) in
             let is : get_or order (t * size + again.0) n ≡ n = sym (offset_at size order t again.0 n r_small) ∙ sym
             (get_or-take k (stretch size t order) again.0 n less) ∙ again.2 in
-            let same : t * size + again.0 ≡ t * size + k = one_place (t * size + again.0) (t * size + k) within inside
+            let same : t * size + again.0 ≡ t * size + k = one_index (t * size + again.0) (t * size + k) within inside
             (same_at order (t * size + again.0) 0 n within ∙ is) in
             absurd (omega (arith, same, less)))
             (Contains-append_cases (joined_stretches size order before) (take k (stretch size t order)) (slice_index

@@ -49,7 +49,7 @@ say_taken lines pass [] (suc k) h = tt
 say_taken [] pass (n ∷ ns) (suc k) h = absurd h
 say_taken (l ∷ ls) pass (n ∷ ns) (suc k) h = (h.0, say_taken ls pass ns k h.1)
 
--- the line at a place of those that say some visits
+-- the line at an index of those that say some visits
 pub line_said : (lines : List OrderLine) (pass : ℕ) (order : List NodeId) (k : ℕ) (d : NodeId) → Say lines (visits pass
     order) → k < length order → (l : OrderLine) × (ls : List OrderLine) × (drop k lines ≡ l ∷ ls) × (l.entry ≡ Some
     (pass, get_or order k d))

@@ -51,24 +51,24 @@ module _ (size : ℕ) (order : List ℕ) where
   pub offset_stretch : (k r : ℕ) → r < size → (k * size + r) / size ≡ k
   offset_stretch k r lt = div-mul-add k size r lt
 
-  -- the entry at a place stands in the stretch of the place
-  pub in_stretch : (place : ℕ) → 0 < size → place < length order → Contains (stretch size (place / size) order)
-      (slice_index order place)
-  in_stretch place positive lt =
-      let small : place % size < size = mod_below place size positive in
-      let whole : place / size * size + place % size ≡ place = div-add-mod' place size in
-      let e = length-take size (drop (place / size * size) order) in
-      let d = length-drop (place / size * size) order in (
-        place % size,
+  -- the entry at an index stands in the stretch of the index
+  pub in_stretch : (index : ℕ) → 0 < size → index < length order → Contains (stretch size (index / size) order)
+      (slice_index order index)
+  in_stretch index positive lt =
+      let small : index % size < size = mod_below index size positive in
+      let whole : index / size * size + index % size ≡ index = div-add-mod' index size in
+      let e = length-take size (drop (index / size * size) order) in
+      let d = length-drop (index / size * size) order in (
+        index % size,
         omega (arith, e, d, small, whole),
-        offset_at (place / size) (place % size) (slice_index order place) small
-            ∙ ap (λ i. get_or order i (slice_index order place)) whole
-            ∙ same_at order place (slice_index order place) 0 lt,
+        offset_at (index / size) (index % size) (slice_index order index) small
+            ∙ ap (λ i. get_or order i (slice_index order index)) whole
+            ∙ same_at order index (slice_index order index) 0 lt,
       )
 
-  -- what stands in a stretch stands at a place of that stretch
-  pub from_stretch : (k n : ℕ) → Contains (stretch size k order) n → (place : ℕ) × (place < length order) × (place /
-      size ≡ k) × (slice_index order place ≡ n)
+  -- what stands in a stretch stands at an index of that stretch
+  pub from_stretch : (k n : ℕ) → Contains (stretch size k order) n → (index : ℕ) × (index < length order) × (index /
+      size ≡ k) × (slice_index order index ≡ n)
   from_stretch k n c =
       let small = offset_small k c.0 c.1 in
       let inside = offset_inside k c.0 c.1 in (

@@ -27,25 +27,25 @@ module _ (plan : Plan) (order : List ℕ) (legal : IsLegal plan order) where
       let many = many_where_all order plan.count legal.each_once.each in
       omega (arith, few, many)
 
-  pub legal_ready : (place : ℕ) → place < length order → IsReadyAt plan order place
-  legal_ready place lt = record {
-    inside = all_contained (λ n. n < plan.count) order (slice_index order place) legal.each_once.nodes (
-      place,
+  pub legal_ready : (index : ℕ) → index < length order → IsReadyAt plan order index
+  legal_ready index lt = record {
+    inside = all_contained (λ n. n < plan.count) order (slice_index order index) legal.each_once.nodes (
+      index,
       lt,
-      same_at order place (slice_index order place) 0 lt,
+      same_at order index (slice_index order index) 0 lt,
     );
     unvisited = not_before;
-    after = legal.after place lt;
+    after = legal.after index lt;
   }
     where
-      not_before : Contains (take place order) (slice_index order place) → ⊥
+      not_before : Contains (take index order) (slice_index order index) → ⊥
       not_before c =
-          let many = length-take-le place order (omega arith) in
-          let less : c.0 < place = let e = c.1 in omega arith in
-          let there : get_or order c.0 (slice_index order place) ≡ slice_index order place = sym (get_or-take place
-          order c.0 (slice_index order place) less) ∙ c.2 in
-          legal.each_once.once c.0 place (slice_index order place) less lt (there ∙ sym (same_at order place
-          (slice_index order place) 0 lt))
+          let many = length-take-le index order (omega arith) in
+          let less : c.0 < index = let e = c.1 in omega arith in
+          let there : get_or order c.0 (slice_index order index) ≡ slice_index order index = sym (get_or-take index
+          order c.0 (slice_index order index) less) ∙ c.2 in
+          legal.each_once.once c.0 index (slice_index order index) less lt (there ∙ sym (same_at order index
+          (slice_index order index) 0 lt))
 
 -- of two orders that lines say the shorter is the beginning of the other
 say_beginning : (lines : List OrderLine) (pass : ℕ) (order other : List NodeId) → Say lines (visits pass order) → Say
@@ -69,7 +69,7 @@ module _ (lines : List OrderLine) (before : List (ℕ × NodeId)) (pass : ℕ) w
   -- where lines say more ready nodes, the next line is legal
   never_stuck : (plan : Plan) (order other : List NodeId) → Say lines (before ++ visits pass order) → Say lines (before
       ++ visits pass other) → length order < length other
-      → ((place : ℕ) → place < length (numbers other) → IsReadyAt plan (numbers other) place) → IsIllegal (IsLegalLine
+      → ((index : ℕ) → index < length (numbers other) → IsReadyAt plan (numbers other) index) → IsIllegal (IsLegalLine
       plan pass order) (lines_behind lines (before ++ visits pass order)) → ⊥
   never_stuck plan order other h k less ready illegal =
       let said = say_behind lines before (visits pass other) k in

@@ -24,7 +24,7 @@ lines_behind lines said = drop (length said) lines
 
 -- Some nodes are a part of a pass: each was ready, and some node of the plan isn't among them.
 pub record IsPart (plan : Plan) (order : List ℕ) : Type 0 where
-  pub ready : (place : ℕ) → place < length order → IsReadyAt plan order place
+  pub ready : (index : ℕ) → index < length order → IsReadyAt plan order index
   pub missing : (n : ℕ) × (n < plan.count) × (Contains order n → ⊥)
 
 -- Where a line of a file begins. Lines are counted from 1.

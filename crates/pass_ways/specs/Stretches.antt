@@ -16,10 +16,10 @@ abbrev pub joined_stretches : {X : Type 0} → ℕ → List X → List ℕ → L
 joined_stretches size order [] = []
 joined_stretches size order (k ∷ ks) = stretch size k order ++ joined_stretches size order ks
 
--- A table has for each node before a place of an order the stretch in which it stands.
-pub record TellsStretches (count size : ℕ) (order : List ℕ) (place : ℕ) (table : List ℕ) : Type 0 where
+-- A table has for each node before an index of an order the stretch in which it stands.
+pub record TellsStretches (count size : ℕ) (order : List ℕ) (index : ℕ) (table : List ℕ) : Type 0 where
   pub many : length table ≡ count
-  pub tells : (k : ℕ) → k < place → slice_index table (slice_index order k) ≡ k / size
+  pub tells : (k : ℕ) → k < index → slice_index table (slice_index order k) ≡ k / size
 
 -- What is marked stays marked, and there are as many marks.
 abbrev pub KeepsMarks : List Bool → List Bool → Type 0

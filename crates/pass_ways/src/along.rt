@@ -87,8 +87,8 @@ pub fn run_along<V: Visit>(
             order: Seq::new(order),
         }),
         Err(OrderError::At(n, fault)) => Err(WayError::At(n, fault)),
-        Err(OrderError::NotReady(place)) => Err(refusal_at(alloc, lines, made + place as usize)),
-        Err(OrderError::Ends(place)) => Err(refusal_at(alloc, lines, made + place as usize)),
+        Err(OrderError::NotReady(index)) => Err(refusal_at(alloc, lines, made + index as usize)),
+        Err(OrderError::Ends(index)) => Err(refusal_at(alloc, lines, made + index as usize)),
         Err(OrderError::OutOfMemory) => Err(WayError::OutOfMemory),
     }
 }

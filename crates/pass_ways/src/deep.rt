@@ -34,8 +34,8 @@ impl Search {
     }
 
     fn set_stage(&mut self, n: NodeId, stage: Stage) {
-        if let Some(place) = self.stages.get_mut(n.0 as usize) {
-            *place = stage;
+        if let Some(slot) = self.stages.get_mut(n.0 as usize) {
+            *slot = stage;
         }
     }
 

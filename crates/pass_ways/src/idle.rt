@@ -150,8 +150,8 @@ fn order_along(
     let starts = starts_of(alloc, plan)?;
     match check_order(alloc, plan, &starts, &order) {
         Ok(()) => Ok(Seq::new(order)),
-        Err(OrderError::NotReady(place)) => Err(refusal_at(alloc, lines, made + place as usize)),
-        Err(OrderError::Ends(place)) => Err(refusal_at(alloc, lines, made + place as usize)),
+        Err(OrderError::NotReady(index)) => Err(refusal_at(alloc, lines, made + index as usize)),
+        Err(OrderError::Ends(index)) => Err(refusal_at(alloc, lines, made + index as usize)),
         Err(OrderError::At(_, _)) => unreachable!(),
         Err(OrderError::OutOfMemory) => Err(WayError::OutOfMemory),
     }

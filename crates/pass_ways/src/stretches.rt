@@ -89,8 +89,8 @@ fn stretch_numbers(
         (λ table. TellsStretches plan.now.count size (numbers order.now) (length order.now) table.items) }
 {
     let mut table = vec![in alloc; 0; plan.count as usize]?;
-    for (place, n) in order.iter().enumerate() {
-        table[n.0 as usize] = (place / size) as u32;
+    for (index, n) in order.iter().enumerate() {
+        table[n.0 as usize] = (index / size) as u32;
     }
     Ok(table)
 }

@@ -103,9 +103,9 @@ module _ {O A : Type 0} (count : ℕ) (edges : List PlanEdge) (result : ℕ → 
 
     module _ (order : List ℕ) (long : length order ≡ count)
         (listed : (n : ℕ) → n < count → slice_get order (ticket_number n v.tickets) ≡ Some n) where
-      -- the entry at a place is the node whose ticket has that number
-      at_place : (i n : ℕ) → slice_get order i ≡ Some n → (n < count) × (ticket_number n v.tickets ≡ i)
-      at_place i n e =
+      -- the entry at an index is the node whose ticket has that number
+      at_index : (i n : ℕ) → slice_get order i ≡ Some n → (n < count) × (ticket_number n v.tickets ≡ i)
+      at_index i n e =
           let l = get_within order i n e in let w = word_is in
           let used = holds.tickets.below i (omega arith) in let same = uses_are i in
           let u = user i v.tickets one_ticket (omega arith) in
@@ -119,10 +119,10 @@ module _ {O A : Type 0} (count : ℕ) (edges : List PlanEdge) (result : ℕ → 
 
       pub legal : IsInOrder count edges order
       legal = (
-        (λ i n e. (at_place i n e).0),
-        (λ n l. times_one order (ticket_number n v.tickets) n (listed n l) (λ j e. sym ((at_place j n e).1))),
+        (λ i n e. (at_index i n e).0),
+        (λ n l. times_one order (ticket_number n v.tickets) n (listed n l) (λ j e. sym ((at_index j n e).1))),
         (λ e i j l a b.
-            let f = (at_place i (edge_source edges e) a).1 in let t = (at_place j (edge_target edges e) b).1 in
+            let f = (at_index i (edge_source edges e) a).1 in let t = (at_index j (edge_target edges e) b).1 in
             let d = draws_are (edge_target edges e) in let tk = ticketed (edge_target edges e) (ends e l) in
             let r = holds.tickets.rises e l (omega arith) in let x = numbers_are (edge_source edges e) in
             let y = numbers_are (edge_target edges e) in omega arith),

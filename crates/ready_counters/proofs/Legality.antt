@@ -79,13 +79,13 @@ module _ (plan : Plan) (begins : (e : ℕ) → e < length plan.edges → edge_so
   stands : (n : ℕ) → n < plan.count → Contains order n
   stands n l = contains_times order n (let o = in_order.1 n l in omega arith)
 
-  source_earlier : (place : ℕ) → place < length order → (e : ℕ) → e < length plan.edges
-      → edge_target plan.edges e ≡ slice_index order place → Contains (take place order) (edge_source plan.edges e)
-  source_earlier place l e inside to =
+  source_earlier : (index : ℕ) → index < length order → (e : ℕ) → e < length plan.edges
+      → edge_target plan.edges e ≡ slice_index order index → Contains (take index order) (edge_source plan.edges e)
+  source_earlier index l e inside to =
       let c = stands (edge_source plan.edges e) (begins e inside) in
-      let before = in_order.2 e c.0 place inside (got_or order c.0 (edge_source plan.edges e) c.1 ∙ ap Some c.2)
-      (get_at order place l ∙ ap Some (sym to)) in
-      contains_earlier order (edge_source plan.edges e) place c.0 before l c.2
+      let before = in_order.2 e c.0 index inside (got_or order c.0 (edge_source plan.edges e) c.1 ∙ ap Some c.2)
+      (get_at order index l ∙ ap Some (sym to)) in
+      contains_earlier order (edge_source plan.edges e) index c.0 before l c.2
 
   pub is_legal_order : IsLegal plan order
   is_legal_order = record {
@@ -94,6 +94,6 @@ module _ (plan : Plan) (begins : (e : ℕ) → e < length plan.edges → edge_so
       each = stands;
       once = apart;
     };
-    after = λ place l. all_sources (Contains (take place order)) plan.edges (slice_index order place)
-        (λ e inside to. source_earlier place l e inside to);
+    after = λ index l. all_sources (Contains (take index order)) plan.edges (slice_index order index)
+        (λ e inside to. source_earlier index l e inside to);
   }

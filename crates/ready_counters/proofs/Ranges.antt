@@ -23,7 +23,7 @@ module _ {X : Type 0} where
       λ i. h b (omega arith) (omega arith) (λ same. absurd (omega arith)) i ∷ set_over f g (b + 1) m j n x
       (omega arith) (omega arith) here (λ k lo up ne. h k (omega arith) (omega arith) ne) i
 
-  -- what stands at a place
+  -- what stands at an index
   pub get_over : (f : ℕ → X) (b m j n : ℕ) → n ≡ b + j → j < m → slice_get (map f (range_with_len b m)) j ≡ Some (f n)
   get_over f b zero j n is l = absurd (omega arith)
   get_over f b (suc m) zero n is l = ap (λ k. Some (f k)) (omega arith)

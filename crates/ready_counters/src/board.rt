@@ -30,7 +30,7 @@ const READING: u64 = 3;
 
 const TAKEN: u64 = u64::MAX;
 
-/// A counter for each node of a plan, and for each edge a place in which the result of its source waits.
+/// A counter for each node of a plan, and for each edge a slot in which the result of its source waits.
 pub struct Board<V: Visit> {
     table: Table<Slot<V::Out>, View, About<V>, BoardRule<V>, Global>,
     count: u32,

@@ -1,6 +1,6 @@
 //! A board of ready counters: a pass over a plan by several seats at once, on atomic words.
 //!
-//! A board has a counter for each node, of the in-edges that are left, and a place for each edge, in which
+//! A board has a counter for each node, of the in-edges that are left, and a slot for each edge, in which
 //! the result of its source waits. A seat claims a node whose counter is 0, fetches what waits in its
 //! in-edges, draws the node's ticket once it is visited, fills its out-edges, and subtracts them from the
 //! counters of their targets. A plan and a visitor flow in; a receipt flows out, which holds a legal order

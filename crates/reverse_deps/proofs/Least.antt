@@ -13,11 +13,11 @@ use Rattle.reverse_deps.specs.Laws.{along, IsFor, HasFor, IsLeastFor}
 use Rattle.reverse_deps.specs.Resolved.{has_variation, is_wanted, is_for, node_for}
 
 module _ {X : Type 0} (test : X → Bool) where
-  -- the item at a place passes
+  -- the item at an index passes
   abbrev Passes : List X → ℕ → Type 0
   Passes xs n = (x : X) × (slice_get xs n ≡ Some x) × (test x ≡ true)
 
-  -- the first place whose item passes, where places are numbered from k on, or none
+  -- the first index whose item passes, where indices count from k on, or none
   abbrev IsFirstFrom : ℕ → List X → Option ℕ → Type 0
   IsFirstFrom k xs None = (n : ℕ) → Passes xs n → ⊥
   IsFirstFrom k xs (Some first) =

@@ -44,9 +44,9 @@ fn add_links(
     requires { length found.now ≡ length asked.now }
     ensures { OnOk result (made.new.items ≡ made.old.items ++ links_in «reverse» (zip asked.now found.now)) }
 {
-    for (place, (asker, request)) in asked.iter().enumerate() {
+    for (index, (asker, request)) in asked.iter().enumerate() {
         if is_way(reverse, request) {
-            made.push(link_of(*asker, request, found[place]))?;
+            made.push(link_of(*asker, request, found[index]))?;
         }
     }
     Ok(())

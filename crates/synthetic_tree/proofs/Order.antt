@@ -19,19 +19,19 @@ use Rattle.std.proofs.lemmas.Slice.Eq.{bytes_eq-Decides}
 use Rattle.std.proofs.lemmas.Bool.{false_from_ne_true}
 use Rattle.synthetic_tree.specs.Blocks.{block_cmp, block_count, block_directory}
 
-all_by_places : {K : Type 0} (P : K → Type 0) (xs : List K) → ((j : ℕ) (d : K) → j < length xs → P (get_or xs j d))
+all_by_indices : {K : Type 0} (P : K → Type 0) (xs : List K) → ((j : ℕ) (d : K) → j < length xs → P (get_or xs j d))
     → AllByRecursion P xs
-all_by_places P [] h = tt
-all_by_places P (x ∷ xs) h = (h 0 x (omega arith), all_by_places P xs (λ j d below. h (suc j) d (omega arith)))
+all_by_indices P [] h = tt
+all_by_indices P (x ∷ xs) h = (h 0 x (omega arith), all_by_indices P xs (λ j d below. h (suc j) d (omega arith)))
 
 -- Keys of which each is below each later one ascend strictly.
-strict_by_places : {K : Type 0} (c : K → K → Ordering) (xs : List K)
+strict_by_indices : {K : Type 0} (c : K → K → Ordering) (xs : List K)
     → ((i j : ℕ) (d : K) → i < j → j < length xs → c (get_or xs i d) (get_or xs j d) ≡ Less) → IsStrictlySortedBy c xs
 unfolding IsStrictlySortedBy
-strict_by_places c [] h = tt
-strict_by_places c (x ∷ xs) h = (
-  all_by_places (λ y. c x y ≡ Less) xs (λ j d below. h 0 (suc j) d (omega arith) (omega arith)),
-  strict_by_places c xs (λ i j d less below. h (suc i) (suc j) d (omega arith) (omega arith)),
+strict_by_indices c [] h = tt
+strict_by_indices c (x ∷ xs) h = (
+  all_by_indices (λ y. c x y ≡ Less) xs (λ j d below. h 0 (suc j) d (omega arith) (omega arith)),
+  strict_by_indices c xs (λ i j d less below. h (suc i) (suc j) d (omega arith) (omega arith)),
 )
 
 -- Two blocks have two directories.
@@ -66,7 +66,7 @@ ascend n blocks small moved sorted =
     let apart : IsDistinct (eq_by_cmp block_cmp) blocks = IsDistinct-IsPermutation (eq_by_cmp block_cmp)
     (λ x y. (eq_by_cmp_equiv nat_list_cmp_total).symm (block_directory x) (block_directory y))
     (range_with_len 0 n) blocks moved (range_differs n small) in
-    strict_by_places block_cmp blocks (λ i j d less below.
+    strict_by_indices block_cmp blocks (λ i j d less below.
     less_of (block_cmp (get_or blocks i d) (get_or blocks j d)) (block_cmp (get_or blocks j d) (get_or blocks i d))
     (sorted_far (λ a b. is_lt (block_cmp a b)) (ranks_by nat_list_cmp_total block_directory) blocks sorted i j d
     (omega arith) below)

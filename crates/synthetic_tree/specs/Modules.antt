@@ -7,22 +7,22 @@ abbrev pub first_in_file : ℕ → ℕ
 first_in_file i = 64 * (i / 64)
 
 -- How many modules stand before a module in its file.
-abbrev pub place_in_file : ℕ → ℕ
-place_in_file i = i % 64
+abbrev pub index_in_file : ℕ → ℕ
+index_in_file i = i % 64
 
 -- The first module that a module depends on.
 abbrev pub near_dependency : ℕ → ℕ → ℕ
-near_dependency seed i = first_in_file i + (seed + 7 * i) % place_in_file i
+near_dependency seed i = first_in_file i + (seed + 7 * i) % index_in_file i
 
 -- The second module that a module depends on.
 abbrev pub far_dependency : ℕ → ℕ → ℕ
-far_dependency seed i = first_in_file i + (3 * seed + 11 * i) % place_in_file i
+far_dependency seed i = first_in_file i + (3 * seed + 11 * i) % index_in_file i
 
 -- The modules that a module depends on stand before it in its file. They may be one module twice.
 abbrev pub dependencies : ℕ → ℕ → List ℕ
 dependencies seed i =
-    if place_in_file i == 0 then []
-    else if place_in_file i == 1 then near_dependency seed i ∷ []
+    if index_in_file i == 0 then []
+    else if index_in_file i == 1 then near_dependency seed i ∷ []
     else near_dependency seed i ∷ far_dependency seed i ∷ []
 
 -- A module's name in quotes, and what stands behind it.
@@ -37,11 +37,11 @@ names_text (n ∷ m ∷ more) = quoted_name n (codes ", " ++ names_text (m ∷ m
 
 -- The last module of a file is a program, and the others are libraries.
 abbrev pub type_text : ℕ → List ℕ
-type_text i = if place_in_file i == 63 then codes "cc_binary" else codes "cc_library_static"
+type_text i = if index_in_file i == 63 then codes "cc_binary" else codes "cc_library_static"
 
 -- Of four programs that follow one another one has the address sanitizer.
 abbrev pub is_sanitized : ℕ → ℕ → Bool
-is_sanitized seed i = place_in_file i == 63 && (seed + i / 64) % 4 == 0
+is_sanitized seed i = index_in_file i == 63 && (seed + i / 64) % 4 == 0
 
 -- What stands behind a module's lists.
 abbrev pub end_text : ℕ → ℕ → List ℕ

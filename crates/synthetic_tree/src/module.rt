@@ -1,6 +1,6 @@
 ghost use Rattle.std.specs.Prelude.{◌≡◌, ◌<◌, ◌^◌, IfOk, string_bytes};
 ghost use Rattle.bp_faults.specs.declared.limits.TheConstants.{MOST_SYNTHETIC_MODULES};
-ghost use Rattle.synthetic_tree.specs.Modules.{first_in_file, near_dependency, far_dependency, place_in_file};
+ghost use Rattle.synthetic_tree.specs.Modules.{first_in_file, near_dependency, far_dependency, index_in_file};
 ghost use Rattle.synthetic_tree.specs.Modules.{dependencies, names_text, type_text, end_text, module_text};
 
 use std::alloc::{AllocError, Global};
@@ -14,7 +14,7 @@ fn first_in_file(i: u32) -> u32
 // `i` isn't the first module of its file.
 fn near_dependency(seed: u32, i: u32) -> u32
     requires small { i < MOST_SYNTHETIC_MODULES }
-    requires later { 0 < place_in_file i }
+    requires later { 0 < index_in_file i }
     ensures { result ≡ near_dependency seed i }
 {
     first_in_file(i) + ((u64::from(seed) + 7 * u64::from(i)) % u64::from(i % 64)) as u32
@@ -22,7 +22,7 @@ fn near_dependency(seed: u32, i: u32) -> u32
 
 fn far_dependency(seed: u32, i: u32) -> u32
     requires small { i < MOST_SYNTHETIC_MODULES }
-    requires later { 0 < place_in_file i }
+    requires later { 0 < index_in_file i }
     ensures { result ≡ far_dependency seed i }
 {
     first_in_file(i) + ((3 * u64::from(seed) + 11 * u64::from(i)) % u64::from(i % 64)) as u32
@@ -32,10 +32,10 @@ fn dependencies_text(alloc: Global, seed: u32, i: u32) -> Result<String, AllocEr
     requires { i < MOST_SYNTHETIC_MODULES }
     ensures { IfOk result (λ text. string_bytes text ≡ names_text (dependencies seed i)) }
 {
-    let place = i % 64;
-    if place == 0 {
+    let index = i % 64;
+    if index == 0 {
         Ok(String::new(alloc))
-    } else if place == 1 {
+    } else if index == 1 {
         let near = near_dependency(seed, i);
         format!(in alloc; "\"m{near}\"")
     } else {

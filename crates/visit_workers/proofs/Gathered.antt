@@ -9,7 +9,7 @@ use Rattle.pass_core.specs.declared.plan.Plan.{Plan}
 use Rattle.pass_core.specs.declared.plan.PlanEdge.{PlanEdge}
 use Rattle.pass_core.specs.Plans.{IsPlan, StandByTarget, in_edges}
 use Rattle.pass_core.specs.InEdges.{edges_below, AreStarts}
-use Rattle.pass_core.specs.Laws.{InEdgesAreTogether, PlacesOfEdgesRise, PlacesTellTargets}
+use Rattle.pass_core.specs.Laws.{InEdgesAreTogether, StartsOfEdgesRise, IndicesTellTargets}
 use Rattle.ready_counters.specs.Edges.{edge_source, edge_target}
 
 edge_to : (edges : List PlanEdge) (i : ℕ) (d : PlanEdge) → i < length edges
@@ -25,7 +25,8 @@ edge_from (y ∷ ys) zero d l = refl
 edge_from (y ∷ ys) (suc i) d l = edge_from ys i d (omega arith)
 
 -- an edge leads to the node exactly where its number is in the node's range
-in_range : PlacesTellTargets → (edges : List PlanEdge) (n e : ℕ) (d : PlanEdge) → StandByTarget edges → e < length edges
+in_range : IndicesTellTargets → (edges : List PlanEdge) (n e : ℕ) (d : PlanEdge) → StandByTarget edges
+    → e < length edges
     → (edges_below edges n ≤ e → e < edges_below edges (n + 1) → edge_target edges e ≡ n)
     × (edge_target edges e ≡ n → (edges_below edges n ≤ e) × (e < edges_below edges (n + 1)))
 in_range tell edges n e d by l =
@@ -41,7 +42,7 @@ in_range tell edges n e d by l =
       )),
     )
 
-module _ (together : InEdgesAreTogether) (rise : PlacesOfEdgesRise) (tell : PlacesTellTargets) (plan : Plan)
+module _ (together : InEdgesAreTogether) (rise : StartsOfEdgesRise) (tell : IndicesTellTargets) (plan : Plan)
     (is_plan : IsPlan plan) (starts : List ℕ) (are : AreStarts plan starts) (n : ℕ) (inside : n < plan.count) where
   pub begins : slice_index starts n ≡ edges_below plan.edges n
   begins = are.begins n (omega arith)
@@ -77,7 +78,7 @@ module _ (together : InEdgesAreTogether) (rise : PlacesOfEdgesRise) (tell : Plac
         length_drop (suc k) [] = omega arith
         length_drop (suc k) (x ∷ xs) = let h = length_drop k xs in omega arith
 
-  -- the edge at a place among them has this number
+  -- the edge at an index among them has this number
   pub into_at : (items : List PlanEdge) (i e : ℕ) (d : PlanEdge) → items ≡ in_edges plan.edges n → i < length items
       → e ≡ slice_index starts n + i
       → (e < length plan.edges) × (e < slice_index starts (n + 1))

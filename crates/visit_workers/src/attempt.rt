@@ -12,7 +12,7 @@ use bp_faults::{NodeId, OutOfMemory};
 use bp_ports::Gate;
 use crossbeam_deque::Worker;
 use pass_core::Visit;
-use pass_core::laws::{in_edges_are_together, places_of_edges_rise, places_tell_targets};
+use pass_core::laws::{in_edges_are_together, indices_tell_targets, starts_of_edges_rise};
 use ready_counters::{Claim, Seat};
 
 /// Does all that is to do for a node that was just claimed. Its ticket is drawn after its visit.
@@ -36,8 +36,8 @@ fn visit_claimed<V: Visit, G: Gate>(
     ensures right { IfOk result (λ m. IsMadeRight (V.meaning pass.now.visitor.now) pass.now m) }
 {
     in_edges_are_together();
-    places_of_edges_rise();
-    places_tell_targets();
+    starts_of_edges_rise();
+    indices_tell_targets();
     gather(pass, seat, n, &mut lists.fetched)?;
     let verdict = judge(pass, n, &lists.fetched, &mut lists.outs)?;
     let ticket = pass.board.ticket(seat, n);

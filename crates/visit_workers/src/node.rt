@@ -14,7 +14,7 @@ use crate::verdict::Verdict;
 use bp_faults::{NodeId, OutOfMemory};
 use bp_ports::Gate;
 use crossbeam_deque::Worker;
-use pass_core::laws::{in_edges_are_together, places_of_edges_rise, places_tell_targets};
+use pass_core::laws::{in_edges_are_together, indices_tell_targets, starts_of_edges_rise};
 use pass_core::{Published, Visit, edges_into};
 use ready_counters::Seat;
 use std::sync::Arc;
@@ -37,8 +37,8 @@ pub fn gather<V: Visit, G: Gate>(
     ensures values { OnOk result (AreInsOf (V.meaning pass.now.visitor.now) pass.now n.0 fetched.new.items) }
 {
     in_edges_are_together();
-    places_of_edges_rise();
-    places_tell_targets();
+    starts_of_edges_rise();
+    indices_tell_targets();
     let edges = edges_into(pass.plan, pass.starts, n);
     fetched.clear();
     let mut e = pass.starts[n.0 as usize];

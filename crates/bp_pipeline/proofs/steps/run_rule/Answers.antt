@@ -6,7 +6,7 @@ use Rattle.module_graph.specs.Planned.{plan_of}
 use Rattle.mutator_kinds.specs.declared.pass_graph.PassGraph.{PassGraph}
 use Rattle.mutator_kinds.specs.BottomUp.{BottomUpMeans}
 use Rattle.mutator_rules.specs.declared.request.Request.{Request}
-use Rattle.bp_pipeline.proofs.Keeping.{may_places}
+use Rattle.bp_pipeline.proofs.Keeping.{may_indices}
 use Rattle.bp_pipeline.proofs.Passing.{pass_ended, pass_made}
 use Rattle.bp_pipeline.proofs.steps.run_rule.Goals as goal
 
@@ -26,7 +26,7 @@ pub returns-in_ok-note-in-Ok-clause-usable : goal.returns-in_ok-note-in-Ok-claus
 returns-in_ok-note-in-Ok-clause-usable g c = record {
   valid = c.in-Ok.ensures.valid;
   may =
-      may_places (g.M.BottomUp.accepts c.args.rule.now) (length c.args.shop.now.mods.now) c.in-Ok.made.graph.nodes
+      may_indices (g.M.BottomUp.accepts c.args.rule.now) (length c.args.shop.now.mods.now) c.in-Ok.made.graph.nodes
       c.requires.accepts c.in-Ok.ensures.may;
 }
 

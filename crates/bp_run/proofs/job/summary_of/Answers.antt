@@ -11,7 +11,7 @@ use Rattle.bp_pipeline.specs.Mutators.{mutator_count}
 use Rattle.bp_run.specs.Job.{synth_config}
 use Rattle.bp_run.proofs.job.summary_of.Goals as goal
 
--- the size of the graph after a mutator, by its place in the list
+-- the size of the graph after a mutator, by its index in the list
 size_at : (typed : List Module) (sizes given : List Sizes) → given ≡ sizes → AreSizes typed synth_config sizes
     → (k : ℕ) → k < mutator_count → (none : Sizes)
     → (nodes : List (Node Props)) × GraphAfter typed synth_config (suc k) (Ok nodes)

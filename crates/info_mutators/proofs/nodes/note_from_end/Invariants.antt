@@ -5,12 +5,12 @@ use Rattle.info_mutators.specs.Kept.{if_short}
 use Rattle.info_mutators.proofs.nodes.note_from_end.Given as goal
 
 -- what is left is noted next
-abbrev pub invariant-loop-place : goal.invariant-loop-place
-invariant-loop-place l = record {
-  within : l.place ≤ length l.nodes;
-  left : if_short (insert_all nat_eq l.notes (reverse (numbers (take l.place l.nodes))))
+abbrev pub invariant-loop-index : goal.invariant-loop-index
+invariant-loop-index l = record {
+  within : l.index ≤ length l.nodes;
+  left : if_short (insert_all nat_eq l.notes (reverse (numbers (take l.index l.nodes))))
       ≡ if_short (insert_all nat_eq l.fn.notes (reverse (numbers l.nodes)));
 }
 
-abbrev pub decreases-loop-place : goal.decreases-loop-place
-decreases-loop-place l = l.place
+abbrev pub decreases-loop-index : goal.decreases-loop-index
+decreases-loop-index l = l.index

@@ -5,14 +5,14 @@ use Rattle.info_mutators.specs.Info.{line_part}
 use Rattle.info_mutators.proofs.Noted.{end_noted}
 use Rattle.info_mutators.proofs.nodes.note_line.Goals as goal
 
-pub loop-place-preserved : goal.loop-place-preserved
-loop-place-preserved c = record {
-  within = omega (arith, c.loop-place.invariant.within, c.loop-place-test.true);
+pub loop-index-preserved : goal.loop-index-preserved
+loop-index-preserved c = record {
+  within = omega (arith, c.loop-index.invariant.within, c.loop-index-test.true);
   end =
       end_noted nat_eq (λ (d : Dependency). numbers (line_part d.node d.props d.kind)) c.args.dependencies.now
-      (c.loop-place.place - 1) c.index-dependencies-place.result
-      (omega (arith, c.loop-place.invariant.within, c.loop-place-test.true)) c.index-dependencies-place.is
-      c.loop-place.place (omega (arith, c.loop-place-test.true))
-      c.args.notes.now c.loop-place.notes c.note_line_part.new.notes c.loop-place.invariant.end
+      (c.loop-index.index - 1) c.index-dependencies-index.result
+      (omega (arith, c.loop-index.invariant.within, c.loop-index-test.true)) c.index-dependencies-index.is
+      c.loop-index.index (omega (arith, c.loop-index-test.true))
+      c.args.notes.now c.loop-index.notes c.note_line_part.new.notes c.loop-index.invariant.end
       c.in_ok-note_line_part.ensures;
 }

@@ -7,12 +7,12 @@ use Rattle.info_mutators.specs.Kept.{if_short}
 use Rattle.info_mutators.proofs.nodes.note_line.Given as goal
 
 -- the line's end is noted
-abbrev pub invariant-loop-place : goal.invariant-loop-place
-invariant-loop-place l = record {
-  within : l.place ≤ length l.dependencies;
+abbrev pub invariant-loop-index : goal.invariant-loop-index
+invariant-loop-index l = record {
+  within : l.index ≤ length l.dependencies;
   end : if_short l.notes ≡ if_short (insert_all nat_eq l.fn.notes
-      (reverse (flat_map (λ d. numbers (line_part d.node d.props d.kind)) (drop l.place l.dependencies))));
+      (reverse (flat_map (λ d. numbers (line_part d.node d.props d.kind)) (drop l.index l.dependencies))));
 }
 
-abbrev pub decreases-loop-place : goal.decreases-loop-place
-decreases-loop-place l = l.place
+abbrev pub decreases-loop-index : goal.decreases-loop-index
+decreases-loop-index l = l.index

@@ -8,19 +8,19 @@ use Rattle.info_mutators.proofs.Read.{get_mapped}
 use Rattle.info_mutators.proofs.Zipped.{least_handed_more}
 use Rattle.info_mutators.proofs.sdk_level.least_handed.Goals as goal
 
-pub loop-place-preserved : goal.loop-place-preserved
-loop-place-preserved c =
+pub loop-index-preserved : goal.loop-index-preserved
+loop-index-preserved c =
     let kinds = c.args.kinds.now in
     let ins = map arc_value c.args.ins.now in
-    let place = c.loop-place.place in
-    let arc = c.index-ins-place.result in
+    let index = c.loop-index.index in
+    let arc = c.index-ins-index.result in
     let read = c.deref.ensures
-    ∙ sym (get_mapped arc_value c.args.ins.now place arc ∙ ap arc_value (sym c.index-ins-place.is)) in
+    ∙ sym (get_mapped arc_value c.args.ins.now index arc ∙ ap arc_value (sym c.index-ins-index.is)) in
     c.with_edge-least.ensures
-    ∙ ap (λ l. cond (is_level_handed (get_or kinds place Defaults)) (Some (lesser l c.level.result)) l)
-    c.loop-place.invariant
-    ∙ ap (λ (level : ℕ). cond (is_level_handed (get_or kinds place Defaults))
-    (Some (lesser (least (handed_levels (take place kinds) ins)) level)) (least (handed_levels (take place kinds) ins)))
+    ∙ ap (λ l. cond (is_level_handed (get_or kinds index Defaults)) (Some (lesser l c.level.result)) l)
+    c.loop-index.invariant
+    ∙ ap (λ (level : ℕ). cond (is_level_handed (get_or kinds index Defaults))
+    (Some (lesser (least (handed_levels (take index kinds) ins)) level)) (least (handed_levels (take index kinds) ins)))
     (c.level.ensures ∙ ap (λ (p : Props). p.level) read)
-    ∙ sym (least_handed_more kinds ins place Defaults (arc_value arc) c.loop-place-test.true
+    ∙ sym (least_handed_more kinds ins index Defaults (arc_value arc) c.loop-index-test.true
     (length-map c.args.ins.now arc_value ∙ c.requires))

@@ -2,4 +2,4 @@ use Rattle.pass_core.proofs.Legal.{stands_before}
 use Rattle.pass_core.proofs.laws.earlier_nodes_stand_earlier.Goals as goal
 
 pub returns : goal.returns
-returns c = λ plan order m place serial lm lp before. stands_before plan order serial m place 0 lm lp before
+returns c = λ plan order m index serial lm lp before. stands_before plan order serial m index 0 lm lp before

@@ -24,9 +24,9 @@ refusal_at-requires-clause-inside c =
     let at = rw c.in-Err-NotReady.field-0-is at c.in-Err-NotReady.ensures in
     let many = few_numbers c.args.lines.now.lines.now c.args.before.now c.requires.follows c.args.pass c.args.plan.now
     c.in_ok-order.order.items taken c.deref-2.result.now c.deref-2.ensures.value in
-    let few : c.in-Err-NotReady.place ≤ length c.in_ok-order.order.items = let e = at.inside in omega arith in
+    let few : c.in-Err-NotReady.index ≤ length c.in_ok-order.order.items = let e = at.inside in omega arith in
     inside_at c.args.lines.now.lines.now c.args.before.now c.requires.follows c.args.pass c.args.plan.now
-    c.in_ok-order.order.items taken c.in-Err-NotReady.place few
+    c.in_ok-order.order.items taken c.in-Err-NotReady.index few
 
 pub returns-in-Err-NotReady : goal.returns-in-Err-NotReady
 returns-in-Err-NotReady c =
@@ -36,7 +36,7 @@ returns-in-Err-NotReady c =
     by_refusal (λ e. AnswersIdleBy (Say lines) (IsRefused lines c.args.lines.now.file) c.args.plan.now c.args.pass
     c.args.before.now (Err e)) _ _ c.refusal_at.ensures
     (refused_at lines c.args.before.now c.requires.follows c.args.pass c.args.plan.now c.in_ok-order.order.items
-    taken c.args.lines.now.file _ c.in-Err-NotReady.place (rw c.deref-2.ensures.value at at) refl) tt
+    taken c.args.lines.now.file _ c.in-Err-NotReady.index (rw c.deref-2.ensures.value at at) refl) tt
 
 pub refusal_at-requires-in-Err-Ends-clause-inside : goal.refusal_at-requires-in-Err-Ends-clause-inside
 refusal_at-requires-in-Err-Ends-clause-inside c =
@@ -44,9 +44,9 @@ refusal_at-requires-in-Err-Ends-clause-inside c =
     let at = rw c.in-Err-Ends.field-0-is at c.in-Err-Ends.ensures in
     let many = few_numbers c.args.lines.now.lines.now c.args.before.now c.requires.follows c.args.pass c.args.plan.now
     c.in_ok-order.order.items taken c.deref-2.result.now c.deref-2.ensures.value in
-    let few : c.in-Err-Ends.place ≤ length c.in_ok-order.order.items = let e = at.whole in omega arith in
+    let few : c.in-Err-Ends.index ≤ length c.in_ok-order.order.items = let e = at.whole in omega arith in
     inside_at c.args.lines.now.lines.now c.args.before.now c.requires.follows c.args.pass c.args.plan.now
-    c.in_ok-order.order.items taken c.in-Err-Ends.place few
+    c.in_ok-order.order.items taken c.in-Err-Ends.index few
 
 pub returns-in-Err-Ends : goal.returns-in-Err-Ends
 returns-in-Err-Ends c =
@@ -56,4 +56,4 @@ returns-in-Err-Ends c =
     by_refusal (λ e. AnswersIdleBy (Say lines) (IsRefused lines c.args.lines.now.file) c.args.plan.now c.args.pass
     c.args.before.now (Err e)) _ _ c.refusal_at-in-Err-Ends.ensures
     (refused_short lines c.args.before.now c.requires.follows c.args.pass c.args.plan.now c.in_ok-order.order.items
-    taken c.args.lines.now.file _ c.in-Err-Ends.place (rw c.deref-2.ensures.value at at) refl) tt
+    taken c.args.lines.now.file _ c.in-Err-Ends.index (rw c.deref-2.ensures.value at at) refl) tt

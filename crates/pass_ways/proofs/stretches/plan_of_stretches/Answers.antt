@@ -12,7 +12,7 @@ use Rattle.pass_ways.proofs.stretches.plan_of_stretches.Goals as goal
 told_whole : (count size : ℕ) (order : List NodeId) (table : List ℕ) → TellsStretches count size (numbers order)
     (length order) table
     → TellsStretches count size (numbers order) (length (numbers order)) table
-told_whole count size order table told = subst (λ place. TellsStretches count size (numbers order) place table) (sym
+told_whole count size order table told = subst (λ index. TellsStretches count size (numbers order) index table) (sym
     (length-map order (λ (n : NodeId). n.0))) told
 
 pub sources_of-requires-clause-nodes : goal.sources_of-requires-clause-nodes

@@ -2,5 +2,5 @@ use Rattle.pass_core.specs.Orders.{numbers}
 use Rattle.pass_ways.specs.Stretches.{TellsStretches}
 use Rattle.pass_ways.proofs.stretches.stretch_numbers.Given as goal
 
-abbrev pub invariant-loop-place : goal.invariant-loop-place
-invariant-loop-place l = TellsStretches l.plan.count l.size (numbers l.order) l.place l.table.items
+abbrev pub invariant-loop-index : goal.invariant-loop-index
+invariant-loop-index l = TellsStretches l.plan.count l.size (numbers l.order) l.index l.table.items

@@ -19,8 +19,8 @@ pub ticket-ticket-requires-clause-ready : goal.ticket-ticket-requires-clause-rea
 ticket-ticket-requires-clause-ready g c =
     subst (λ (q : Plan). (e : ℕ) → e < length q.edges → edge_target q.edges e ≡ c.args.n.0
     → 1 ≤ times e (view_of c.gather.new.seat).fetched) c.requires.pass.board_plan
-    (λ e l to. let r = (range c.in_edges_are_together.ensures c.places_of_edges_rise.ensures
-    c.places_tell_targets.ensures c.args.pass.now.plan.now c.requires.pass.is_plan c.args.pass.now.starts.now
+    (λ e l to. let r = (range c.in_edges_are_together.ensures c.starts_of_edges_rise.ensures
+    c.indices_tell_targets.ensures c.args.pass.now.plan.now c.requires.pass.is_plan c.args.pass.now.starts.now
     c.requires.pass.starts c.args.n.0 c.requires.inside e blank l).1 to in
     let d = c.in_ok-gather.ensures.gathered.done e r.0 r.1 in omega arith)
 
@@ -30,7 +30,7 @@ returns-clause-settled g c =
     settled_more c.args.pass.now.plan.now.edges c.args.n.0 c.ticket-ticket.result
     (slice_index c.args.pass.now.starts.now c.args.n.0) (slice_index c.args.pass.now.starts.now (c.args.n.0 + 1))
     j.0 (view_of c.gather.new.seat) (view_of c.spread.new.seat) j.1
-    (λ e l. range c.in_edges_are_together.ensures c.places_of_edges_rise.ensures c.places_tell_targets.ensures
+    (λ e l. range c.in_edges_are_together.ensures c.starts_of_edges_rise.ensures c.indices_tell_targets.ensures
     c.args.pass.now.plan.now c.requires.pass.is_plan c.args.pass.now.starts.now c.requires.pass.starts c.args.n.0
     c.requires.inside e blank l)
     (subst (λ (u : View). IsGathering (slice_index c.args.pass.now.starts.now c.args.n.0)

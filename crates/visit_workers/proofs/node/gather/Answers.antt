@@ -20,7 +20,7 @@ blank = record { from = record { 0 = 0 }; to = record { 0 = 0 } }
 
 pub fetch-shared-requires-clause-edge : goal.fetch-shared-requires-clause-edge
 fetch-shared-requires-clause-edge g c =
-    let at = into_at c.in_edges_are_together.ensures c.places_of_edges_rise.ensures c.places_tell_targets.ensures
+    let at = into_at c.in_edges_are_together.ensures c.starts_of_edges_rise.ensures c.indices_tell_targets.ensures
     c.args.pass.now.plan.now c.requires.pass.is_plan c.args.pass.now.starts.now c.requires.pass.starts c.args.n.0
     c.requires.inside c.edges_into-edges.result.now c.loop-edge._edge-index c.loop-edge.e blank
     c.edges_into-edges.ensures c.loop-edge-test.true c.loop-edge.invariant.counted in
@@ -28,11 +28,11 @@ fetch-shared-requires-clause-edge g c =
 
 pub fetch-shared-requires-clause-claimed : goal.fetch-shared-requires-clause-claimed
 fetch-shared-requires-clause-claimed g c =
-    let at = into_at c.in_edges_are_together.ensures c.places_of_edges_rise.ensures c.places_tell_targets.ensures
+    let at = into_at c.in_edges_are_together.ensures c.starts_of_edges_rise.ensures c.indices_tell_targets.ensures
     c.args.pass.now.plan.now c.requires.pass.is_plan c.args.pass.now.starts.now c.requires.pass.starts c.args.n.0
     c.requires.inside c.edges_into-edges.result.now c.loop-edge._edge-index c.loop-edge.e blank
     c.edges_into-edges.ensures c.loop-edge-test.true c.loop-edge.invariant.counted in
-    let to = (range c.in_edges_are_together.ensures c.places_of_edges_rise.ensures c.places_tell_targets.ensures
+    let to = (range c.in_edges_are_together.ensures c.starts_of_edges_rise.ensures c.indices_tell_targets.ensures
     c.args.pass.now.plan.now c.requires.pass.is_plan c.args.pass.now.starts.now c.requires.pass.starts c.args.n.0
     c.requires.inside c.loop-edge.e blank at.0).0 (let h = c.loop-edge.invariant.counted in omega arith) at.1 in
     let mine : 1 ≤ times c.args.n.0 (view_of c.loop-edge.seat).claimed = let h = c.requires.claimed in
@@ -42,18 +42,18 @@ fetch-shared-requires-clause-claimed g c =
 
 pub fetch-shared-requires-clause-fresh : goal.fetch-shared-requires-clause-fresh
 fetch-shared-requires-clause-fresh g c =
-    let at = into_at c.in_edges_are_together.ensures c.places_of_edges_rise.ensures c.places_tell_targets.ensures
+    let at = into_at c.in_edges_are_together.ensures c.starts_of_edges_rise.ensures c.indices_tell_targets.ensures
     c.args.pass.now.plan.now c.requires.pass.is_plan c.args.pass.now.starts.now c.requires.pass.starts c.args.n.0
     c.requires.inside c.edges_into-edges.result.now c.loop-edge._edge-index c.loop-edge.e blank
     c.edges_into-edges.ensures c.loop-edge-test.true c.loop-edge.invariant.counted in
-    let to = (range c.in_edges_are_together.ensures c.places_of_edges_rise.ensures c.places_tell_targets.ensures
+    let to = (range c.in_edges_are_together.ensures c.starts_of_edges_rise.ensures c.indices_tell_targets.ensures
     c.args.pass.now.plan.now c.requires.pass.is_plan c.args.pass.now.starts.now c.requires.pass.starts c.args.n.0
     c.requires.inside c.loop-edge.e blank at.0).0 (let h = c.loop-edge.invariant.counted in omega arith) at.1 in
     c.loop-edge.invariant.gathering.rest c.loop-edge.e (omega arith) ∙ c.requires.fresh c.loop-edge.e at.0 to
 
 pub overflow_add-e : goal.overflow_add-e
 overflow_add-e g c =
-    let at = into_at c.in_edges_are_together.ensures c.places_of_edges_rise.ensures c.places_tell_targets.ensures
+    let at = into_at c.in_edges_are_together.ensures c.starts_of_edges_rise.ensures c.indices_tell_targets.ensures
     c.args.pass.now.plan.now c.requires.pass.is_plan c.args.pass.now.starts.now c.requires.pass.starts c.args.n.0
     c.requires.inside c.edges_into-edges.result.now c.loop-edge._edge-index c.loop-edge.e blank
     c.edges_into-edges.ensures c.loop-edge-test.true c.loop-edge.invariant.counted in
@@ -62,7 +62,7 @@ overflow_add-e g c =
 
 pub loop-edge-preserved : goal.loop-edge-preserved
 loop-edge-preserved g c =
-    let at = into_at c.in_edges_are_together.ensures c.places_of_edges_rise.ensures c.places_tell_targets.ensures
+    let at = into_at c.in_edges_are_together.ensures c.starts_of_edges_rise.ensures c.indices_tell_targets.ensures
     c.args.pass.now.plan.now c.requires.pass.is_plan c.args.pass.now.starts.now c.requires.pass.starts c.args.n.0
     c.requires.inside c.edges_into-edges.result.now c.loop-edge._edge-index c.loop-edge.e blank
     c.edges_into-edges.ensures c.loop-edge-test.true c.loop-edge.invariant.counted in
@@ -93,7 +93,7 @@ returns-clause-gathered g c =
     c.loop-edge.auto._edge-index-end in let b = c.loop-edge-test.false in omega arith in
     subst (λ k. IsGathering (slice_index c.args.pass.now.starts.now c.args.n.0) k (view_of c.args.seat.now)
     (view_of c.loop-edge.seat))
-    (all_into c.in_edges_are_together.ensures c.places_of_edges_rise.ensures c.places_tell_targets.ensures
+    (all_into c.in_edges_are_together.ensures c.starts_of_edges_rise.ensures c.indices_tell_targets.ensures
     c.args.pass.now.plan.now c.requires.pass.is_plan c.args.pass.now.starts.now c.requires.pass.starts c.args.n.0
     c.requires.inside c.edges_into-edges.result.now c.loop-edge._edge-index c.loop-edge.e
     c.edges_into-edges.ensures index c.loop-edge.invariant.counted)
