@@ -1,4 +1,4 @@
--- One more item at the next free place of a list.
+-- One more item at the next free slot of a list.
 use Rattle.std.proofs.Common.{◌≡◌, ◌≢◌, ◌+◌, ◌<◌, ◌≤◌, ◌==◌, ◌++◌, ℕ, suc, zero, List, [], ◌∷◌, Bool, true, false, cond}
 use Rattle.std.proofs.Common.{map, length, get_or, set, take, refl, ap, ◌∙◌, sym, subst, arith, append_assoc}
 use Rattle.std.proofs.Common.{length-append, get_or-set_same, get_or-set_other, eq-eqb, ne_eqb, append-nil}
@@ -23,7 +23,7 @@ use Rattle.mutator_rules.specs.Arrivals.{edges_to, from_node, arrivals}
 use Rattle.mutator_rules.specs.Inside.{HaveRoom, StandFrom}
 use Rattle.mutator_rules.proofs.Arrived.{arrivals_more}
 
--- some lists stand among the items, and the next free place of each is behind it
+-- some lists stand among the items, and the next free slot of each is behind it
 pub record ArePut {A : Type 0} (count : ℕ) (begins : ℕ → ℕ) (lists : ℕ → List A) (next : List ℕ)
     (items : List A) : Type 0 where
   pub free : (t : ℕ) → t < count → slice_index next t ≡ begins t + length (lists t)
@@ -36,29 +36,29 @@ module _ {A : Type 0} (count : ℕ) (begins full : ℕ → ℕ) (lists more : �
     (inside : t < count) (many : count ≤ length next) (room : begins t + length (lists t) < length items)
     (here : more t ≡ lists t ++ x ∷ []) (rest : (u : ℕ) → u ≢ t → more u ≡ lists u)
     (put : ArePut count begins lists next items) where
-  abbrev place : ℕ
-  place = begins t + length (lists t)
+  abbrev slot : ℕ
+  slot = begins t + length (lists t)
 
   longer : length (more t) ≡ length (lists t) + 1
   longer = ap length here ∙ length-append (lists t) (x ∷ [])
 
-  free_after : (u : ℕ) → u < count → slice_index (set next t (place + 1)) u ≡ begins u + length (more u)
+  free_after : (u : ℕ) → u < count → slice_index (set next t (slot + 1)) u ≡ begins u + length (more u)
   free_after u lu = dite (ℕ_discrete u t)
-      (λ same. subst (λ k. slice_index (set next t (place + 1)) k ≡ begins k + length (more k)) (sym same)
-      (get_or-set_same next t (place + 1) 0 (omega arith) ∙ (let long = longer in omega arith)))
-      (λ other. get_or-set_other next t u (place + 1) 0 other ∙ put.free u lu ∙ ap (λ l. begins u + length l) (sym
+      (λ same. subst (λ k. slice_index (set next t (slot + 1)) k ≡ begins k + length (more k)) (sym same)
+      (get_or-set_same next t (slot + 1) 0 (omega arith) ∙ (let long = longer in omega arith)))
+      (λ other. get_or-set_other next t u (slot + 1) 0 other ∙ put.free u lu ∙ ap (λ l. begins u + length l) (sym
       (rest u other)))
 
-  stand_here : (j : ℕ) (d : A) → j < length (more t) → get_or (set items place x) (begins t + j) d ≡ get_or (more t) j d
+  stand_here : (j : ℕ) (d : A) → j < length (more t) → get_or (set items slot x) (begins t + j) d ≡ get_or (more t) j d
   stand_here j d lj = dite (ℕ_discrete j (length (lists t)))
-      (λ last. ap (λ k. get_or (set items place x) (begins t + k) d) last ∙ get_or-set_same items place x d room
+      (λ last. ap (λ k. get_or (set items slot x) (begins t + k) d) last ∙ get_or-set_same items slot x d room
       ∙ sym (ap (λ l. get_or l j d) here ∙ ap (λ k. get_or (lists t ++ x ∷ []) k d) last ∙ get_or-append_seam
       (lists t) x [] d))
       (λ earlier. let long = longer in let before : j < length (lists t) = omega arith in
-      get_or-set_other items place (begins t + j) x d (λ e. earlier (omega arith)) ∙ put.stand t j d inside before
+      get_or-set_other items slot (begins t + j) x d (λ e. earlier (omega arith)) ∙ put.stand t j d inside before
       ∙ sym (ap (λ l. get_or l j d) here ∙ get_or_append_left (lists t) (x ∷ []) d j before))
 
-  elsewhere : (u j : ℕ) → u < count → u ≢ t → j < length (lists u) → begins u + j ≢ place
+  elsewhere : (u j : ℕ) → u < count → u ≢ t → j < length (lists u) → begins u + j ≢ slot
   elsewhere u j lu other lj = λ e.
       let long = longer in
       let fit = fits t inside in
@@ -69,17 +69,17 @@ module _ {A : Type 0} (count : ℕ) (begins full : ℕ → ℕ) (lists more : �
       (λ not_less. let gap = apart t u (omega arith) lu in omega arith)
 
   stand_else : (u j : ℕ) (d : A) → u < count → u ≢ t → j < length (more u)
-      → get_or (set items place x) (begins u + j) d ≡ get_or (more u) j d
+      → get_or (set items slot x) (begins u + j) d ≡ get_or (more u) j d
   stand_else u j d lu other lj =
       let lj' : j < length (lists u) = subst (λ l. j < length l) (rest u other) lj in
-      get_or-set_other items place (begins u + j) x d (elsewhere u j lu other lj') ∙ put.stand u j d lu lj'
+      get_or-set_other items slot (begins u + j) x d (elsewhere u j lu other lj') ∙ put.stand u j d lu lj'
       ∙ sym (ap (λ l. get_or l j d) (rest u other))
 
-  pub put_one : ArePut count begins more (set next t (place + 1)) (set items place x)
+  pub put_one : ArePut count begins more (set next t (slot + 1)) (set items slot x)
   put_one = record {
     free = free_after;
     stand = λ u j d lu lj. dite (ℕ_discrete u t)
-        (λ same. subst (λ k. j < length (more k) → get_or (set items place x) (begins k + j) d ≡ get_or (more k) j d)
+        (λ same. subst (λ k. j < length (more k) → get_or (set items slot x) (begins k + j) d ≡ get_or (more k) j d)
         (sym same) (stand_here j d) lj)
         (λ other. stand_else u j d lu other lj);
   }
@@ -187,7 +187,7 @@ module _ {P : Type 0} (nodes : List (Node P)) (n : ℕ) where
         part_fits t = subst (λ l. length (so_far (take (i + 1) l) t) ≤ length (arrivals nodes t)) (sym same)
             (far_fits (i + 1) t)
 
-        -- the next free place of an edge's target is inside
+        -- the next free slot of an edge's target is inside
         pub far_free : (p : ℕ) → p ≡ slice_index next to → p < length items
         far_free p is_p =
             let free = put.free to inside in

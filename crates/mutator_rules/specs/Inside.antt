@@ -22,7 +22,7 @@ StandFrom {A} count begins lists items =
     (t j : ℕ) (d : A) → t < count → j < length (lists t)
     → slice_index_or items (begins t + j) d ≡ slice_index_or (lists t) j d
 
--- From its own place on, each node has room for the edges that lead to it, before the place of any later node and
+-- From its own start on, each node has room for the edges that lead to it, before the start of any later node and
 -- within so many items.
 pub record HaveRoom {P : Type 0} (begins : ℕ → ℕ) (nodes : List (Node P)) (count : ℕ) : Type 0 where
   pub apart : (t u : ℕ) → t < u → u < length nodes → begins t + length (arrivals nodes t) ≤ begins u

@@ -42,7 +42,7 @@ impl<T> Arriving<T> {
     }
 }
 
-/// Puts the source and the kind of each edge at the next free place of its target.
+/// Puts the source and the kind of each edge at the next free slot of its target.
 fn fill<P>(g: &Graph<P>, next: &mut Vec<u32>, items: &mut Vec<(NodeId, EdgeKind)>)
     requires numbered { IsNumbered g.now.nodes }
     requires many { length g.now.nodes ≤ length next.old.items }
@@ -54,9 +54,9 @@ fn fill<P>(g: &Graph<P>, next: &mut Vec<u32>, items: &mut Vec<(NodeId, EdgeKind)
     let mut n = 0;
     for node in g.nodes.as_slice() {
         for edge in node.edges.as_slice() {
-            let place = next[edge.to.0 as usize];
-            items[place as usize] = (NodeId(n), edge.kind);
-            next[edge.to.0 as usize] = place + 1;
+            let slot = next[edge.to.0 as usize];
+            items[slot as usize] = (NodeId(n), edge.kind);
+            next[edge.to.0 as usize] = slot + 1;
         }
         n += 1;
     }

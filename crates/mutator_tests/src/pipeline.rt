@@ -185,8 +185,8 @@ const SIZES: [(u32, u32); 11] = [
 fn has_sizes(made: &Generated) -> bool {
     let sizes = made.sizes.as_slice();
     let mut same = sizes.len() == SIZES.len();
-    for (place, want) in SIZES.iter().enumerate() {
-        same &= match sizes.get(place) {
+    for (index, want) in SIZES.iter().enumerate() {
+        same &= match sizes.get(index) {
             Some(size) => (size.nodes, size.edges) == *want,
             None => false,
         };

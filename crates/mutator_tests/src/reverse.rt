@@ -55,7 +55,7 @@ type Ask = (u32, bool, EdgeKind, &'static str, Variation, Variation);
 /// A list of requests, and the edges that it adds, or the fault.
 type Case = (&'static [Ask], &'static str);
 
-/// The edges that lists of requests add, or the fault. The request at place n is in line n + 1.
+/// The edges that lists of requests add, or the fault. The request at index n is in line n + 1.
 const CASES: [Case; 9] = [
     // edges that are asked for in both directions, and the least node of two
     (

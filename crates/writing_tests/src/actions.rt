@@ -86,8 +86,8 @@ fn make(
     wanted: Option<&str>,
     made: &mut Vec<Arc<Actions>>,
 ) -> Result<(), OutOfMemory> {
-    let place = made.len();
-    let (Some(node), Ok(n)) = (graph.nodes.as_slice().get(place), u32::try_from(place)) else {
+    let index = made.len();
+    let (Some(node), Ok(n)) = (graph.nodes.as_slice().get(index), u32::try_from(index)) else {
         return Err(OutOfMemory);
     };
     let ins = below(alloc, node, made)?;

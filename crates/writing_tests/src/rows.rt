@@ -35,7 +35,7 @@ const FIRST: Has = Has::Variation(Axis::PerSource, Variation::PerSource(1));
 const LINUX: Has = Has::Variation(Axis::Target, Variation::Target(Target::LinuxGlibcX86_64));
 
 /// A node, alone of its module: the name, the kind, the sources, the edges and what else it has; then its
-/// statements or its fault, where they are compared. The source at place n is in line n + 1.
+/// statements or its fault, where they are compared. The source at index n is in line n + 1.
 pub type Row = (
     &'static str,
     ModuleKind,

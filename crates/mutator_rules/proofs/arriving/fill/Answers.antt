@@ -10,7 +10,7 @@ pub loop-node-init : goal.loop-node-init
 loop-node-init g c = record {
   number = refl;
   many = refl;
-  places = refl;
+  slots = refl;
   put = record { free = λ t lt. omega arith; stand = λ t j d lt lj. absurd (omega arith) };
 }
 
@@ -30,7 +30,7 @@ loop-edge-init g c =
     record {
       number = number;
       many = c.loop-node.invariant.many;
-      places = c.loop-node.invariant.places;
+      slots = c.loop-node.invariant.slots;
       put = far_begun nodes c.loop-node.n c.one_more_item.ensures node lt is begins next items
           c.as_slice-edge-items.result.now
           (subst (λ k. ArePut (length nodes) begins (arrivals (take k nodes)) next items)
@@ -51,19 +51,19 @@ index_mut-requires g c =
     let es = c.as_slice-edge-items.result.now in
     let inside = far_inside nodes c.loop-node.n node c.requires.numbered.ends lt is es c.loop-edge.edge-index no_edge
     c.as_slice-edge-items.ensures c.loop-edge-test.true in
-    let places = c.loop-edge.invariant.places in
+    let slots = c.loop-edge.invariant.slots in
     let enough = c.requires.many in
-    let place = get_or_read c.loop-edge.next.items _ _ (omega arith) c.index-place.ensures 0 in
+    let slot = get_or_read c.loop-edge.next.items _ _ (omega arith) c.index-slot.ensures 0 in
     let room = subst (λ k. HaveRoom begins nodes k) (sym c.loop-edge.invariant.many) c.requires.room in
     let free = far_free nodes c.loop-node.n c.one_more_item.ensures node lt is begins c.loop-edge.next.items
     c.loop-edge.items.items room
     es c.as_slice-edge-items.ensures c.loop-edge.edge-index no_edge c.loop-edge-test.true inside
-    c.loop-edge.invariant.put _ place in
+    c.loop-edge.invariant.put _ slot in
     let ok = c.loop-edge.items.ok.0 in
     omega arith
 
-pub overflow_add-place : goal.overflow_add-place
-overflow_add-place g c =
+pub overflow_add-slot : goal.overflow_add-slot
+overflow_add-slot g c =
     let nodes = c.args.g.now.nodes in
     let begins = slice_index c.args.next.now.items in
     let number = c.loop-node.invariant.number in
@@ -76,14 +76,14 @@ overflow_add-place g c =
     let es = c.as_slice-edge-items.result.now in
     let inside = far_inside nodes c.loop-node.n node c.requires.numbered.ends lt is es c.loop-edge.edge-index no_edge
     c.as_slice-edge-items.ensures c.loop-edge-test.true in
-    let places = c.loop-edge.invariant.places in
+    let slots = c.loop-edge.invariant.slots in
     let enough = c.requires.many in
-    let place = get_or_read c.loop-edge.next.items _ _ (omega arith) c.index-place.ensures 0 in
+    let slot = get_or_read c.loop-edge.next.items _ _ (omega arith) c.index-slot.ensures 0 in
     let room = subst (λ k. HaveRoom begins nodes k) (sym c.loop-edge.invariant.many) c.requires.room in
     let free = far_free nodes c.loop-node.n c.one_more_item.ensures node lt is begins c.loop-edge.next.items
     c.loop-edge.items.items room
     es c.as_slice-edge-items.ensures c.loop-edge.edge-index no_edge c.loop-edge-test.true inside
-    c.loop-edge.invariant.put _ place in
+    c.loop-edge.invariant.put _ slot in
     let few = room.few in
     omega arith
 
@@ -101,18 +101,18 @@ loop-edge-preserved g c =
     let es = c.as_slice-edge-items.result.now in
     let inside = far_inside nodes c.loop-node.n node c.requires.numbered.ends lt is es c.loop-edge.edge-index no_edge
     c.as_slice-edge-items.ensures c.loop-edge-test.true in
-    let places = c.loop-edge.invariant.places in
+    let slots = c.loop-edge.invariant.slots in
     let enough = c.requires.many in
-    let place = get_or_read c.loop-edge.next.items _ _ (omega arith) c.index-place.ensures 0 in
+    let slot = get_or_read c.loop-edge.next.items _ _ (omega arith) c.index-slot.ensures 0 in
     let room = subst (λ k. HaveRoom begins nodes k) (sym c.loop-edge.invariant.many) c.requires.room in
     record {
       number = number;
       many = length-set c.loop-edge.items.items _ _ ∙ c.loop-edge.invariant.many;
-      places = length-set c.loop-edge.next.items _ _ ∙ places;
+      slots = length-set c.loop-edge.next.items _ _ ∙ slots;
       put = far_put nodes c.loop-node.n c.one_more_item.ensures node lt is begins c.loop-edge.next.items
           c.loop-edge.items.items room
           es c.as_slice-edge-items.ensures c.loop-edge.edge-index no_edge c.loop-edge-test.true inside
-          c.loop-edge.invariant.put _ place (omega arith);
+          c.loop-edge.invariant.put _ slot (omega arith);
     }
 
 pub loop-node-preserved : goal.loop-node-preserved
@@ -131,7 +131,7 @@ loop-node-preserved g c =
     record {
       number = ap (λ k. k + 1) number;
       many = c.loop-edge.invariant.many;
-      places = c.loop-edge.invariant.places;
+      slots = c.loop-edge.invariant.slots;
       put = subst (λ k. ArePut (length nodes) begins (arrivals (take (k + 1) nodes)) next items) number
           (far_ended nodes c.loop-node.n c.one_more_item.ensures node lt is begins next items c.loop-edge.edge-index
           c.as_slice-edge-items.result.now

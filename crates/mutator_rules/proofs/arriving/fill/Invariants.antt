@@ -8,7 +8,7 @@ abbrev pub invariant-loop-node : goal.invariant-loop-node
 invariant-loop-node g l = record {
   number : l.n ≡ l.node-index;
   many : length l.items.items ≡ length l.fn.items.items;
-  places : length l.next.items ≡ length l.fn.next.items;
+  slots : length l.next.items ≡ length l.fn.next.items;
   put : ArePut (length l.g.nodes) (slice_index l.fn.next.items) (arrivals
       (take l.node-index l.g.nodes)) l.next.items l.items.items;
 }
@@ -17,7 +17,7 @@ abbrev pub invariant-loop-edge : goal.invariant-loop-edge
 invariant-loop-edge g l = record {
   number : l.n ≡ l.node-index;
   many : length l.items.items ≡ length l.fn.items.items;
-  places : length l.next.items ≡ length l.fn.next.items;
+  slots : length l.next.items ≡ length l.fn.next.items;
   put : ArePut (length l.g.nodes) (slice_index l.fn.next.items) (so_far l.g.nodes l.n
       (take l.edge-index l.edge-items)) l.next.items l.items.items;
 }
