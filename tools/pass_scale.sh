@@ -2,7 +2,7 @@
 # Measures a board, and passes on 1, 2 and 4 workers, at 2^18 nodes: `pass_scale.sh`. It writes a small program over
 # ready_counters and visit_workers beside copies of the crates in a temporary folder, and proves, builds and runs it
 # there. The last two lines are the most memory of a plan of about 2^22 edges alone, and with a board, in KiB. It needs
-# `rt` and Python 3, and is no part of the gate.
+# `rt` and Python 3, and is no part of the gate. What a crate's out/ has kept is used again.
 set -eu
 
 top=$(cd "$(dirname "$0")/.." && pwd)
@@ -10,10 +10,13 @@ work=$(mktemp -d)
 trap 'rm -rf "$work"' EXIT
 mkdir -p "$work/crates/pass_scale/src" "$work/crates/pass_scale/specs" "$work/crates/pass_scale/proofs/shape/rises"
 for crate in bp_faults bp_ports pass_core ready_counters visit_workers; do
-    mkdir "$work/crates/$crate"
+    mkdir -p "$work/crates/$crate/out"
     for part in src specs proofs; do
         cp -r "$top/crates/$crate/$part" "$work/crates/$crate/"
     done
+    if [ -d "$top/crates/$crate/out/rlib" ]; then
+        cp -r "$top/crates/$crate/out/rlib" "$work/crates/$crate/out/"
+    fi
     grep "^$crate[ :]" "$top/crates.txt" >> "$work/crates.txt"
 done
 echo "pass_scale: bp_faults bp_ports pass_core ready_counters visit_workers anyhow" >> "$work/crates.txt"
