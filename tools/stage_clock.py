@@ -17,7 +17,7 @@ STAGES = [
     ("tokens and trees", ("bp_lexer::", "bp_parser::", "bp_load::parsed", "bp_load::parsing")),
     ("values", ("bp_values::file", "bp_values::expression", "bp_values::sums", "bp_values::scope", "bp_load::opened",
                 "bp_load::evaluating")),
-    ("records", ("property_tables::",)),
+    ("records", ("property_values::", "property_tables::")),
     ("passes", ("visit_workers::", "pass_core::", "mutator_kinds::", "transition_rules::", "reverse_deps::")),
     ("printing", ("ninja_write::",)),
 ]

@@ -9,7 +9,7 @@ use Rattle.std.proofs.lemmas.List.Folds.{list_all-append}
 use Rattle.std.proofs.lemmas.List.Splits.{slice_split_none, length-slice_split, join_with_byte-slice_split}
 use Rattle.bp_faults.specs.Paths.{is_component, is_normal}
 use Rattle.bp_faults.proofs.Paths.{normal_of_parts}
-use Rattle.property_tables.specs.Paths.{parts}
+use Rattle.property_values.specs.Paths.{parts}
 use Rattle.bp_load.specs.Directories.{directory_of}
 
 abbrev slash : ℕ → Bool

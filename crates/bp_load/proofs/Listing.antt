@@ -20,7 +20,7 @@ use Rattle.std.proofs.lemmas.List.Elements.{Contains-push_cases}
 use Rattle.std.proofs.lemmas.List.Splits.{join_with_byte-slice_split, length-slice_split}
 use Rattle.std.proofs.lemmas.Map.Entries.{length-values_of}
 use Rattle.bp_faults.specs.declared.fault.Fault.{Fault}
-use Rattle.property_tables.specs.Paths.{parts}
+use Rattle.property_values.specs.Paths.{parts}
 use Rattle.bp_load.specs.Directories.{directories, directory_cmp}
 use Rattle.bp_load.specs.ListFile.{is_blank, without_dots, is_listed, is_sound, listed_path, file_name, AreListed}
 use Rattle.bp_load.specs.ListFile.{AreFiles, IsWrongAt, IsFirstListFault, line_place}

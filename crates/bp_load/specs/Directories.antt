@@ -6,7 +6,7 @@ use Rattle.std.specs.List.Sorted.{IsStrictlySortedBy}
 use Rattle.std.specs.declared.cmp.Ordering.{Ordering}
 use Rattle.std.specs.Ordering.{nat_cmp}
 use Rattle.std.specs.Cmp.Lexicographic.{slice_cmp}
-use Rattle.property_tables.specs.Paths.{parts}
+use Rattle.property_values.specs.Paths.{parts}
 
 -- The components of the directory of a file: all of its path's but the last.
 abbrev pub directories : List ℕ → List (List ℕ)

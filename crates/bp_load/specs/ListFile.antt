@@ -12,7 +12,7 @@ use Rattle.bp_faults.specs.declared.limits.TheConstants.{MOST_FILES}
 use Rattle.bp_faults.specs.Characters.{is_barred_in_paths}
 use Rattle.bp_faults.specs.Faults.{fault_on}
 use Rattle.bp_faults.specs.Paths.{is_normal}
-use Rattle.property_tables.specs.Paths.{parts}
+use Rattle.property_values.specs.Paths.{parts}
 use Rattle.bp_load.specs.Directories.{AreInFileOrder}
 use Rattle.bp_load.specs.Texts.{AsText}
 

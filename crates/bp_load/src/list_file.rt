@@ -9,7 +9,7 @@ ghost use Rattle.bp_faults.specs.Characters.{is_barred_in_paths};
 ghost use Rattle.bp_faults.specs.Faults.{fault_on};
 ghost use Rattle.bp_faults.specs.declared.kind.FaultKind.TheVariants.{BadList as BadListAs};
 ghost use Rattle.bp_faults.specs.declared.limits.TheConstants.{LARGEST_LIST_FILE};
-ghost use Rattle.property_tables.specs.Paths.{parts};
+ghost use Rattle.property_values.specs.Paths.{parts};
 ghost use Rattle.bp_load.specs.Directories.{directory_cmp};
 ghost use Rattle.bp_load.specs.ListFile.{is_blank as blank, without_dots, file_name, is_listed, line_place};
 ghost use Rattle.bp_load.specs.ListFile.{LinesMean, ListMeans};

@@ -26,23 +26,23 @@ use Rattle.bp_props.specs.Group.{group_empty}
 use Rattle.bp_props.specs.Records.{props_empty}
 use Rattle.bp_values.specs.Meaning.{Raw}
 use Rattle.bp_values.specs.Values.{Fields, no_field, field_and, fields_then, Field as Entry}
-use Rattle.property_tables.specs.declared.row.PropKind.{PropKind}
-use Rattle.property_tables.specs.declared.row.PropKind.TheVariants as K
 use Rattle.property_tables.specs.Entries.{each_entry, property_in, inner_prefix, group_with_fit, props_with_fit}
 use Rattle.property_tables.specs.Entries.{groups_with_group}
 use Rattle.property_tables.specs.Entries.{group_entry, group_typed, groups_entry, sanitize_entry, groups_typed}
 use Rattle.property_tables.specs.Entries.{inner_typed}
 use Rattle.property_tables.specs.Entries.{entry_typed, module_entry}
-use Rattle.property_tables.specs.Fits.{truth_in, word_in, list_in, map_in, flag_in, dir_in, is_empty, path_in}
-use Rattle.property_tables.specs.Fits.{source_by}
-use Rattle.property_tables.specs.Fits.{source_in, multi_in, is_number, in_levels, level_or, base_of, fit_of}
 use Rattle.property_tables.specs.Meaning.{module_typed, typed_by, typed_module}
 use Rattle.property_tables.specs.Names.{is_module_name, name_in}
-use Rattle.property_tables.specs.Paths.{is_refused, components, path_below}
-use Rattle.property_tables.specs.Records.{given_scalar, listed_items, group_set, props_set}
 use Rattle.property_tables.specs.Tables.{Property, table_of, group_table, sanitize_table, arch_table, multilib_table}
 use Rattle.property_tables.specs.Tables.{target_table}
 use Rattle.property_tables.specs.Types.{types, is_dropped}
+use Rattle.property_values.specs.declared.row.PropKind.{PropKind}
+use Rattle.property_values.specs.declared.row.PropKind.TheVariants as K
+use Rattle.property_values.specs.Fits.{truth_in, word_in, list_in, map_in, flag_in, dir_in, is_empty, path_in}
+use Rattle.property_values.specs.Fits.{source_by}
+use Rattle.property_values.specs.Fits.{source_in, multi_in, is_number, in_levels, level_or, base_of, fit_of}
+use Rattle.property_values.specs.Paths.{is_refused, components, path_below}
+use Rattle.property_values.specs.Records.{given_scalar, listed_items, group_set, props_set}
 use Rattle.output_forms.specs.Texts.{IsShown, AreShown, IsWritable, HasTexts, HaveTexts, HasSoundTexts}
 use Rattle.output_forms.proofs.Bytes.{IsClear, none_of, bytes_shown, clear_shown, placed_clear, placed_path, item_clear}
 use Rattle.output_forms.proofs.Each.{IfThere, if_cond}

@@ -24,8 +24,7 @@ use Rattle.bp_props.specs.declared.kind.ModuleKind.TheVariants.{LibraryHeaders, 
 use Rattle.bp_props.specs.declared.field.Field.{Field}
 use Rattle.bp_props.specs.Kinds.{has_field}
 use Rattle.property_tables.specs.Tables.{Offered, properties}
-use Rattle.property_tables.specs.Laws.{TablesHaveFields, DropsExactly, EntriesComeFirst, StaysBelow}
-use Rattle.property_tables.proofs.Joined.{normal_placed, components_placed}
+use Rattle.property_tables.specs.Laws.{TablesHaveFields, DropsExactly, EntriesComeFirst}
 
 -- the tables and the fields of the kinds, tested over the whole list
 
@@ -112,6 +111,3 @@ entries_come_first raw dir kind fault has first =
     (ap (λ r. then_do r
     (λ props. then_do (name_in raw props.name)
     (λ name. Ok (Some (record { name = name; kind = kind; dir = dir; at = raw.at; props = props }))))) first)
-
-pub stays_below : (dir item : List ℕ) → StaysBelow dir item
-stays_below dir item = record { normal = normal_placed dir item; parts = components_placed dir item }

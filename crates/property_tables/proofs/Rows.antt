@@ -2,7 +2,7 @@
 use Rattle.std.proofs.Common.{◌≡◌, ℕ, List, Option, Some, None, Bor, option_map, refl, ap, sym, ◌∙◌}
 use Rattle.bp_props.specs.declared.kind.ModuleKind.{ModuleKind}
 use Rattle.std.specs.Prelude.{option_copied}
-use Rattle.property_tables.specs.declared.row.Row.{Row}
+use Rattle.property_values.specs.declared.row.Row.{Row}
 use Rattle.property_tables.specs.Tables.{Property, property_of, property_named, table_of}
 
 pub copied_row : (row : Option (Bor Row))

@@ -10,7 +10,7 @@ use Rattle.std.specs.Ordering.{nat_cmp, is_lt}
 use Rattle.std.specs.Cmp.Lexicographic.{slice_cmp}
 use Rattle.std.proofs.lemmas.Bool.{and_parts, cases_lt, lt-ltb, le-ltb, ne_eqb}
 use Rattle.std.proofs.lemmas.List.Sorted.{IsNonDecreasingBy-from_all_adjacent, IsPartitionedBy-ltb}
-use Rattle.property_tables.specs.declared.row.Row.{Row}
+use Rattle.property_values.specs.declared.row.Row.{Row}
 use Rattle.property_tables.specs.Tables.{property_of, property_named, names_ascend}
 use Rattle.property_tables.specs.Inside.{first_rank}
 

@@ -14,13 +14,13 @@ use Rattle.bp_props.specs.declared.props.Props.{Props}
 use Rattle.bp_props.specs.Group.{group_empty}
 use Rattle.bp_props.specs.Groups.{groups_with}
 use Rattle.bp_values.specs.Values.{Fields, no_field, field_and, Field as Entry}
-use Rattle.property_tables.specs.declared.row.PropKind.{PropKind}
-use Rattle.property_tables.specs.declared.row.PropKind.TheVariants as K
-use Rattle.property_tables.specs.declared.fit.Fit.{Fit}
+use Rattle.property_values.specs.declared.row.PropKind.{PropKind}
+use Rattle.property_values.specs.declared.row.PropKind.TheVariants as K
+use Rattle.property_values.specs.declared.fit.Fit.{Fit}
+use Rattle.property_values.specs.Fits.{fit_of, map_in}
+use Rattle.property_values.specs.Records.{group_set, props_set}
 use Rattle.property_tables.specs.Tables.{Property, property_named, table_of, group_table, sanitize_table, arch_table}
 use Rattle.property_tables.specs.Tables.{multilib_table, target_table}
-use Rattle.property_tables.specs.Fits.{fit_of, map_in}
-use Rattle.property_tables.specs.Records.{group_set, props_set}
 
 -- The entries of a map are taken in turn, each put into what the ones before it made.
 abbrev pub each_entry : {A : Type 0} → (A → Entry → Result A Fault) → A → Fields → Result A Fault

@@ -1,10 +1,9 @@
 -- What follows from the definitions, as the layers above use it.
-use Rattle.std.specs.Prelude.{◌≡◌, ◌↔◌, ◌++◌, ℕ, List, Some, None, Ok, Err, IsTrue}
+use Rattle.std.specs.Prelude.{◌≡◌, ◌↔◌, ℕ, List, Some, None, Ok, Err, IsTrue}
 use Rattle.std.specs.Option.{IfSome}
 use Rattle.std.specs.List.{AllByRecursion}
 use Rattle.std.specs.Map.{lookup}
 use Rattle.std.specs.Str.{bytes_eq}
-use Rattle.bp_faults.specs.Paths.{is_normal}
 use Rattle.bp_faults.specs.declared.fault.Fault.{Fault}
 use Rattle.bp_props.specs.declared.kind.ModuleKind.{ModuleKind}
 use Rattle.bp_props.specs.Kinds.{has_field}
@@ -12,7 +11,6 @@ use Rattle.bp_props.specs.Records.{props_empty}
 use Rattle.bp_values.specs.Values.{fields_then, no_field}
 use Rattle.bp_values.specs.Meaning.{Raw}
 use Rattle.property_tables.specs.Tables.{properties}
-use Rattle.property_tables.specs.Paths.{components, path_below}
 use Rattle.property_tables.specs.Entries.{each_entry, module_entry}
 use Rattle.property_tables.specs.Types.{is_dropped, types}
 use Rattle.property_tables.specs.Meaning.{typed_module}
@@ -32,8 +30,3 @@ EntriesComeFirst = (raw : Raw) (dir : List ℕ) (kind : ModuleKind) (fault : Fau
     → lookup (bytes_eq raw.kind) types ≡ Some kind
     → each_entry (module_entry dir kind) props_empty (fields_then raw.entries no_field) ≡ Err fault
     → typed_module raw dir ≡ Err fault
-
--- The path of an item is in normal form, and its components are those of the directory and then those of the item.
-pub record StaysBelow (dir item : List ℕ) : Type 0 where
-  pub normal : IsTrue (is_normal (path_below dir item))
-  pub parts : components (path_below dir item) ≡ components dir ++ components item

@@ -3,8 +3,5 @@ pub mod Types
 pub mod Names
 pub mod Entries
 pub mod Tables
-pub mod Fits
-pub mod Paths
-pub mod Records
 pub mod Laws
 pub mod Inside

@@ -11,9 +11,9 @@ use Rattle.bp_props.specs.declared.field.Field.TheVariants as F
 use Rattle.bp_props.specs.declared.group_id.GroupId.{GroupId}
 use Rattle.bp_props.specs.declared.group_id.GroupId.TheVariants as G
 use Rattle.bp_props.specs.Kinds.{is_cc, has_both_links, may_plug_in, has_tests}
-use Rattle.property_tables.specs.declared.row.Row.{Row}
-use Rattle.property_tables.specs.declared.row.PropKind.{PropKind}
-use Rattle.property_tables.specs.declared.row.PropKind.TheVariants as K
+use Rattle.property_values.specs.declared.row.Row.{Row}
+use Rattle.property_values.specs.declared.row.PropKind.{PropKind}
+use Rattle.property_values.specs.declared.row.PropKind.TheVariants as K
 
 -- A property has a name, a kind of value, and the field that it sets, if any.
 pub record Property : Type 0 where

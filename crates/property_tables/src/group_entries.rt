@@ -5,15 +5,13 @@ ghost use Rattle.property_tables.specs.Entries.{each_entry, group_with_fit, grou
 ghost use Rattle.property_tables.specs.Entries.{group_entry as group_entry_as};
 ghost use Rattle.property_tables.specs.Entries.{group_typed, groups_entry as groups_entry_as};
 
-use crate::entry_values::entries;
-use crate::fields::set_group;
-use crate::fit::{Fit, fitted};
 use crate::lookup::{row_of, within};
 use crate::tables::group;
 use crate::{LoadError, PropTable};
 use bp_faults::{OutOfMemory, Path, Place};
 use bp_props::{Field, GroupProps, Groups};
 use bp_values::Entry;
+use property_values::{Fit, entries, fitted, set_group};
 use std::alloc::Global;
 
 fn put_group(props: &mut GroupProps, effect: Option<Field>, at: Place, fit: Fit)

@@ -1,5 +1,4 @@
-ghost use Rattle.std.specs.Prelude.{List, ℕ};
-ghost use Rattle.property_tables.specs.Laws.{TablesHaveFields, DropsExactly, EntriesComeFirst, StaysBelow};
+ghost use Rattle.property_tables.specs.Laws.{TablesHaveFields, DropsExactly, EntriesComeFirst};
 
 /// The tables and the fields of the kinds agree.
 pub fn tables_have_fields()
@@ -14,9 +13,4 @@ pub fn drops_exactly()
 /// A bad property stands before a missing or a bad name.
 pub fn entries_come_first()
     ensures { EntriesComeFirst }
-{}
-
-/// A path keeps its directory, and no item leads out of it.
-pub fn paths_stay_below()
-    ensures { (dir item : List ℕ) → StaysBelow dir item }
 {}

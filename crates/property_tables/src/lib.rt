@@ -3,28 +3,23 @@
 //!
 //! The raw modules of a file and its directory flow in; modules with their records flow out, or the
 //! first fault. The layer is measured by `specs/Meaning.antt`, what a module is typed as, over
-//! `specs/Tables.antt`, one list of all properties with the kinds of module that have them.
+//! `specs/Tables.antt`, one list of all properties with the kinds of module that have them. What a value
+//! stands for is said in `property_values`.
 #![tactic(auto)]
 
-mod entry_values;
-mod fields;
-mod fit;
 mod group_entries;
 pub mod laws;
-mod list_items;
 mod lookup;
 mod module_entries;
 mod module_name;
 mod module_type;
-mod path_item;
 mod prop_table;
-mod row;
 mod tables;
 mod typing;
 
 pub use bp_faults::Refusal as LoadError;
 pub use prop_table::PropTable;
-pub use row::{PropKind, Row};
+pub use property_values::{PropKind, Row};
 pub use tables::{
     arch, cc, defaults, filegroup, group, library, multilib, sanitize, shared_library, target, test,
 };

@@ -4,12 +4,12 @@ ghost use Rattle.bp_values.specs.Values.{field_of};
 ghost use Rattle.property_tables.specs.Tables.{property_of, property_named, table_of};
 ghost use Rattle.property_tables.specs.Entries.{property_or_unknown, property_in, inner_prefix as within_group};
 
-use crate::entry_values::entry_fault;
 use crate::tables::{cc, defaults, filegroup, library, shared_library, test};
 use crate::{LoadError, PropTable, Row};
 use bp_faults::{FaultKind, OutOfMemory, Text};
 use bp_props::ModuleKind;
 use bp_values::Entry;
+use property_values::entry_fault;
 use std::alloc::Global;
 
 /// The row of a name in a table. It takes no memory.

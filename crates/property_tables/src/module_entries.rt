@@ -1,6 +1,6 @@
 ghost use Rattle.std.specs.Prelude.{◌≡◌, map, Some};
 ghost use Rattle.bp_props.specs.declared.field.Field.TheVariants.{Group};
-ghost use Rattle.property_tables.specs.declared.row.PropKind.TheVariants as K;
+ghost use Rattle.property_values.specs.declared.row.PropKind.TheVariants as K;
 ghost use Rattle.bp_faults.specs.Answers.{Answers, Leaves};
 ghost use Rattle.bp_values.specs.Values.{field_of, fields_then, no_field};
 ghost use Rattle.bp_props.specs.Records.{props_empty};
@@ -8,9 +8,6 @@ ghost use Rattle.property_tables.specs.Entries.{each_entry, props_with_fit, sani
 ghost use Rattle.property_tables.specs.Entries.{groups_typed, inner_typed, entry_typed};
 ghost use Rattle.property_tables.specs.Entries.{module_entry as module_entry_as};
 
-use crate::entry_values::entries;
-use crate::fields::set_props;
-use crate::fit::{Fit, fitted};
 use crate::group_entries::{add_groups, group_of};
 use crate::lookup::{module_row_of, row_of, within};
 use crate::tables::{arch, multilib, sanitize, target};
@@ -18,6 +15,7 @@ use crate::{LoadError, PropKind, PropTable, Row};
 use bp_faults::{Path, Place};
 use bp_props::{Field, GroupId, ModuleKind, Props};
 use bp_values::Entry;
+use property_values::{Fit, entries, fitted, set_props};
 use std::alloc::Global;
 
 fn put_props(props: &mut Props, effect: Option<Field>, at: Place, fit: Fit)

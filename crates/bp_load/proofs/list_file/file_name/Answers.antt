@@ -1,7 +1,7 @@
 use Rattle.std.proofs.Common.{◌-◌, lit<, ap, ◌∙◌, [], length, get_or}
 use Rattle.std.proofs.lemmas.Iterator.Consumers.{YieldsList-end}
 use Rattle.std.proofs.lemmas.Iterator.Splits.{YieldsList-from_str_split}
-use Rattle.property_tables.specs.Paths.{parts}
+use Rattle.property_values.specs.Paths.{parts}
 use Rattle.bp_load.proofs.list_file.file_name.Goals as goal
 
 -- the loop went over all parts of the path
