@@ -2,10 +2,10 @@
 use Rattle.std.proofs.Common.{◌≡◌, ◌∙◌, ℕ, List, [], ◌∷◌, ◌++◌, append_assoc, refl, sym, ap}
 use Rattle.std.specs.List.{flat_map}
 use Rattle.ninja_write.specs.Meaning.{joined_text, head_line, rule_lines, statement_lines, default_lines}
+use Rattle.build_parts.specs.Head.{head_rules, head_lines, compile_command, dependency_bindings, assemble_rule}
+use Rattle.build_parts.specs.Head.{archive_rule}
+use Rattle.build_parts.specs.Head.{link_rule}
 use Rattle.build_actions.specs.File.{all_path, all_statements}
-use Rattle.build_actions.specs.Head.{head_rules, head_lines, compile_command, dependency_bindings, assemble_rule}
-use Rattle.build_actions.specs.Head.{archive_rule}
-use Rattle.build_actions.specs.Head.{link_rule}
 use Rattle.bp_run.specs.Laws.{HeadIsText}
 use Rattle.bp_faults.specs.Characters.{ended_line}
 

@@ -2,9 +2,9 @@
 use Rattle.std.specs.Prelude.{◌≡◌, ℕ, List, ◌++◌}
 use Rattle.bp_faults.specs.Phases.{HasOutcome, IsOnce}
 use Rattle.bp_ports.specs.Files.{Files}
+use Rattle.build_parts.specs.Head.{head_lines}
 use Rattle.build_actions.specs.declared.actions.Actions.{Actions}
 use Rattle.build_actions.specs.File.{file_of_actions}
-use Rattle.build_actions.specs.Head.{head_lines}
 use Rattle.ninja_write.specs.Meaning.{text_of, joined_text}
 use Rattle.bp_run.specs.declared.words.Configuration.{Configuration}
 use Rattle.bp_run.specs.declared.words.Rewriting.{Rewriting}

@@ -12,13 +12,13 @@ use Rattle.bp_faults.proofs.Lists.{all_append, pairs_apart}
 use Rattle.ninja_file.specs.declared.file.Statement.{Statement}
 use Rattle.ninja_file.specs.Names.{is_name, is_value, is_path}
 use Rattle.ninja_file.specs.Meaning.{AllDiffer, IsStatement}
+use Rattle.build_parts.specs.declared.sources.Language.{Language}
+use Rattle.build_parts.specs.declared.sources.Language.TheVariants.{C, Cxx, Assembler}
+use Rattle.build_parts.specs.Kept.{new_one, new_ones}
+use Rattle.build_parts.specs.Variables.{Variables, variable}
+use Rattle.build_parts.specs.Paths.{object_path}
 use Rattle.build_actions.specs.declared.compile.Compiler.{Compiler}
-use Rattle.build_actions.specs.declared.sources.Language.{Language}
-use Rattle.build_actions.specs.declared.sources.Language.TheVariants.{C, Cxx, Assembler}
-use Rattle.build_actions.specs.Kept.{new_one, new_ones}
-use Rattle.build_actions.specs.Variables.{Variables, variable}
 use Rattle.build_actions.specs.Compiles.{language_of, rule_of, variables_in, compile_step, compile_steps, objects_in}
-use Rattle.build_actions.specs.Paths.{object_path}
 use Rattle.bp_names.specs.Meaning.{knows}
 use Rattle.build_actions.proofs.Outputs.{Differ}
 use Rattle.build_actions.proofs.Shown.{IsPath, Shown, value_of}

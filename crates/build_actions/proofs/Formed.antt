@@ -8,9 +8,9 @@ use Rattle.std.proofs.lemmas.Grind.{flat_map-append}
 use Rattle.ninja_file.specs.declared.file.NinjaRule.{NinjaRule}
 use Rattle.ninja_file.specs.declared.file.Statement.{Statement}
 use Rattle.ninja_file.specs.Meaning.{AllDiffer, IsRule, IsStatement, outs_of, IsWellFormed}
+use Rattle.build_parts.specs.Head.{head_rules, compile_command, dependency_bindings, compile_rule, assemble_rule}
+use Rattle.build_parts.specs.Head.{archive_rule, link_rule}
 use Rattle.build_actions.specs.declared.actions.Actions.{Actions}
-use Rattle.build_actions.specs.Head.{head_rules, compile_command, dependency_bindings, compile_rule, assemble_rule}
-use Rattle.build_actions.specs.Head.{archive_rule, link_rule}
 use Rattle.build_actions.specs.File.{all_path, outputs_of, all_step, all_statements, file_of_actions}
 use Rattle.build_actions.proofs.Differing.{all_flat}
 use Rattle.build_actions.proofs.Outputs.{Differ}

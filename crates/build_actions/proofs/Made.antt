@@ -5,10 +5,10 @@ use Rattle.module_graph.specs.declared.graph.Node.{Node}
 use Rattle.bp_props.specs.declared.module.Module.{Module}
 use Rattle.bp_props.specs.declared.props.Props.{Props}
 use Rattle.ninja_file.specs.declared.file.Statement.{Statement}
+use Rattle.build_parts.specs.Paths.{output_in, product_of, link_variation}
 use Rattle.build_actions.specs.declared.actions.Actions.{Actions}
 use Rattle.build_actions.specs.declared.compile.Compiler.{Compiler}
 use Rattle.module_graph.specs.declared.graph.Edge.{Edge}
-use Rattle.build_actions.specs.Paths.{output_in, product_of, link_variation}
 use Rattle.build_actions.specs.Files.{results_of}
 use Rattle.build_actions.specs.Compiles.{compiler_of, compile_steps, outs_of_steps}
 use Rattle.build_actions.specs.Products.{is_whole, objects_over, product_step}

@@ -6,8 +6,8 @@ use Rattle.bp_faults.specs.declared.place.Item.{Item}
 use Rattle.module_graph.specs.declared.graph.Node.{Node}
 use Rattle.bp_props.specs.declared.module.Module.{Module}
 use Rattle.bp_props.specs.declared.props.Props.{Props}
-use Rattle.build_actions.specs.declared.sources.Language.{Language}
-use Rattle.build_actions.specs.declared.sources.Language.TheVariants.{C, Cxx, Assembler}
+use Rattle.build_parts.specs.declared.sources.Language.{Language}
+use Rattle.build_parts.specs.declared.sources.Language.TheVariants.{C, Cxx, Assembler}
 use Rattle.build_actions.specs.Compiles.{language_of, compiler_of, variables_in, compile_step, compile_steps}
 use Rattle.build_actions.specs.Inside.{is_language, is_written_in, needed_compiler}
 

@@ -15,12 +15,12 @@ use Rattle.bp_faults.specs.Answers.{then_do}
 use Rattle.bp_faults.proofs.Lists.{Apart, all_map, apart_image}
 use Rattle.bp_names.specs.Meaning.{knows}
 use Rattle.ninja_file.specs.declared.file.Statement.{Statement}
+use Rattle.build_parts.specs.declared.sources.SourceKind.{SourceKind}
+use Rattle.build_parts.specs.declared.sources.SourceKind.TheVariants.{Compiled, Header}
+use Rattle.build_parts.specs.declared.sources.Language.{Language}
+use Rattle.build_parts.specs.Sources.{source_fault, source_kind, checked_by, sources_checked}
+use Rattle.build_parts.specs.Paths.{object_path}
 use Rattle.build_actions.specs.declared.compile.Compiler.{Compiler}
-use Rattle.build_actions.specs.declared.sources.SourceKind.{SourceKind}
-use Rattle.build_actions.specs.declared.sources.SourceKind.TheVariants.{Compiled, Header}
-use Rattle.build_actions.specs.declared.sources.Language.{Language}
-use Rattle.build_actions.specs.Sources.{source_fault, source_kind, checked_by, sources_checked}
-use Rattle.build_actions.specs.Paths.{object_path}
 use Rattle.build_actions.specs.Compiles.{language_by, language_of, compile_step, compile_steps, objects_in}
 
 -- the paths of the files that are compiled

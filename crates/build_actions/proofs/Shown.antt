@@ -15,7 +15,7 @@ use Rattle.module_graph.specs.declared.variation.Variation.TheVariants.{Static, 
 use Rattle.module_graph.specs.Names.{is_label_byte}
 use Rattle.module_graph.specs.Laws.{VariantNamesArePlain}
 use Rattle.ninja_file.specs.Names.{is_shown, is_value, is_path}
-use Rattle.build_actions.specs.Variables.{word_line, target_word, target_by, level_words, include_word}
+use Rattle.build_parts.specs.Variables.{word_line, target_word, target_by, level_words, include_word}
 use Rattle.build_actions.specs.Writable.{has_shown_bytes}
 
 -- a byte of no control character

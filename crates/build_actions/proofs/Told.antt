@@ -16,6 +16,13 @@ use Rattle.std.proofs.lemmas.Bool.Decides.{nat_tests}
 use Rattle.std.proofs.lemmas.List.Elements.{All-from_recursion, recursion_from_All}
 use Rattle.module_graph.specs.Names.{is_label_byte, variant_name_of}
 use Rattle.module_graph.specs.Laws.{VariantNamesArePlain}
+use Rattle.build_parts.specs.declared.path.Role.{Role}
+use Rattle.build_parts.specs.declared.path.Role.TheVariants.{Makes, Gives, Neither}
+use Rattle.build_parts.specs.declared.path.Product.{Product}
+use Rattle.build_parts.specs.declared.path.Product.TheVariants.{Archive, SharedObject, Program}
+use Rattle.build_parts.specs.Sources.{sources_checked}
+use Rattle.build_parts.specs.Paths.{output_directory, object_path, output_path, product_of, link_variation}
+use Rattle.build_parts.specs.Paths.{product_suffix, role_of}
 use Rattle.build_actions.specs.Variants.{AreOnAxes}
 use Rattle.build_actions.proofs.Variants.{told_by_name}
 use Rattle.bp_props.specs.declared.module.Module.{Module}
@@ -23,13 +30,6 @@ use Rattle.bp_props.specs.declared.props.Props.{Props}
 use Rattle.ninja_file.specs.declared.file.Statement.{Statement}
 use Rattle.ninja_file.specs.Meaning.{AllDiffer, outs_of}
 use Rattle.build_actions.specs.declared.actions.Actions.{Actions}
-use Rattle.build_actions.specs.declared.path.Role.{Role}
-use Rattle.build_actions.specs.declared.path.Role.TheVariants.{Makes, Gives, Neither}
-use Rattle.build_actions.specs.declared.path.Product.{Product}
-use Rattle.build_actions.specs.declared.path.Product.TheVariants.{Archive, SharedObject, Program}
-use Rattle.build_actions.specs.Sources.{sources_checked}
-use Rattle.build_actions.specs.Paths.{output_directory, object_path, output_path, product_of, link_variation}
-use Rattle.build_actions.specs.Paths.{product_suffix, role_of}
 use Rattle.build_actions.specs.Files.{files_of}
 use Rattle.build_actions.specs.Compiles.{compiler_of, compile_steps, objects_in}
 use Rattle.build_actions.specs.Products.{product_step}

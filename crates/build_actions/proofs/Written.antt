@@ -23,19 +23,19 @@ use Rattle.bp_props.specs.declared.props.Props.{Props}
 use Rattle.bp_props.specs.declared.source.Source.{Source}
 use Rattle.ninja_file.specs.Names.{is_path}
 use Rattle.ninja_file.specs.Meaning.{IsStatement}
+use Rattle.build_parts.specs.declared.path.Role.{Role}
+use Rattle.build_parts.specs.declared.path.Role.TheVariants.{Makes, Gives, Neither}
+use Rattle.build_parts.specs.declared.path.Product.{Product}
+use Rattle.build_parts.specs.declared.path.Product.TheVariants.{Archive, SharedObject, Program}
+use Rattle.build_parts.specs.declared.sources.Language.{Language}
+use Rattle.build_parts.specs.declared.sources.Language.TheVariants.{C, Cxx, Assembler}
+use Rattle.build_parts.specs.Sources.{sources_checked}
+use Rattle.build_parts.specs.Paths.{output_directory, object_path, output_path, output_of, output_by, output_at}
+use Rattle.build_parts.specs.Paths.{product_of, link_variation, product_suffix, role_of}
+use Rattle.build_parts.specs.Variables.{node_target, flags_of, cflags_of, level_words, include_word, include_line}
+use Rattle.build_parts.specs.Variables.{compile_variables, link_variables}
 use Rattle.build_actions.specs.declared.actions.Actions.{Actions}
-use Rattle.build_actions.specs.declared.path.Role.{Role}
-use Rattle.build_actions.specs.declared.path.Role.TheVariants.{Makes, Gives, Neither}
-use Rattle.build_actions.specs.declared.path.Product.{Product}
-use Rattle.build_actions.specs.declared.path.Product.TheVariants.{Archive, SharedObject, Program}
-use Rattle.build_actions.specs.declared.sources.Language.{Language}
-use Rattle.build_actions.specs.declared.sources.Language.TheVariants.{C, Cxx, Assembler}
-use Rattle.build_actions.specs.Sources.{sources_checked}
-use Rattle.build_actions.specs.Paths.{output_directory, object_path, output_path, output_of, output_by, output_at}
-use Rattle.build_actions.specs.Paths.{product_of, link_variation, product_suffix, role_of}
 use Rattle.build_actions.specs.Files.{results_of, leads_to_files, first_files, files_over, files_of}
-use Rattle.build_actions.specs.Variables.{node_target, flags_of, cflags_of, level_words, include_word, include_line}
-use Rattle.build_actions.specs.Variables.{compile_variables, link_variables}
 use Rattle.build_actions.specs.Compiles.{is_header, compiler_of, compile_steps, objects_in, variables_in}
 use Rattle.build_actions.specs.Products.{is_whole, is_data, outputs_at, data_output, link_step, archive_step}
 use Rattle.build_actions.specs.Products.{product_step}

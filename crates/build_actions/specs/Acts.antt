@@ -8,13 +8,13 @@ use Rattle.module_graph.specs.declared.graph.Edge.{Edge}
 use Rattle.module_graph.specs.declared.graph.Node.{Node}
 use Rattle.bp_props.specs.declared.module.Module.{Module}
 use Rattle.bp_props.specs.declared.props.Props.{Props}
+use Rattle.build_parts.specs.declared.path.Role.{Role}
+use Rattle.build_parts.specs.declared.path.Role.TheVariants.{Makes, Gives, Neither}
+use Rattle.build_parts.specs.Sources.{sources_checked}
+use Rattle.build_parts.specs.Paths.{role_of, product_of, link_variation, output_directory, output_path}
 use Rattle.build_actions.specs.declared.actions.Actions.{Actions}
 use Rattle.ninja_file.specs.declared.file.Statement.{Statement}
 use Rattle.build_actions.specs.declared.compile.Compiler.{Compiler}
-use Rattle.build_actions.specs.declared.path.Role.{Role}
-use Rattle.build_actions.specs.declared.path.Role.TheVariants.{Makes, Gives, Neither}
-use Rattle.build_actions.specs.Sources.{sources_checked}
-use Rattle.build_actions.specs.Paths.{role_of, product_of, link_variation, output_directory, output_path}
 use Rattle.build_actions.specs.Files.{results_of, files_of}
 use Rattle.build_actions.specs.Compiles.{compiler_of, compile_steps, objects_in}
 use Rattle.build_actions.specs.Products.{is_whole, objects_over, product_step}

@@ -7,15 +7,15 @@ use Rattle.module_graph.specs.declared.graph.Node.{Node}
 use Rattle.bp_props.specs.declared.module.Module.{Module}
 use Rattle.bp_props.specs.declared.props.Props.{Props}
 use Rattle.ninja_file.specs.declared.file.Statement.{Statement}
+use Rattle.build_parts.specs.declared.sources.SourceKind.{SourceKind}
+use Rattle.build_parts.specs.declared.sources.SourceKind.TheVariants.{Compiled, Header}
+use Rattle.build_parts.specs.declared.sources.Language.{Language}
+use Rattle.build_parts.specs.declared.sources.Language.TheVariants.{C, Cxx, Assembler}
+use Rattle.build_parts.specs.Kept.{kept_first}
+use Rattle.build_parts.specs.Sources.{source_kind}
+use Rattle.build_parts.specs.Paths.{output_directory, object_path}
+use Rattle.build_parts.specs.Variables.{Variables, compile_variables}
 use Rattle.build_actions.specs.declared.compile.Compiler.{Compiler}
-use Rattle.build_actions.specs.declared.sources.SourceKind.{SourceKind}
-use Rattle.build_actions.specs.declared.sources.SourceKind.TheVariants.{Compiled, Header}
-use Rattle.build_actions.specs.declared.sources.Language.{Language}
-use Rattle.build_actions.specs.declared.sources.Language.TheVariants.{C, Cxx, Assembler}
-use Rattle.build_actions.specs.Kept.{kept_first}
-use Rattle.build_actions.specs.Sources.{source_kind}
-use Rattle.build_actions.specs.Paths.{output_directory, object_path}
-use Rattle.build_actions.specs.Variables.{Variables, compile_variables}
 
 -- The language of a kind of source, where it is compiled.
 abbrev pub language_by : Option SourceKind → Option Language

@@ -3,8 +3,8 @@ use Rattle.std.specs.Prelude.{ℕ, List, [], ◌∷◌, ◌++◌, codes}
 use Rattle.std.specs.List.{flat_map, filter_map}
 use Rattle.ninja_file.specs.declared.file.NinjaFile.{NinjaFile}
 use Rattle.ninja_file.specs.declared.file.Statement.{Statement}
+use Rattle.build_parts.specs.Head.{head_rules}
 use Rattle.build_actions.specs.declared.actions.Actions.{Actions}
-use Rattle.build_actions.specs.Head.{head_rules}
 
 -- The name of all outputs together.
 abbrev pub all_path : List ℕ

@@ -8,13 +8,13 @@ use Rattle.module_graph.specs.declared.graph.Node.{Node}
 use Rattle.bp_props.specs.declared.module.Module.{Module}
 use Rattle.bp_props.specs.declared.props.Props.{Props}
 use Rattle.ninja_file.specs.declared.file.Statement.{Statement}
+use Rattle.build_parts.specs.declared.sources.Language.{Language}
+use Rattle.build_parts.specs.declared.sources.Language.TheVariants.{C, Cxx, Assembler}
+use Rattle.build_parts.specs.Paths.{output_directory, object_path}
+use Rattle.build_parts.specs.Variables.{Variables, compile_variables}
 use Rattle.build_actions.specs.declared.compile.Compiler.{Compiler}
-use Rattle.build_actions.specs.declared.sources.Language.{Language}
-use Rattle.build_actions.specs.declared.sources.Language.TheVariants.{C, Cxx, Assembler}
 use Rattle.build_actions.specs.Compiles.{language_of, headers_of, rule_of}
 use Rattle.build_actions.specs.File.{all_path}
-use Rattle.build_actions.specs.Paths.{output_directory, object_path}
-use Rattle.build_actions.specs.Variables.{Variables, compile_variables}
 
 -- Two languages are one.
 abbrev pub is_language : Language → Language → Bool

@@ -1,14 +1,9 @@
 pub mod Variants
-pub mod Kept
-pub mod Sources
-pub mod Paths
-pub mod Variables
 pub mod Compiles
 pub mod Inside
 pub mod Files
 pub mod Products
 pub mod Acts
-pub mod Head
 pub mod File
 pub mod Writable
 pub mod Laws

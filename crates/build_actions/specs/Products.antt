@@ -9,12 +9,12 @@ use Rattle.module_graph.specs.declared.graph.Node.{Node}
 use Rattle.bp_props.specs.declared.module.Module.{Module}
 use Rattle.bp_props.specs.declared.props.Props.{Props}
 use Rattle.ninja_file.specs.declared.file.Statement.{Statement}
+use Rattle.build_parts.specs.declared.path.Product.{Product}
+use Rattle.build_parts.specs.declared.path.Product.TheVariants.{Archive, SharedObject, Program}
+use Rattle.build_parts.specs.Paths.{output_at}
+use Rattle.build_parts.specs.Kept.{kept_first}
+use Rattle.build_parts.specs.Variables.{link_variables}
 use Rattle.build_actions.specs.declared.actions.Actions.{Actions}
-use Rattle.build_actions.specs.declared.path.Product.{Product}
-use Rattle.build_actions.specs.declared.path.Product.TheVariants.{Archive, SharedObject, Program}
-use Rattle.build_actions.specs.Paths.{output_at}
-use Rattle.build_actions.specs.Kept.{kept_first}
-use Rattle.build_actions.specs.Variables.{link_variables}
 
 -- An edge leads to a library that is taken whole.
 abbrev pub is_whole : EdgeKind → Bool

@@ -5,12 +5,12 @@ ghost use Rattle.build_actions.specs.Compiles.{language_by, language_of, is_head
 ghost use Rattle.build_actions.specs.Compiles.{rule_of, variables_in, compile_step, step_of_file, compile_steps};
 ghost use Rattle.build_actions.specs.Inside.{is_written_in, needed_variables, needed_compiler, step_with};
 
-use crate::gather::{Views, keep_first, one, push_some};
-use crate::path::{Directory, directory_of, object_path};
-use crate::sources::{Language, SourceKind, source_kind};
-use crate::variables::compile_variables;
 use bp_faults::{Item, OutOfMemory, Seq, Text, copy_all};
 use bp_props::Module;
+use build_parts::{
+    Directory, Language, SourceKind, Views, compile_variables, directory_of, keep_first,
+    object_path, one, push_some, source_kind,
+};
 use module_graph::Node;
 use module_rules::Record;
 use ninja_file::Statement;

@@ -6,9 +6,8 @@ ghost use Rattle.build_actions.specs.File.{outputs_of, all_statements, file_of_a
 ghost use Rattle.build_actions.specs.Inside.{step_of_all};
 
 use crate::Actions;
-use crate::gather::{one, push_some};
-use crate::head::head_rules;
 use bp_faults::{OutOfMemory, Seq, Text, copy_all};
+use build_parts::{head_rules, one, push_some};
 use ninja_file::{NinjaFile, Statement};
 use std::alloc::Global;
 use std::sync::Arc;

@@ -1,19 +1,20 @@
 ghost use Rattle.std.specs.Prelude.{◌≡◌, ◌++◌, IfOk, OnOk, map, codes};
 ghost use Rattle.std.specs.Arc.{arc_value};
 ghost use Rattle.std.specs.List.{filter_map, flat_map};
+ghost use Rattle.build_parts.specs.Paths.{product_of, link_variation};
 ghost use Rattle.build_actions.specs.declared.actions.Actions.{Actions};
 ghost use Rattle.build_actions.specs.Compiles.{outs_of_steps};
 ghost use Rattle.build_actions.specs.Files.{results_of};
 ghost use Rattle.build_actions.specs.Products.{is_whole, is_data, objects_over, outputs_at, data_output, data_outputs};
 ghost use Rattle.build_actions.specs.Products.{archive_step, link_ins, link_step, product_step};
-ghost use Rattle.build_actions.specs.Paths.{product_of, link_variation};
 
 use crate::Actions;
-use crate::gather::{Views, add_texts, keep_first, one, push_result, push_some};
-use crate::path::{Product, output_at, product_of};
-use crate::variables::link_variables;
+use crate::gather::push_result;
 use bp_faults::{NodeId, OutOfMemory, Seq, Text, copy_all};
 use bp_props::Module;
+use build_parts::{
+    Product, Views, add_texts, keep_first, link_variables, one, output_at, product_of, push_some,
+};
 use module_graph::{Edge, EdgeKind, Graph, Node};
 use module_rules::Record;
 use ninja_file::Statement;

@@ -1,0 +1,5 @@
+pub mod Kept
+pub mod Sources
+pub mod Paths
+pub mod Variables
+pub mod Head
