@@ -10,7 +10,7 @@ top=$(cd "$(dirname "$0")/.." && pwd)
 work=$(mktemp -d)
 trap 'rm -rf "$work"' EXIT
 mkdir -p "$work/crates/kind_scale/src" "$work/crates/kind_scale/specs" "$work/crates/kind_scale/proofs"
-for crate in bp_faults bp_ports pass_core module_graph ready_counters visit_workers pass_ways mutator_rules \
+for crate in bp_faults bp_ports pass_core graph_nodes module_graph ready_counters visit_workers pass_ways mutator_rules \
     variant_graphs mutator_kinds transition_rules; do
     mkdir -p "$work/crates/$crate/out"
     for part in src specs proofs; do
@@ -21,7 +21,7 @@ for crate in bp_faults bp_ports pass_core module_graph ready_counters visit_work
     fi
     grep "^$crate[ :]" "$top/crates.txt" >> "$work/crates.txt"
 done
-echo "kind_scale: bp_faults bp_ports pass_core module_graph mutator_rules variant_graphs mutator_kinds transition_rules anyhow" \
+echo "kind_scale: bp_faults bp_ports pass_core graph_nodes module_graph mutator_rules variant_graphs mutator_kinds transition_rules anyhow" \
     >> "$work/crates.txt"
 cp "$top/HANDLES" "$work/HANDLES"
 cd "$work/crates/kind_scale"
@@ -220,8 +220,8 @@ use Rattle.std.specs.Option.{option_map_or}
 use Rattle.std.proofs.Common.{ap, subst, refl}
 use Rattle.bp_faults.specs.declared.fault.Fault.{Fault}
 use Rattle.bp_faults.specs.declared.ids.NodeId.{NodeId}
-use Rattle.module_graph.specs.declared.graph.Node.{Node}
-use Rattle.module_graph.specs.declared.variation.Variation.TheVariants.{Empty}
+use Rattle.graph_nodes.specs.declared.graph.Node.{Node}
+use Rattle.graph_nodes.specs.declared.variation.Variation.TheVariants.{Empty}
 use Rattle.mutator_rules.specs.declared.split.Split.{Split}
 use Rattle.mutator_rules.specs.Shapes.{HasShape}
 

@@ -11,7 +11,7 @@ cd "$work"
 git init -q .
 (cd "$top" && tar -c --exclude=out crates crates.txt) | tar -x
 mkdir -p crates/sizes/src
-echo "sizes: bp_faults bp_props module_graph module_rules" >> crates.txt
+echo "sizes: bp_faults bp_props graph_nodes module_graph module_rules" >> crates.txt
 cat > crates/sizes/src/main.rt << 'END'
 #![tactic(auto)]
 

@@ -6,9 +6,10 @@ use Rattle.std.specs.Prelude.{codes}
 use Rattle.std.specs.List.{flat_map}
 use Rattle.std.proofs.lemmas.List.{length-map, take_more}
 use Rattle.bp_props.specs.declared.props.Props.{Props}
-use Rattle.module_graph.specs.declared.graph.Node.{Node}
-use Rattle.module_graph.specs.Graphs.{edges_of, outward, all_edges}
-use Rattle.module_graph.specs.Numbered.{by_number}
+use Rattle.graph_nodes.specs.declared.graph.Node.{Node}
+use Rattle.graph_nodes.specs.Nodes.{all_edges}
+use Rattle.graph_nodes.specs.Numbered.{by_number}
+use Rattle.module_graph.specs.Graphs.{edges_of, outward}
 use Rattle.ninja_file.specs.declared.file.NinjaFile.{NinjaFile}
 use Rattle.ninja_file.specs.declared.file.Statement.{Statement}
 use Rattle.ninja_write.specs.Meaning.{build_line, default_lines, head_line, joined_text, rule_lines}

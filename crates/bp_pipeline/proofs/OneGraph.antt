@@ -8,10 +8,10 @@ use Rattle.bp_props.specs.declared.props.Props.{Props}
 use Rattle.build_actions.specs.declared.actions.Actions.{Actions}
 use Rattle.build_actions.specs.Acts.{acts_at}
 use Rattle.build_actions.specs.File.{file_of_actions}
+use Rattle.graph_nodes.specs.declared.graph.Node.{Node}
+use Rattle.graph_nodes.specs.declared.variations.Axis.{Axis}
+use Rattle.graph_nodes.specs.declared.variations.Axis.TheVariants.{Target, Image, Link, PerSource}
 use Rattle.module_graph.specs.declared.direction.Direction.TheVariants.{BottomUp}
-use Rattle.module_graph.specs.declared.graph.Node.{Node}
-use Rattle.module_graph.specs.declared.variations.Axis.{Axis}
-use Rattle.module_graph.specs.declared.variations.Axis.TheVariants.{Target, Image, Link, PerSource}
 use Rattle.module_rules.specs.Rules.{asks, renews, splits}
 use Rattle.mutator_rules.specs.declared.config.Config.{Config}
 use Rattle.mutator_rules.specs.Outcomes.{KindOutcome}

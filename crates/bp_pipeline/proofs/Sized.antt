@@ -8,7 +8,7 @@ use Rattle.std.proofs.lemmas.Bool.{cases_order}
 use Rattle.std.proofs.lemmas.Option.{slice_get-get_or}
 use Rattle.bp_props.specs.declared.module.Module.{Module}
 use Rattle.bp_props.specs.declared.props.Props.{Props}
-use Rattle.module_graph.specs.declared.graph.Node.{Node}
+use Rattle.graph_nodes.specs.declared.graph.Node.{Node}
 use Rattle.mutator_rules.specs.declared.config.Config.{Config}
 use Rattle.bp_pipeline.specs.declared.sizes.Sizes.{Sizes}
 use Rattle.bp_pipeline.specs.Course.{GraphAfter}

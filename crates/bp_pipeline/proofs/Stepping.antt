@@ -9,8 +9,8 @@ use Rattle.bp_faults.specs.declared.refusal.Refusal.TheVariants.{Bad, OutOfMemor
 use Rattle.bp_faults.specs.Answers.{Tells}
 use Rattle.bp_props.specs.declared.module.Module.{Module}
 use Rattle.bp_props.specs.declared.props.Props.{Props}
-use Rattle.module_graph.specs.declared.graph.Graph.{Graph}
-use Rattle.module_graph.specs.declared.graph.Node.{Node}
+use Rattle.graph_nodes.specs.declared.graph.Graph.{Graph}
+use Rattle.graph_nodes.specs.declared.graph.Node.{Node}
 use Rattle.mutator_rules.specs.declared.config.Config.{Config}
 use Rattle.pass_core.specs.declared.plan.Plan.{Plan}
 use Rattle.pass_ways.specs.declared.way.Way.{Way}

@@ -5,8 +5,8 @@ use Rattle.bp_faults.specs.declared.ids.NodeId.{NodeId}
 use Rattle.bp_props.specs.declared.module.Module.{Module}
 use Rattle.bp_props.specs.declared.props.Props.{Props}
 use Rattle.build_actions.specs.Acts.{acts_at}
+use Rattle.graph_nodes.specs.declared.graph.Node.{Node}
 use Rattle.module_graph.specs.declared.direction.Direction.TheVariants.{BottomUp}
-use Rattle.module_graph.specs.declared.graph.Node.{Node}
 use Rattle.module_graph.specs.Planned.{plan_of}
 use Rattle.mutator_rules.specs.declared.config.Config.{Config}
 use Rattle.pass_core.specs.Outcomes.{PassMeans}

@@ -11,8 +11,8 @@ use Rattle.bp_props.specs.declared.props.Props.{Props}
 use Rattle.build_actions.specs.declared.actions.Actions.{Actions}
 use Rattle.build_actions.specs.Acts.{acts_at}
 use Rattle.build_actions.specs.File.{file_of_actions}
+use Rattle.graph_nodes.specs.declared.graph.Node.{Node}
 use Rattle.module_graph.specs.declared.direction.Direction.TheVariants.{BottomUp}
-use Rattle.module_graph.specs.declared.graph.Node.{Node}
 use Rattle.module_graph.specs.Planned.{plan_of}
 use Rattle.mutator_rules.specs.declared.config.Config.{Config}
 use Rattle.ninja_file.specs.declared.file.NinjaFile.{NinjaFile}
@@ -21,7 +21,7 @@ use Rattle.pass_core.specs.Outcomes.{PassMeans}
 use Rattle.bp_pipeline.specs.declared.sizes.Sizes.{Sizes}
 use Rattle.bp_pipeline.specs.Course.{GraphAfter}
 use Rattle.bp_pipeline.specs.Mutators.{mutator_count}
-use Rattle.module_graph.specs.Graphs.{all_edges}
+use Rattle.graph_nodes.specs.Nodes.{all_edges}
 
 -- The text of a file for Ninja, which is no larger than its limit.
 abbrev pub text_within_limit : NinjaFile → Result (List ℕ) Fault

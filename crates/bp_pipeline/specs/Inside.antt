@@ -6,9 +6,9 @@ use Rattle.bp_faults.specs.declared.refusal.Refusal.TheVariants.{Bad, OutOfMemor
 use Rattle.bp_faults.specs.Faults.{fault_on}
 use Rattle.bp_props.specs.declared.module.Module.{Module}
 use Rattle.bp_props.specs.declared.props.Props.{Props}
-use Rattle.module_graph.specs.declared.graph.Node.{Node}
-use Rattle.module_graph.specs.declared.variations.Axis.{Axis}
-use Rattle.module_graph.specs.declared.variations.Axis.TheVariants.{Target, Image, Link, PerSource, Sanitize}
+use Rattle.graph_nodes.specs.declared.graph.Node.{Node}
+use Rattle.graph_nodes.specs.declared.variations.Axis.{Axis}
+use Rattle.graph_nodes.specs.declared.variations.Axis.TheVariants.{Target, Image, Link, PerSource, Sanitize}
 use Rattle.module_graph.specs.Graphs.{IsValid}
 use Rattle.variant_graphs.specs.declared.error.StepError.{StepError}
 use Rattle.variant_graphs.specs.declared.error.StepError.TheVariants.{Kind, Refused}

@@ -1,8 +1,8 @@
 -- A graph as text.
 use Rattle.std.specs.Prelude.{ℕ, List, map}
 use Rattle.bp_props.specs.declared.module.Module.{Module}
-use Rattle.module_graph.specs.declared.graph.Node.{Node}
-use Rattle.module_graph.specs.GraphText.{graph_text_of}
+use Rattle.graph_nodes.specs.declared.graph.Node.{Node}
+use Rattle.graph_nodes.specs.GraphText.{graph_text_of}
 use Rattle.reverse_deps.specs.Applied.{name_of}
 
 module _ {P : Type 0} (mods : List Module) where

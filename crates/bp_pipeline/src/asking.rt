@@ -1,7 +1,8 @@
 ghost use Rattle.std.specs.Prelude.{◌≡◌, ◌≤◌, ◌<◌, ◌^◌, IfOk, length, map};
 ghost use Rattle.bp_faults.specs.declared.limits.TheConstants.{MOST_EDGES};
 ghost use Rattle.bp_faults.specs.Answers.{Tells};
-ghost use Rattle.module_graph.specs.Graphs.{IsValid, all_edges};
+ghost use Rattle.graph_nodes.specs.Nodes.{all_edges};
+ghost use Rattle.module_graph.specs.Graphs.{IsValid};
 ghost use Rattle.mutator_rules.specs.Conditions.{MayRun, indices_in};
 ghost use Rattle.reverse_deps.specs.Applied.{AskInside, ApplyMeans};
 ghost use Rattle.reverse_deps.specs.Linked.{without_edges};

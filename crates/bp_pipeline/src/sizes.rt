@@ -1,5 +1,6 @@
 ghost use Rattle.std.specs.Prelude.{◌≡◌, ◌<◌, ◌^◌, length};
-ghost use Rattle.module_graph.specs.Graphs.{IsNumbered, all_edges};
+ghost use Rattle.graph_nodes.specs.Nodes.{all_edges};
+ghost use Rattle.module_graph.specs.Graphs.{IsNumbered};
 ghost use Rattle.bp_pipeline.specs.Generated.{sizes_of};
 
 use module_graph::{Graph, Node};

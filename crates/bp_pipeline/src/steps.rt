@@ -1,8 +1,8 @@
 ghost use Rattle.std.specs.Prelude.{◌≡◌, ◌<◌, ◌+◌, ◌↔◌, ℕ, length, IfOk, IsTrue, None, Some};
+ghost use Rattle.graph_nodes.specs.declared.variations.Axis.TheVariants.{Target, Image, Link};
+ghost use Rattle.graph_nodes.specs.declared.variations.Axis.TheVariants.{PerSource as SourceAxis};
+ghost use Rattle.graph_nodes.specs.declared.variations.Axis.TheVariants.{Sanitize as SanitizeAxis};
 ghost use Rattle.module_graph.specs.declared.direction.Direction.TheVariants.{BottomUp as Upwards};
-ghost use Rattle.module_graph.specs.declared.variations.Axis.TheVariants.{Target, Image, Link};
-ghost use Rattle.module_graph.specs.declared.variations.Axis.TheVariants.{PerSource as SourceAxis};
-ghost use Rattle.module_graph.specs.declared.variations.Axis.TheVariants.{Sanitize as SanitizeAxis};
 ghost use Rattle.module_graph.specs.Planned.{plan_of};
 ghost use Rattle.mutator_rules.specs.Conditions.{indices_in};
 ghost use Rattle.mutator_rules.specs.Idle.{LeavesAll};

@@ -12,8 +12,8 @@ use Rattle.bp_props.specs.declared.props.Props.{Props}
 use Rattle.pass_core.specs.declared.plan.Plan.{Plan}
 use Rattle.pass_core.specs.Laws.{AtMostOneOutcome}
 use Rattle.pass_core.specs.Outcomes.{PassMeans}
+use Rattle.graph_nodes.specs.declared.graph.Node.{Node}
 use Rattle.module_graph.specs.declared.direction.Direction.TheVariants.{BottomUp}
-use Rattle.module_graph.specs.declared.graph.Node.{Node}
 use Rattle.module_graph.specs.Planned.{plan_of}
 use Rattle.mutator_rules.specs.declared.config.Config.{Config}
 use Rattle.build_actions.specs.declared.actions.Actions.{Actions}

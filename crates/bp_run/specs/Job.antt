@@ -10,7 +10,7 @@ use Rattle.bp_format.specs.Meaning.{FormatMeans}
 use Rattle.bp_ports.specs.Files.{Files}
 use Rattle.bp_props.specs.declared.module.Module.{Module}
 use Rattle.bp_props.specs.declared.props.Props.{Props}
-use Rattle.module_graph.specs.declared.graph.Node.{Node}
+use Rattle.graph_nodes.specs.declared.graph.Node.{Node}
 use Rattle.mutator_rules.specs.declared.config.Config.{Config}
 use Rattle.bp_load.specs.Loaded.{LoadMeans}
 use Rattle.bp_load.specs.Texts.{AsText}

@@ -1,14 +1,14 @@
 -- What is done at a node that makes something, from its parts.
 use Rattle.std.proofs.Common.{◌≡◌, ◌++◌, ℕ, List, [], ◌∷◌, Some, ap, ◌∙◌}
 use Rattle.bp_faults.specs.declared.place.Item.{Item}
-use Rattle.module_graph.specs.declared.graph.Node.{Node}
+use Rattle.graph_nodes.specs.declared.graph.Node.{Node}
 use Rattle.bp_props.specs.declared.module.Module.{Module}
 use Rattle.bp_props.specs.declared.props.Props.{Props}
 use Rattle.ninja_file.specs.declared.file.Statement.{Statement}
 use Rattle.build_parts.specs.Paths.{output_in, product_of, link_variation}
 use Rattle.build_actions.specs.declared.actions.Actions.{Actions}
 use Rattle.build_actions.specs.declared.compile.Compiler.{Compiler}
-use Rattle.module_graph.specs.declared.graph.Edge.{Edge}
+use Rattle.graph_nodes.specs.declared.graph.Edge.{Edge}
 use Rattle.build_actions.specs.Files.{results_of}
 use Rattle.build_actions.specs.Compiles.{compiler_of, compile_steps, outs_of_steps}
 use Rattle.build_actions.specs.Products.{is_whole, objects_over, product_step}

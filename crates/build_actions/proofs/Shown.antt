@@ -9,11 +9,11 @@ use Rattle.std.proofs.lemmas.Bool.{and_parts, and_from}
 use Rattle.std.proofs.lemmas.List.{append-nil}
 use Rattle.bp_faults.specs.declared.target.Target.TheVariants as T
 use Rattle.bp_faults.proofs.Lists.{all_append}
-use Rattle.module_graph.specs.declared.variation.Variation.{Variation}
-use Rattle.module_graph.specs.declared.variation.Variation.TheVariants.{Empty, Target as For, Common, Vendor, Recovery}
-use Rattle.module_graph.specs.declared.variation.Variation.TheVariants.{Static, Shared, PerSource, Asan}
-use Rattle.module_graph.specs.Names.{is_label_byte}
-use Rattle.module_graph.specs.Laws.{VariantNamesArePlain}
+use Rattle.graph_nodes.specs.declared.variation.Variation.{Variation}
+use Rattle.graph_nodes.specs.declared.variation.Variation.TheVariants.{Empty, Target as For, Common, Vendor, Recovery}
+use Rattle.graph_nodes.specs.declared.variation.Variation.TheVariants.{Static, Shared, PerSource, Asan}
+use Rattle.graph_nodes.specs.Names.{is_label_byte}
+use Rattle.graph_nodes.specs.Laws.{VariantNamesArePlain}
 use Rattle.ninja_file.specs.Names.{is_shown, is_value, is_path}
 use Rattle.build_parts.specs.Variables.{word_line, target_word, target_by, level_words, include_word}
 use Rattle.build_actions.specs.Writable.{has_shown_bytes}

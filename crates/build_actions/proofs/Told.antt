@@ -11,11 +11,11 @@ use Rattle.std.proofs.lemmas.Option.{slice_get_within, get_or_from_slice_get}
 use Rattle.std.proofs.lemmas.Grind.{flat_map-append}
 use Rattle.bp_faults.specs.declared.place.Item.{Item}
 use Rattle.bp_faults.proofs.Lists.{all_append, Apart, apart_pairs, pairs_apart, apart_append, all_map}
-use Rattle.module_graph.specs.declared.graph.Node.{Node}
+use Rattle.graph_nodes.specs.declared.graph.Node.{Node}
 use Rattle.std.proofs.lemmas.Bool.Decides.{nat_tests}
 use Rattle.std.proofs.lemmas.List.Elements.{All-from_recursion, recursion_from_All}
-use Rattle.module_graph.specs.Names.{is_label_byte, variant_name_of}
-use Rattle.module_graph.specs.Laws.{VariantNamesArePlain}
+use Rattle.graph_nodes.specs.Names.{is_label_byte, variant_name_of}
+use Rattle.graph_nodes.specs.Laws.{VariantNamesArePlain}
 use Rattle.build_parts.specs.declared.path.Role.{Role}
 use Rattle.build_parts.specs.declared.path.Role.TheVariants.{Makes, Gives, Neither}
 use Rattle.build_parts.specs.declared.path.Product.{Product}

@@ -10,11 +10,11 @@ use Rattle.std.proofs.lemmas.List.{append_cancel_left}
 use Rattle.bp_faults.specs.declared.target.Target.{Target}
 use Rattle.bp_faults.specs.declared.target.Target.TheVariants.{AndroidArm64, AndroidArm, AndroidX86_64, AndroidX86}
 use Rattle.bp_faults.specs.declared.target.Target.TheVariants.{LinuxGlibcX86_64, LinuxGlibcX86}
-use Rattle.module_graph.specs.declared.variation.Variation.{Variation}
-use Rattle.module_graph.specs.declared.variation.Variation.TheVariants.{Empty, Target as For, Common, Vendor, Recovery}
-use Rattle.module_graph.specs.declared.variation.Variation.TheVariants.{Static, Shared, PerSource, Asan}
-use Rattle.module_graph.specs.declared.variations.Axis.TheVariants as A
-use Rattle.module_graph.specs.Names.{spelling, is_set, variant_name_of}
+use Rattle.graph_nodes.specs.declared.variation.Variation.{Variation}
+use Rattle.graph_nodes.specs.declared.variation.Variation.TheVariants.{Empty, Target as For, Common, Vendor, Recovery}
+use Rattle.graph_nodes.specs.declared.variation.Variation.TheVariants.{Static, Shared, PerSource, Asan}
+use Rattle.graph_nodes.specs.declared.variations.Axis.TheVariants as A
+use Rattle.graph_nodes.specs.Names.{spelling, is_set, variant_name_of}
 use Rattle.build_actions.specs.Variants.{stands_on, AreOnAxes}
 use Rattle.build_actions.proofs.Separated.{has_it, Behind, before_it}
 

@@ -9,12 +9,13 @@ use Rattle.std.proofs.lemmas.List.Elements.{All-from_recursion, recursion_from_A
 use Rattle.bp_faults.specs.declared.ids.NodeId.{NodeId}
 use Rattle.bp_faults.specs.declared.place.Item.{Item}
 use Rattle.bp_faults.proofs.Lists.{all_map, both as each_both, all_append, all_image, all_split}
+use Rattle.graph_nodes.specs.declared.graph.Edge.{Edge}
+use Rattle.graph_nodes.specs.declared.graph.Node.{Node}
+use Rattle.graph_nodes.specs.Laws.{VariantNamesArePlain}
+use Rattle.graph_nodes.specs.Names.{variant_name_of}
+use Rattle.graph_nodes.specs.Nodes.{targets}
 use Rattle.module_graph.specs.declared.direction.Direction.TheVariants.{BottomUp}
-use Rattle.module_graph.specs.declared.graph.Edge.{Edge}
-use Rattle.module_graph.specs.declared.graph.Node.{Node}
-use Rattle.module_graph.specs.Graphs.{targets}
-use Rattle.module_graph.specs.Laws.{PredecessorsAreTargets, VariantNamesArePlain}
-use Rattle.module_graph.specs.Names.{variant_name_of}
+use Rattle.module_graph.specs.Laws.{PredecessorsAreTargets}
 use Rattle.module_graph.specs.Planned.{plan_edges, plan_of}
 use Rattle.pass_core.specs.Laws.{PredecessorsAreNodes, PredecessorsAreLess}
 use Rattle.pass_core.specs.Plans.{IsPlan, HasNoCycle}

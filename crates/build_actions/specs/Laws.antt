@@ -2,10 +2,10 @@
 use Rattle.std.specs.Prelude.{◌≡◌, ◌≢◌, ◌<◌, ℕ, Bool, false, List, ◌==◌, map, length, Ok, slice_index_or}
 use Rattle.std.specs.List.{AllPairs, AllByRecursion, list_any}
 use Rattle.ninja_file.specs.Meaning.{AllDiffer, outs_of, IsWellFormed}
-use Rattle.module_graph.specs.declared.graph.Node.{Node}
-use Rattle.module_graph.specs.Graphs.{targets}
-use Rattle.module_graph.specs.declared.variation.Variation.{Variation}
-use Rattle.module_graph.specs.Names.{variant_name_of}
+use Rattle.graph_nodes.specs.declared.graph.Node.{Node}
+use Rattle.graph_nodes.specs.Nodes.{targets}
+use Rattle.graph_nodes.specs.declared.variation.Variation.{Variation}
+use Rattle.graph_nodes.specs.Names.{variant_name_of}
 use Rattle.module_graph.specs.Planned.{plan_edges, plan_of}
 use Rattle.module_graph.specs.declared.direction.Direction.TheVariants.{BottomUp}
 use Rattle.pass_core.specs.Plans.{IsPlan, HasNoCycle}

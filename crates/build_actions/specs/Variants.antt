@@ -1,10 +1,10 @@
 -- Which variations stand on which axis.
 use Rattle.std.specs.Prelude.{◌≡◌, Bool, true, false, List, [], ◌∷◌, nat_lt, IsTrue}
-use Rattle.module_graph.specs.declared.variations.Axis.{Axis}
-use Rattle.module_graph.specs.declared.variations.Axis.TheVariants as A
-use Rattle.module_graph.specs.declared.variation.Variation.{Variation}
-use Rattle.module_graph.specs.declared.variation.Variation.TheVariants.{Empty, Target, Common, Vendor, Recovery}
-use Rattle.module_graph.specs.declared.variation.Variation.TheVariants.{Static, Shared, PerSource, Asan}
+use Rattle.graph_nodes.specs.declared.variations.Axis.{Axis}
+use Rattle.graph_nodes.specs.declared.variations.Axis.TheVariants as A
+use Rattle.graph_nodes.specs.declared.variation.Variation.{Variation}
+use Rattle.graph_nodes.specs.declared.variation.Variation.TheVariants.{Empty, Target, Common, Vendor, Recovery}
+use Rattle.graph_nodes.specs.declared.variation.Variation.TheVariants.{Static, Shared, PerSource, Asan}
 
 -- The variations that may stand on an axis. Sources are numbered by a `u32`.
 abbrev pub stands_on : Axis → Variation → Bool

@@ -1,12 +1,12 @@
 -- Where the outputs of nodes stand, and which nodes have one.
 use Rattle.std.specs.Prelude.{ℕ, List, [], ◌++◌, Option, Some, None, codes, slice_get, slice_index_or}
 use Rattle.std.specs.Option.{option_map_or}
-use Rattle.module_graph.specs.Axes.{axis_index}
-use Rattle.module_graph.specs.declared.variations.Axis.TheVariants.{Link}
-use Rattle.module_graph.specs.declared.graph.Node.{Node}
-use Rattle.module_graph.specs.declared.variation.Variation.{Variation}
-use Rattle.module_graph.specs.declared.variation.Variation.TheVariants.{Empty, Static, Shared}
-use Rattle.module_graph.specs.Names.{variant_name_of}
+use Rattle.graph_nodes.specs.Axes.{axis_index}
+use Rattle.graph_nodes.specs.declared.variations.Axis.TheVariants.{Link}
+use Rattle.graph_nodes.specs.declared.graph.Node.{Node}
+use Rattle.graph_nodes.specs.declared.variation.Variation.{Variation}
+use Rattle.graph_nodes.specs.declared.variation.Variation.TheVariants.{Empty, Static, Shared}
+use Rattle.graph_nodes.specs.Names.{variant_name_of}
 use Rattle.bp_props.specs.declared.module.Module.{Module}
 use Rattle.bp_props.specs.declared.kind.ModuleKind.{ModuleKind}
 use Rattle.bp_props.specs.declared.kind.ModuleKind.TheVariants.{LibraryHeaders, Defaults, Filegroup}

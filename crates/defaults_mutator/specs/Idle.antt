@@ -1,7 +1,7 @@
 -- When the two rules leave a node as it is, by what the node has alone.
 use Rattle.std.specs.Prelude.{◌==◌, Bool, length}
 use Rattle.bp_props.specs.declared.props.Props.{Props}
-use Rattle.module_graph.specs.declared.graph.Node.{Node}
+use Rattle.graph_nodes.specs.declared.graph.Node.{Node}
 
 -- A node names no defaults, so it asks for none.
 abbrev pub names_no_defaults : Node Props → Bool

@@ -5,7 +5,7 @@ use Rattle.std.specs.List.{flat_map}
 use Rattle.std.proofs.lemmas.List.{get_or_at}
 use Rattle.graph_picture.specs.declared.variant.Variant.{Variant}
 use Rattle.graph_picture.specs.Inside.{IsFirstLine, IsRead}
-use Rattle.module_graph.specs.Numbered.{by_number}
+use Rattle.graph_nodes.specs.Numbered.{by_number}
 use Rattle.graph_picture.specs.Lines.{HasNo, variant_lines, all_variant_lines, variants_text}
 use Rattle.graph_picture.specs.Reading.{IsStray, Stops}
 use Rattle.graph_picture.proofs.Parts.{cut_once}

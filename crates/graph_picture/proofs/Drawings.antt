@@ -4,7 +4,7 @@ use Rattle.std.proofs.Common.{get_or, take, ap, arith, length-append}
 use Rattle.std.specs.List.{filter, flat_map}
 use Rattle.std.proofs.lemmas.Grind.{flat_map-append}
 use Rattle.std.proofs.lemmas.List.Elements.{filter-append}
-use Rattle.module_graph.specs.Numbered.{by_number}
+use Rattle.graph_nodes.specs.Numbered.{by_number}
 use Rattle.graph_picture.specs.declared.variant.Arrow.{Arrow}
 use Rattle.graph_picture.specs.declared.variant.Variant.{Variant}
 use Rattle.graph_picture.specs.Drawing.{arrow_drawn, is_inside, marked_numbers, shown_arrows}

@@ -3,7 +3,7 @@ use Rattle.std.proofs.Common.{◌≡◌, ◌∙◌, ◌+◌, ◌<◌, ◌++◌, 
 use Rattle.std.proofs.Common.{append_assoc, append-nil}
 use Rattle.std.proofs.lemmas.List.{length-take-le}
 use Rattle.bp_faults.proofs.Lists.{take-more}
-use Rattle.module_graph.specs.Numbered.{by_number}
+use Rattle.graph_nodes.specs.Numbered.{by_number}
 
 pub by_number-append : {X A : Type 0} (f : ℕ → X → List A) (k : ℕ) (xs ys : List X)
     → by_number f k (xs ++ ys) ≡ by_number f k xs ++ by_number f (k + length xs) ys

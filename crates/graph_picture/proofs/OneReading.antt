@@ -8,11 +8,11 @@ use Rattle.std.proofs.lemmas.Fmt.{decimal_by_steps, decimal_injective}
 use Rattle.std.proofs.lemmas.List.{append_cancel_left}
 use Rattle.std.proofs.lemmas.List.Elements.{All-from_recursion}
 use Rattle.bp_faults.proofs.Lists.{all_map, all_pushed}
-use Rattle.module_graph.specs.declared.graph.EdgeKind.{EdgeKind}
-use Rattle.module_graph.specs.declared.graph.EdgeKind.TheVariants.{Defaults, Whole, Static, Shared, Header, DataBin}
-use Rattle.module_graph.specs.declared.graph.EdgeKind.TheVariants.{Sources}
-use Rattle.module_graph.specs.GraphText.{kind_word}
-use Rattle.module_graph.specs.Numbered.{by_number}
+use Rattle.graph_nodes.specs.declared.graph.EdgeKind.{EdgeKind}
+use Rattle.graph_nodes.specs.declared.graph.EdgeKind.TheVariants.{Defaults, Whole, Static, Shared, Header, DataBin}
+use Rattle.graph_nodes.specs.declared.graph.EdgeKind.TheVariants.{Sources}
+use Rattle.graph_nodes.specs.GraphText.{kind_word}
+use Rattle.graph_nodes.specs.Numbered.{by_number}
 use Rattle.graph_picture.specs.declared.variant.Arrow.{Arrow}
 use Rattle.graph_picture.specs.declared.variant.Variant.{Variant}
 use Rattle.graph_picture.specs.Laws.{OneReading}

@@ -6,12 +6,12 @@ use Rattle.std.proofs.lemmas.Bool.Decides.{nat_tests}
 use Rattle.std.proofs.lemmas.List.Elements.{All-from_recursion}
 use Rattle.std.proofs.lemmas.Str.{IsUtf8-from_ascii}
 use Rattle.bp_faults.proofs.Lists.{all_map}
-use Rattle.module_graph.specs.declared.graph.Edge.{Edge}
-use Rattle.module_graph.specs.declared.graph.Node.{Node}
-use Rattle.module_graph.specs.GraphText.{dashed_name, edge_line, node_line, node_lines}
-use Rattle.module_graph.specs.Laws.{VariantNamesArePlain}
-use Rattle.module_graph.specs.Names.{is_label_byte, name_at, variant_name_of}
-use Rattle.module_graph.specs.Numbered.{by_number}
+use Rattle.graph_nodes.specs.declared.graph.Edge.{Edge}
+use Rattle.graph_nodes.specs.declared.graph.Node.{Node}
+use Rattle.graph_nodes.specs.GraphText.{dashed_name, edge_line, node_line, node_lines}
+use Rattle.graph_nodes.specs.Laws.{VariantNamesArePlain}
+use Rattle.graph_nodes.specs.Names.{is_label_byte, name_at, variant_name_of}
+use Rattle.graph_nodes.specs.Numbered.{by_number}
 use Rattle.graph_picture.specs.declared.variant.Arrow.{Arrow}
 use Rattle.graph_picture.specs.declared.variant.Variant.{Variant}
 use Rattle.graph_picture.specs.Laws.{PrintedGraphsAreGraphs}

@@ -4,11 +4,11 @@ use Rattle.std.specs.Prelude.{slice_get}
 use Rattle.std.specs.Fmt.{decimal}
 use Rattle.std.specs.List.{filter, flat_map}
 use Rattle.std.specs.Str.{bytes_eq}
-use Rattle.module_graph.specs.declared.graph.EdgeKind.{EdgeKind}
-use Rattle.module_graph.specs.declared.graph.EdgeKind.TheVariants.{Defaults, Whole, Static, Shared, Header, DataBin}
-use Rattle.module_graph.specs.declared.graph.EdgeKind.TheVariants.{Sources}
-use Rattle.module_graph.specs.GraphText.{kind_word}
-use Rattle.module_graph.specs.Numbered.{by_number}
+use Rattle.graph_nodes.specs.declared.graph.EdgeKind.{EdgeKind}
+use Rattle.graph_nodes.specs.declared.graph.EdgeKind.TheVariants.{Defaults, Whole, Static, Shared, Header, DataBin}
+use Rattle.graph_nodes.specs.declared.graph.EdgeKind.TheVariants.{Sources}
+use Rattle.graph_nodes.specs.GraphText.{kind_word}
+use Rattle.graph_nodes.specs.Numbered.{by_number}
 use Rattle.graph_picture.specs.declared.clusters.Cluster.{Cluster}
 use Rattle.graph_picture.specs.declared.style.TheConstants.{HEAD, FRAME, LEGEND}
 use Rattle.graph_picture.specs.declared.variant.Arrow.{Arrow}

@@ -5,8 +5,8 @@ use Rattle.std.specs.Prelude.{Result, Ok, Err, Vec, ⊤}
 use Rattle.std.specs.Fmt.{decimal}
 use Rattle.std.specs.List.{AllByRecursion}
 use Rattle.std.specs.declared.alloc.Global.{Global}
-use Rattle.module_graph.specs.declared.graph.EdgeKind.{EdgeKind}
-use Rattle.module_graph.specs.GraphText.{kind_word}
+use Rattle.graph_nodes.specs.declared.graph.EdgeKind.{EdgeKind}
+use Rattle.graph_nodes.specs.GraphText.{kind_word}
 use Rattle.graph_picture.specs.declared.read.ReadError.{ReadError}
 use Rattle.graph_picture.specs.declared.read.ReadError.TheVariants.{BadLine, OutOfMemory}
 use Rattle.graph_picture.specs.declared.variant.Arrow.{Arrow}

@@ -3,10 +3,10 @@ use Rattle.std.specs.Prelude.{◌≡◌, ◌≢◌, ◌<◌, ◌^◌, ◌↔◌,
 use Rattle.std.specs.Prelude.{Option, None}
 use Rattle.std.specs.List.{AllByRecursion, flat_map}
 use Rattle.std.specs.List.Sorted.{IsStrictlyIncreasing}
-use Rattle.module_graph.specs.declared.graph.Node.{Node}
-use Rattle.module_graph.specs.Graphs.{NameNodes}
-use Rattle.module_graph.specs.GraphText.{graph_text_of}
-use Rattle.module_graph.specs.Names.{name_at}
+use Rattle.graph_nodes.specs.declared.graph.Node.{Node}
+use Rattle.graph_nodes.specs.GraphText.{graph_text_of}
+use Rattle.graph_nodes.specs.Names.{name_at}
+use Rattle.graph_nodes.specs.Nodes.{NameNodes}
 use Rattle.graph_picture.specs.declared.clusters.Cluster.{Cluster}
 use Rattle.graph_picture.specs.declared.focus.Focus.{Focus}
 use Rattle.graph_picture.specs.declared.variant.Variant.{Variant}

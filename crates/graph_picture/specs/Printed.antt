@@ -1,10 +1,10 @@
 -- What is printed of a module graph, as variants.
 use Rattle.std.specs.Prelude.{ℕ, List, [], ◌∷◌, map}
-use Rattle.module_graph.specs.declared.graph.Edge.{Edge}
-use Rattle.module_graph.specs.declared.graph.Node.{Node}
-use Rattle.module_graph.specs.GraphText.{dashed_name}
-use Rattle.module_graph.specs.Names.{name_at, variant_name_of}
-use Rattle.module_graph.specs.Numbered.{by_number}
+use Rattle.graph_nodes.specs.declared.graph.Edge.{Edge}
+use Rattle.graph_nodes.specs.declared.graph.Node.{Node}
+use Rattle.graph_nodes.specs.GraphText.{dashed_name}
+use Rattle.graph_nodes.specs.Names.{name_at, variant_name_of}
+use Rattle.graph_nodes.specs.Numbered.{by_number}
 use Rattle.graph_picture.specs.declared.variant.Arrow.{Arrow}
 use Rattle.graph_picture.specs.declared.variant.Variant.{Variant}
 

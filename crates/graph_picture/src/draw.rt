@@ -5,7 +5,7 @@ ghost use Rattle.graph_picture.specs.Drawing.{arrow_drawn, box_drawn, cluster_dr
 ghost use Rattle.graph_picture.specs.Drawing.{escaped_byte_text, is_inside, marked_numbers};
 ghost use Rattle.graph_picture.specs.Drawing.{name_in_quotes, shown_arrows, variation_of};
 ghost use Rattle.graph_picture.specs.Reach.{mark_at};
-ghost use Rattle.module_graph.specs.Numbered.{by_number};
+ghost use Rattle.graph_nodes.specs.Numbered.{by_number};
 
 use crate::clusters::{Cluster, clusters_of, module_at};
 use crate::kind::word_of;

@@ -1,5 +1,5 @@
 ghost use Rattle.std.specs.Prelude.{◌≡◌};
-ghost use Rattle.module_graph.specs.GraphText.{kind_word};
+ghost use Rattle.graph_nodes.specs.GraphText.{kind_word};
 ghost use Rattle.graph_picture.specs.Inside.{IsKind};
 
 use module_graph::EdgeKind;

@@ -7,11 +7,11 @@ use Rattle.std.proofs.lemmas.List.Folds.{list_any-append}
 use Rattle.bp_faults.specs.declared.ids.NodeId.{NodeId}
 use Rattle.bp_props.specs.declared.module.Module.{Module}
 use Rattle.bp_props.specs.declared.props.Props.{Props}
-use Rattle.module_graph.specs.declared.graph.Edge.{Edge}
-use Rattle.module_graph.specs.declared.graph.EdgeKind.{EdgeKind}
-use Rattle.module_graph.specs.declared.graph.EdgeKind.TheVariants.{Whole, Static, Shared, Header, Defaults, DataBin}
-use Rattle.module_graph.specs.declared.graph.EdgeKind.TheVariants.{Sources}
-use Rattle.module_graph.specs.declared.graph.Node.{Node}
+use Rattle.graph_nodes.specs.declared.graph.Edge.{Edge}
+use Rattle.graph_nodes.specs.declared.graph.EdgeKind.{EdgeKind}
+use Rattle.graph_nodes.specs.declared.graph.EdgeKind.TheVariants.{Whole, Static, Shared, Header, Defaults, DataBin}
+use Rattle.graph_nodes.specs.declared.graph.EdgeKind.TheVariants.{Sources}
+use Rattle.graph_nodes.specs.declared.graph.Node.{Node}
 use Rattle.mutator_rules.specs.declared.split.Split.{Split}
 use Rattle.info_mutators.specs.Kept.{last_of_each, first_of_each}
 use Rattle.info_mutators.specs.Dependencies.{record_made}

@@ -7,9 +7,9 @@ use Rattle.std.proofs.lemmas.List.{get_or_read, map-append}
 use Rattle.bp_faults.specs.declared.fault.Fault.{Fault}
 use Rattle.bp_props.specs.declared.module.Module.{Module}
 use Rattle.bp_props.specs.declared.props.Props.{Props}
-use Rattle.module_graph.specs.declared.graph.Edge.{Edge}
-use Rattle.module_graph.specs.declared.graph.EdgeKind.TheVariants.{Defaults}
-use Rattle.module_graph.specs.declared.graph.Node.{Node}
+use Rattle.graph_nodes.specs.declared.graph.Edge.{Edge}
+use Rattle.graph_nodes.specs.declared.graph.EdgeKind.TheVariants.{Defaults}
+use Rattle.graph_nodes.specs.declared.graph.Node.{Node}
 use Rattle.std.specs.Option.{option_map_or}
 use Rattle.mutator_rules.specs.declared.split.Split.{Split}
 use Rattle.info_mutators.proofs.Zipped.{zip_more}

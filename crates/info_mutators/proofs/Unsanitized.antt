@@ -7,11 +7,11 @@ use Rattle.std.proofs.lemmas.Bool.{and_parts}
 use Rattle.bp_faults.specs.declared.fault.Fault.{Fault}
 use Rattle.bp_props.specs.declared.listed.Listed.{Listed}
 use Rattle.bp_props.specs.declared.props.Props.{Props}
-use Rattle.module_graph.specs.declared.graph.Edge.{Edge}
-use Rattle.module_graph.specs.declared.graph.Node.{Node}
-use Rattle.module_graph.specs.declared.variation.Variation.{Variation}
-use Rattle.module_graph.specs.declared.variation.Variation.TheVariants.{Asan, Empty}
-use Rattle.module_graph.specs.declared.variations.Axis.TheVariants.{Sanitize}
+use Rattle.graph_nodes.specs.declared.graph.Edge.{Edge}
+use Rattle.graph_nodes.specs.declared.graph.Node.{Node}
+use Rattle.graph_nodes.specs.declared.variation.Variation.{Variation}
+use Rattle.graph_nodes.specs.declared.variation.Variation.TheVariants.{Asan, Empty}
+use Rattle.graph_nodes.specs.declared.variations.Axis.TheVariants.{Sanitize}
 use Rattle.module_rules.specs.Asking.{variation_on}
 use Rattle.module_rules.specs.Seen.{node_at}
 use Rattle.mutator_rules.specs.Idle.{KeepsPayloads, WantsNothing}

@@ -1,8 +1,8 @@
 -- When the rules `sanitize` and `sdk` leave a node as it is, by what the node has alone.
 use Rattle.std.specs.Prelude.{◌==◌, ◌&&◌, Bool, is_none, not}
 use Rattle.bp_props.specs.declared.props.Props.{Props}
-use Rattle.module_graph.specs.declared.graph.Node.{Node}
-use Rattle.module_graph.specs.declared.variations.Axis.TheVariants.{Sanitize as SanitizeAxis}
+use Rattle.graph_nodes.specs.declared.graph.Node.{Node}
+use Rattle.graph_nodes.specs.declared.variations.Axis.TheVariants.{Sanitize as SanitizeAxis}
 use Rattle.module_rules.specs.Asking.{variation_on}
 use Rattle.info_mutators.specs.Sanitize.{is_asan, is_on}
 

@@ -11,11 +11,11 @@ use Rattle.bp_faults.specs.Faults.{fault_on}
 use Rattle.bp_names.specs.Meaning.{knows}
 use Rattle.bp_props.specs.declared.module.Module.{Module}
 use Rattle.bp_props.specs.declared.props.Props.{Props}
-use Rattle.module_graph.specs.declared.graph.EdgeKind.{EdgeKind}
-use Rattle.module_graph.specs.declared.graph.EdgeKind.TheVariants.{Whole, Static, Shared, Header}
-use Rattle.module_graph.specs.declared.graph.Node.{Node}
-use Rattle.module_graph.specs.declared.variation.Variation.{Variation}
-use Rattle.module_graph.specs.Names.{label_of}
+use Rattle.graph_nodes.specs.declared.graph.EdgeKind.{EdgeKind}
+use Rattle.graph_nodes.specs.declared.graph.EdgeKind.TheVariants.{Whole, Static, Shared, Header}
+use Rattle.graph_nodes.specs.declared.graph.Node.{Node}
+use Rattle.graph_nodes.specs.declared.variation.Variation.{Variation}
+use Rattle.graph_nodes.specs.Names.{label_of}
 use Rattle.module_rules.specs.Results.{one_variant}
 use Rattle.module_rules.specs.Seen.{at_node}
 use Rattle.mutator_rules.specs.declared.split.Split.{Split}

@@ -1,7 +1,7 @@
 ghost use Rattle.std.specs.Prelude.{◌≡◌, ◌<◌, IfOk, None, map, length};
 ghost use Rattle.std.specs.Arc.{arc_value};
 ghost use Rattle.std.specs.List.{AllByRecursion};
-ghost use Rattle.module_graph.specs.declared.graph.Edge.{Edge};
+ghost use Rattle.graph_nodes.specs.declared.graph.Edge.{Edge};
 ghost use Rattle.mutator_rules.specs.Conditions.{MayRun, indices_in};
 ghost use Rattle.info_mutators.specs.Dependencies.{dependencies_of};
 ghost use Rattle.info_mutators.specs.Info.{too_long, with_short_lists, info_meant};

@@ -8,8 +8,8 @@ use Rattle.bp_props.specs.declared.kind.ModuleKind.{ModuleKind}
 use Rattle.bp_props.specs.declared.kind.ModuleKind.TheVariants.{Binary, Library, LibraryStatic, LibraryShared}
 use Rattle.bp_props.specs.declared.kind.ModuleKind.TheVariants.{LibraryHeaders, Test, Defaults, Filegroup}
 use Rattle.bp_props.specs.declared.props.Props.{Props}
-use Rattle.module_graph.specs.declared.graph.Node.{Node}
-use Rattle.module_graph.specs.declared.variation.Variation.{Variation}
+use Rattle.graph_nodes.specs.declared.graph.Node.{Node}
+use Rattle.graph_nodes.specs.declared.variation.Variation.{Variation}
 use Rattle.mutator_rules.specs.declared.split.Split.{Split}
 use Rattle.module_rules.specs.Flags.{is_true_or}
 use Rattle.module_rules.specs.Idle.{LeavesNode}

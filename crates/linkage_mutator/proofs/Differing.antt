@@ -6,11 +6,11 @@ use Rattle.std.proofs.lemmas.List.Kept.{AllPairs-cons}
 use Rattle.bp_props.specs.declared.module.Module.{Module}
 use Rattle.bp_props.specs.declared.props.Props.{Props}
 use Rattle.bp_props.specs.declared.source.Source.{Source}
-use Rattle.module_graph.specs.declared.graph.Node.{Node}
-use Rattle.module_graph.specs.declared.variation.Variation.{Variation}
-use Rattle.module_graph.specs.declared.variation.Variation.TheVariants.{Empty, PerSource}
-use Rattle.module_graph.specs.Numbered.{by_number}
-use Rattle.module_graph.specs.Same.{own_number}
+use Rattle.graph_nodes.specs.declared.graph.Node.{Node}
+use Rattle.graph_nodes.specs.declared.variation.Variation.{Variation}
+use Rattle.graph_nodes.specs.declared.variation.Variation.TheVariants.{Empty, PerSource}
+use Rattle.graph_nodes.specs.Numbered.{by_number}
+use Rattle.graph_nodes.specs.Same.{own_number}
 use Rattle.module_rules.specs.Laws.{VariantsDiffer}
 use Rattle.linkage_mutator.specs.Sources.{variant_of_source, each_source, is_split, source_variants}
 

@@ -8,8 +8,8 @@ use Rattle.bp_faults.specs.declared.fault.Fault.{Fault}
 use Rattle.bp_faults.specs.declared.place.Item.{Item}
 use Rattle.bp_props.specs.declared.module.Module.{Module}
 use Rattle.bp_props.specs.declared.props.Props.{Props}
-use Rattle.module_graph.specs.declared.graph.Node.{Node}
-use Rattle.module_graph.specs.declared.variations.Axis.TheVariants.{Link}
+use Rattle.graph_nodes.specs.declared.graph.Node.{Node}
+use Rattle.graph_nodes.specs.declared.variations.Axis.TheVariants.{Link}
 use Rattle.mutator_rules.specs.declared.request.Request.{Request}
 use Rattle.mutator_rules.specs.declared.split.Split.{Split}
 use Rattle.module_rules.specs.Asking.{variation_on}

@@ -6,10 +6,10 @@ use Rattle.bp_props.specs.declared.kind.ModuleKind.TheVariants.{Filegroup}
 use Rattle.bp_props.specs.declared.module.Module.{Module}
 use Rattle.bp_props.specs.declared.props.Props.{Props}
 use Rattle.bp_props.specs.declared.source.Source.{Source}
-use Rattle.module_graph.specs.declared.graph.EdgeKind.TheVariants.{Whole, Static, Shared, Header, DataBin, Sources}
-use Rattle.module_graph.specs.declared.graph.Node.{Node}
-use Rattle.module_graph.specs.declared.variation.Variation.{Variation}
-use Rattle.module_graph.specs.declared.variation.Variation.TheVariants.{Empty, Static as OfStatic, Shared as OfShared}
+use Rattle.graph_nodes.specs.declared.graph.EdgeKind.TheVariants.{Whole, Static, Shared, Header, DataBin, Sources}
+use Rattle.graph_nodes.specs.declared.graph.Node.{Node}
+use Rattle.graph_nodes.specs.declared.variation.Variation.{Variation}
+use Rattle.graph_nodes.specs.declared.variation.Variation.TheVariants.{Empty, Static as OfStatic, Shared as OfShared}
 use Rattle.mutator_rules.specs.declared.request.Request.{Request}
 use Rattle.module_rules.specs.Asking.{requests, common}
 use Rattle.linkage_mutator.specs.Wanting.{own_with}

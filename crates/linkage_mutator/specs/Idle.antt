@@ -1,7 +1,7 @@
 -- When the rules `plugins` and `per_src` leave a node as it is, by what the node has alone.
 use Rattle.std.specs.Prelude.{◌==◌, Bool, false, not, length}
 use Rattle.bp_props.specs.declared.props.Props.{Props}
-use Rattle.module_graph.specs.declared.graph.Node.{Node}
+use Rattle.graph_nodes.specs.declared.graph.Node.{Node}
 use Rattle.module_rules.specs.Flags.{is_true_or}
 
 -- A node is a plugin of no module, so it asks for nothing.

@@ -2,7 +2,7 @@
 use Rattle.std.specs.Prelude.{List}
 use Rattle.bp_props.specs.declared.module.Module.{Module}
 use Rattle.bp_props.specs.declared.props.Props.{Props}
-use Rattle.module_graph.specs.declared.graph.Node.{Node}
+use Rattle.graph_nodes.specs.declared.graph.Node.{Node}
 use Rattle.module_rules.specs.Laws.{VariationsDiffer}
 use Rattle.module_rules.specs.Rules.{splits}
 use Rattle.linkage_mutator.specs.Links.{link_variants}

@@ -5,9 +5,9 @@ use Rattle.bp_props.specs.declared.kind.ModuleKind.{ModuleKind}
 use Rattle.bp_props.specs.declared.kind.ModuleKind.TheVariants.{Library, LibraryStatic, LibraryShared}
 use Rattle.bp_props.specs.declared.module.Module.{Module}
 use Rattle.bp_props.specs.declared.props.Props.{Props}
-use Rattle.module_graph.specs.declared.graph.Node.{Node}
-use Rattle.module_graph.specs.declared.variation.Variation.{Variation}
-use Rattle.module_graph.specs.declared.variation.Variation.TheVariants.{Empty, Static, Shared}
+use Rattle.graph_nodes.specs.declared.graph.Node.{Node}
+use Rattle.graph_nodes.specs.declared.variation.Variation.{Variation}
+use Rattle.graph_nodes.specs.declared.variation.Variation.TheVariants.{Empty, Static, Shared}
 use Rattle.module_rules.specs.Found.{with_pic}
 use Rattle.module_rules.specs.Groups.{with_group}
 use Rattle.module_rules.specs.Variants.{if_enabled}

@@ -9,11 +9,11 @@ use Rattle.bp_props.specs.declared.kind.ModuleKind.{ModuleKind}
 use Rattle.bp_props.specs.declared.kind.ModuleKind.TheVariants.{Binary, Test}
 use Rattle.bp_props.specs.declared.module.Module.{Module}
 use Rattle.bp_props.specs.declared.props.Props.{Props}
-use Rattle.module_graph.specs.declared.graph.EdgeKind.TheVariants.{Shared}
-use Rattle.module_graph.specs.declared.graph.Node.{Node}
-use Rattle.module_graph.specs.declared.variation.Variation.{Variation}
-use Rattle.module_graph.specs.declared.variation.Variation.TheVariants.{Empty, Shared as OfShared}
-use Rattle.module_graph.specs.declared.variations.Axis.TheVariants.{Link}
+use Rattle.graph_nodes.specs.declared.graph.EdgeKind.TheVariants.{Shared}
+use Rattle.graph_nodes.specs.declared.graph.Node.{Node}
+use Rattle.graph_nodes.specs.declared.variation.Variation.{Variation}
+use Rattle.graph_nodes.specs.declared.variation.Variation.TheVariants.{Empty, Shared as OfShared}
+use Rattle.graph_nodes.specs.declared.variations.Axis.TheVariants.{Link}
 use Rattle.mutator_rules.specs.declared.request.Request.{Request}
 use Rattle.module_rules.specs.Asking.{request, variation_on}
 use Rattle.linkage_mutator.specs.Wanting.{own_with}

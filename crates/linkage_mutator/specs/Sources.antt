@@ -6,10 +6,10 @@ use Rattle.bp_props.specs.declared.kind.ModuleKind.TheVariants.{Test}
 use Rattle.bp_props.specs.declared.module.Module.{Module}
 use Rattle.bp_props.specs.declared.props.Props.{Props}
 use Rattle.bp_props.specs.declared.source.Source.{Source}
-use Rattle.module_graph.specs.declared.graph.Node.{Node}
-use Rattle.module_graph.specs.declared.variation.Variation.{Variation}
-use Rattle.module_graph.specs.declared.variation.Variation.TheVariants.{Empty, PerSource}
-use Rattle.module_graph.specs.Numbered.{by_number}
+use Rattle.graph_nodes.specs.declared.graph.Node.{Node}
+use Rattle.graph_nodes.specs.declared.variation.Variation.{Variation}
+use Rattle.graph_nodes.specs.declared.variation.Variation.TheVariants.{Empty, PerSource}
+use Rattle.graph_nodes.specs.Numbered.{by_number}
 use Rattle.module_rules.specs.Flags.{is_true_or}
 
 -- A record with other sources. The list's place stays.

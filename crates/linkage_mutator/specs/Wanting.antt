@@ -1,7 +1,7 @@
 -- Which variant of another module a node wants.
 use Rattle.std.specs.Prelude.{List}
-use Rattle.module_graph.specs.declared.variation.Variation.{Variation}
-use Rattle.module_graph.specs.declared.variations.Axis.TheVariants.{Target, Image}
+use Rattle.graph_nodes.specs.declared.variation.Variation.{Variation}
+use Rattle.graph_nodes.specs.declared.variations.Axis.TheVariants.{Target, Image}
 use Rattle.module_rules.specs.Asking.{variation_on}
 use Rattle.mutator_rules.specs.declared.request.Wanted.{Wanted}
 

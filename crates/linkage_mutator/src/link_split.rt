@@ -1,6 +1,6 @@
 ghost use Rattle.std.specs.Prelude.{◌≡◌, Some, IfOk, length};
 ghost use Rattle.linkage_mutator.specs.Links.{has_link, pic_if_linked, links_of, link_variants};
-ghost use Rattle.module_graph.specs.declared.variations.Axis.TheVariants.{Link};
+ghost use Rattle.graph_nodes.specs.declared.variations.Axis.TheVariants.{Link};
 ghost use Rattle.module_rules.specs.Groups.{with_group};
 ghost use Rattle.module_rules.specs.Rules.{splits};
 ghost use Rattle.module_rules.specs.Shaped.{splits_shaped};

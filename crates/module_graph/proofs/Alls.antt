@@ -6,11 +6,12 @@ use Rattle.std.proofs.lemmas.List.{take_more}
 use Rattle.pass_core.specs.declared.plan.PlanEdge.{PlanEdge}
 use Rattle.pass_core.specs.Plans.{HaveEndsBelow}
 use Rattle.bp_faults.proofs.Lists.{all_pushed, all_append, all_image}
+use Rattle.graph_nodes.specs.declared.graph.Edge.{Edge}
+use Rattle.graph_nodes.specs.declared.graph.Node.{Node}
+use Rattle.graph_nodes.specs.Numbered.{by_number}
+use Rattle.graph_nodes.specs.Nodes.{NameNodes}
 use Rattle.module_graph.specs.declared.direction.Direction.TheVariants.{BottomUp}
-use Rattle.module_graph.specs.declared.graph.Edge.{Edge}
-use Rattle.module_graph.specs.declared.graph.Node.{Node}
-use Rattle.module_graph.specs.Numbered.{by_number}
-use Rattle.module_graph.specs.Graphs.{outward, edges_of, NameNodes}
+use Rattle.module_graph.specs.Graphs.{outward, edges_of}
 use Rattle.module_graph.specs.Planned.{turned_edge, plan_edges}
 
 -- one item more

@@ -4,20 +4,21 @@ use Rattle.std.proofs.Common.{arith, take_all}
 use Rattle.std.specs.List.{AllByRecursion}
 use Rattle.pass_core.specs.declared.plan.PlanEdge.{PlanEdge}
 use Rattle.bp_faults.proofs.Lists.{all_map, all_append, all_image}
-use Rattle.module_graph.specs.declared.graph.Node.{Node}
+use Rattle.graph_nodes.specs.declared.graph.Node.{Node}
+use Rattle.graph_nodes.specs.Laws.{OneMoreItem}
 use Rattle.module_graph.specs.Graphs.{outward, edges_of}
 use Rattle.module_graph.specs.Walks.{Walk, Returns}
 use Rattle.module_graph.proofs.Numbers.{by_number_step}
 use Rattle.module_graph.proofs.Walking.{at_step}
 
 -- what holds of the edges of the first nodes and of the next node's
-pub all_edges_more : {P : Type 0} (Q : PlanEdge → Type 0) (nodes : List (Node P)) (n : ℕ) (x : Node P)
-    → n < length nodes → x ≡ get_or nodes n x
+pub all_edges_more : {P : Type 0} → OneMoreItem (Node P) PlanEdge → (Q : PlanEdge → Type 0) (nodes : List (Node P))
+    (n : ℕ) (x : Node P) → n < length nodes → x ≡ get_or nodes n x
     → AllByRecursion Q (edges_of (take n nodes)) → AllByRecursion (λ e. Q (outward n e)) x.edges
     → AllByRecursion Q (edges_of (take (n + 1) nodes))
-all_edges_more {P} Q nodes n x lt read before here =
+all_edges_more {P} one_more Q nodes n x lt read before here =
     subst (λ (l : List PlanEdge). AllByRecursion Q l)
-    (sym (by_number_step (λ k (y : Node P). map (outward k) y.edges) nodes n x lt))
+    (sym (by_number_step one_more (λ k (y : Node P). map (outward k) y.edges) nodes n x lt))
     (all_append Q (edges_of (take n nodes)) (map (outward n) (get_or nodes n x).edges) before
     (subst (λ (y : Node P). AllByRecursion Q (map (outward n) y.edges)) read
     (all_image (λ e. Q (outward n e)) Q (outward n) (λ e h. h) x.edges here)))

@@ -1,8 +1,6 @@
 pub mod Alls
 pub mod Numbers
 pub mod Ordered
-pub mod Spelled
-pub mod PlainNames
 pub mod Buckets
 pub mod Sorted
 pub mod PlanOf
@@ -18,8 +16,6 @@ pub mod Outward
 pub mod Back
 pub mod Starting
 pub mod Ways
-pub mod Lines
 pub mod OneCycle
 pub mod ShortCycle
 pub mod SomeCycle
-pub mod Sames

@@ -6,12 +6,13 @@ use mathlib.Core.Logic.{dite}
 use native.Mathlib.Decide.{ℕ_discrete}
 use Rattle.bp_faults.specs.declared.fault.Fault.{Fault}
 use Rattle.pass_core.specs.declared.plan.PlanEdge.{PlanEdge}
-use Rattle.module_graph.specs.declared.graph.Edge.{Edge}
-use Rattle.module_graph.specs.declared.graph.Node.{Node}
+use Rattle.graph_nodes.specs.declared.graph.Edge.{Edge}
+use Rattle.graph_nodes.specs.declared.graph.Node.{Node}
+use Rattle.graph_nodes.specs.Nodes.{edges_at}
 use Rattle.module_graph.specs.Graphs.{edges_of}
 use Rattle.module_graph.specs.Walks.{Walk}
 use Rattle.module_graph.specs.Cycles.{IsDistance, IsStart, IsNearest, IsWay, IsCycle, IsReported, CycleMeans}
-use Rattle.module_graph.specs.Cycles.{cycle_fault, edges_at}
+use Rattle.module_graph.specs.Cycles.{cycle_fault}
 use Rattle.module_graph.proofs.Outward.{all_middle}
 
 module _ (edges : List PlanEdge) (s : ℕ) where

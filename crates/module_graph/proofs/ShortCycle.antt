@@ -2,11 +2,12 @@
 use Rattle.std.proofs.Common.{◌<◌, ◌≤◌, ℕ, zero, suc, List, [], ◌∷◌, length, sym, subst, arith}
 use Rattle.std.specs.List.{AllByRecursion}
 use Rattle.bp_faults.proofs.Lists.{all_map, all_append}
-use Rattle.module_graph.specs.declared.graph.Edge.{Edge}
-use Rattle.module_graph.specs.declared.graph.Node.{Node}
+use Rattle.graph_nodes.specs.declared.graph.Edge.{Edge}
+use Rattle.graph_nodes.specs.declared.graph.Node.{Node}
+use Rattle.graph_nodes.specs.Nodes.{edges_at}
 use Rattle.module_graph.specs.Graphs.{edges_of}
 use Rattle.module_graph.specs.Walks.{Leads, Walk}
-use Rattle.module_graph.specs.Cycles.{IsNearest, IsWay, IsCycle, edges_at}
+use Rattle.module_graph.specs.Cycles.{IsNearest, IsWay, IsCycle}
 use Rattle.module_graph.proofs.Outward.{all_middle, leads_out, at_target}
 
 module _ {P : Type 0} (nodes : List (Node P)) (s : ℕ) where

@@ -10,12 +10,13 @@ use Rattle.bp_faults.specs.declared.fault.Fault.{Fault}
 use Rattle.pass_core.specs.declared.plan.PlanEdge.{PlanEdge}
 use Rattle.pass_core.specs.Plans.{HaveEndsBelow}
 use Rattle.bp_faults.proofs.Lists.{all_map, all_append}
-use Rattle.module_graph.specs.declared.graph.Edge.{Edge}
-use Rattle.module_graph.specs.declared.graph.Node.{Node}
-use Rattle.module_graph.specs.Graphs.{edges_of, NameNodes}
+use Rattle.graph_nodes.specs.declared.graph.Edge.{Edge}
+use Rattle.graph_nodes.specs.declared.graph.Node.{Node}
+use Rattle.graph_nodes.specs.Nodes.{NameNodes, edges_at}
+use Rattle.module_graph.specs.Graphs.{edges_of}
 use Rattle.module_graph.specs.Walks.{Walk, Returns}
 use Rattle.module_graph.specs.Cycles.{IsDistance, IsStart, IsNearest, IsWay, IsCycle, IsReported, CycleMeans}
-use Rattle.module_graph.specs.Cycles.{cycle_fault, edges_at}
+use Rattle.module_graph.specs.Cycles.{cycle_fault}
 use Rattle.module_graph.proofs.Alls.{edges_of_ends}
 use Rattle.module_graph.proofs.Outward.{at_target}
 use Rattle.module_graph.proofs.ShortCycle.{nearest_leads, nearest_within}

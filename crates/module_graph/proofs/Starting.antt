@@ -7,13 +7,13 @@ use Rattle.std.proofs.lemmas.List.Elements.{All-from_recursion, recursion_from_A
 use Rattle.pass_core.specs.declared.plan.PlanEdge.{PlanEdge}
 use Rattle.pass_core.specs.Plans.{in_edges, HaveEndsBelow}
 use Rattle.bp_faults.proofs.Lists.{all_map}
-use Rattle.module_graph.specs.declared.graph.Edge.{Edge}
-use Rattle.module_graph.specs.declared.graph.Node.{Node}
+use Rattle.graph_nodes.specs.declared.graph.Edge.{Edge}
+use Rattle.graph_nodes.specs.declared.graph.Node.{Node}
+use Rattle.graph_nodes.specs.Nodes.{NameNodes, edges_at}
 use Rattle.module_graph.specs.declared.nearest.Near.{Near}
-use Rattle.module_graph.specs.Graphs.{edges_of, NameNodes}
+use Rattle.module_graph.specs.Graphs.{edges_of}
 use Rattle.module_graph.specs.Planned.{by_target}
 use Rattle.module_graph.specs.Walks.{Leads, Walk, Returns}
-use Rattle.module_graph.specs.Cycles.{edges_at}
 use Rattle.module_graph.specs.Search.{found_at, AreDistances, IsNearestFound}
 use Rattle.module_graph.proofs.Alls.{edges_of_ends}
 use Rattle.module_graph.proofs.Outward.{all_middle, edges_at_is, leads_out, at_target}

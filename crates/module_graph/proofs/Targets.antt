@@ -1,17 +1,15 @@
 -- From the bottom up the predecessors of a node are the targets of its edges.
-use Rattle.std.proofs.Common.{◌≡◌, ◌≢◌, ◌+◌, ◌<◌, ◌++◌, ℕ, zero, suc, List, [], ◌∷◌, map, length, get_or, refl, ap, ◌∙◌}
-use Rattle.std.proofs.Common.{sym, arith, append-nil, eq-eqb, ne_eqb, add-zero, zero-add, Some}
-use Rattle.std.specs.Prelude.{slice_get}
+use Rattle.std.proofs.Common.{◌≡◌, ◌≢◌, ◌+◌, ◌<◌, ◌++◌, ℕ, zero, suc, List, [], ◌∷◌, map, refl, ap, ◌∙◌, sym, arith}
+use Rattle.std.proofs.Common.{append-nil, eq-eqb, ne_eqb, add-zero, zero-add}
 use Rattle.std.proofs.lemmas.List.{map-append}
 use Rattle.std.proofs.lemmas.List.Elements.{filter-append}
 use Rattle.pass_core.specs.declared.plan.PlanEdge.{PlanEdge}
 use Rattle.pass_core.specs.Plans.{predecessors}
+use Rattle.graph_nodes.specs.declared.graph.Edge.{Edge}
+use Rattle.graph_nodes.specs.declared.graph.Node.{Node}
+use Rattle.graph_nodes.specs.Numbered.{by_number}
+use Rattle.graph_nodes.specs.Nodes.{targets}
 use Rattle.module_graph.specs.declared.direction.Direction.TheVariants.{BottomUp}
-use Rattle.module_graph.specs.declared.graph.Edge.{Edge}
-use Rattle.module_graph.specs.declared.graph.Node.{Node}
-use Rattle.module_graph.specs.Numbered.{by_number}
-use Rattle.module_graph.specs.Cycles.{edges_at}
-use Rattle.module_graph.specs.Graphs.{targets}
 use Rattle.module_graph.specs.Planned.{turned_edge, plan_edges}
 
 before_append : (xs ys : List PlanEdge) (n : ℕ) → predecessors (xs ++ ys) n ≡ predecessors xs n ++ predecessors ys n
@@ -66,18 +64,3 @@ module _ {P : Type 0} where
       → predecessors (plan_edges BottomUp nodes) n ≡ targets nodes n
   predecessors_targets nodes n =
       ap (predecessors (plan_edges BottomUp nodes)) (sym (zero-add n)) ∙ from_number nodes 0 n
-
-  -- the targets of a node's edges are those of the node that stands there
-  pub targets_at : (nodes : List (Node P)) (n : ℕ) (x : Node P) → n < length nodes
-      → targets nodes n ≡ map (λ (e : Edge). e.to.0) (get_or nodes n x).edges
-  targets_at [] n x lt = absurd (omega arith)
-  targets_at (y ∷ ys) zero x lt = refl
-  targets_at (y ∷ ys) (suc n) x lt = targets_at ys n x (omega arith)
-
-  -- what stands at a node's number is the node's
-  pub edges_stand : (nodes : List (Node P)) (n : ℕ) (x : Node P) → slice_get nodes n ≡ Some x
-      → (edges_at nodes n ≡ x.edges) × (targets nodes n ≡ map (λ (e : Edge). e.to.0) x.edges)
-  edges_stand [] n x at = cc
-  edges_stand (y ∷ ys) zero x at =
-      let same : y ≡ x = cc in ((λ i. (same i).edges), λ i. map (λ (e : Edge). e.to.0) (same i).edges)
-  edges_stand (y ∷ ys) (suc n) x at = edges_stand ys n x at

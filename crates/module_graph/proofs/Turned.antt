@@ -8,12 +8,13 @@ use Rattle.std.proofs.lemmas.List.{map-append}
 use Rattle.std.proofs.lemmas.List.Elements.{recursion_from_All, All-from_recursion, All-contains_itself}
 use Rattle.pass_core.specs.declared.plan.PlanEdge.{PlanEdge}
 use Rattle.pass_core.specs.Plans.{in_edges, HasNoCycle, HaveEndsBelow}
+use Rattle.graph_nodes.specs.declared.graph.Edge.{Edge}
+use Rattle.graph_nodes.specs.declared.graph.Node.{Node}
+use Rattle.graph_nodes.specs.Numbered.{by_number}
+use Rattle.graph_nodes.specs.Nodes.{NameNodes}
 use Rattle.module_graph.specs.declared.direction.Direction.{Direction}
 use Rattle.module_graph.specs.declared.direction.Direction.TheVariants.{BottomUp, TopDown}
-use Rattle.module_graph.specs.declared.graph.Edge.{Edge}
-use Rattle.module_graph.specs.declared.graph.Node.{Node}
-use Rattle.module_graph.specs.Numbered.{by_number}
-use Rattle.module_graph.specs.Graphs.{outward, edges_of, NameNodes}
+use Rattle.module_graph.specs.Graphs.{outward, edges_of}
 use Rattle.module_graph.specs.Planned.{turned_edge, by_target, plan_edges}
 use Rattle.module_graph.specs.Walks.{Leads, Walk, NoneReturns}
 use Rattle.bp_faults.proofs.Lists.{all_map, all_image}

@@ -3,12 +3,13 @@ use Rattle.std.proofs.Common.{◌≡◌, ◌≢◌, ◌<◌, ◌≤◌, ◌++◌
 use Rattle.std.proofs.Common.{Some, None}
 use Rattle.std.specs.List.{AllByRecursion}
 use Rattle.bp_faults.proofs.Lists.{all_map, all_append}
-use Rattle.module_graph.specs.declared.graph.Edge.{Edge}
-use Rattle.module_graph.specs.declared.graph.Node.{Node}
+use Rattle.graph_nodes.specs.declared.graph.Edge.{Edge}
+use Rattle.graph_nodes.specs.declared.graph.Node.{Node}
+use Rattle.graph_nodes.specs.Nodes.{edges_at}
 use Rattle.module_graph.specs.declared.nearest.Near.{Near}
 use Rattle.module_graph.specs.Graphs.{edges_of}
 use Rattle.module_graph.specs.Walks.{Leads, Walk}
-use Rattle.module_graph.specs.Cycles.{IsNearest, IsWay, edges_at}
+use Rattle.module_graph.specs.Cycles.{IsNearest, IsWay}
 use Rattle.module_graph.specs.Search.{found_at, AreDistances, IsNearestFound}
 use Rattle.module_graph.proofs.Nearer.{nearest_is}
 use Rattle.module_graph.proofs.Outward.{all_middle, leads_out, at_target}

@@ -1,13 +1,14 @@
 -- The cycle that is reported where a walk in a graph returns to its start.
-use Rattle.std.specs.Prelude.{◌≡◌, ◌≢◌, ◌<◌, ◌≤◌, ◌++◌, ℕ, zero, suc, List, [], ◌∷◌, map, Result, Ok, Err}
+use Rattle.std.specs.Prelude.{◌≡◌, ◌≢◌, ◌<◌, ◌≤◌, ◌++◌, ℕ, List, [], ◌∷◌, map, Result, Ok, Err}
 use Rattle.std.specs.List.{AllByRecursion}
 use Rattle.bp_faults.specs.declared.fault.Fault.{Fault}
 use Rattle.bp_faults.specs.declared.kind.FaultKind.TheVariants.{Cycle}
 use Rattle.pass_core.specs.declared.plan.PlanEdge.{PlanEdge}
-use Rattle.module_graph.specs.declared.graph.Edge.{Edge}
-use Rattle.module_graph.specs.declared.graph.Node.{Node}
+use Rattle.graph_nodes.specs.declared.graph.Edge.{Edge}
+use Rattle.graph_nodes.specs.declared.graph.Node.{Node}
+use Rattle.graph_nodes.specs.Names.{name_at}
+use Rattle.graph_nodes.specs.Nodes.{edges_at}
 use Rattle.module_graph.specs.Graphs.{edges_of}
-use Rattle.module_graph.specs.Names.{name_at}
 use Rattle.module_graph.specs.Walks.{Walk, Returns, NoneReturns}
 
 -- The distance from n to s is the length of a shortest walk. From s to itself it is 0.
@@ -31,12 +32,6 @@ pub record IsNearest (edges : List PlanEdge) (s : ℕ) (es : List Edge) (e : Edg
   pub later : AllByRecursion (λ (x : Edge). (k : ℕ) → Walk edges k x.to.0 s → distance ≤ k) after
 
 module _ {P : Type 0} where
-  -- The edges of a node, in order.
-  abbrev pub edges_at : List (Node P) → ℕ → List Edge
-  edges_at [] n = []
-  edges_at (x ∷ xs) zero = x.edges
-  edges_at (x ∷ xs) (suc n) = edges_at xs n
-
   -- From n some edges lead to m: each is the nearest to s of the node at which it begins, and none begins at s.
   abbrev pub IsWay : List (Node P) → ℕ → ℕ → List Edge → ℕ → Type 0
   IsWay nodes s n [] m = n ≡ m

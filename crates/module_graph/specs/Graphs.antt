@@ -1,10 +1,11 @@
 -- Module graphs (Blueprint package documentation: modules, variants and dependencies).
-use Rattle.std.specs.Prelude.{◌≡◌, ◌<◌, ◌^◌, ℕ, zero, suc, List, [], ◌∷◌, map, length}
-use Rattle.std.specs.List.{AllByRecursion, AllPairs, flat_map}
+use Rattle.std.specs.Prelude.{◌≡◌, ◌<◌, ◌^◌, ℕ, List, map, length}
+use Rattle.std.specs.List.{AllPairs}
 use Rattle.pass_core.specs.declared.plan.PlanEdge.{PlanEdge}
-use Rattle.module_graph.specs.declared.graph.Edge.{Edge}
-use Rattle.module_graph.specs.declared.graph.Node.{Node}
-use Rattle.module_graph.specs.Numbered.{by_number}
+use Rattle.graph_nodes.specs.declared.graph.Edge.{Edge}
+use Rattle.graph_nodes.specs.declared.graph.Node.{Node}
+use Rattle.graph_nodes.specs.Nodes.{NameNodes}
+use Rattle.graph_nodes.specs.Numbered.{by_number}
 use Rattle.module_graph.specs.Walks.{NoneReturns}
 
 -- An edge of node n, from n to its target.
@@ -15,20 +16,6 @@ module _ {P : Type 0} where
   -- The edges of a graph, each from its node to its target, by node and index.
   abbrev pub edges_of : List (Node P) → List PlanEdge
   edges_of nodes = by_number (λ n (x : Node P). map (outward n) x.edges) 0 nodes
-
-  -- The edges of a graph, in node order.
-  abbrev pub all_edges : List (Node P) → List Edge
-  all_edges nodes = flat_map (λ (x : Node P). x.edges) nodes
-
-  -- The targets of a node's edges, in order.
-  abbrev pub targets : List (Node P) → ℕ → List ℕ
-  targets [] n = []
-  targets (x ∷ xs) zero = map (λ (e : Edge). e.to.0) x.edges
-  targets (x ∷ xs) (suc n) = targets xs n
-
-  -- Each edge names a node.
-  abbrev pub NameNodes : List (Node P) → Type 0
-  NameNodes nodes = AllByRecursion (λ (x : Node P). AllByRecursion (λ (e : Edge). e.to.0 < length nodes) x.edges) nodes
 
   -- A `u32` numbers the nodes and the edges of a graph, and each edge names a node.
   pub record IsNumbered (nodes : List (Node P)) : Type 0 where

@@ -1,21 +1,15 @@
 -- What holds of every graph and its plans.
-use Rattle.std.specs.Prelude.{◌≡◌, ◌<◌, ◌≤◌, ◌↔◌, ◌++◌, ℕ, suc, true, List, [], ◌∷◌, map, length, slice_get, Some}
-use Rattle.std.specs.Prelude.{IsTrue}
-use Rattle.std.specs.Prelude.{Result}
-use Rattle.std.specs.List.{AllByRecursion}
+use Rattle.std.specs.Prelude.{◌≡◌, ◌<◌, ◌≤◌, ◌↔◌, ◌++◌, ℕ, suc, List, [], ◌∷◌, map, length, Result}
 use Rattle.bp_faults.specs.declared.fault.Fault.{Fault}
 use Rattle.pass_core.specs.declared.plan.PlanEdge.{PlanEdge}
 use Rattle.pass_core.specs.Plans.{HaveEndsBelow, HasNoCycle, IsPlan, in_edges, predecessors}
+use Rattle.graph_nodes.specs.declared.graph.Edge.{Edge}
+use Rattle.graph_nodes.specs.declared.graph.Node.{Node}
+use Rattle.graph_nodes.specs.Nodes.{targets, NameNodes}
 use Rattle.module_graph.specs.declared.direction.Direction.{Direction}
 use Rattle.module_graph.specs.declared.direction.Direction.TheVariants.{BottomUp, TopDown}
-use Rattle.module_graph.specs.declared.graph.Edge.{Edge}
-use Rattle.module_graph.specs.declared.graph.Node.{Node}
-use Rattle.module_graph.specs.declared.variation.Variation.{Variation}
-use Rattle.module_graph.specs.Cycles.{IsCycle, IsReported, CycleMeans, edges_at}
-use Rattle.module_graph.specs.Graphs.{outward, edges_of, targets, NameNodes, IsNumbered, IsValid}
-use Rattle.module_graph.specs.Names.{variant_name_of, is_label_byte}
-use Rattle.module_graph.specs.Numbered.{by_number}
-use Rattle.module_graph.specs.Same.{same}
+use Rattle.module_graph.specs.Cycles.{IsCycle, IsReported, CycleMeans}
+use Rattle.module_graph.specs.Graphs.{outward, edges_of, IsNumbered, IsValid}
 use Rattle.module_graph.specs.Planned.{by_target, plan_edges, plan_of}
 use Rattle.module_graph.specs.Walks.{Walk, Returns, NoneReturns}
 
@@ -29,20 +23,6 @@ abbrev pub InEdgesStayByTarget : Type 0
 InEdgesStayByTarget =
     (edges : List PlanEdge) (count n : ℕ) → n < count → in_edges (by_target count edges) n ≡ in_edges edges n
 
--- The name of a variant has no character but the letters a to z, the digits and `_`.
-abbrev pub VariantNamesArePlain : Type 0
-VariantNamesArePlain =
-    (variations : List Variation) → AllByRecursion (λ c. is_label_byte c ≡ true) (variant_name_of variations)
-
--- The test of two variations tells whether they are equal.
-abbrev pub SameMeansEqual : Type 0
-SameMeansEqual = (v w : Variation) → IsTrue (same v w) ↔ v ≡ w
-
--- One item more, at the end, makes one piece more, at the end.
-abbrev pub OneMoreItem : Type 0 → Type 0 → Type 0
-OneMoreItem X A =
-    (f : ℕ → X → List A) (xs : List X) (x : X) → by_number f 0 (xs ++ x ∷ []) ≡ by_number f 0 xs ++ f (length xs) x
-
 module _ (P : Type 0) where
   -- The edges of a graph lead from nodes to nodes.
   abbrev pub EdgesJoinNodes : Type 0
@@ -53,12 +33,6 @@ module _ (P : Type 0) where
   OneMoreNode =
       (nodes : List (Node P)) (x : Node P)
       → edges_of (nodes ++ x ∷ []) ≡ edges_of nodes ++ map (outward (length nodes)) x.edges
-
-  -- The edges at a node's number, and their targets, are those of the node.
-  abbrev pub EdgesStandAtTheirNode : Type 0
-  EdgesStandAtTheirNode =
-      (nodes : List (Node P)) (n : ℕ) (x : Node P) → slice_get nodes n ≡ Some x
-      → (edges_at nodes n ≡ x.edges) × (targets nodes n ≡ map (λ (e : Edge). e.to.0) x.edges)
 
   -- The plan of a graph, in either direction, can be visited as far as its form goes.
   abbrev pub PlansOfGraphsArePlans : Type 0

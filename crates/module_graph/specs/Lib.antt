@@ -1,13 +1,7 @@
-pub mod Axes
-pub mod Names
-pub mod Numbered
 pub mod Graphs
 pub mod Walks
 pub mod Planned
 pub mod Laws
 pub mod Cycles
-pub mod Inside
 pub mod Search
 pub mod Parts
-pub mod GraphText
-pub mod Same

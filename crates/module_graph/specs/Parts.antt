@@ -2,7 +2,7 @@
 use Rattle.std.specs.Prelude.{◌≡◌, ◌<◌, ◌≤◌, ◌⊎◌, ℕ, List, [], ◌∷◌, slice_index}
 use Rattle.std.specs.List.{AllByRecursion}
 use Rattle.pass_core.specs.declared.plan.PlanEdge.{PlanEdge}
-use Rattle.module_graph.specs.declared.graph.Edge.{Edge}
+use Rattle.graph_nodes.specs.declared.graph.Edge.{Edge}
 use Rattle.module_graph.specs.Walks.{Leads, Walk, Returns}
 
 -- No edge leads to a lesser number, and where the ends of an edge have one number a walk leads back along it.

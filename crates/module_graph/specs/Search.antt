@@ -4,13 +4,14 @@ use Rattle.std.specs.Prelude.{slice_index, slice_index_or, slice_set, count_by, 
 use Rattle.std.specs.List.{AllByRecursion}
 use Rattle.pass_core.specs.declared.plan.PlanEdge.{PlanEdge}
 use Rattle.pass_core.specs.Plans.{in_edges}
-use Rattle.module_graph.specs.declared.graph.Edge.{Edge}
-use Rattle.module_graph.specs.declared.graph.Node.{Node}
+use Rattle.graph_nodes.specs.declared.graph.Edge.{Edge}
+use Rattle.graph_nodes.specs.declared.graph.Node.{Node}
+use Rattle.graph_nodes.specs.Nodes.{edges_at}
 use Rattle.module_graph.specs.declared.nearest.Near.{Near}
 use Rattle.module_graph.specs.declared.start.Start.{Start}
 use Rattle.module_graph.specs.Graphs.{edges_of}
 use Rattle.module_graph.specs.Walks.{Walk, NoneReturns}
-use Rattle.module_graph.specs.Cycles.{IsDistance, IsStart, edges_at}
+use Rattle.module_graph.specs.Cycles.{IsDistance, IsStart}
 
 -- The distance of a node, where one was found.
 abbrev pub found_at : List (Option ℕ) → ℕ → Option ℕ

@@ -1,18 +1,18 @@
 ghost use Rattle.std.specs.Prelude.{◌≡◌, ◌∷◌, map, length, IfOk, Some};
 ghost use Rattle.bp_faults.specs.Answers.{Tells};
-ghost use Rattle.module_graph.specs.declared.graph.Edge.{Edge};
+ghost use Rattle.graph_nodes.specs.declared.graph.Edge.{Edge};
+ghost use Rattle.graph_nodes.specs.Names.{name_at};
 ghost use Rattle.module_graph.specs.Graphs.{IsNumbered};
 ghost use Rattle.module_graph.specs.Cycles.{IsWay, IsReported, CycleMeans};
-ghost use Rattle.module_graph.specs.Names.{name_at};
 ghost use Rattle.module_graph.specs.Search.{IsFoundStart};
 
-use crate::names::name_of;
 use crate::nearest::nearest;
 use crate::parts::number_parts;
 use crate::settled::settled;
 use crate::start::{Start, find_start};
 use crate::{Edge, Graph, GraphError};
 use bp_faults::{Fault, FaultKind, OutOfMemory, Seq, Text};
+use graph_nodes::name_of;
 use std::alloc::Global;
 
 /// The edges of the cycle after its first.

@@ -1,10 +1,11 @@
 ghost use Rattle.std.specs.Prelude.{◌≡◌, IfOk, map};
+ghost use Rattle.graph_nodes.specs.Numbered.{by_number};
 ghost use Rattle.module_graph.specs.Graphs.{IsNumbered};
-ghost use Rattle.module_graph.specs.Numbered.{by_number};
 ghost use Rattle.module_graph.specs.Planned.{directed_edge};
 
-use crate::{Direction, Edge, Graph};
+use crate::{Direction, Edge, Graph, Node};
 use bp_faults::{NodeId, OutOfMemory};
+use graph_nodes::laws::one_more_item;
 use pass_core::PlanEdge;
 use std::alloc::Global;
 
@@ -37,6 +38,7 @@ pub fn edges_along<P>(
     requires { IsNumbered g.now.nodes }
     ensures { IfOk result (λ edges. edges.items ≡ by_number (λ n x. map (directed_edge dir n) x.edges) 0 g.now.nodes) }
 {
+    one_more_item::<Node<P>, PlanEdge>();
     let mut edges = Vec::with_capacity(alloc, count_edges(g))?;
     let mut n = 0;
     for node in g.nodes.as_slice() {

@@ -1,11 +1,17 @@
-//! What holds of every graph and its plans: each law is the contract of a function that does nothing.
+//! What holds of every graph and its plans, and the laws of `graph_nodes`: each law is the contract of a function that
+//! does nothing.
 
 ghost use Rattle.module_graph.specs.Laws.{NoneReturnsWhereNumberingRises, NoneReturnsWherePlansHaveNoCycle};
 ghost use Rattle.module_graph.specs.Laws.{ValidPlansHaveNoCycle, PlansOfGraphsArePlans};
 ghost use Rattle.module_graph.specs.Laws.{PredecessorsAreTargets, PredecessorsAreSources, InEdgesStayByTarget};
-ghost use Rattle.module_graph.specs.Laws.{EdgesJoinNodes, OneMoreNode, OneMoreItem, EdgesStandAtTheirNode};
+ghost use Rattle.module_graph.specs.Laws.{EdgesJoinNodes, OneMoreNode, TheCycleIsShortest};
 ghost use Rattle.module_graph.specs.Laws.{ReportedWhereAWalkReturns, OneCycleMeaning, AtMostOneCycleMeaning};
-ghost use Rattle.module_graph.specs.Laws.{TheCycleIsShortest, VariantNamesArePlain, SameMeansEqual};
+
+use crate::Node;
+pub use graph_nodes::laws::{
+    edges_stand_at_their_node, one_more_item, same_means_equal, variant_names_are_plain,
+};
+use pass_core::PlanEdge;
 
 /// No walk along some edges returns exactly where a numbering of the nodes rises along each of them.
 pub fn none_returns_where_numbering_rises()
@@ -70,24 +76,6 @@ pub fn edges_join_nodes<P>()
 /// One node more adds its own edges.
 pub fn one_more_node<P>()
     ensures { OneMoreNode P }
-{}
-
-/// One item more adds its own piece.
-pub fn one_more_item<X, A>()
-    ensures { OneMoreItem X A }
-{}
-
-/// The edges at a node's number are the node's.
-pub fn edges_stand_at_their_node<P>()
-    ensures { EdgesStandAtTheirNode P }
-{}
-
-/// A variant's name holds no `/`, no space and no other special character.
-pub fn variant_names_are_plain()
-    ensures { VariantNamesArePlain }
-{}
-
-/// The test of two variations tells whether they are equal.
-pub fn same_means_equal()
-    ensures { SameMeansEqual }
-{}
+{
+    one_more_item::<Node<P>, PlanEdge>();
+}

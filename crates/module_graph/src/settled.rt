@@ -1,11 +1,13 @@
 ghost use Rattle.std.specs.Prelude.{◌≡◌, ◌<◌, ◌≤◌, ◌^◌, ◌-◌, ◌⊎◌, ℕ, length, min, slice_index, IsTrue};
 ghost use Rattle.std.specs.List.{AllByRecursion};
-ghost use Rattle.module_graph.specs.declared.graph.Edge.{Edge};
+ghost use Rattle.graph_nodes.specs.declared.graph.Edge.{Edge};
 ghost use Rattle.module_graph.specs.Graphs.{IsNumbered, edges_of};
 ghost use Rattle.module_graph.specs.Parts.{HasTarget, IsFirstByParts};
 ghost use Rattle.module_graph.specs.Walks.{Returns};
 
-use crate::{Edge, Graph};
+use crate::{Edge, Graph, Node};
+use graph_nodes::laws::one_more_item;
+use pass_core::PlanEdge;
 
 /// The lesser of the least number so far and another.
 fn lesser(least: u64, number: u32) -> u64
@@ -46,6 +48,7 @@ pub fn settled<P>(g: &Graph<P>, numbers: &[u32]) -> u32
     ensures none { (n : ℕ) → n < result → Returns (edges_of g.now.nodes) n → ⊥ }
     ensures exact { IsFirstByParts (edges_of g.now.nodes) numbers.now (length g.now.nodes) result }
 {
+    one_more_item::<Node<P>, PlanEdge>();
     let nodes = g.nodes.as_slice();
     let count = nodes.len() as u32;
     let mut first = count;

@@ -1,7 +1,7 @@
 -- Lists of one variant.
 use Rattle.std.proofs.Common.{List, [], ◌∷◌, arith}
 use Rattle.bp_props.specs.declared.props.Props.{Props}
-use Rattle.module_graph.specs.declared.variation.Variation.{Variation}
+use Rattle.graph_nodes.specs.declared.variation.Variation.{Variation}
 use Rattle.mutator_rules.specs.Shapes.{IsOne}
 use Rattle.module_rules.specs.Laws.{VariantsDiffer}
 

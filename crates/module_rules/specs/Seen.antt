@@ -6,10 +6,10 @@ use Rattle.bp_props.specs.declared.kind.ModuleKind.TheVariants.{Filegroup}
 use Rattle.bp_props.specs.declared.module.Module.{Module}
 use Rattle.bp_props.specs.declared.props.Props.{Props}
 use Rattle.bp_props.specs.Records.{props_empty}
-use Rattle.module_graph.specs.declared.graph.Edge.{Edge}
-use Rattle.module_graph.specs.declared.graph.Node.{Node}
-use Rattle.module_graph.specs.declared.variation.Variation.TheVariants.{Empty}
-use Rattle.module_graph.specs.Graphs.{targets}
+use Rattle.graph_nodes.specs.declared.graph.Edge.{Edge}
+use Rattle.graph_nodes.specs.declared.graph.Node.{Node}
+use Rattle.graph_nodes.specs.declared.variation.Variation.TheVariants.{Empty}
+use Rattle.graph_nodes.specs.Nodes.{targets}
 use Rattle.mutator_rules.specs.declared.split.Split.{Split}
 use Rattle.module_rules.specs.Results.{one_variant}
 

@@ -1,7 +1,7 @@
 -- When a variant is kept.
 use Rattle.std.specs.Prelude.{List, [], ◌∷◌, cond}
 use Rattle.bp_props.specs.declared.props.Props.{Props}
-use Rattle.module_graph.specs.declared.variation.Variation.{Variation}
+use Rattle.graph_nodes.specs.declared.variation.Variation.{Variation}
 use Rattle.module_rules.specs.Flags.{is_enabled}
 
 -- A variant is dropped where its record isn't enabled.

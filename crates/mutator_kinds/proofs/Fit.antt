@@ -13,14 +13,14 @@ use Rattle.pass_core.specs.declared.plan.Plan.{Plan}
 use Rattle.pass_core.specs.Laws.{OutsMeetTheirEquation}
 use Rattle.pass_core.specs.Outcomes.{PassOutcomeMeans}
 use Rattle.pass_core.specs.Plans.{IsPlan, HasNoCycle}
-use Rattle.module_graph.specs.declared.graph.Edge.{Edge}
-use Rattle.module_graph.specs.declared.graph.Node.{Node}
-use Rattle.module_graph.specs.declared.variation.Variation.{Variation}
-use Rattle.module_graph.specs.declared.variations.Axis.{Axis}
-use Rattle.module_graph.specs.Cycles.{edges_at}
+use Rattle.graph_nodes.specs.declared.graph.Edge.{Edge}
+use Rattle.graph_nodes.specs.declared.graph.Node.{Node}
+use Rattle.graph_nodes.specs.declared.variation.Variation.{Variation}
+use Rattle.graph_nodes.specs.declared.variations.Axis.{Axis}
+use Rattle.graph_nodes.specs.Nodes.{edges_at}
+use Rattle.graph_nodes.specs.Numbered.{by_number}
+use Rattle.graph_nodes.specs.Same.{same}
 use Rattle.module_graph.specs.Graphs.{IsNumbered, IsValid}
-use Rattle.module_graph.specs.Numbered.{by_number}
-use Rattle.module_graph.specs.Same.{same}
 use Rattle.mutator_rules.specs.declared.request.Request.{Request}
 use Rattle.mutator_rules.specs.declared.split.Split.{Split}
 use Rattle.mutator_rules.specs.Shapes.{AreShaped, HasShape}
@@ -28,7 +28,7 @@ use Rattle.variant_graphs.specs.Laws.{HasModulesOf, SplitsStayValid, SplitsKeepM
 use Rattle.variant_graphs.specs.Laws.{NewPayloadsStayValid, NewPayloadsKeepModules, NewPayloadsLeaveAxesFree}
 use Rattle.variant_graphs.specs.Limits.{IsWithinLimits}
 use Rattle.variant_graphs.specs.Splits.{AnswersSplit, IsSplitting}
-use Rattle.module_graph.specs.declared.graph.Graph.{Graph}
+use Rattle.graph_nodes.specs.declared.graph.Graph.{Graph}
 use Rattle.mutator_rules.specs.declared.error.KindError.{KindError}
 use Rattle.mutator_rules.specs.declared.error.KindError.TheVariants.{At, Nodes, Edges, OutOfMemory}
 use Rattle.mutator_rules.specs.Outcomes.{AnswersKind}

@@ -6,12 +6,12 @@ use Rattle.std.proofs.lemmas.List.{length-map}
 use Rattle.bp_faults.specs.declared.fault.Fault.{Fault}
 use Rattle.bp_faults.specs.declared.ids.NodeId.{NodeId}
 use Rattle.bp_faults.proofs.Lists.{some_there}
-use Rattle.module_graph.specs.declared.graph.Node.{Node}
-use Rattle.module_graph.specs.declared.variation.Variation.{Variation}
-use Rattle.module_graph.specs.declared.variation.Variation.TheVariants.{Empty}
-use Rattle.module_graph.specs.declared.variations.Axis.{Axis}
-use Rattle.module_graph.specs.Graphs.{NameNodes}
-use Rattle.module_graph.specs.Numbered.{by_number}
+use Rattle.graph_nodes.specs.declared.graph.Node.{Node}
+use Rattle.graph_nodes.specs.declared.variation.Variation.{Variation}
+use Rattle.graph_nodes.specs.declared.variation.Variation.TheVariants.{Empty}
+use Rattle.graph_nodes.specs.declared.variations.Axis.{Axis}
+use Rattle.graph_nodes.specs.Nodes.{NameNodes}
+use Rattle.graph_nodes.specs.Numbered.{by_number}
 use Rattle.mutator_rules.specs.declared.error.KindError.{KindError}
 use Rattle.mutator_rules.specs.declared.error.KindError.TheVariants.{At, Nodes, Edges, OutOfMemory}
 use Rattle.mutator_rules.specs.declared.request.Request.{Request}

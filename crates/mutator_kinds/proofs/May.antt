@@ -3,7 +3,7 @@ use Rattle.std.proofs.Common.{ℕ, List, [], ◌∷◌, map}
 use Rattle.std.specs.List.{AllByRecursion, Contains}
 use Rattle.bp_faults.specs.declared.ids.ModuleId.{ModuleId}
 use Rattle.bp_faults.proofs.Lists.{all_map, all_contained}
-use Rattle.module_graph.specs.declared.graph.Node.{Node}
+use Rattle.graph_nodes.specs.declared.graph.Node.{Node}
 use Rattle.mutator_rules.specs.Conditions.{MayRun}
 use Rattle.variant_graphs.specs.Laws.{HasModulesOf}
 

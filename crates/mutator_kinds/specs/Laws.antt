@@ -2,9 +2,9 @@
 use Rattle.std.specs.Prelude.{◌≡◌, ℕ, List, Option, None, Result}
 use Rattle.bp_faults.specs.declared.fault.Fault.{Fault}
 use Rattle.bp_faults.specs.declared.ids.NodeId.{NodeId}
-use Rattle.module_graph.specs.declared.graph.EdgeKind.{EdgeKind}
-use Rattle.module_graph.specs.declared.graph.Node.{Node}
-use Rattle.module_graph.specs.declared.variations.Axis.{Axis}
+use Rattle.graph_nodes.specs.declared.graph.EdgeKind.{EdgeKind}
+use Rattle.graph_nodes.specs.declared.graph.Node.{Node}
+use Rattle.graph_nodes.specs.declared.variations.Axis.{Axis}
 use Rattle.module_graph.specs.Graphs.{IsNumbered, IsValid}
 use Rattle.mutator_rules.specs.declared.request.Request.{Request}
 use Rattle.mutator_rules.specs.declared.split.Split.{Split}

@@ -2,9 +2,9 @@
 use Rattle.std.specs.Prelude.{◌≡◌, ℕ, List, Result, Ok, Err}
 use Rattle.bp_faults.specs.declared.fault.Fault.{Fault}
 use Rattle.pass_core.specs.Outcomes.{PassOutcomeMeans}
+use Rattle.graph_nodes.specs.declared.graph.EdgeKind.{EdgeKind}
+use Rattle.graph_nodes.specs.declared.graph.Node.{Node}
 use Rattle.module_graph.specs.declared.direction.Direction.TheVariants.{TopDown}
-use Rattle.module_graph.specs.declared.graph.EdgeKind.{EdgeKind}
-use Rattle.module_graph.specs.declared.graph.Node.{Node}
 use Rattle.module_graph.specs.Planned.{plan_of}
 use Rattle.mutator_rules.specs.Arrivals.{kinds_into}
 use Rattle.mutator_rules.specs.Outcomes.{KindOutcome, Made, FaultAt, NodesBeyond, EdgesBeyond}

@@ -12,13 +12,13 @@ use Rattle.std.proofs.lemmas.List.Elements.{filter-append, All-from_recursion}
 use mathlib.Core.Logic.{dite}
 use native.Mathlib.Decide.{ℕ_discrete}
 use Rattle.bp_faults.specs.declared.ids.NodeId.{NodeId}
-use Rattle.module_graph.specs.declared.graph.Edge.{Edge}
-use Rattle.module_graph.specs.declared.graph.EdgeKind.{EdgeKind}
-use Rattle.module_graph.specs.declared.graph.EdgeKind.TheVariants.{Defaults}
-use Rattle.module_graph.specs.declared.graph.Node.{Node}
-use Rattle.module_graph.specs.Graphs.{NameNodes}
-use Rattle.module_graph.specs.Laws.{OneMoreItem}
-use Rattle.module_graph.specs.Numbered.{by_number}
+use Rattle.graph_nodes.specs.declared.graph.Edge.{Edge}
+use Rattle.graph_nodes.specs.declared.graph.EdgeKind.{EdgeKind}
+use Rattle.graph_nodes.specs.declared.graph.EdgeKind.TheVariants.{Defaults}
+use Rattle.graph_nodes.specs.declared.graph.Node.{Node}
+use Rattle.graph_nodes.specs.Laws.{OneMoreItem}
+use Rattle.graph_nodes.specs.Nodes.{NameNodes}
+use Rattle.graph_nodes.specs.Numbered.{by_number}
 use Rattle.mutator_rules.specs.Arrivals.{edges_to, from_node, arrivals}
 use Rattle.mutator_rules.specs.Inside.{HaveRoom, StandFrom}
 use Rattle.mutator_rules.proofs.Arrived.{arrivals_more}

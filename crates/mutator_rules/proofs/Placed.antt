@@ -13,10 +13,10 @@ use Rattle.pass_core.specs.declared.plan.Plan.{Plan}
 use Rattle.pass_core.specs.declared.plan.PlanEdge.{PlanEdge}
 use Rattle.pass_core.specs.Plans.{in_edges, predecessors}
 use Rattle.pass_core.specs.InEdges.{edges_below, AreStarts}
+use Rattle.graph_nodes.specs.declared.graph.EdgeKind.{EdgeKind}
+use Rattle.graph_nodes.specs.declared.graph.EdgeKind.TheVariants.{Static}
+use Rattle.graph_nodes.specs.declared.graph.Node.{Node}
 use Rattle.module_graph.specs.declared.direction.Direction.TheVariants.{TopDown}
-use Rattle.module_graph.specs.declared.graph.EdgeKind.{EdgeKind}
-use Rattle.module_graph.specs.declared.graph.EdgeKind.TheVariants.{Static}
-use Rattle.module_graph.specs.declared.graph.Node.{Node}
 use Rattle.module_graph.specs.Planned.{plan_of}
 use Rattle.mutator_rules.specs.Arrivals.{arrivals, all_arrivals}
 use Rattle.mutator_rules.specs.Inside.{AreCuts, HaveRoom, StandFrom, pieces}

@@ -1,10 +1,10 @@
 -- What the calls of a transition rule answer, each as a function of its arguments.
 use Rattle.std.specs.Prelude.{ℕ, List, Result}
 use Rattle.bp_faults.specs.declared.fault.Fault.{Fault}
-use Rattle.module_graph.specs.declared.graph.EdgeKind.{EdgeKind}
-use Rattle.module_graph.specs.declared.graph.Node.{Node}
-use Rattle.module_graph.specs.declared.variation.Variation.{Variation}
-use Rattle.module_graph.specs.declared.variations.Axis.{Axis}
+use Rattle.graph_nodes.specs.declared.graph.EdgeKind.{EdgeKind}
+use Rattle.graph_nodes.specs.declared.graph.Node.{Node}
+use Rattle.graph_nodes.specs.declared.variation.Variation.{Variation}
+use Rattle.graph_nodes.specs.declared.variations.Axis.{Axis}
 
 -- A transition rule splits along an axis.
 pub record TransitionMeaning (P : Type 0) : Type 0 where

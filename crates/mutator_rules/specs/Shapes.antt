@@ -1,10 +1,10 @@
 -- What the result of a rule from the bottom up looks like.
 use Rattle.std.specs.Prelude.{◌≡◌, ℕ, List, [], ◌∷◌, Option, Some, None, Result, Ok}
 use Rattle.bp_faults.specs.declared.fault.Fault.{Fault}
-use Rattle.module_graph.specs.declared.graph.Node.{Node}
-use Rattle.module_graph.specs.declared.variation.Variation.{Variation}
-use Rattle.module_graph.specs.declared.variation.Variation.TheVariants.{Empty}
-use Rattle.module_graph.specs.declared.variations.Axis.{Axis}
+use Rattle.graph_nodes.specs.declared.graph.Node.{Node}
+use Rattle.graph_nodes.specs.declared.variation.Variation.{Variation}
+use Rattle.graph_nodes.specs.declared.variation.Variation.TheVariants.{Empty}
+use Rattle.graph_nodes.specs.declared.variations.Axis.{Axis}
 use Rattle.mutator_rules.specs.declared.split.Split.{Split}
 
 module _ {P : Type 0} where

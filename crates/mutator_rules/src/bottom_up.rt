@@ -2,9 +2,9 @@ ghost use Rattle.std.specs.Prelude.{◌≡◌, ℕ, List, length, map, Option, R
 ghost use Rattle.std.specs.Arc.{arc_value};
 ghost use Rattle.bp_faults.specs.declared.fault.Fault.{Fault};
 ghost use Rattle.bp_faults.specs.Answers.{Answers};
-ghost use Rattle.module_graph.specs.declared.graph.Node.{Node};
-ghost use Rattle.module_graph.specs.declared.variations.Axis.{Axis};
-ghost use Rattle.module_graph.specs.Graphs.{targets};
+ghost use Rattle.graph_nodes.specs.declared.graph.Node.{Node};
+ghost use Rattle.graph_nodes.specs.declared.variations.Axis.{Axis};
+ghost use Rattle.graph_nodes.specs.Nodes.{targets};
 ghost use Rattle.mutator_rules.specs.declared.split.Split.{Split};
 ghost use Rattle.mutator_rules.specs.Conditions.{MayVisit};
 ghost use Rattle.mutator_rules.specs.Shapes.{AreShaped};

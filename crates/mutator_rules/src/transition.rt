@@ -2,7 +2,7 @@ ghost use Rattle.std.specs.Prelude.{◌≡◌, ℕ, List, length, map, Result};
 ghost use Rattle.std.specs.Arc.{arc_value};
 ghost use Rattle.bp_faults.specs.declared.fault.Fault.{Fault};
 ghost use Rattle.bp_faults.specs.Answers.{Answers};
-ghost use Rattle.module_graph.specs.Graphs.{targets};
+ghost use Rattle.graph_nodes.specs.Nodes.{targets};
 ghost use Rattle.mutator_rules.specs.Conditions.{MayVisit};
 ghost use Rattle.mutator_rules.specs.Meaning.{TransitionMeaning};
 

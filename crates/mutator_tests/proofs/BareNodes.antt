@@ -7,13 +7,13 @@ use Rattle.std.specs.Prelude.{slice_get, ⊤}
 use Rattle.std.proofs.lemmas.List.{length-map}
 use Rattle.bp_faults.specs.declared.ids.ModuleId.{ModuleId}
 use Rattle.bp_faults.specs.declared.ids.NodeId.{NodeId}
-use Rattle.module_graph.specs.declared.graph.Edge.{Edge}
-use Rattle.module_graph.specs.declared.graph.Node.{Node}
-use Rattle.module_graph.specs.declared.variation.Variation.{Variation}
-use Rattle.module_graph.specs.declared.variation.Variation.TheVariants.{Empty, Recovery, Vendor}
-use Rattle.module_graph.specs.declared.variations.Axis.TheVariants.{Image}
+use Rattle.graph_nodes.specs.declared.graph.Edge.{Edge}
+use Rattle.graph_nodes.specs.declared.graph.Node.{Node}
+use Rattle.graph_nodes.specs.declared.variation.Variation.{Variation}
+use Rattle.graph_nodes.specs.declared.variation.Variation.TheVariants.{Empty, Recovery, Vendor}
+use Rattle.graph_nodes.specs.declared.variations.Axis.TheVariants.{Image}
+use Rattle.graph_nodes.specs.Numbered.{by_number}
 use Rattle.module_graph.specs.Graphs.{outward, edges_of, IsNumbered, IsValid}
-use Rattle.module_graph.specs.Numbered.{by_number}
 use Rattle.module_graph.specs.Walks.{NoneReturns}
 use Rattle.mutator_rules.specs.Conditions.{MayRun}
 use Rattle.variant_graphs.specs.Splitting.{HasFreeAxis}

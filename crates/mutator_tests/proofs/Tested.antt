@@ -9,10 +9,10 @@ use Rattle.bp_faults.specs.declared.fault.Fault.{Fault}
 use Rattle.bp_faults.specs.declared.ids.ModuleId.{ModuleId}
 use Rattle.bp_faults.specs.declared.ids.NodeId.{NodeId}
 use Rattle.bp_faults.proofs.Lists.{all_pushed, take-more, take-past}
-use Rattle.module_graph.specs.declared.graph.Edge.{Edge}
-use Rattle.module_graph.specs.declared.graph.Node.{Node}
-use Rattle.module_graph.specs.declared.variation.Variation.{Variation}
-use Rattle.module_graph.specs.declared.variation.Variation.TheVariants.{Empty, PerSource}
+use Rattle.graph_nodes.specs.declared.graph.Edge.{Edge}
+use Rattle.graph_nodes.specs.declared.graph.Node.{Node}
+use Rattle.graph_nodes.specs.declared.variation.Variation.{Variation}
+use Rattle.graph_nodes.specs.declared.variation.Variation.TheVariants.{Empty, PerSource}
 use Rattle.module_graph.specs.Graphs.{outward, edges_of, IsNumbered}
 use Rattle.module_graph.specs.Laws.{OneMoreNode}
 use Rattle.mutator_rules.specs.declared.split.Split.{Split}

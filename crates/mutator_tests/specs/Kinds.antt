@@ -8,13 +8,13 @@ use Rattle.bp_faults.specs.declared.fault.Fault.{Fault}
 use Rattle.bp_faults.specs.declared.ids.NodeId.{NodeId}
 use Rattle.bp_faults.specs.declared.kind.FaultKind.TheVariants.{BadSource}
 use Rattle.bp_faults.specs.Faults.{fault_at, file_start}
-use Rattle.module_graph.specs.declared.graph.EdgeKind.{EdgeKind}
-use Rattle.module_graph.specs.declared.graph.EdgeKind.TheVariants.{Defaults, Whole, Static, Shared, Header, DataBin}
-use Rattle.module_graph.specs.declared.graph.EdgeKind.TheVariants.{Sources}
-use Rattle.module_graph.specs.declared.graph.Node.{Node}
-use Rattle.module_graph.specs.declared.variation.Variation.{Variation}
-use Rattle.module_graph.specs.declared.variation.Variation.TheVariants.{Empty, PerSource}
-use Rattle.module_graph.specs.declared.variations.Axis.TheVariants.{PerSource as PerSourceAxis}
+use Rattle.graph_nodes.specs.declared.graph.EdgeKind.{EdgeKind}
+use Rattle.graph_nodes.specs.declared.graph.EdgeKind.TheVariants.{Defaults, Whole, Static, Shared, Header, DataBin}
+use Rattle.graph_nodes.specs.declared.graph.EdgeKind.TheVariants.{Sources}
+use Rattle.graph_nodes.specs.declared.graph.Node.{Node}
+use Rattle.graph_nodes.specs.declared.variation.Variation.{Variation}
+use Rattle.graph_nodes.specs.declared.variation.Variation.TheVariants.{Empty, PerSource}
+use Rattle.graph_nodes.specs.declared.variations.Axis.TheVariants.{PerSource as PerSourceAxis}
 use Rattle.mutator_rules.specs.declared.request.Request.{Request}
 use Rattle.mutator_rules.specs.declared.split.Split.{Split}
 use Rattle.mutator_rules.specs.Shapes.{HasShape}

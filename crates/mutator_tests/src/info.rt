@@ -1,8 +1,8 @@
 //! What the three rules answer at the nodes of a small graph, through their traits: an app depends on a static library
 //! `b`, and on another module as a shared, a header and a whole library.
 ghost use Rattle.std.specs.Prelude.{◌≡◌, ◌∷◌, [], IfOk, length};
-ghost use Rattle.module_graph.specs.declared.graph.EdgeKind.TheVariants.{Header, Shared, Whole};
-ghost use Rattle.module_graph.specs.Graphs.{targets};
+ghost use Rattle.graph_nodes.specs.declared.graph.EdgeKind.TheVariants.{Header, Shared, Whole};
+ghost use Rattle.graph_nodes.specs.Nodes.{targets};
 ghost use Rattle.mutator_rules.specs.Arrivals.{kinds_into};
 ghost use Rattle.mutator_rules.specs.Conditions.{MayVisit, indices_in};
 

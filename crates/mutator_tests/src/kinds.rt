@@ -1,7 +1,7 @@
 //! Small rules over small graphs, and the limits.
 ghost use Rattle.std.specs.Prelude.{◌≡◌, ◌<◌, ◌≤◌, length, map, IfOk, OnOk, IsTrue, Ok, Some, None, ⊤};
 ghost use Rattle.std.specs.List.{AllByRecursion, range_with_len};
-ghost use Rattle.module_graph.specs.declared.graph.Edge.{Edge as AnEdge};
+ghost use Rattle.graph_nodes.specs.declared.graph.Edge.{Edge as AnEdge};
 ghost use Rattle.module_graph.specs.Graphs.{IsNumbered, IsValid};
 ghost use Rattle.mutator_tests.specs.Kinds.{AreNew, is_whole_kind, lib_request};
 ghost use Rattle.mutator_tests.specs.Kinds.{number_at, numbered_variant};
@@ -47,7 +47,7 @@ struct Splits;
 
 impl BottomUp<NodeId> for Splits {
     ghost use Rattle.mutator_tests.specs.Kinds.{split_at, split_shaped};
-    ghost use Rattle.module_graph.specs.declared.variations.Axis.TheVariants.{PerSource};
+    ghost use Rattle.graph_nodes.specs.declared.variations.Axis.TheVariants.{PerSource};
 
     ghost splits_along = { λ _. Some PerSource };
 

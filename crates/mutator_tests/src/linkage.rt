@@ -1,6 +1,6 @@
 //! What each rule makes of one record, through the bound of a rule.
 ghost use Rattle.std.specs.Prelude.{◌≡◌, IfOk, [], length};
-ghost use Rattle.module_graph.specs.Graphs.{targets};
+ghost use Rattle.graph_nodes.specs.Nodes.{targets};
 ghost use Rattle.mutator_rules.specs.Conditions.{MayVisit, indices_in};
 
 use bp_faults::{Item, ModuleId, NodeId, OutOfMemory, Path, Place, Seq, Target, Text};

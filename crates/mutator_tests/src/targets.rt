@@ -1,7 +1,7 @@
 //! The variants of a node without dependencies, by both rules and through their trait. Each is written as its variation
 //! and the flags of its record, where each group has one flag.
 ghost use Rattle.std.specs.Prelude.{◌≡◌, [], IfOk, length};
-ghost use Rattle.module_graph.specs.Graphs.{targets};
+ghost use Rattle.graph_nodes.specs.Nodes.{targets};
 ghost use Rattle.mutator_rules.specs.Conditions.{MayVisit, indices_in};
 
 use bp_faults::{ModuleId, NodeId, OutOfMemory, Path, Payload, Place, Seq, Target, Text};

@@ -1,6 +1,6 @@
 //! Which variants a small rule makes, and where their edges lead.
 ghost use Rattle.std.specs.Prelude.{◌≡◌, ◌<◌, IfOk, IfSome, length, ⊤};
-ghost use Rattle.module_graph.specs.declared.variations.Axis.TheVariants.{Image};
+ghost use Rattle.graph_nodes.specs.declared.variations.Axis.TheVariants.{Image};
 ghost use Rattle.module_graph.specs.Graphs.{IsValid};
 ghost use Rattle.mutator_rules.specs.Conditions.{MayRun};
 ghost use Rattle.mutator_tests.specs.Transitions.{small_meaning, HasNodes, IsNodeOf};

@@ -5,7 +5,7 @@ use Rattle.std.specs.Prelude.{slice_get, slice_index_or, ⊤}
 use Rattle.std.specs.List.{AllByRecursion, filter}
 use Rattle.std.proofs.lemmas.List.{length-append}
 use Rattle.bp_faults.proofs.Lists.{all_append}
-use Rattle.module_graph.specs.Numbered.{by_number}
+use Rattle.graph_nodes.specs.Numbered.{by_number}
 
 -- What holds of the value of an option, if there is one.
 abbrev pub IfThere : {X : Type 0} → (X → Type 0) → Option X → Type 0

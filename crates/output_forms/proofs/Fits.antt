@@ -8,9 +8,9 @@ use Rattle.bp_faults.specs.declared.limits.TheConstants.{MOST_NODES}
 use Rattle.bp_props.specs.declared.module.Module.{Module}
 use Rattle.bp_props.specs.declared.props.Props.{Props}
 use Rattle.build_actions.specs.Variants.{stands_on}
-use Rattle.module_graph.specs.declared.graph.Node.{Node}
-use Rattle.module_graph.specs.declared.variation.Variation.{Variation}
-use Rattle.module_graph.specs.declared.variations.Axis.{Axis}
+use Rattle.graph_nodes.specs.declared.graph.Node.{Node}
+use Rattle.graph_nodes.specs.declared.variation.Variation.{Variation}
+use Rattle.graph_nodes.specs.declared.variations.Axis.{Axis}
 use Rattle.module_rules.specs.Results.{one_variant}
 use Rattle.module_rules.specs.Rules.{asks, renews, splits}
 use Rattle.module_rules.specs.Seen.{at_node, at_module, empty_result}

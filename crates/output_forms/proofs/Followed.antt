@@ -14,16 +14,16 @@ use Rattle.bp_faults.proofs.Lists.{all_append, all_each}
 use Rattle.bp_props.specs.declared.module.Module.{Module}
 use Rattle.bp_props.specs.declared.props.Props.{Props}
 use Rattle.pass_core.specs.Laws.{OutsAreMany}
+use Rattle.graph_nodes.specs.declared.graph.Edge.{Edge}
+use Rattle.graph_nodes.specs.declared.graph.Node.{Node}
+use Rattle.graph_nodes.specs.declared.variation.Variation.{Variation}
+use Rattle.graph_nodes.specs.declared.variations.Axis.{Axis}
+use Rattle.graph_nodes.specs.declared.variations.Axis.TheVariants as A
+use Rattle.graph_nodes.specs.Nodes.{edges_at}
+use Rattle.graph_nodes.specs.Numbered.{by_number}
+use Rattle.graph_nodes.specs.Same.{same}
 use Rattle.module_graph.specs.declared.direction.Direction.TheVariants.{BottomUp}
-use Rattle.module_graph.specs.declared.graph.Edge.{Edge}
-use Rattle.module_graph.specs.declared.graph.Node.{Node}
-use Rattle.module_graph.specs.declared.variation.Variation.{Variation}
-use Rattle.module_graph.specs.declared.variations.Axis.{Axis}
-use Rattle.module_graph.specs.declared.variations.Axis.TheVariants as A
-use Rattle.module_graph.specs.Cycles.{edges_at}
-use Rattle.module_graph.specs.Numbered.{by_number}
 use Rattle.module_graph.specs.Planned.{plan_of}
-use Rattle.module_graph.specs.Same.{same}
 use Rattle.module_rules.specs.Laws.{VariantsDiffer, VariationsDiffer}
 use Rattle.module_rules.specs.Rules.{asks, renews, splits}
 use Rattle.module_rules.specs.Seen.{at_module, empty_result}

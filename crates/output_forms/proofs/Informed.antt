@@ -10,13 +10,13 @@ use Rattle.bp_props.specs.declared.listed.Listed.{Listed}
 use Rattle.bp_props.specs.declared.module.Module.{Module}
 use Rattle.bp_props.specs.declared.props.Props.{Props}
 use Rattle.bp_props.specs.Records.{props_empty}
-use Rattle.module_graph.specs.declared.graph.Edge.{Edge}
-use Rattle.module_graph.specs.declared.graph.EdgeKind.{EdgeKind}
-use Rattle.module_graph.specs.declared.graph.Node.{Node}
-use Rattle.module_graph.specs.declared.variation.Variation.{Variation}
-use Rattle.module_graph.specs.declared.variation.Variation.TheVariants.{Empty, Asan}
-use Rattle.module_graph.specs.declared.variations.Axis.TheVariants.{Sanitize}
-use Rattle.module_graph.specs.Same.{same}
+use Rattle.graph_nodes.specs.declared.graph.Edge.{Edge}
+use Rattle.graph_nodes.specs.declared.graph.EdgeKind.{EdgeKind}
+use Rattle.graph_nodes.specs.declared.graph.Node.{Node}
+use Rattle.graph_nodes.specs.declared.variation.Variation.{Variation}
+use Rattle.graph_nodes.specs.declared.variation.Variation.TheVariants.{Empty, Asan}
+use Rattle.graph_nodes.specs.declared.variations.Axis.TheVariants.{Sanitize}
+use Rattle.graph_nodes.specs.Same.{same}
 use Rattle.module_rules.specs.Asking.{variation_on}
 use Rattle.module_rules.specs.Results.{one_variant, record_in}
 use Rattle.module_rules.specs.Seen.{node_at}

@@ -13,11 +13,12 @@ use Rattle.bp_faults.specs.Phases.{GoesOn}
 use Rattle.bp_faults.proofs.Lists.{all_append, none_there, found_inside}
 use Rattle.bp_props.specs.declared.module.Module.{Module}
 use Rattle.bp_props.specs.declared.props.Props.{Props}
-use Rattle.module_graph.specs.declared.graph.Edge.{Edge}
-use Rattle.module_graph.specs.declared.graph.Node.{Node}
-use Rattle.module_graph.specs.declared.variations.Axis.{Axis}
-use Rattle.module_graph.specs.Graphs.{outward, edges_of, NameNodes, IsNumbered, IsValid, all_edges}
-use Rattle.module_graph.specs.Numbered.{by_number}
+use Rattle.graph_nodes.specs.declared.graph.Edge.{Edge}
+use Rattle.graph_nodes.specs.declared.graph.Node.{Node}
+use Rattle.graph_nodes.specs.declared.variations.Axis.{Axis}
+use Rattle.graph_nodes.specs.Nodes.{NameNodes, all_edges}
+use Rattle.graph_nodes.specs.Numbered.{by_number}
+use Rattle.module_graph.specs.Graphs.{outward, edges_of, IsNumbered, IsValid}
 use Rattle.module_graph.specs.Walks.{NoneReturns}
 use Rattle.mutator_rules.specs.declared.request.Request.{Request}
 use Rattle.reverse_deps.specs.Applied.{edges_counted, too_many, AcyclicMeans, CountedMeans, found_for, ApplyMeans}

@@ -9,12 +9,12 @@ use Rattle.bp_faults.specs.declared.limits.TheConstants.{MOST_NODES}
 use Rattle.bp_faults.proofs.Lists.{all_image}
 use Rattle.bp_props.specs.declared.props.Props.{Props}
 use Rattle.build_actions.specs.Variants.{stands_on, AreOnAxes}
+use Rattle.graph_nodes.specs.declared.graph.Node.{Node}
+use Rattle.graph_nodes.specs.declared.variation.Variation.{Variation}
+use Rattle.graph_nodes.specs.declared.variations.Axis.{Axis}
+use Rattle.graph_nodes.specs.declared.variations.Axis.TheVariants.{Target, Image, Link, PerSource, Sanitize}
+use Rattle.graph_nodes.specs.Axes.{axis_index}
 use Rattle.module_graph.specs.declared.direction.Direction.TheVariants.{BottomUp}
-use Rattle.module_graph.specs.declared.graph.Node.{Node}
-use Rattle.module_graph.specs.declared.variation.Variation.{Variation}
-use Rattle.module_graph.specs.declared.variations.Axis.{Axis}
-use Rattle.module_graph.specs.declared.variations.Axis.TheVariants.{Target, Image, Link, PerSource, Sanitize}
-use Rattle.module_graph.specs.Axes.{axis_index}
 use Rattle.module_graph.specs.Planned.{plan_of}
 use Rattle.mutator_kinds.specs.BottomUp.{BottomUpMeans, rule_along, variants_of, first_payload, first_payloads}
 use Rattle.mutator_kinds.specs.BottomUp.{new_nodes}

@@ -19,16 +19,16 @@ use Rattle.bp_props.specs.declared.props.Props.{Props}
 use Rattle.bp_props.specs.declared.source.Source.{Source}
 use Rattle.bp_props.specs.Groups.{group_of}
 use Rattle.bp_props.specs.Records.{props_appended, props_followed, props_over}
-use Rattle.module_graph.specs.declared.graph.Edge.{Edge}
-use Rattle.module_graph.specs.declared.graph.EdgeKind.{EdgeKind}
-use Rattle.module_graph.specs.declared.graph.EdgeKind.TheVariants as E
-use Rattle.module_graph.specs.declared.graph.Node.{Node}
-use Rattle.module_graph.specs.declared.variation.Variation.{Variation}
-use Rattle.module_graph.specs.declared.variation.Variation.TheVariants.{Empty, Target as For, Common, Vendor}
-use Rattle.module_graph.specs.declared.variation.Variation.TheVariants.{Recovery, Static, Shared}
-use Rattle.module_graph.specs.declared.variations.Axis.{Axis}
-use Rattle.module_graph.specs.declared.variations.Axis.TheVariants as A
-use Rattle.module_graph.specs.Numbered.{by_number}
+use Rattle.graph_nodes.specs.declared.graph.Edge.{Edge}
+use Rattle.graph_nodes.specs.declared.graph.EdgeKind.{EdgeKind}
+use Rattle.graph_nodes.specs.declared.graph.EdgeKind.TheVariants as E
+use Rattle.graph_nodes.specs.declared.graph.Node.{Node}
+use Rattle.graph_nodes.specs.declared.variation.Variation.{Variation}
+use Rattle.graph_nodes.specs.declared.variation.Variation.TheVariants.{Empty, Target as For, Common, Vendor}
+use Rattle.graph_nodes.specs.declared.variation.Variation.TheVariants.{Recovery, Static, Shared}
+use Rattle.graph_nodes.specs.declared.variations.Axis.{Axis}
+use Rattle.graph_nodes.specs.declared.variations.Axis.TheVariants as A
+use Rattle.graph_nodes.specs.Numbered.{by_number}
 use Rattle.module_rules.specs.Found.{with_pic}
 use Rattle.module_rules.specs.Asking.{variation_on}
 use Rattle.module_rules.specs.Flags.{is_enabled}

@@ -9,7 +9,7 @@ use Rattle.bp_props.specs.declared.source.Source.{Source}
 use Rattle.build_actions.specs.Laws.{AreDistinct, AreTold}
 use Rattle.build_actions.specs.Variants.{AreOnAxes}
 use Rattle.build_actions.specs.Writable.{AreWritable, has_shown_bytes, flag_words}
-use Rattle.module_graph.specs.declared.graph.Node.{Node}
+use Rattle.graph_nodes.specs.declared.graph.Node.{Node}
 use Rattle.ninja_file.specs.Names.{is_path}
 use Rattle.output_forms.specs.Texts.{IsShown, HasSoundTexts}
 use Rattle.output_forms.specs.Forms.{HaveForms}

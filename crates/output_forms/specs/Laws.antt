@@ -15,8 +15,8 @@ use Rattle.bp_pipeline.specs.Passes.{StepMeans, pass_at}
 use Rattle.build_actions.specs.declared.actions.Actions.{Actions}
 use Rattle.build_actions.specs.Acts.{acts_at}
 use Rattle.build_actions.specs.File.{file_of_actions}
+use Rattle.graph_nodes.specs.declared.graph.Node.{Node}
 use Rattle.module_graph.specs.declared.direction.Direction.TheVariants.{BottomUp}
-use Rattle.module_graph.specs.declared.graph.Node.{Node}
 use Rattle.module_graph.specs.Graphs.{IsNumbered, IsValid}
 use Rattle.module_graph.specs.Planned.{plan_of}
 use Rattle.mutator_rules.specs.declared.config.Config.{Config}

@@ -7,10 +7,10 @@ use Rattle.std.proofs.lemmas.List.{drop_more}
 use Rattle.bp_faults.specs.declared.fault.Fault.{Fault}
 use Rattle.bp_faults.specs.declared.limits.TheConstants.{MOST_EDGES}
 use Rattle.bp_faults.proofs.Lists.{slice_get-append, slice_get-append_past, none_there}
-use Rattle.module_graph.specs.declared.graph.Edge.{Edge}
-use Rattle.module_graph.specs.declared.graph.Node.{Node}
+use Rattle.graph_nodes.specs.declared.graph.Edge.{Edge}
+use Rattle.graph_nodes.specs.declared.graph.Node.{Node}
 use Rattle.reverse_deps.specs.Applied.{too_many, edges_counted}
-use Rattle.module_graph.specs.Graphs.{all_edges}
+use Rattle.graph_nodes.specs.Nodes.{all_edges}
 
 module _ {P : Type 0} (nodes : List (Node P)) (k left : ℕ) (x : Node P) (edges : List Edge) (lt : k < length nodes)
     (x_is : x ≡ get_or nodes k x) (edges_are : edges ≡ x.edges) where

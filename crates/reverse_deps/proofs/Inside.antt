@@ -14,7 +14,7 @@ use Rattle.bp_faults.specs.declared.kind.FaultKind.TheVariants.{MissingModule}
 use Rattle.bp_faults.proofs.Lists.{all_append, found_inside}
 use Rattle.bp_names.specs.Meaning.{first_number_from}
 use Rattle.bp_props.specs.declared.module.Module.{Module}
-use Rattle.module_graph.specs.declared.graph.Node.{Node}
+use Rattle.graph_nodes.specs.declared.graph.Node.{Node}
 use Rattle.mutator_rules.specs.declared.request.Request.{Request}
 use Rattle.reverse_deps.specs.Linked.{Link, link_of, links_in, links, same_way, edge_for}
 use Rattle.reverse_deps.specs.Resolved.{names_by_number, module_named, wrong_kind, request_fault, missing_variant}

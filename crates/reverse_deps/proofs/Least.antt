@@ -5,9 +5,9 @@ use Rattle.std.specs.Prelude.{slice_get}
 use Rattle.std.specs.Option.{option_map}
 use Rattle.std.specs.List.{position_from}
 use Rattle.std.proofs.lemmas.Bool.{eqb-true, and_parts, and_from}
-use Rattle.module_graph.specs.declared.graph.Node.{Node}
-use Rattle.module_graph.specs.declared.variations.Axis.TheVariants.{Target, Image, Link}
-use Rattle.module_graph.specs.Laws.{SameMeansEqual}
+use Rattle.graph_nodes.specs.declared.graph.Node.{Node}
+use Rattle.graph_nodes.specs.declared.variations.Axis.TheVariants.{Target, Image, Link}
+use Rattle.graph_nodes.specs.Laws.{SameMeansEqual}
 use Rattle.mutator_rules.specs.declared.request.Wanted.{Wanted}
 use Rattle.reverse_deps.specs.Laws.{along, IsFor, HasFor, IsLeastFor}
 use Rattle.reverse_deps.specs.Resolved.{has_variation, is_wanted, is_for, node_for}

@@ -5,10 +5,11 @@ use Rattle.std.specs.List.{AllByRecursion, cons_option}
 use Rattle.std.proofs.lemmas.List.{length-map}
 use Rattle.bp_faults.specs.declared.limits.TheConstants.{MOST_EDGES}
 use Rattle.bp_faults.proofs.Lists.{all_append, Apart, apart_pairs, pairs_apart}
-use Rattle.module_graph.specs.declared.graph.Edge.{Edge}
-use Rattle.module_graph.specs.declared.graph.Node.{Node}
-use Rattle.module_graph.specs.Numbered.{by_number}
-use Rattle.module_graph.specs.Graphs.{outward, edges_of, NameNodes, IsValid, all_edges}
+use Rattle.graph_nodes.specs.declared.graph.Edge.{Edge}
+use Rattle.graph_nodes.specs.declared.graph.Node.{Node}
+use Rattle.graph_nodes.specs.Numbered.{by_number}
+use Rattle.graph_nodes.specs.Nodes.{NameNodes, all_edges}
+use Rattle.module_graph.specs.Graphs.{outward, edges_of, IsValid}
 use Rattle.module_graph.specs.Walks.{NoneReturns}
 use Rattle.mutator_rules.specs.Conditions.{MayRun}
 use Rattle.reverse_deps.specs.Applied.{edges_counted}

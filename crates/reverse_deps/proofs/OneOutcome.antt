@@ -5,7 +5,7 @@ use Rattle.bp_faults.specs.declared.ids.NodeId.{NodeId}
 use Rattle.bp_faults.specs.Phases.{IsOnce}
 use Rattle.bp_faults.proofs.Phases.{goes_on_once}
 use Rattle.bp_props.specs.declared.module.Module.{Module}
-use Rattle.module_graph.specs.declared.graph.Node.{Node}
+use Rattle.graph_nodes.specs.declared.graph.Node.{Node}
 use Rattle.module_graph.specs.Laws.{AtMostOneCycleMeaning}
 use Rattle.mutator_rules.specs.declared.request.Request.{Request}
 use Rattle.reverse_deps.specs.Applied.{labels_of, edges_counted, AcyclicMeans, CountedMeans, found_for, ApplyMeans}

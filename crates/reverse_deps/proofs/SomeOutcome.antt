@@ -4,9 +4,10 @@ use Rattle.bp_faults.specs.declared.fault.Fault.{Fault}
 use Rattle.bp_faults.specs.declared.ids.NodeId.{NodeId}
 use Rattle.bp_faults.specs.Phases.{GoesOn, HasOutcome}
 use Rattle.bp_props.specs.declared.module.Module.{Module}
-use Rattle.module_graph.specs.declared.graph.Node.{Node}
+use Rattle.graph_nodes.specs.declared.graph.Node.{Node}
+use Rattle.graph_nodes.specs.Nodes.{NameNodes}
 use Rattle.module_graph.specs.Cycles.{CycleMeans}
-use Rattle.module_graph.specs.Graphs.{IsValid, NameNodes}
+use Rattle.module_graph.specs.Graphs.{IsValid}
 use Rattle.module_graph.specs.Laws.{OneCycleMeaning}
 use Rattle.mutator_rules.specs.declared.request.Request.{Request}
 use Rattle.mutator_rules.specs.Conditions.{MayRun, indices_in}

@@ -9,11 +9,12 @@ use Rattle.bp_faults.specs.declared.limits.TheConstants.{MOST_EDGES}
 use Rattle.bp_faults.specs.Faults.{fault_on}
 use Rattle.bp_faults.specs.Phases.{each_in_turn, GoesOn}
 use Rattle.bp_props.specs.declared.module.Module.{Module}
-use Rattle.module_graph.specs.declared.graph.Edge.{Edge}
-use Rattle.module_graph.specs.declared.graph.Node.{Node}
+use Rattle.graph_nodes.specs.declared.graph.Edge.{Edge}
+use Rattle.graph_nodes.specs.declared.graph.Node.{Node}
+use Rattle.graph_nodes.specs.Names.{label_of}
+use Rattle.graph_nodes.specs.Nodes.{all_edges}
 use Rattle.module_graph.specs.Cycles.{IsReported}
-use Rattle.module_graph.specs.Graphs.{edges_of, all_edges}
-use Rattle.module_graph.specs.Names.{label_of}
+use Rattle.module_graph.specs.Graphs.{edges_of}
 use Rattle.module_graph.specs.Walks.{NoneReturns}
 use Rattle.mutator_rules.specs.declared.request.Request.{Request}
 use Rattle.reverse_deps.specs.Linked.{links, linked_nodes}

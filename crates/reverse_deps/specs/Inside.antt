@@ -5,8 +5,8 @@ use Rattle.std.specs.List.{AllByRecursion}
 use Rattle.bp_faults.specs.declared.ids.NodeId.{NodeId}
 use Rattle.bp_names.specs.Meaning.{NumbersFirst}
 use Rattle.bp_props.specs.declared.module.Module.{Module}
-use Rattle.module_graph.specs.declared.graph.Node.{Node}
-use Rattle.module_graph.specs.Numbered.{by_number}
+use Rattle.graph_nodes.specs.declared.graph.Node.{Node}
+use Rattle.graph_nodes.specs.Numbered.{by_number}
 use Rattle.mutator_rules.specs.declared.request.Wanted.{Wanted}
 use Rattle.reverse_deps.specs.Linked.{Link}
 use Rattle.reverse_deps.specs.Resolved.{names_by_number, is_wanted}

@@ -11,8 +11,8 @@ use Rattle.bp_props.specs.declared.kind.ModuleKind.{ModuleKind}
 use Rattle.bp_props.specs.declared.kind.ModuleKind.TheVariants.{Binary, Library, LibraryStatic, LibraryShared}
 use Rattle.bp_props.specs.declared.kind.ModuleKind.TheVariants.{LibraryHeaders, Test, Defaults, Filegroup}
 use Rattle.bp_props.specs.declared.props.Props.{Props}
-use Rattle.module_graph.specs.declared.variation.Variation.{Variation}
-use Rattle.module_graph.specs.declared.variation.Variation.TheVariants.{Empty, Common, Vendor, Recovery, Target as For}
+use Rattle.graph_nodes.specs.declared.variation.Variation.{Variation}
+use Rattle.graph_nodes.specs.declared.variation.Variation.TheVariants.{Empty, Common, Vendor, Recovery, Target as For}
 use Rattle.module_rules.specs.Flags.{is_enabled}
 use Rattle.module_rules.specs.Groups.{with_group}
 use Rattle.module_rules.specs.Laws.{VariantsDiffer}

@@ -5,10 +5,10 @@ use Rattle.std.proofs.lemmas.Bool.{and_parts}
 use Rattle.bp_faults.specs.declared.fault.Fault.{Fault}
 use Rattle.bp_props.specs.declared.group_id.GroupId.TheVariants as G
 use Rattle.bp_props.specs.declared.props.Props.{Props}
-use Rattle.module_graph.specs.declared.graph.Node.{Node}
-use Rattle.module_graph.specs.declared.variation.Variation.{Variation}
-use Rattle.module_graph.specs.declared.variation.Variation.TheVariants.{Empty, Vendor, Recovery}
-use Rattle.module_graph.specs.declared.variations.Axis.TheVariants.{Target}
+use Rattle.graph_nodes.specs.declared.graph.Node.{Node}
+use Rattle.graph_nodes.specs.declared.variation.Variation.{Variation}
+use Rattle.graph_nodes.specs.declared.variation.Variation.TheVariants.{Empty, Vendor, Recovery}
+use Rattle.graph_nodes.specs.declared.variations.Axis.TheVariants.{Target}
 use Rattle.mutator_rules.specs.declared.split.Split.{Split}
 use Rattle.module_rules.specs.Asking.{variation_on}
 use Rattle.module_rules.specs.Groups.{with_group}

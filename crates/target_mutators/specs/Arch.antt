@@ -10,9 +10,9 @@ use Rattle.bp_props.specs.declared.module.Module.{Module}
 use Rattle.bp_props.specs.declared.multi.Multi.{Multi}
 use Rattle.bp_props.specs.declared.multi.Multi.TheVariants.{Both, First, Only32, Only64}
 use Rattle.bp_props.specs.declared.props.Props.{Props}
-use Rattle.module_graph.specs.declared.graph.Node.{Node}
-use Rattle.module_graph.specs.declared.variation.Variation.{Variation}
-use Rattle.module_graph.specs.declared.variation.Variation.TheVariants.{Target as For, Common}
+use Rattle.graph_nodes.specs.declared.graph.Node.{Node}
+use Rattle.graph_nodes.specs.declared.variation.Variation.{Variation}
+use Rattle.graph_nodes.specs.declared.variation.Variation.TheVariants.{Target as For, Common}
 use Rattle.mutator_rules.specs.declared.config.Config.{Config}
 use Rattle.target_mutators.specs.declared.targets.Bits.{Bits}
 use Rattle.target_mutators.specs.declared.targets.Bits.TheVariants.{Bits32, Bits64}

@@ -1,8 +1,8 @@
 -- When the rule `image` leaves a node as it is, by what the node has alone.
 use Rattle.std.specs.Prelude.{Bool, not, ◌&&◌, ◌||◌}
 use Rattle.bp_props.specs.declared.props.Props.{Props}
-use Rattle.module_graph.specs.declared.graph.Node.{Node}
-use Rattle.module_graph.specs.declared.variations.Axis.TheVariants.{Target as TargetAxis}
+use Rattle.graph_nodes.specs.declared.graph.Node.{Node}
+use Rattle.graph_nodes.specs.declared.variations.Axis.TheVariants.{Target as TargetAxis}
 use Rattle.module_rules.specs.Asking.{variation_on}
 use Rattle.target_mutators.specs.Images.{is_for_device, is_in_vendor, is_in_recovery, is_in_system}
 

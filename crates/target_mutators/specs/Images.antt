@@ -4,10 +4,10 @@ use Rattle.bp_props.specs.declared.group_id.GroupId.{GroupId}
 use Rattle.bp_props.specs.declared.group_id.GroupId.TheVariants as G
 use Rattle.bp_props.specs.declared.module.Module.{Module}
 use Rattle.bp_props.specs.declared.props.Props.{Props}
-use Rattle.module_graph.specs.declared.graph.Node.{Node}
-use Rattle.module_graph.specs.declared.variation.Variation.{Variation}
-use Rattle.module_graph.specs.declared.variation.Variation.TheVariants.{Empty, Target, Vendor, Recovery}
-use Rattle.module_graph.specs.declared.variations.Axis.TheVariants.{Target as TargetAxis}
+use Rattle.graph_nodes.specs.declared.graph.Node.{Node}
+use Rattle.graph_nodes.specs.declared.variation.Variation.{Variation}
+use Rattle.graph_nodes.specs.declared.variation.Variation.TheVariants.{Empty, Target, Vendor, Recovery}
+use Rattle.graph_nodes.specs.declared.variations.Axis.TheVariants.{Target as TargetAxis}
 use Rattle.module_rules.specs.Asking.{variation_on}
 use Rattle.module_rules.specs.Flags.{is_true_or}
 use Rattle.module_rules.specs.Groups.{with_group}

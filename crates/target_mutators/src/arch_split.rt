@@ -1,7 +1,7 @@
 ghost use Rattle.std.specs.Prelude.{◌≡◌, ◌++◌, [], Some, IfOk, OnOk, length};
 ghost use Rattle.std.specs.List.{list_any};
-ghost use Rattle.module_graph.specs.declared.variation.Variation.TheVariants.{Common};
-ghost use Rattle.module_graph.specs.declared.variations.Axis.TheVariants.{Target as TargetAxis};
+ghost use Rattle.graph_nodes.specs.declared.variation.Variation.TheVariants.{Common};
+ghost use Rattle.graph_nodes.specs.declared.variations.Axis.TheVariants.{Target as TargetAxis};
 ghost use Rattle.module_rules.specs.Rules.{splits};
 ghost use Rattle.module_rules.specs.Shaped.{splits_shaped};
 ghost use Rattle.module_rules.specs.Variants.{if_enabled};

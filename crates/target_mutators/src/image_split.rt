@@ -1,7 +1,7 @@
 ghost use Rattle.std.specs.Prelude.{◌≡◌, ◌++◌, ◌∷◌, [], Some, IfOk, IsTrue, OnOk, cond, length};
 ghost use Rattle.std.specs.List.{list_all};
-ghost use Rattle.module_graph.specs.declared.variation.Variation.TheVariants.{Empty};
-ghost use Rattle.module_graph.specs.declared.variations.Axis.TheVariants.{Image};
+ghost use Rattle.graph_nodes.specs.declared.variation.Variation.TheVariants.{Empty};
+ghost use Rattle.graph_nodes.specs.declared.variations.Axis.TheVariants.{Image};
 ghost use Rattle.module_rules.specs.Rules.{splits};
 ghost use Rattle.module_rules.specs.Shaped.{splits_shaped};
 ghost use Rattle.mutator_rules.specs.Conditions.{MayRun, indices_in};

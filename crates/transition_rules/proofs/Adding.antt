@@ -3,9 +3,9 @@ use Rattle.std.proofs.Common.{◌≡◌, ◌≢◌, ◌++◌, ◌||◌, ◌⊎�
 use Rattle.std.proofs.Common.{sym, subst}
 use Rattle.std.specs.List.{AllByRecursion, list_any}
 use Rattle.bp_faults.proofs.Lists.{all_map, Apart, apart_append}
-use Rattle.module_graph.specs.Laws.{SameMeansEqual}
-use Rattle.module_graph.specs.declared.variation.Variation.{Variation}
-use Rattle.module_graph.specs.Same.{same}
+use Rattle.graph_nodes.specs.Laws.{SameMeansEqual}
+use Rattle.graph_nodes.specs.declared.variation.Variation.{Variation}
+use Rattle.graph_nodes.specs.Same.{same}
 use Rattle.transition_rules.specs.Spelled.{is_spelled_before, list_with}
 use Rattle.transition_rules.specs.Wants.{wants_with, others_of}
 use Rattle.transition_rules.proofs.Members.{Has, none_same, any_same}

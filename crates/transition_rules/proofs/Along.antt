@@ -5,9 +5,9 @@ use Rattle.std.proofs.lemmas.List.{take_more, map-append, length-take-le, length
 use Rattle.std.proofs.lemmas.List.Sums.{fold-append}
 use Rattle.bp_faults.specs.declared.ids.NodeId.{NodeId}
 use Rattle.bp_faults.specs.Answers.{then_do}
-use Rattle.module_graph.specs.declared.graph.EdgeKind.{EdgeKind}
-use Rattle.module_graph.specs.declared.graph.Node.{Node}
-use Rattle.module_graph.specs.declared.variation.Variation.{Variation}
+use Rattle.graph_nodes.specs.declared.graph.EdgeKind.{EdgeKind}
+use Rattle.graph_nodes.specs.declared.graph.Node.{Node}
+use Rattle.graph_nodes.specs.declared.variation.Variation.{Variation}
 use Rattle.mutator_rules.specs.Meaning.{TransitionMeaning}
 use Rattle.transition_rules.specs.Wants.{wants_with, others_of, handed_variation, wanted_variations}
 

@@ -6,9 +6,9 @@ use Rattle.std.specs.Cmp.Lexicographic.{slice_cmp, nat_list_cmp_total}
 use Rattle.std.specs.declared.cmp.Ordering.{Ordering}
 use Rattle.std.specs.declared.cmp.Ordering.TheVariants.{Less, Equal, Greater}
 use Rattle.bp_faults.proofs.Lists.{all_map, Apart}
-use Rattle.module_graph.specs.declared.variation.Variation.{Variation}
-use Rattle.module_graph.specs.Names.{spelling}
-use Rattle.module_graph.specs.Same.{same}
+use Rattle.graph_nodes.specs.declared.variation.Variation.{Variation}
+use Rattle.graph_nodes.specs.Names.{spelling}
+use Rattle.graph_nodes.specs.Same.{same}
 use Rattle.transition_rules.specs.Spelled.{is_spelled_before, list_with}
 use Rattle.transition_rules.specs.Wants.{wants_with}
 use Rattle.transition_rules.proofs.Adding.{all_inserted}

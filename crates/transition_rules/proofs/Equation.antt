@@ -2,9 +2,9 @@
 use Rattle.std.proofs.Common.{◌≡◌, ◌<◌, ◌++◌, ℕ, List, [], ◌∷◌, map, length, get_or, refl, ap, ◌∙◌, sym, Result, Ok}
 use Rattle.pass_core.specs.Laws.{OutsMeetTheirEquation}
 use Rattle.pass_core.specs.Plans.{predecessors}
+use Rattle.graph_nodes.specs.declared.graph.Node.{Node}
+use Rattle.graph_nodes.specs.declared.variation.Variation.{Variation}
 use Rattle.module_graph.specs.declared.direction.Direction.TheVariants.{TopDown}
-use Rattle.module_graph.specs.declared.graph.Node.{Node}
-use Rattle.module_graph.specs.declared.variation.Variation.{Variation}
 use Rattle.module_graph.specs.Graphs.{IsNumbered, IsValid}
 use Rattle.module_graph.specs.Laws.{PlansOfGraphsArePlans, ValidPlansHaveNoCycle}
 use Rattle.module_graph.specs.Planned.{plan_of, plan_edges}

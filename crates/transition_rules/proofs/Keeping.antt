@@ -1,7 +1,7 @@
 -- What each step of a transition makes of a graph is fit for the next rule.
 use Rattle.std.proofs.Common.{ℕ, List, Some, None, ap, subst, sym}
-use Rattle.module_graph.specs.declared.graph.Node.{Node}
-use Rattle.module_graph.specs.declared.variation.Variation.{Variation}
+use Rattle.graph_nodes.specs.declared.graph.Node.{Node}
+use Rattle.graph_nodes.specs.declared.variation.Variation.{Variation}
 use Rattle.module_graph.specs.Graphs.{IsValid}
 use Rattle.mutator_rules.specs.Conditions.{MayRun, indices_in}
 use Rattle.mutator_rules.specs.Meaning.{TransitionMeaning}

@@ -9,15 +9,15 @@ use Rattle.std.proofs.lemmas.List.Sums.{fails_before_first}
 use Rattle.std.proofs.lemmas.List.Elements.{recursion_from_All, All-contains_itself}
 use Rattle.bp_faults.specs.declared.ids.NodeId.{NodeId}
 use Rattle.bp_faults.proofs.Lists.{all_map}
-use Rattle.module_graph.specs.declared.graph.Edge.{Edge}
-use Rattle.module_graph.specs.declared.graph.EdgeKind.{EdgeKind}
-use Rattle.module_graph.specs.declared.graph.Node.{Node}
-use Rattle.module_graph.specs.declared.variation.Variation.{Variation}
-use Rattle.module_graph.specs.Cycles.{edges_at}
-use Rattle.module_graph.specs.Numbered.{by_number}
-use Rattle.module_graph.specs.Laws.{SameMeansEqual}
+use Rattle.graph_nodes.specs.declared.graph.Edge.{Edge}
+use Rattle.graph_nodes.specs.declared.graph.EdgeKind.{EdgeKind}
+use Rattle.graph_nodes.specs.declared.graph.Node.{Node}
+use Rattle.graph_nodes.specs.declared.variation.Variation.{Variation}
+use Rattle.graph_nodes.specs.Nodes.{edges_at}
+use Rattle.graph_nodes.specs.Numbered.{by_number}
+use Rattle.graph_nodes.specs.Laws.{SameMeansEqual}
 use Rattle.mutator_rules.specs.Arrivals.{edges_to, from_node, arrivals}
-use Rattle.module_graph.specs.Same.{same}
+use Rattle.graph_nodes.specs.Same.{same}
 use Rattle.transition_rules.proofs.Pieces.{by_number_at}
 
 module _ {A : Type 0} where

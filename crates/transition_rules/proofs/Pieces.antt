@@ -1,7 +1,7 @@
 -- Where a piece of a list that is made of numbered items stands.
 use Rattle.std.proofs.Common.{◌≡◌, ◌+◌, ◌<◌, ◌++◌, ℕ, zero, suc, List, [], ◌∷◌, length, get_or, take, ap, ◌∙◌, sym}
 use Rattle.std.proofs.Common.{arith, append_assoc, add-zero}
-use Rattle.module_graph.specs.Numbered.{by_number}
+use Rattle.graph_nodes.specs.Numbered.{by_number}
 
 -- a list of pieces, taken apart at the piece of an item
 pub by_number_at : {X A : Type 0} (f : ℕ → X → List A) (k : ℕ) (xs : List X) (i : ℕ) (d : X) → i < length xs

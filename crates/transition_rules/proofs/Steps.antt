@@ -1,8 +1,8 @@
 -- What the steps of a transition come to together.
 use Rattle.std.proofs.Common.{◌≡◌, refl, subst, List, Option, Some, None, Result, Ok, Err}
 use Rattle.bp_faults.specs.declared.fault.Fault.{Fault}
-use Rattle.module_graph.specs.declared.graph.Node.{Node}
-use Rattle.module_graph.specs.declared.variation.Variation.{Variation}
+use Rattle.graph_nodes.specs.declared.graph.Node.{Node}
+use Rattle.graph_nodes.specs.declared.variation.Variation.{Variation}
 use Rattle.mutator_rules.specs.declared.error.KindError.{KindError}
 use Rattle.mutator_rules.specs.declared.error.KindError.TheVariants.{At, Nodes, Edges, OutOfMemory}
 use Rattle.mutator_rules.specs.Meaning.{TransitionMeaning}

@@ -8,17 +8,17 @@ use Rattle.std.proofs.lemmas.List.Quantifiers.{position-Some}
 use Rattle.bp_faults.specs.declared.ids.NodeId.{NodeId}
 use Rattle.bp_faults.proofs.Lists.{all_map, apart_pairs, pairs_apart}
 use Rattle.pass_core.specs.Laws.{OutsAreMany}
+use Rattle.graph_nodes.specs.declared.graph.Edge.{Edge}
+use Rattle.graph_nodes.specs.declared.graph.EdgeKind.{EdgeKind}
+use Rattle.graph_nodes.specs.declared.graph.Node.{Node}
+use Rattle.graph_nodes.specs.declared.variation.Variation.{Variation}
+use Rattle.graph_nodes.specs.declared.variation.Variation.TheVariants.{Empty}
+use Rattle.graph_nodes.specs.Laws.{SameMeansEqual}
+use Rattle.graph_nodes.specs.Nodes.{edges_at}
+use Rattle.graph_nodes.specs.Same.{same}
 use Rattle.module_graph.specs.declared.direction.Direction.TheVariants.{TopDown}
-use Rattle.module_graph.specs.declared.graph.Edge.{Edge}
-use Rattle.module_graph.specs.declared.graph.EdgeKind.{EdgeKind}
-use Rattle.module_graph.specs.declared.graph.Node.{Node}
-use Rattle.module_graph.specs.declared.variation.Variation.{Variation}
-use Rattle.module_graph.specs.declared.variation.Variation.TheVariants.{Empty}
-use Rattle.module_graph.specs.Cycles.{edges_at}
 use Rattle.module_graph.specs.Graphs.{IsNumbered, IsValid}
-use Rattle.module_graph.specs.Laws.{SameMeansEqual}
 use Rattle.module_graph.specs.Planned.{plan_of}
-use Rattle.module_graph.specs.Same.{same}
 use Rattle.mutator_rules.specs.Arrivals.{arrivals}
 use Rattle.mutator_rules.specs.Meaning.{TransitionMeaning}
 use Rattle.variant_graphs.specs.Splits.{IsSplitting}

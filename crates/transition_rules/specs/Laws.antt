@@ -2,10 +2,10 @@
 use Rattle.std.specs.Prelude.{◌≡◌, ◌<◌, ℕ, List, [], ◌++◌, length, slice_index_or, map, Some, None, Ok}
 use Rattle.std.specs.Prelude.{◌↔◌, false, true, Contains}
 use Rattle.std.specs.List.{AllByRecursion, AllPairs}
-use Rattle.module_graph.specs.Names.{spelling}
+use Rattle.graph_nodes.specs.Names.{spelling}
 use Rattle.transition_rules.specs.Spelled.{is_spelled_before, FitsNumber}
-use Rattle.module_graph.specs.declared.graph.Node.{Node}
-use Rattle.module_graph.specs.declared.variation.Variation.{Variation}
+use Rattle.graph_nodes.specs.declared.graph.Node.{Node}
+use Rattle.graph_nodes.specs.declared.variation.Variation.{Variation}
 use Rattle.module_graph.specs.Graphs.{IsNumbered, IsValid}
 use Rattle.mutator_rules.specs.Arrivals.{arrivals}
 use Rattle.mutator_rules.specs.Meaning.{TransitionMeaning}

@@ -2,9 +2,9 @@
 use Rattle.std.specs.Prelude.{◌<◌, ◌^◌, Bool, List, [], ◌∷◌, if◌then◌else◌, ⊤}
 use Rattle.std.specs.Ordering.{nat_cmp, is_lt}
 use Rattle.std.specs.Cmp.Lexicographic.{slice_cmp}
-use Rattle.module_graph.specs.declared.variation.Variation.{Variation}
-use Rattle.module_graph.specs.declared.variation.Variation.TheVariants.{PerSource}
-use Rattle.module_graph.specs.Names.{spelling}
+use Rattle.graph_nodes.specs.declared.variation.Variation.{Variation}
+use Rattle.graph_nodes.specs.declared.variation.Variation.TheVariants.{PerSource}
+use Rattle.graph_nodes.specs.Names.{spelling}
 
 -- The spelling of v stands before that of w.
 abbrev pub is_spelled_before : Variation → Variation → Bool

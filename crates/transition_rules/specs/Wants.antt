@@ -5,12 +5,12 @@ use Rattle.std.specs.List.{fold, list_any}
 use Rattle.bp_faults.specs.declared.fault.Fault.{Fault}
 use Rattle.bp_faults.specs.declared.ids.NodeId.{NodeId}
 use Rattle.bp_faults.specs.Answers.{then_do}
-use Rattle.module_graph.specs.declared.graph.EdgeKind.{EdgeKind}
-use Rattle.module_graph.specs.declared.graph.Node.{Node}
-use Rattle.module_graph.specs.declared.variation.Variation.{Variation}
+use Rattle.graph_nodes.specs.declared.graph.EdgeKind.{EdgeKind}
+use Rattle.graph_nodes.specs.declared.graph.Node.{Node}
+use Rattle.graph_nodes.specs.declared.variation.Variation.{Variation}
 use Rattle.mutator_rules.specs.Arrivals.{arrivals}
 use Rattle.mutator_rules.specs.Meaning.{TransitionMeaning}
-use Rattle.module_graph.specs.Same.{same}
+use Rattle.graph_nodes.specs.Same.{same}
 use Rattle.transition_rules.specs.Spelled.{list_with}
 
 -- A wanted variation among the others: each stands there once, and none of the node's own.

@@ -1,6 +1,7 @@
 ghost use Rattle.std.specs.Prelude.{◌≡◌, IfOk, None, length};
+ghost use Rattle.graph_nodes.specs.Nodes.{targets};
 ghost use Rattle.module_graph.specs.declared.direction.Direction.TheVariants.{BottomUp};
-ghost use Rattle.module_graph.specs.Graphs.{IsValid, targets};
+ghost use Rattle.module_graph.specs.Graphs.{IsValid};
 ghost use Rattle.module_graph.specs.Planned.{plan_of};
 ghost use Rattle.mutator_rules.specs.Conditions.{MayRun, MayVisit};
 ghost use Rattle.pass_ways.specs.Ways.{AnswersWay, Follows, IsPassWay, RefusesPass, Runs};

@@ -4,9 +4,9 @@ use Rattle.std.proofs.Common.{ap, ◌∙◌, sym, arith, append-nil, append_asso
 use Rattle.std.specs.List.{AllByRecursion, filter_map, cons_option}
 use Rattle.std.proofs.lemmas.List.{take_more, length-take-le}
 use Rattle.bp_faults.proofs.Lists.{all_append}
-use Rattle.module_graph.specs.declared.graph.Node.{Node}
-use Rattle.module_graph.specs.Cycles.{edges_at}
-use Rattle.module_graph.specs.Numbered.{by_number}
+use Rattle.graph_nodes.specs.declared.graph.Node.{Node}
+use Rattle.graph_nodes.specs.Nodes.{edges_at}
+use Rattle.graph_nodes.specs.Numbered.{by_number}
 
 pub all_by_number : {X A : Type 0} (P : X → Type 0) (Q : A → Type 0) (bound : ℕ) (f : ℕ → X → List A)
     → ((n : ℕ) (x : X) → n < bound → P x → AllByRecursion Q (f n x))

@@ -11,11 +11,11 @@ use Rattle.std.proofs.lemmas.List.{length-map, map-append, take_all}
 use Rattle.std.proofs.lemmas.Option.{slice_get-map, slice_get-get_or}
 use Rattle.bp_faults.specs.declared.ids.ModuleId.{ModuleId}
 use Rattle.bp_faults.specs.declared.place.Place.{Place}
-use Rattle.module_graph.specs.declared.graph.Edge.{Edge}
-use Rattle.module_graph.specs.declared.graph.Graph.{Graph}
-use Rattle.module_graph.specs.declared.graph.Node.{Node}
-use Rattle.module_graph.specs.declared.variation.Variation.{Variation}
-use Rattle.module_graph.specs.Numbered.{by_number}
+use Rattle.graph_nodes.specs.declared.graph.Edge.{Edge}
+use Rattle.graph_nodes.specs.declared.graph.Graph.{Graph}
+use Rattle.graph_nodes.specs.declared.graph.Node.{Node}
+use Rattle.graph_nodes.specs.declared.variation.Variation.{Variation}
+use Rattle.graph_nodes.specs.Numbered.{by_number}
 use Rattle.variant_graphs.proofs.Alls.{by_number_step}
 use Rattle.variant_graphs.proofs.Alls.{edges_at_is}
 use Rattle.mutator_rules.specs.declared.error.KindError.{KindError}
@@ -31,7 +31,7 @@ use Rattle.variant_graphs.specs.Splits.{AnswersSplit}
 use Rattle.variant_graphs.proofs.Begun.{get_lengths, total_is, before_is}
 use Rattle.variant_graphs.proofs.NewNodes.{piece, first_more, first_node, length-before, length-split}
 use Rattle.variant_graphs.proofs.Pieces.{by_number_at, get_middle}
-use Rattle.module_graph.specs.Graphs.{all_edges}
+use Rattle.graph_nodes.specs.Nodes.{all_edges}
 
 -- an answer that is handed on says what the first one says
 pub handed_on : {P B : Type 0} (s : Splitting P B) (nodes : List (Node P)) (e : KindError)

@@ -9,15 +9,15 @@ use Rattle.std.proofs.lemmas.List.{length-map, take-map}
 use Rattle.std.proofs.lemmas.List.Concat.{length-flat_map}
 use Rattle.std.proofs.lemmas.List.Sums.{sum-map, sum_by-take-le, sum_by_more, sum_by_more_le}
 use Rattle.std.proofs.lemmas.List.FromFn.{get_or-map-range_with_len, length-map-range_with_len}
-use Rattle.module_graph.specs.declared.graph.Edge.{Edge}
-use Rattle.module_graph.specs.declared.variation.Variation.{Variation}
+use Rattle.graph_nodes.specs.declared.graph.Edge.{Edge}
+use Rattle.graph_nodes.specs.declared.variation.Variation.{Variation}
 use Rattle.bp_faults.specs.declared.limits.TheConstants.{MOST_NODES}
 use Rattle.variant_graphs.specs.Inside.{total, before, begun, theirs, IsNumbering, IsFit, led_by, node_by}
 use Rattle.variant_graphs.specs.declared.numbering.Numbering.{Numbering}
 use Rattle.variant_graphs.specs.Splitting.{SplitRule, Splitting, splitting, variants_at, first_of, led_edge}
 use Rattle.variant_graphs.specs.Splitting.{variant_node}
-use Rattle.module_graph.specs.Axes.{axis_index}
-use Rattle.module_graph.specs.declared.graph.Node.{Node}
+use Rattle.graph_nodes.specs.Axes.{axis_index}
+use Rattle.graph_nodes.specs.declared.graph.Node.{Node}
 use Rattle.std.specs.Option.{option_map}
 use Rattle.std.specs.Prelude.{Option, slice_set}
 use Rattle.bp_faults.proofs.Lists.{all_map, apart_pairs, pairs_apart, apart_image}

@@ -5,9 +5,9 @@ use Rattle.std.specs.Prelude.{slice_get}
 use Rattle.std.specs.List.{AllByRecursion}
 use Rattle.std.proofs.lemmas.List.Elements.{All-from_recursion}
 use Rattle.bp_faults.specs.declared.place.Place.{Place}
-use Rattle.module_graph.specs.declared.graph.Edge.{Edge}
-use Rattle.module_graph.specs.declared.graph.Node.{Node}
-use Rattle.module_graph.specs.Graphs.{NameNodes}
+use Rattle.graph_nodes.specs.declared.graph.Edge.{Edge}
+use Rattle.graph_nodes.specs.declared.graph.Node.{Node}
+use Rattle.graph_nodes.specs.Nodes.{NameNodes}
 use Rattle.variant_graphs.proofs.Alls.{by_number_step}
 use Rattle.variant_graphs.specs.Inside.{copies_of, kept_places, new_places, IsEdgeBeyond}
 use Rattle.bp_faults.specs.declared.limits.TheConstants.{MOST_EDGES}

@@ -5,9 +5,9 @@ use Rattle.std.specs.Option.{option_map}
 use Rattle.std.proofs.lemmas.List.{drop_more}
 use Rattle.bp_faults.specs.declared.limits.TheConstants.{MOST_EDGES}
 use Rattle.bp_faults.proofs.Lists.{slice_get-append, slice_get-append_past}
-use Rattle.module_graph.specs.declared.graph.Edge.{Edge}
-use Rattle.module_graph.specs.declared.graph.Node.{Node}
-use Rattle.module_graph.specs.Graphs.{all_edges}
+use Rattle.graph_nodes.specs.declared.graph.Edge.{Edge}
+use Rattle.graph_nodes.specs.declared.graph.Node.{Node}
+use Rattle.graph_nodes.specs.Nodes.{all_edges}
 
 module _ {P : Type 0} (nodes : List (Node P)) (k left : ℕ) (x : Node P) (edges : List Edge) (lt : k < length nodes)
     (x_is : x ≡ get_or nodes k x) (edges_are : edges ≡ x.edges) where

@@ -6,13 +6,14 @@ use Rattle.std.proofs.lemmas.List.Elements.{recursion_from_All, All-contains_its
 use Rattle.std.specs.List.{AllByRecursion}
 use Rattle.std.proofs.lemmas.List.{length-map}
 use Rattle.bp_faults.specs.declared.ids.ModuleId.{ModuleId}
+use Rattle.graph_nodes.specs.declared.graph.Edge.{Edge}
+use Rattle.graph_nodes.specs.declared.graph.Node.{Node}
+use Rattle.graph_nodes.specs.declared.variation.Variation.{Variation}
+use Rattle.graph_nodes.specs.Numbered.{by_number}
+use Rattle.graph_nodes.specs.Nodes.{NameNodes, all_edges}
 use Rattle.module_graph.specs.declared.direction.Direction.{Direction}
 use Rattle.module_graph.specs.declared.direction.Direction.TheVariants.{BottomUp, TopDown}
-use Rattle.module_graph.specs.declared.graph.Edge.{Edge}
-use Rattle.module_graph.specs.declared.graph.Node.{Node}
-use Rattle.module_graph.specs.declared.variation.Variation.{Variation}
-use Rattle.module_graph.specs.Numbered.{by_number}
-use Rattle.module_graph.specs.Graphs.{outward, edges_of, NameNodes, IsNumbered, IsValid, all_edges}
+use Rattle.module_graph.specs.Graphs.{outward, edges_of, IsNumbered, IsValid}
 use Rattle.module_graph.specs.Planned.{turned_edge, by_target, plan_of}
 use Rattle.module_graph.specs.Walks.{NoneReturns}
 use Rattle.variant_graphs.proofs.Alls.{all_by_number}
@@ -22,10 +23,10 @@ use Rattle.variant_graphs.specs.Payloads.{with_payloads}
 use Rattle.variant_graphs.specs.Splitting.{Splitting, variants_at, variant_node, split_nodes, HasFreeAxis}
 use Rattle.variant_graphs.specs.Splits.{IsSplitting}
 use Rattle.bp_faults.proofs.Lists.{get_else, all_image, all_before, Apart, apart_pairs, pairs_apart, all_each}
-use Rattle.module_graph.specs.declared.variation.Variation.TheVariants.{Empty}
-use Rattle.module_graph.specs.declared.variations.Axis.{Axis}
-use Rattle.module_graph.specs.declared.variations.Axis.TheVariants.{Target, Image, Link, PerSource, Sanitize}
-use Rattle.module_graph.specs.Axes.{axis_index}
+use Rattle.graph_nodes.specs.declared.variation.Variation.TheVariants.{Empty}
+use Rattle.graph_nodes.specs.declared.variations.Axis.{Axis}
+use Rattle.graph_nodes.specs.declared.variations.Axis.TheVariants.{Target, Image, Link, PerSource, Sanitize}
+use Rattle.graph_nodes.specs.Axes.{axis_index}
 use Rattle.std.specs.Prelude.{◌≢◌, slice_get, Some}
 use Rattle.variant_graphs.proofs.Valid.{Differ, ends_stay}
 

@@ -4,8 +4,8 @@ use Rattle.std.proofs.Common.{sym, arith, length-append}
 use Rattle.std.specs.List.{sum_by}
 use Rattle.std.proofs.lemmas.List.{length-map, take_all}
 use Rattle.std.proofs.lemmas.List.Sums.{sum_by_more, sum_by_more_le}
-use Rattle.module_graph.specs.declared.graph.Node.{Node}
-use Rattle.module_graph.specs.Numbered.{by_number}
+use Rattle.graph_nodes.specs.declared.graph.Node.{Node}
+use Rattle.graph_nodes.specs.Numbered.{by_number}
 use Rattle.variant_graphs.proofs.Alls.{by_number_step}
 use Rattle.variant_graphs.specs.Splitting.{Splitting, variants_at, first_of, variant_node, split_nodes}
 

@@ -14,8 +14,8 @@ use Rattle.pass_core.specs.Outcomes.{PassOutcomeMeans}
 use Rattle.pass_core.specs.Plans.{IsPlan, HasNoCycle, predecessors}
 use Rattle.pass_core.specs.Results.{NodeResult, Done, Poisoned, all_outs, cons_if, judged_result, node_result}
 use Rattle.pass_core.specs.Results.{result_of_visit}
+use Rattle.graph_nodes.specs.declared.graph.Node.{Node}
 use Rattle.module_graph.specs.declared.direction.Direction.{Direction}
-use Rattle.module_graph.specs.declared.graph.Node.{Node}
 use Rattle.module_graph.specs.Planned.{plan_edges, plan_of}
 
 module _ {P O : Type 0} (own : Node P → O) where

@@ -2,7 +2,7 @@
 use Rattle.std.proofs.Common.{◌≡◌, ◌+◌, ◌-◌, ◌<◌, ◌++◌, ℕ, zero, suc, List, [], ◌∷◌, length, take, drop, get_or, refl}
 use Rattle.std.proofs.Common.{ap, ◌∙◌, sym, arith, append-nil, append_assoc, add-zero, zero-add}
 use Rattle.std.specs.Prelude.{slice_get, slice_range}
-use Rattle.module_graph.specs.Numbered.{by_number}
+use Rattle.graph_nodes.specs.Numbered.{by_number}
 use Rattle.variant_graphs.specs.Inside.{copies_of, before}
 use Rattle.std.proofs.lemmas.List.{drop_at, drop_more, take-append-drop, take_at}
 use Rattle.std.proofs.lemmas.List.Concat.{flat_map-append}

@@ -3,10 +3,10 @@ use Rattle.std.proofs.Common.{◌≡◌, ◌<◌, ◌≤◌, ℕ, Bool, true, fa
 use Rattle.std.proofs.Common.{arith, Option, Some, None, nat_lt}
 use Rattle.std.specs.Prelude.{◌≢◌}
 use Rattle.std.specs.List.{AllPairs}
-use Rattle.module_graph.specs.declared.variation.Variation.{Variation}
-use Rattle.module_graph.specs.declared.variation.Variation.TheVariants.{Empty}
-use Rattle.module_graph.specs.Laws.{SameMeansEqual}
-use Rattle.module_graph.specs.Same.{same}
+use Rattle.graph_nodes.specs.declared.variation.Variation.{Variation}
+use Rattle.graph_nodes.specs.declared.variation.Variation.TheVariants.{Empty}
+use Rattle.graph_nodes.specs.Laws.{SameMeansEqual}
+use Rattle.graph_nodes.specs.Same.{same}
 use Rattle.std.specs.List.{position, position_or_len}
 use Rattle.std.proofs.lemmas.Bool.Decides.{nat_tests}
 use Rattle.std.proofs.lemmas.List.Sums.{position_or_len_is}

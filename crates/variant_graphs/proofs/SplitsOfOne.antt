@@ -6,13 +6,13 @@ use Rattle.std.specs.Option.{option_map}
 use Rattle.std.specs.List.{AllByRecursion, cons_option, filter_map}
 use Rattle.std.proofs.lemmas.Option.{slice_get_within}
 use Rattle.bp_faults.proofs.Lists.{some_there}
-use Rattle.module_graph.specs.declared.graph.Edge.{Edge}
-use Rattle.module_graph.specs.declared.graph.Node.{Node}
-use Rattle.module_graph.specs.declared.variation.Variation.{Variation}
-use Rattle.module_graph.specs.declared.variation.Variation.TheVariants.{Empty}
-use Rattle.module_graph.specs.Axes.{axis_index}
-use Rattle.module_graph.specs.Graphs.{NameNodes}
-use Rattle.module_graph.specs.Numbered.{by_number}
+use Rattle.graph_nodes.specs.declared.graph.Edge.{Edge}
+use Rattle.graph_nodes.specs.declared.graph.Node.{Node}
+use Rattle.graph_nodes.specs.declared.variation.Variation.{Variation}
+use Rattle.graph_nodes.specs.declared.variation.Variation.TheVariants.{Empty}
+use Rattle.graph_nodes.specs.Axes.{axis_index}
+use Rattle.graph_nodes.specs.Nodes.{NameNodes}
+use Rattle.graph_nodes.specs.Numbered.{by_number}
 use Rattle.variant_graphs.specs.Splitting.{Splitting, first_of, led_edge, split_nodes, variant_node, variants_at}
 use Rattle.variant_graphs.specs.Splitting.{HasFreeAxis}
 use Rattle.variant_graphs.proofs.NewNodes.{first_more, piece}

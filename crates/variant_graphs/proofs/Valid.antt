@@ -12,13 +12,14 @@ use Rattle.pass_core.specs.Plans.{HasNoCycle}
 use Rattle.bp_faults.proofs.Lists.{all_with, all_append, all_image}
 use Rattle.bp_faults.proofs.Lists.{all_split, Apart, apart_pairs, pairs_apart, apart_append, apart_image, all_each}
 use Rattle.bp_faults.proofs.Lists.{all_before}
-use Rattle.module_graph.specs.declared.graph.Edge.{Edge}
-use Rattle.module_graph.specs.declared.graph.Node.{Node}
-use Rattle.module_graph.specs.declared.variation.Variation.{Variation}
-use Rattle.module_graph.specs.declared.variation.Variation.TheVariants.{Empty}
-use Rattle.module_graph.specs.Axes.{axis_index}
-use Rattle.module_graph.specs.Numbered.{by_number}
-use Rattle.module_graph.specs.Graphs.{outward, edges_of, NameNodes, IsValid}
+use Rattle.graph_nodes.specs.declared.graph.Edge.{Edge}
+use Rattle.graph_nodes.specs.declared.graph.Node.{Node}
+use Rattle.graph_nodes.specs.declared.variation.Variation.{Variation}
+use Rattle.graph_nodes.specs.declared.variation.Variation.TheVariants.{Empty}
+use Rattle.graph_nodes.specs.Axes.{axis_index}
+use Rattle.graph_nodes.specs.Numbered.{by_number}
+use Rattle.graph_nodes.specs.Nodes.{NameNodes}
+use Rattle.module_graph.specs.Graphs.{outward, edges_of, IsValid}
 use Rattle.variant_graphs.proofs.Alls.{all_by_number, all_kept}
 use Rattle.module_graph.specs.Laws.{NoneReturnsWhereNumberingRises, EdgesJoinNodes}
 use Rattle.variant_graphs.specs.Splitting.{Splitting, variants_at, first_of, led_edge, variant_node, split_nodes}

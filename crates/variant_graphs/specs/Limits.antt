@@ -4,9 +4,9 @@ use Rattle.std.specs.Option.{option_map}
 use Rattle.bp_faults.specs.declared.ids.ModuleId.{ModuleId}
 use Rattle.bp_faults.specs.declared.limits.TheConstants.{MOST_EDGES, MOST_NODES}
 use Rattle.bp_faults.specs.declared.place.Place.{Place}
-use Rattle.module_graph.specs.declared.graph.Edge.{Edge}
-use Rattle.module_graph.specs.declared.graph.Node.{Node}
-use Rattle.module_graph.specs.Graphs.{all_edges}
+use Rattle.graph_nodes.specs.declared.graph.Edge.{Edge}
+use Rattle.graph_nodes.specs.declared.graph.Node.{Node}
+use Rattle.graph_nodes.specs.Nodes.{all_edges}
 use Rattle.mutator_rules.specs.declared.error.KindError.{KindError}
 use Rattle.mutator_rules.specs.declared.error.KindError.TheVariants.{At, Nodes, Edges, OutOfMemory}
 

@@ -1,6 +1,6 @@
 -- A graph with new payloads.
 use Rattle.std.specs.Prelude.{List, [], ◌∷◌}
-use Rattle.module_graph.specs.declared.graph.Node.{Node}
+use Rattle.graph_nodes.specs.declared.graph.Node.{Node}
 
 module _ {P : Type 0} where
   -- A node with another payload.

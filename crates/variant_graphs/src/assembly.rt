@@ -1,7 +1,7 @@
 ghost use Rattle.std.specs.Prelude.{◌≡◌, ◌<◌, ◌+◌, ◌++◌, IfOk, OnOk, length, map, slice_set};
 ghost use Rattle.std.specs.List.{AllByRecursion, filter_map};
-ghost use Rattle.module_graph.specs.declared.graph.Edge.{Edge};
-ghost use Rattle.module_graph.specs.Axes.{axis_index};
+ghost use Rattle.graph_nodes.specs.declared.graph.Edge.{Edge};
+ghost use Rattle.graph_nodes.specs.Axes.{axis_index};
 ghost use Rattle.module_graph.specs.Graphs.{IsNumbered};
 ghost use Rattle.variant_graphs.specs.Inside.{led_by, node_by, IsFit, IsNumbering};
 ghost use Rattle.variant_graphs.specs.Splits.{AnswersSplit, IsSplitting, MayLead};

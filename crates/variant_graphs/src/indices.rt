@@ -1,6 +1,6 @@
 ghost use Rattle.std.specs.Prelude.{◌≡◌, ◌≢◌};
 ghost use Rattle.std.specs.List.{AllPairs, list_any, position};
-ghost use Rattle.module_graph.specs.Same.{same};
+ghost use Rattle.graph_nodes.specs.Same.{same};
 
 use module_graph::Variation;
 use module_graph::laws::same_means_equal;

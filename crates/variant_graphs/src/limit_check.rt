@@ -1,8 +1,8 @@
 ghost use Rattle.std.specs.Prelude.{◌≡◌, slice_get};
 ghost use Rattle.std.specs.Option.{option_map};
-ghost use Rattle.module_graph.specs.declared.graph.Edge.{Edge};
+ghost use Rattle.graph_nodes.specs.declared.graph.Edge.{Edge};
 ghost use Rattle.variant_graphs.specs.Limits.{AnswersLimits};
-ghost use Rattle.module_graph.specs.Graphs.{all_edges};
+ghost use Rattle.graph_nodes.specs.Nodes.{all_edges};
 
 use bp_faults::Place;
 use bp_faults::limits::{MOST_EDGES, MOST_NODES};

@@ -1,6 +1,6 @@
 ghost use Rattle.std.specs.Prelude.{◌≡◌, ◌≢◌, ℕ, IfOk};
 ghost use Rattle.std.specs.List.{AllPairs};
-ghost use Rattle.module_graph.specs.declared.graph.Edge.{Edge};
+ghost use Rattle.graph_nodes.specs.declared.graph.Edge.{Edge};
 ghost use Rattle.variant_graphs.specs.Splitting.{SplitRule};
 
 use bp_faults::{NodeId, OutOfMemory};

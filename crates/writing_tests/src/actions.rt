@@ -1,6 +1,6 @@
 //! The statements of worked examples, and which fault of a source comes first.
 ghost use Rattle.std.specs.Prelude.{◌≡◌, [], length, IfOk};
-ghost use Rattle.module_graph.specs.Graphs.{targets};
+ghost use Rattle.graph_nodes.specs.Nodes.{targets};
 
 use crate::nodes::{graph_of, modules_of};
 use crate::plain_text::{add_statement, text_of};

@@ -2,8 +2,8 @@ use Rattle.std.proofs.Common.{List, subst, sym}
 use Rattle.bp_props.specs.declared.module.Module.{Module}
 use Rattle.bp_props.specs.declared.props.Props.{Props}
 use Rattle.build_actions.specs.Acts.{acts_at}
+use Rattle.graph_nodes.specs.declared.graph.Graph.{Graph}
 use Rattle.module_graph.specs.declared.direction.Direction.TheVariants.{BottomUp}
-use Rattle.module_graph.specs.declared.graph.Graph.{Graph}
 use Rattle.pass_core.specs.declared.plan.Plan.{Plan}
 use Rattle.pass_core.specs.Plans.{HasNoCycle}
 use Rattle.pass_ways.specs.Ways.{AnswersWay}

@@ -1,6 +1,6 @@
 use Rattle.std.proofs.Common.{Ok, subst, sym}
 use Rattle.bp_faults.specs.Answers.{Tells}
-use Rattle.module_graph.specs.declared.graph.Graph.{Graph}
+use Rattle.graph_nodes.specs.declared.graph.Graph.{Graph}
 use Rattle.module_rules.specs.declared.record.Record.{Record}
 use Rattle.bp_pipeline.specs.Course.{GraphAfter}
 use Rattle.bp_pipeline.proofs.course.graph_after.Goals as goal

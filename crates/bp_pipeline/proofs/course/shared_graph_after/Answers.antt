@@ -1,6 +1,6 @@
 use Rattle.std.proofs.Common.{subst}
 use Rattle.bp_faults.specs.Answers.{Tells}
-use Rattle.module_graph.specs.declared.graph.Graph.{Graph}
+use Rattle.graph_nodes.specs.declared.graph.Graph.{Graph}
 use Rattle.module_rules.specs.declared.record.Record.{Record}
 use Rattle.pass_ways.specs.declared.way.Way.TheVariants.{Workers}
 use Rattle.bp_pipeline.specs.Course.{CourseMeans}

@@ -1,5 +1,5 @@
 use Rattle.std.proofs.Common.{◌≡◌, length, take}
-use Rattle.module_graph.specs.Graphs.{all_edges}
+use Rattle.graph_nodes.specs.Nodes.{all_edges}
 use Rattle.bp_pipeline.proofs.sizes.edge_count.Given as goal
 
 abbrev pub invariant-loop-node : goal.invariant-loop-node

@@ -1,6 +1,6 @@
 use Rattle.std.proofs.Common.{◌<◌, ◌^◌, length, subst, sym}
 use Rattle.bp_pipeline.proofs.Counting.{edges_few}
-use Rattle.module_graph.specs.Graphs.{all_edges}
+use Rattle.graph_nodes.specs.Nodes.{all_edges}
 use Rattle.bp_pipeline.proofs.sizes.sizes_of.Goals as goal
 
 pub edge_count-requires : goal.edge_count-requires

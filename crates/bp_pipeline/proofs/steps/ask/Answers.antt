@@ -3,10 +3,10 @@ use Rattle.bp_faults.specs.declared.fault.Fault.{Fault}
 use Rattle.bp_faults.specs.declared.ids.NodeId.{NodeId}
 use Rattle.bp_faults.specs.Answers.{Tells}
 use Rattle.bp_props.specs.declared.module.Module.{Module}
+use Rattle.graph_nodes.specs.declared.graph.Graph.{Graph}
+use Rattle.graph_nodes.specs.declared.graph.Node.{Node}
+use Rattle.graph_nodes.specs.declared.variations.Axis.{Axis}
 use Rattle.module_graph.specs.declared.direction.Direction.TheVariants.{BottomUp}
-use Rattle.module_graph.specs.declared.graph.Graph.{Graph}
-use Rattle.module_graph.specs.declared.graph.Node.{Node}
-use Rattle.module_graph.specs.declared.variations.Axis.{Axis}
 use Rattle.module_graph.specs.Planned.{plan_of}
 use Rattle.mutator_kinds.specs.declared.pass_graph.PassGraph.{PassGraph}
 use Rattle.mutator_kinds.specs.BottomUp.{BottomUpMeans}

@@ -1,8 +1,8 @@
 use Rattle.std.proofs.Common.{List, refl}
 use Rattle.bp_props.specs.declared.props.Props.{Props}
+use Rattle.graph_nodes.specs.declared.graph.Graph.{Graph}
+use Rattle.graph_nodes.specs.declared.graph.Node.{Node}
 use Rattle.module_graph.specs.declared.direction.Direction.TheVariants.{BottomUp}
-use Rattle.module_graph.specs.declared.graph.Graph.{Graph}
-use Rattle.module_graph.specs.declared.graph.Node.{Node}
 use Rattle.module_graph.specs.Planned.{plan_of}
 use Rattle.info_mutators.specs.Sanitize.{sanitize_meant}
 use Rattle.transition_rules.specs.declared.mutate_pass.MutatedGraph.{MutatedGraph}

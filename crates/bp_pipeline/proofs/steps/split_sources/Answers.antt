@@ -1,10 +1,10 @@
 use Rattle.std.proofs.Common.{List, Some, length, subst, sym}
 use Rattle.bp_props.specs.declared.module.Module.{Module}
 use Rattle.bp_props.specs.declared.props.Props.{Props}
+use Rattle.graph_nodes.specs.declared.graph.Graph.{Graph}
+use Rattle.graph_nodes.specs.declared.graph.Node.{Node}
+use Rattle.graph_nodes.specs.declared.variations.Axis.TheVariants.{PerSource}
 use Rattle.module_graph.specs.declared.direction.Direction.TheVariants.{BottomUp}
-use Rattle.module_graph.specs.declared.graph.Graph.{Graph}
-use Rattle.module_graph.specs.declared.graph.Node.{Node}
-use Rattle.module_graph.specs.declared.variations.Axis.TheVariants.{PerSource}
 use Rattle.module_graph.specs.Planned.{plan_of}
 use Rattle.module_rules.specs.Rules.{splits}
 use Rattle.mutator_kinds.specs.BottomUp.{ResultsDiffer}

@@ -3,7 +3,7 @@ use Rattle.std.specs.Prelude.{slice_index_or}
 use Rattle.std.proofs.lemmas.Option.{get_or_from_slice_get}
 use Rattle.bp_props.specs.declared.module.Module.{Module}
 use Rattle.bp_props.specs.declared.props.Props.{Props}
-use Rattle.module_graph.specs.declared.graph.Node.{Node}
+use Rattle.graph_nodes.specs.declared.graph.Node.{Node}
 use Rattle.bp_pipeline.specs.declared.sizes.Sizes.{Sizes}
 use Rattle.bp_pipeline.specs.Course.{GraphAfter}
 use Rattle.bp_pipeline.specs.Generated.{AreSizes, sizes_of}

@@ -1,6 +1,6 @@
 use Rattle.std.proofs.Common.{Some, map, ap, ◌∙◌}
 use Rattle.std.specs.Arc.{arc_value}
-use Rattle.module_graph.specs.declared.graph.Edge.{Edge}
+use Rattle.graph_nodes.specs.declared.graph.Edge.{Edge}
 use Rattle.build_parts.specs.Paths.{product_of, link_variation}
 use Rattle.build_actions.specs.Files.{results_of}
 use Rattle.build_actions.specs.Compiles.{compile_steps, outs_of_steps}

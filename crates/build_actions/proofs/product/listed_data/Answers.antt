@@ -1,6 +1,6 @@
 use Rattle.std.proofs.Common.{[], ◌++◌, sym, ◌∙◌}
 use Rattle.std.specs.List.{cons_option}
-use Rattle.module_graph.specs.declared.graph.EdgeKind.TheVariants.{Defaults}
+use Rattle.graph_nodes.specs.declared.graph.EdgeKind.TheVariants.{Defaults}
 use Rattle.build_actions.specs.Products.{data_output}
 use Rattle.build_actions.proofs.Gathered.{filter_map_more}
 use Rattle.build_actions.proofs.product.listed_data.Goals as goal

@@ -2,7 +2,7 @@ use Rattle.std.proofs.Common.{ap, sym, ◌∙◌, map, ◌<◌, ◌++◌, ◌∷
 use Rattle.std.specs.Arc.{arc_value}
 use Rattle.std.proofs.lemmas.List.{length-map}
 use Rattle.std.proofs.lemmas.List.Elements.{All-from_recursion}
-use Rattle.module_graph.specs.declared.graph.Edge.{Edge}
+use Rattle.graph_nodes.specs.declared.graph.Edge.{Edge}
 use Rattle.mutator_rules.specs.declared.split.Split.{Split}
 use Rattle.bp_props.specs.declared.props.Props.{Props}
 use Rattle.info_mutators.specs.Dependencies.{Dependency, dependency_along, dependencies_of}

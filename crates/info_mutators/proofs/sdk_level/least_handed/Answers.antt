@@ -2,7 +2,7 @@ use Rattle.std.proofs.Common.{ap, sym, ◌∙◌, map, cond, Some, get_or, take,
 use Rattle.std.specs.Arc.{arc_value}
 use Rattle.std.proofs.lemmas.List.{length-map}
 use Rattle.bp_props.specs.declared.props.Props.{Props}
-use Rattle.module_graph.specs.declared.graph.EdgeKind.TheVariants.{Defaults}
+use Rattle.graph_nodes.specs.declared.graph.EdgeKind.TheVariants.{Defaults}
 use Rattle.info_mutators.specs.SdkLevel.{is_level_handed, lesser, least, handed_levels}
 use Rattle.info_mutators.proofs.Read.{get_mapped}
 use Rattle.info_mutators.proofs.Zipped.{least_handed_more}

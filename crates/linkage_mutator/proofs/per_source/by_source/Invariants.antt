@@ -1,5 +1,5 @@
 use Rattle.std.proofs.Common.{◌≡◌, ◌+◌, ◌++◌, [], drop}
-use Rattle.module_graph.specs.Numbered.{by_number}
+use Rattle.graph_nodes.specs.Numbered.{by_number}
 use Rattle.linkage_mutator.specs.Sources.{variant_of_source, with_sources}
 use Rattle.linkage_mutator.proofs.per_source.by_source.Given as goal
 

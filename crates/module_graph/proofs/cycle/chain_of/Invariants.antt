@@ -1,6 +1,6 @@
 use Rattle.std.proofs.Common.{◌≡◌, ◌∷◌, map, take}
-use Rattle.module_graph.specs.declared.graph.Edge.{Edge}
-use Rattle.module_graph.specs.Names.{name_at}
+use Rattle.graph_nodes.specs.declared.graph.Edge.{Edge}
+use Rattle.graph_nodes.specs.Names.{name_at}
 use Rattle.module_graph.proofs.cycle.chain_of.Given as goal
 
 abbrev pub invariant-loop-edge : goal.invariant-loop-edge

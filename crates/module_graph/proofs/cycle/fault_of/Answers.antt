@@ -1,9 +1,10 @@
 use Rattle.std.proofs.Common.{◌≡◌, ◌∙◌, ◌∷◌, [], ℕ, List, map, ap}
 use Rattle.bp_faults.specs.declared.kind.FaultKind.TheVariants.{Cycle}
-use Rattle.module_graph.specs.declared.graph.Edge.{Edge}
+use Rattle.graph_nodes.specs.declared.graph.Edge.{Edge}
+use Rattle.graph_nodes.specs.Nodes.{edges_at}
+use Rattle.graph_nodes.specs.Names.{name_at}
 use Rattle.module_graph.specs.Graphs.{edges_of}
-use Rattle.module_graph.specs.Cycles.{cycle_fault, edges_at}
-use Rattle.module_graph.specs.Names.{name_at}
+use Rattle.module_graph.specs.Cycles.{cycle_fault}
 use Rattle.module_graph.proofs.Nearer.{nearest_is}
 use Rattle.module_graph.proofs.cycle.fault_of.Goals as goal
 

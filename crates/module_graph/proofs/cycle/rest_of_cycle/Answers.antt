@@ -1,5 +1,5 @@
 use Rattle.std.proofs.Common.{◌≡◌, ◌∙◌, ◌+◌, ◌-◌, ◌<◌, suc, List, length, ap, sym, subst, arith, Some, None}
-use Rattle.module_graph.specs.declared.graph.Edge.{Edge}
+use Rattle.graph_nodes.specs.declared.graph.Edge.{Edge}
 use Rattle.module_graph.specs.Cycles.{IsWay}
 use Rattle.module_graph.specs.Search.{IsNearestFound}
 use Rattle.module_graph.proofs.Starting.{near_read, found_inside}

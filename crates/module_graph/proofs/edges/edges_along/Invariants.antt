@@ -1,5 +1,5 @@
 use Rattle.std.proofs.Common.{◌≡◌, ◌++◌, map, take}
-use Rattle.module_graph.specs.Numbered.{by_number}
+use Rattle.graph_nodes.specs.Numbered.{by_number}
 use Rattle.module_graph.specs.Planned.{directed_edge}
 use Rattle.module_graph.proofs.edges.edges_along.Given as goal
 

@@ -1,4 +1,4 @@
-use Rattle.module_graph.specs.declared.graph.EdgeKind.TheVariants.{Defaults}
+use Rattle.graph_nodes.specs.declared.graph.EdgeKind.TheVariants.{Defaults}
 use Rattle.module_graph.proofs.Nearer.{nearest_step}
 use Rattle.module_graph.proofs.nearest.nearest.Goals as goal
 

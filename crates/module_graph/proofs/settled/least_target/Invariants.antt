@@ -1,6 +1,6 @@
 use Rattle.std.proofs.Common.{◌≡◌, ◌≤◌, ◌^◌, ◌-◌, ◌⊎◌, take, slice_index}
 use Rattle.std.specs.List.{AllByRecursion}
-use Rattle.module_graph.specs.declared.graph.Edge.{Edge}
+use Rattle.graph_nodes.specs.declared.graph.Edge.{Edge}
 use Rattle.module_graph.specs.Parts.{HasTarget}
 use Rattle.module_graph.proofs.settled.least_target.Given as goal
 

@@ -3,8 +3,8 @@ use Rattle.std.proofs.Common.{ap}
 use Rattle.std.proofs.lemmas.Bool.Decides.{nat_tests}
 use Rattle.bp_faults.proofs.Lists.{all_map}
 use Rattle.pass_core.specs.declared.plan.PlanEdge.{PlanEdge}
-use Rattle.module_graph.specs.declared.graph.Edge.{Edge}
-use Rattle.module_graph.specs.declared.graph.Node.{Node}
+use Rattle.graph_nodes.specs.declared.graph.Edge.{Edge}
+use Rattle.graph_nodes.specs.declared.graph.Node.{Node}
 use Rattle.module_graph.specs.Graphs.{edges_of}
 use Rattle.module_graph.specs.Parts.{AreParts, HasTarget}
 use Rattle.module_graph.specs.Walks.{Returns}
@@ -32,10 +32,12 @@ loop-n-preserved g c =
     let strict : n < r → number n < least =
     λ lt. let counted = c.narrowed-first.ensures.counted in grind (arith, nat_tests) in (
       omega arith,
-      all_edges_more (λ (e : PlanEdge). number e.from.0 ≤ number e.to.0) nodes n x lt c.index-nodes-n.is inv.1
+      all_edges_more c.one_more_item.ensures (λ (e : PlanEdge). number e.from.0 ≤ number e.to.0) nodes n x lt
+          c.index-nodes-n.is inv.1
           (all_map (λ (e : Edge). least ≤ number e.to.0) (λ (e : Edge). number n ≤ number e.to.0)
           (λ e h. omega arith) x.edges above),
-      all_edges_more (λ (e : PlanEdge). e.from.0 < r → number e.from.0 < number e.to.0) nodes n x lt c.index-nodes-n.is
+      all_edges_more c.one_more_item.ensures (λ (e : PlanEdge). e.from.0 < r → number e.from.0 < number e.to.0) nodes n
+          x lt c.index-nodes-n.is
           (all_map (λ (e : PlanEdge). e.from.0 < c.loop-n.first → number e.from.0 < number e.to.0)
           (λ (e : PlanEdge). e.from.0 < r → number e.from.0 < number e.to.0)
           (λ e h lt. h (omega arith)) (edges_of (take n nodes)) inv.2)

@@ -1,6 +1,6 @@
 use Rattle.std.proofs.Common.{map}
+use Rattle.graph_nodes.specs.declared.graph.Node.{Node}
 use Rattle.module_graph.specs.declared.direction.Direction.TheVariants.{TopDown}
-use Rattle.module_graph.specs.declared.graph.Node.{Node}
 use Rattle.module_graph.specs.Planned.{plan_of}
 use Rattle.mutator_kinds.specs.declared.pass_graph.PassGraph.{PassGraph}
 use Rattle.mutator_kinds.specs.TopDown.{from_above, TopDownMeans}

@@ -3,7 +3,7 @@ use Rattle.std.specs.Arc.{arc_value}
 use Rattle.std.proofs.lemmas.List.{length-append}
 use Rattle.std.proofs.lemmas.Iterator.Adapters.{YieldsList-from_vec}
 use Rattle.std.proofs.lemmas.Iterator.Consumers.{YieldsList-turn}
-use Rattle.module_graph.specs.declared.graph.Node.{Node}
+use Rattle.graph_nodes.specs.declared.graph.Node.{Node}
 use Rattle.mutator_kinds.specs.Inside.{with_first}
 use Rattle.mutator_kinds.proofs.Firsts.{given, firsts_none, length-with_firsts, firsts_step, asked_step}
 use Rattle.mutator_kinds.proofs.in_place.put_each.Goals as goal

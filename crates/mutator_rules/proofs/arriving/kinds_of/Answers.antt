@@ -1,6 +1,6 @@
 use Rattle.std.proofs.Common.{◌∙◌, ap, map}
 use Rattle.bp_faults.specs.declared.ids.NodeId.{NodeId}
-use Rattle.module_graph.specs.declared.graph.EdgeKind.{EdgeKind}
+use Rattle.graph_nodes.specs.declared.graph.EdgeKind.{EdgeKind}
 use Rattle.mutator_rules.specs.Inside.{pieces}
 use Rattle.mutator_rules.proofs.Placed.{cut_map}
 use Rattle.mutator_rules.proofs.arriving.kinds_of.Goals as goal

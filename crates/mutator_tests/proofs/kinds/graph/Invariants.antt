@@ -1,5 +1,5 @@
 use Rattle.std.proofs.Common.{◌≡◌, length}
-use Rattle.module_graph.specs.declared.variations.Axis.TheVariants.{PerSource}
+use Rattle.graph_nodes.specs.declared.variations.Axis.TheVariants.{PerSource}
 use Rattle.variant_graphs.specs.Splitting.{HasFreeAxis}
 use Rattle.mutator_tests.specs.Kinds.{OwnModules}
 use Rattle.mutator_tests.proofs.kinds.graph.Given as goal

@@ -1,7 +1,7 @@
 use Rattle.std.proofs.Common.{List, subst, arith}
 use Rattle.std.proofs.lemmas.Bool.Decides.{nat_tests}
 use Rattle.bp_faults.specs.declared.ids.NodeId.{NodeId}
-use Rattle.module_graph.specs.declared.graph.Node.{Node}
+use Rattle.graph_nodes.specs.declared.graph.Node.{Node}
 use Rattle.module_graph.specs.Graphs.{IsNumbered}
 use Rattle.mutator_tests.proofs.Tested.{so_far_more, all_numbered}
 use Rattle.mutator_tests.proofs.kinds.is_numbered.Goals as goal

@@ -1,6 +1,6 @@
 use Rattle.std.proofs.Common.{◌<◌, take}
 use Rattle.std.specs.List.{AllByRecursion}
-use Rattle.module_graph.specs.declared.graph.Edge.{Edge}
+use Rattle.graph_nodes.specs.declared.graph.Edge.{Edge}
 use Rattle.mutator_tests.proofs.kinds.lead_inside.Given as goal
 
 abbrev pub invariant-loop-edge : goal.invariant-loop-edge

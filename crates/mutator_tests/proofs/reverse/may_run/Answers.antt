@@ -3,10 +3,10 @@ use Rattle.std.proofs.Common.{take, length, map}
 use Rattle.std.specs.List.{AllByRecursion}
 use Rattle.std.proofs.lemmas.Bool.Decides.{nat_tests}
 use Rattle.bp_faults.proofs.Lists.{all_map, all_pushed, take-more, take-past}
-use Rattle.module_graph.specs.declared.graph.Edge.{Edge}
-use Rattle.module_graph.specs.declared.graph.Node.{Node}
+use Rattle.graph_nodes.specs.declared.graph.Edge.{Edge}
+use Rattle.graph_nodes.specs.declared.graph.Node.{Node}
+use Rattle.graph_nodes.specs.Numbered.{by_number}
 use Rattle.module_graph.specs.Graphs.{outward}
-use Rattle.module_graph.specs.Numbered.{by_number}
 use Rattle.mutator_rules.specs.Conditions.{MayRun, indices_in}
 use Rattle.mutator_tests.proofs.reverse.may_run.Invariants.{IsBare}
 use Rattle.mutator_tests.proofs.reverse.may_run.Goals as goal

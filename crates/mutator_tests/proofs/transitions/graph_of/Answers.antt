@@ -1,8 +1,8 @@
 use Rattle.std.proofs.Common.{◌<◌, List, arith, length, subst, sym}
 use Rattle.std.specs.Prelude.{⊤}
 use Rattle.bp_faults.specs.declared.ids.NodeId.{NodeId}
-use Rattle.module_graph.specs.declared.graph.Node.{Node}
-use Rattle.module_graph.specs.declared.variations.Axis.TheVariants.{Image}
+use Rattle.graph_nodes.specs.declared.graph.Node.{Node}
+use Rattle.graph_nodes.specs.declared.variations.Axis.TheVariants.{Image}
 use Rattle.module_graph.specs.Graphs.{edges_of, IsNumbered, IsValid}
 use Rattle.module_graph.specs.Walks.{NoneReturns}
 use Rattle.mutator_rules.specs.Conditions.{MayRun}

@@ -1,6 +1,6 @@
 use Rattle.std.proofs.Common.{◌<◌, ◌≤◌, length}
 use Rattle.std.specs.List.{AllByRecursion}
-use Rattle.module_graph.specs.declared.graph.Edge.{Edge}
+use Rattle.graph_nodes.specs.declared.graph.Edge.{Edge}
 use Rattle.mutator_tests.proofs.transitions.node_of.Given as goal
 
 abbrev pub invariant-loop-to : goal.invariant-loop-to

@@ -1,7 +1,7 @@
 use Rattle.std.proofs.Common.{◌≡◌, ◌+◌, ◌∷◌, [], List, ap, arith, length, subst, sym}
 use Rattle.std.proofs.lemmas.List.{length-append}
 use Rattle.bp_faults.specs.declared.ids.NodeId.{NodeId}
-use Rattle.module_graph.specs.declared.graph.Node.{Node}
+use Rattle.graph_nodes.specs.declared.graph.Node.{Node}
 use Rattle.mutator_tests.specs.Transitions.{HasNodes, IsNodeOf}
 use Rattle.mutator_tests.proofs.BareNodes.{has_pushed}
 use Rattle.mutator_tests.proofs.transitions.nodes_of.Goals as goal

@@ -1,7 +1,7 @@
 use Rattle.std.proofs.Common.{List, subst}
 use Rattle.std.specs.List.{AllPairs}
 use Rattle.std.specs.Prelude.{◌≢◌}
-use Rattle.module_graph.specs.declared.variation.Variation.{Variation}
+use Rattle.graph_nodes.specs.declared.variation.Variation.{Variation}
 use Rattle.mutator_tests.specs.Transitions.{own_of}
 use Rattle.mutator_tests.proofs.BareNodes.{own_differ, same_ok}
 use Rattle.mutator_tests.proofs.transitions.transitioned.Goals as goal

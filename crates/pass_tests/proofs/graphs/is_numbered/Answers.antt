@@ -1,6 +1,6 @@
 use Rattle.std.proofs.Common.{Bool, List, subst, arith}
 use Rattle.std.proofs.lemmas.Bool.Decides.{nat_tests}
-use Rattle.module_graph.specs.declared.graph.Node.{Node}
+use Rattle.graph_nodes.specs.declared.graph.Node.{Node}
 use Rattle.module_graph.specs.Graphs.{IsNumbered}
 use Rattle.pass_tests.proofs.Numbered.{so_far_more, all_numbered}
 use Rattle.pass_tests.proofs.graphs.is_numbered.Goals as goal

@@ -4,8 +4,8 @@ use Rattle.std.proofs.lemmas.List.{take_more, map-append}
 use Rattle.std.proofs.lemmas.Option.{slice_get_read}
 use Rattle.std.proofs.lemmas.List.Elements.{All-from_recursion}
 use Rattle.bp_props.specs.declared.module.Module.{Module}
-use Rattle.module_graph.specs.declared.graph.Node.{Node}
-use Rattle.module_graph.specs.Names.{label_of}
+use Rattle.graph_nodes.specs.declared.graph.Node.{Node}
+use Rattle.graph_nodes.specs.Names.{label_of}
 use Rattle.reverse_deps.specs.Applied.{name_of}
 use Rattle.reverse_deps.proofs.labels.labels.Goals as goal
 

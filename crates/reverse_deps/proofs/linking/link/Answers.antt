@@ -1,7 +1,7 @@
 use Rattle.std.proofs.Common.{◌<◌, ◌+◌, length, set, drop, get_or, ap, sym, subst, ◌∙◌, length-set, arith}
 use Rattle.std.proofs.lemmas.List.{drop_more, drop_all}
 use Rattle.std.proofs.lemmas.List.Elements.{All-from_recursion}
-use Rattle.module_graph.specs.declared.graph.EdgeKind.TheVariants.{Defaults}
+use Rattle.graph_nodes.specs.declared.graph.EdgeKind.TheVariants.{Defaults}
 use Rattle.reverse_deps.specs.Linked.{Link, linked_nodes}
 use Rattle.reverse_deps.proofs.Gained.{one_link, no_links}
 use Rattle.reverse_deps.proofs.linking.link.Goals as goal

@@ -1,4 +1,4 @@
-use Rattle.module_graph.specs.declared.variations.Axis.TheVariants.{Target}
+use Rattle.graph_nodes.specs.declared.variations.Axis.TheVariants.{Target}
 use Rattle.module_rules.specs.Asking.{variation_on}
 use Rattle.target_mutators.specs.Images.{image_variants}
 use Rattle.target_mutators.proofs.Differ.{images_differ}

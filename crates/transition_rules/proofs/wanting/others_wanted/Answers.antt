@@ -1,9 +1,9 @@
 use Rattle.std.proofs.Common.{◌≡◌, ◌∙◌, ap, sym, get_or, map, take, fold, List}
 use Rattle.std.specs.Arc.{arc_value}
 use Rattle.bp_faults.specs.declared.ids.NodeId.{NodeId}
-use Rattle.module_graph.specs.declared.graph.EdgeKind.{EdgeKind}
-use Rattle.module_graph.specs.declared.graph.EdgeKind.TheVariants.{Defaults}
-use Rattle.module_graph.specs.declared.variation.Variation.{Variation}
+use Rattle.graph_nodes.specs.declared.graph.EdgeKind.{EdgeKind}
+use Rattle.graph_nodes.specs.declared.graph.EdgeKind.TheVariants.{Defaults}
+use Rattle.graph_nodes.specs.declared.variation.Variation.{Variation}
 use Rattle.transition_rules.specs.Wants.{wants_with, others_of, handed_variation, wanted_variations}
 use Rattle.transition_rules.proofs.Along.{wanted_more}
 use Rattle.transition_rules.proofs.wanting.others_wanted.Goals as goal

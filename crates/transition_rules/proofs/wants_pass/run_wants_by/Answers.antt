@@ -1,7 +1,7 @@
 use Rattle.std.proofs.Common.{List, Ok, subst, sym}
+use Rattle.graph_nodes.specs.declared.graph.Node.{Node}
+use Rattle.graph_nodes.specs.declared.variation.Variation.{Variation}
 use Rattle.module_graph.specs.declared.direction.Direction.TheVariants.{TopDown}
-use Rattle.module_graph.specs.declared.graph.Node.{Node}
-use Rattle.module_graph.specs.declared.variation.Variation.{Variation}
 use Rattle.module_graph.specs.Graphs.{IsValid}
 use Rattle.module_graph.specs.Planned.{plan_of}
 use Rattle.pass_ways.specs.Ways.{RefusesPass}

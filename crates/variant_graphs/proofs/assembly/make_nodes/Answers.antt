@@ -4,8 +4,8 @@ use Rattle.std.proofs.lemmas.List.{length-append}
 use Rattle.std.proofs.lemmas.Iterator.Adapters.{YieldsList-from_vec}
 use Rattle.std.proofs.lemmas.Iterator.Consumers.{YieldsList-turn}
 use Rattle.bp_faults.proofs.Lists.{all_map, same_at}
-use Rattle.module_graph.specs.declared.graph.Edge.{Edge}
-use Rattle.module_graph.specs.declared.graph.Node.{Node}
+use Rattle.graph_nodes.specs.declared.graph.Edge.{Edge}
+use Rattle.graph_nodes.specs.declared.graph.Node.{Node}
 use Rattle.variant_graphs.specs.Inside.{node_by}
 use Rattle.variant_graphs.specs.Splitting.{splitting, variants_at, variant_node, split_nodes}
 use Rattle.variant_graphs.proofs.Alls.{by_number_step}

@@ -1,6 +1,6 @@
 use Rattle.std.proofs.Common.{◌∙◌, sym, arith}
-use Rattle.module_graph.specs.declared.variation.Variation.TheVariants.{Empty}
-use Rattle.module_graph.specs.Same.{same}
+use Rattle.graph_nodes.specs.declared.variation.Variation.TheVariants.{Empty}
+use Rattle.graph_nodes.specs.Same.{same}
 use Rattle.variant_graphs.proofs.Positions.{position_found, position_none}
 use Rattle.variant_graphs.proofs.indices.first_index.Goals as goal
 

@@ -1,6 +1,6 @@
 use Rattle.std.proofs.Common.{◌≡◌, drop}
 use Rattle.std.specs.List.{list_any}
-use Rattle.module_graph.specs.Same.{same}
+use Rattle.graph_nodes.specs.Same.{same}
 use Rattle.variant_graphs.proofs.indices.holds.Given as goal
 
 abbrev pub invariant-loop-other : goal.invariant-loop-other

@@ -1,7 +1,7 @@
 use Rattle.std.proofs.Common.{◌≡◌, drop}
 use Rattle.std.specs.Prelude.{slice_get}
 use Rattle.bp_faults.specs.declared.limits.TheConstants.{MOST_EDGES}
-use Rattle.module_graph.specs.Graphs.{all_edges}
+use Rattle.graph_nodes.specs.Nodes.{all_edges}
 use Rattle.variant_graphs.proofs.limit_check.first_edge_beyond.Given as goal
 
 -- the edge beyond the limit, among those that are left

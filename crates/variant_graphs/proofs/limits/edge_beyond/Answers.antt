@@ -1,6 +1,6 @@
 use Rattle.std.proofs.Common.{◌≡◌, ◌∙◌, ◌<◌, ◌+◌, ◌-◌, ap, get_or, length, arith, sym, slice_get, take}
 use Rattle.bp_faults.specs.declared.limits.TheConstants.{MOST_EDGES}
-use Rattle.module_graph.specs.declared.graph.Node.{Node}
+use Rattle.graph_nodes.specs.declared.graph.Node.{Node}
 use Rattle.variant_graphs.specs.Inside.{copies_of, kept_places, new_places}
 use Rattle.variant_graphs.proofs.Beyond.{places_more, place_beyond, length-repeated_more, beyond_is}
 use Rattle.variant_graphs.proofs.limits.edge_beyond.Goals as goal

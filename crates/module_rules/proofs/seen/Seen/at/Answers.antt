@@ -1,6 +1,6 @@
 use Rattle.std.proofs.Common.{◌≡◌, ◌<◌, ◌∙◌, ap, refl, length, get_or}
 use Rattle.std.proofs.lemmas.Option.{slice_get_read, get_or_from_slice_get}
-use Rattle.module_graph.specs.declared.graph.Node.{Node}
+use Rattle.graph_nodes.specs.declared.graph.Node.{Node}
 use Rattle.module_rules.specs.Seen.{node_empty, module_at, module_empty}
 use Rattle.module_rules.proofs.Seeing.{targets_at, all_within}
 use Rattle.module_rules.proofs.seen.Seen.at.Goals as goal

@@ -1,7 +1,7 @@
 use Rattle.std.proofs.Common.{◌≡◌, ◌∙◌, ap, subst, sym, map, length, arith, List, []}
 use Rattle.std.specs.Arc.{arc_value}
 use Rattle.bp_faults.specs.Answers.{Answers}
-use Rattle.module_graph.specs.declared.graph.EdgeKind.{EdgeKind}
+use Rattle.graph_nodes.specs.declared.graph.EdgeKind.{EdgeKind}
 use Rattle.mutator_rules.specs.Arrivals.{kinds_into}
 use Rattle.mutator_kinds.proofs.Arriving.{kinds_read, many_kinds}
 use Rattle.mutator_kinds.proofs.downward.TopDownVisitVisit.visit.Goals as goal

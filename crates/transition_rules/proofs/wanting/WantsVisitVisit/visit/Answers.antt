@@ -6,9 +6,9 @@ use Rattle.std.proofs.lemmas.List.FromFn.{length-map-range_with_len, get_or-map-
 use Rattle.bp_faults.specs.declared.fault.Fault.{Fault}
 use Rattle.bp_faults.specs.declared.ids.NodeId.{NodeId}
 use Rattle.bp_faults.specs.Answers.{then_do}
-use Rattle.module_graph.specs.declared.graph.EdgeKind.{EdgeKind}
-use Rattle.module_graph.specs.declared.graph.Node.{Node}
-use Rattle.module_graph.specs.declared.variation.Variation.{Variation}
+use Rattle.graph_nodes.specs.declared.graph.EdgeKind.{EdgeKind}
+use Rattle.graph_nodes.specs.declared.graph.Node.{Node}
+use Rattle.graph_nodes.specs.declared.variation.Variation.{Variation}
 use Rattle.mutator_rules.specs.Arrivals.{arrivals, all_arrivals}
 use Rattle.transition_rules.specs.Wants.{others_of, wanted_variations}
 use Rattle.transition_rules.proofs.wanting.WantsVisitVisit.visit.Goals as goal

@@ -1,0 +1,6 @@
+pub mod Numbers
+pub mod Spelled
+pub mod PlainNames
+pub mod Standing
+pub mod Lines
+pub mod Sames

@@ -1,5 +1,0 @@
-use Rattle.module_graph.proofs.Targets.{edges_stand}
-use Rattle.module_graph.proofs.laws.edges_stand_at_their_node.Goals as goal
-
-pub returns : goal.returns
-returns g c = λ nodes n x at. edges_stand nodes n x at

@@ -1,5 +1,0 @@
-use Rattle.module_graph.proofs.Sames.{same_is, equal_same}
-use Rattle.module_graph.proofs.laws.same_means_equal.Goals as goal
-
-pub returns : goal.returns
-returns c = λ v w. (same_is v w, equal_same v w)
