@@ -16,8 +16,8 @@ use Rattle.module_graph.specs.Graphs.{targets}
 use Rattle.module_graph.specs.Laws.{PredecessorsAreTargets, VariantNamesArePlain}
 use Rattle.module_graph.specs.Names.{variant_name_of}
 use Rattle.module_graph.specs.Planned.{plan_edges, plan_of}
-use Rattle.pass_core.specs.Laws.{PredecessorsAreNodes, PredecessorsAreLess}
-use Rattle.pass_core.specs.Plans.{IsPlan, HasNoCycle}
+use Rattle.serial_pass.specs.Laws.{PredecessorsAreNodes, PredecessorsAreLess}
+use Rattle.serial_pass.specs.Plans.{IsPlan, HasNoCycle}
 use Rattle.bp_props.specs.declared.module.Module.{Module}
 use Rattle.bp_props.specs.declared.props.Props.{Props}
 use Rattle.bp_props.specs.declared.source.Source.{Source}
