@@ -47,8 +47,9 @@ returns-clause-outs g c =
 
 pub returns-in-Err-At-clause-fault : goal.returns-in-Err-At-clause-fault
 returns-in-Err-At-clause-fault g c =
+    let bad = rw c.in-Err-At.field-0-is at c.in-Err-At.ensures in
     let d : NodeId = record { 0 = 0 } in (
       (get_or c.args.order.now c.loop-n.n-index d).0,
       inside_at c.args.plan.now c.args.order.now c.requires.legal c.loop-n.n-index c.loop-n-test.true,
-      (_, c.in-Err-At.ensures.1),
+      (_, bad.1),
     )
