@@ -9,7 +9,7 @@ top=$(cd "$(dirname "$0")/.." && pwd)
 work=$(mktemp -d)
 trap 'rm -rf "$work"' EXIT
 mkdir -p "$work/crates/pass_scale/src" "$work/crates/pass_scale/specs" "$work/crates/pass_scale/proofs/shape/rises"
-for crate in bp_faults bp_ports pass_core ready_counters visit_workers; do
+for crate in bp_faults bp_ports serial_pass pass_core ready_counters visit_workers; do
     mkdir -p "$work/crates/$crate/out"
     for part in src specs proofs; do
         cp -r "$top/crates/$crate/$part" "$work/crates/$crate/"
@@ -19,7 +19,7 @@ for crate in bp_faults bp_ports pass_core ready_counters visit_workers; do
     fi
     grep "^$crate[ :]" "$top/crates.txt" >> "$work/crates.txt"
 done
-echo "pass_scale: bp_faults bp_ports pass_core ready_counters visit_workers anyhow" >> "$work/crates.txt"
+echo "pass_scale: bp_faults bp_ports serial_pass pass_core ready_counters visit_workers anyhow" >> "$work/crates.txt"
 cp "$top/HANDLES" "$work/HANDLES"
 cd "$work/crates/pass_scale"
 cat > src/main.rt << 'END'
@@ -27,8 +27,8 @@ cat > src/main.rt << 'END'
 #![tactic(auto)]
 
 ghost use Rattle.std.specs.Prelude.{◌≤◌};
-ghost use Rattle.pass_core.specs.Outcomes.{TakesPlan};
-ghost use Rattle.pass_core.specs.Plans.{IsPlan, HasNoCycle};
+ghost use Rattle.serial_pass.specs.Outcomes.{TakesPlan};
+ghost use Rattle.serial_pass.specs.Plans.{IsPlan, HasNoCycle};
 
 mod shape;
 mod visitors;
@@ -136,7 +136,7 @@ fn main(rt: HostRuntime) -> anyhow::Result<()> {
 END
 cat > src/shape.rt << 'END'
 ghost use Rattle.std.specs.Prelude.{◌<◌, IsTrue};
-ghost use Rattle.pass_core.specs.Plans.{IsPlan, HasNoCycle};
+ghost use Rattle.serial_pass.specs.Plans.{IsPlan, HasNoCycle};
 
 use bp_faults::{NodeId, OutOfMemory, Seq};
 use pass_core::{Plan, PlanEdge};
@@ -289,8 +289,8 @@ END
 cat > proofs/shape/rises/Invariants.antt << 'END'
 use Rattle.std.proofs.Common.{◌<◌, ◌≤◌, ℕ, List, take}
 use Rattle.std.specs.List.{AllByRecursion}
-use Rattle.pass_core.specs.declared.plan.PlanEdge.{PlanEdge}
-use Rattle.pass_core.specs.Plans.{HaveEndsBelow, StandByTarget}
+use Rattle.serial_pass.specs.declared.plan.PlanEdge.{PlanEdge}
+use Rattle.serial_pass.specs.Plans.{HaveEndsBelow, StandByTarget}
 use Rattle.pass_scale.proofs.shape.rises.Given as goal
 
 pub record Rises (count target : ℕ) (es : List PlanEdge) : Type 0 where
@@ -307,8 +307,8 @@ use Rattle.std.proofs.Common.{◌≡◌, ◌<◌, ◌≤◌, ◌-◌, ◌++◌, 
 use Rattle.std.specs.List.{AllByRecursion}
 use Rattle.std.proofs.Math.Seq.{take-length}
 use Rattle.std.proofs.lemmas.List.{take_more}
-use Rattle.pass_core.specs.declared.plan.PlanEdge.{PlanEdge}
-use Rattle.pass_core.specs.Plans.{StandByTarget, HasNoCycle}
+use Rattle.serial_pass.specs.declared.plan.PlanEdge.{PlanEdge}
+use Rattle.serial_pass.specs.Plans.{StandByTarget, HasNoCycle}
 use Rattle.pass_scale.proofs.shape.rises.Invariants.{Rises}
 use Rattle.bp_faults.proofs.Lists.{all_map, all_pushed}
 use Rattle.pass_scale.proofs.shape.rises.Goals as goal

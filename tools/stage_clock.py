@@ -18,7 +18,8 @@ STAGES = [
     ("values", ("bp_values::file", "bp_values::expression", "bp_values::sums", "bp_values::scope", "bp_load::opened",
                 "bp_load::evaluating")),
     ("records", ("property_values::", "property_tables::")),
-    ("passes", ("visit_workers::", "pass_core::", "mutator_kinds::", "transition_rules::", "reverse_deps::")),
+    ("passes", ("visit_workers::", "serial_pass::", "pass_core::", "mutator_kinds::", "transition_rules::",
+                "reverse_deps::")),
     ("printing", ("ninja_write::",)),
 ]
 

@@ -10,7 +10,7 @@ use Rattle.bp_faults.specs.declared.refusal.Refusal.{Refusal}
 use Rattle.bp_faults.proofs.Lists.{all_map}
 use Rattle.bp_props.specs.declared.module.Module.{Module}
 use Rattle.bp_props.specs.declared.props.Props.{Props}
-use Rattle.pass_core.specs.Laws.{OutsAreMany}
+use Rattle.serial_pass.specs.Laws.{OutsAreMany}
 use Rattle.graph_nodes.specs.declared.graph.Graph.{Graph}
 use Rattle.graph_nodes.specs.declared.graph.Node.{Node}
 use Rattle.graph_nodes.specs.declared.variation.Variation.{Variation}

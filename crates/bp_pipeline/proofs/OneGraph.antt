@@ -17,9 +17,9 @@ use Rattle.mutator_rules.specs.declared.config.Config.{Config}
 use Rattle.mutator_rules.specs.Outcomes.{KindOutcome}
 use Rattle.module_graph.specs.Planned.{plan_of}
 use Rattle.ninja_file.specs.declared.file.NinjaFile.{NinjaFile}
-use Rattle.pass_core.specs.declared.plan.Plan.{Plan}
-use Rattle.pass_core.specs.Laws.{AtMostOneOutcome}
-use Rattle.pass_core.specs.Outcomes.{PassMeans}
+use Rattle.serial_pass.specs.declared.plan.Plan.{Plan}
+use Rattle.serial_pass.specs.Laws.{AtMostOneOutcome}
+use Rattle.serial_pass.specs.Outcomes.{PassMeans}
 use Rattle.mutator_kinds.specs.BottomUp.{BottomUpMeans}
 use Rattle.mutator_kinds.specs.TopDown.{TopDownMeans}
 use Rattle.mutator_kinds.specs.Laws.{OneBottomUpOutcome, OneTopDownOutcome}

@@ -15,9 +15,9 @@ use Rattle.module_graph.specs.declared.direction.Direction.TheVariants.{BottomUp
 use Rattle.module_graph.specs.Planned.{plan_of}
 use Rattle.mutator_rules.specs.declared.config.Config.{Config}
 use Rattle.order_text.specs.Laws.{JournalsAreReadBack, OneLines}
-use Rattle.pass_core.specs.declared.plan.Plan.{Plan}
-use Rattle.pass_core.specs.Laws.{AtMostOneOutcome}
-use Rattle.pass_core.specs.Orders.{IsLegal, numbers}
+use Rattle.serial_pass.specs.declared.plan.Plan.{Plan}
+use Rattle.serial_pass.specs.Laws.{AtMostOneOutcome}
+use Rattle.serial_pass.specs.Orders.{IsLegal, numbers}
 use Rattle.pass_ways.specs.declared.way.OrderLine.{OrderLine}
 use Rattle.pass_ways.specs.Laws.{LinesSayOneOrder, OneRefusal, RefusedHaveNoOrder}
 use Rattle.pass_ways.specs.OrderFiles.{IsRefused, Say, lines_behind, stopped_at}

@@ -10,7 +10,7 @@ use Rattle.bp_faults.specs.Phases.{Then}
 use Rattle.bp_props.specs.declared.module.Module.{Module}
 use Rattle.mutator_rules.specs.declared.error.KindError.TheVariants.{At, Nodes, Edges, OutOfMemory as Want}
 use Rattle.mutator_rules.specs.Outcomes.{KindOutcome, Made, FaultAt, NodesBeyond, EdgesBeyond}
-use Rattle.pass_core.specs.declared.plan.Plan.{Plan}
+use Rattle.serial_pass.specs.declared.plan.Plan.{Plan}
 use Rattle.pass_ways.specs.declared.way.Way.{Way}
 use Rattle.pass_ways.specs.Visits.{visits}
 use Rattle.pass_ways.specs.Ways.{Follows, RefusesPass, Runs}

@@ -15,10 +15,10 @@ use Rattle.std.proofs.lemmas.Map.Views.{list_any-from_Contains, Contains-from_an
 use Rattle.bp_faults.specs.declared.fault.Fault.{Fault}
 use Rattle.bp_faults.specs.declared.ids.NodeId.{NodeId}
 use Rattle.bp_faults.proofs.Lists.{contains_earlier, same_at}
-use Rattle.pass_core.specs.declared.plan.Plan.{Plan}
-use Rattle.pass_core.specs.Orders.{IsLegal, numbers}
+use Rattle.serial_pass.specs.declared.plan.Plan.{Plan}
+use Rattle.serial_pass.specs.Orders.{IsLegal, numbers}
 use Rattle.pass_core.specs.OrderOutcomes.{IsReadyAfter, IsReadyAt}
-use Rattle.pass_core.specs.Plans.{predecessors}
+use Rattle.serial_pass.specs.Plans.{predecessors}
 use Rattle.pass_ways.specs.declared.way.OrderLine.{OrderLine}
 use Rattle.pass_ways.specs.Laws.{PartsAreShort}
 use Rattle.pass_ways.specs.OrderFiles.{Say, lines_behind, IsIllegal, IsLegalLine, IsRefused, stopped_at}

@@ -17,8 +17,8 @@ use Rattle.module_graph.specs.Laws.{PlansOfGraphsArePlans, ValidPlansHaveNoCycle
 use Rattle.module_graph.specs.Planned.{plan_of}
 use Rattle.mutator_rules.specs.declared.config.Config.{Config}
 use Rattle.mutator_rules.specs.Configs.{TargetsDiffer}
-use Rattle.pass_core.specs.Laws.{OneOutcome}
-use Rattle.pass_core.specs.Outcomes.{PassMeans}
+use Rattle.serial_pass.specs.Laws.{OneOutcome}
+use Rattle.serial_pass.specs.Outcomes.{PassMeans}
 use Rattle.pass_ways.specs.declared.way.OrderLine.{OrderLine}
 use Rattle.pass_ways.specs.Laws.{PartsAreShort}
 use Rattle.pass_ways.specs.OrderFiles.{Say, lines_behind, stopped_at}

@@ -14,10 +14,10 @@ use Rattle.module_graph.specs.Laws.{PlansOfGraphsArePlans, ValidPlansHaveNoCycle
 use Rattle.module_graph.specs.Planned.{plan_of}
 use Rattle.mutator_rules.specs.declared.config.Config.{Config}
 use Rattle.mutator_rules.specs.Configs.{TargetsDiffer}
-use Rattle.pass_core.specs.declared.plan.Plan.{Plan}
-use Rattle.pass_core.specs.Laws.{OneOutcome}
-use Rattle.pass_core.specs.Outcomes.{PassOutcomeMeans, PassMeans}
-use Rattle.pass_core.specs.Plans.{HasNoCycle, IsPlan}
+use Rattle.serial_pass.specs.declared.plan.Plan.{Plan}
+use Rattle.serial_pass.specs.Laws.{OneOutcome}
+use Rattle.serial_pass.specs.Outcomes.{PassOutcomeMeans, PassMeans}
+use Rattle.serial_pass.specs.Plans.{HasNoCycle, IsPlan}
 use Rattle.bp_pipeline.specs.Course.{GraphAfter}
 use Rattle.bp_pipeline.specs.Generated.{ActionsMean, FileMeans, TextMeans, text_within_limit}
 use Rattle.bp_pipeline.specs.Laws.{SomeGraph, GraphsAreValid}

@@ -12,7 +12,7 @@ use Rattle.bp_props.specs.declared.props.Props.{Props}
 use Rattle.graph_nodes.specs.declared.graph.Graph.{Graph}
 use Rattle.graph_nodes.specs.declared.graph.Node.{Node}
 use Rattle.mutator_rules.specs.declared.config.Config.{Config}
-use Rattle.pass_core.specs.declared.plan.Plan.{Plan}
+use Rattle.serial_pass.specs.declared.plan.Plan.{Plan}
 use Rattle.pass_ways.specs.declared.way.Way.{Way}
 use Rattle.pass_ways.specs.Ways.{Follows, RefusesPass}
 use Rattle.bp_pipeline.specs.declared.workshop.Workshop.{Workshop}

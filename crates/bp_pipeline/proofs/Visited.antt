@@ -4,8 +4,8 @@ use Rattle.std.specs.List.{All, AllByRecursion}
 use Rattle.std.proofs.lemmas.List.Elements.{All-append, All-cons, All-map, All-nil}
 use Rattle.bp_faults.specs.declared.ids.NodeId.{NodeId}
 use Rattle.order_text.specs.Lines.{IsVisit}
-use Rattle.pass_core.specs.declared.plan.Plan.{Plan}
-use Rattle.pass_core.specs.Orders.{numbers}
+use Rattle.serial_pass.specs.declared.plan.Plan.{Plan}
+use Rattle.serial_pass.specs.Orders.{numbers}
 use Rattle.pass_ways.specs.Visits.{visits}
 use Rattle.bp_pipeline.specs.Journals.{HasRun}
 

@@ -17,8 +17,8 @@ use Rattle.module_graph.specs.declared.direction.Direction.TheVariants.{BottomUp
 use Rattle.module_graph.specs.Planned.{plan_of}
 use Rattle.mutator_rules.specs.declared.config.Config.{Config}
 use Rattle.ninja_file.specs.declared.file.NinjaFile.{NinjaFile}
-use Rattle.pass_core.specs.declared.plan.Plan.{Plan}
-use Rattle.pass_core.specs.Outcomes.{PassMeans}
+use Rattle.serial_pass.specs.declared.plan.Plan.{Plan}
+use Rattle.serial_pass.specs.Outcomes.{PassMeans}
 use Rattle.pass_ways.specs.declared.way.Way.{Way}
 use Rattle.pass_ways.specs.Ways.{RefusesPass}
 use Rattle.bp_pipeline.specs.declared.ran.Ran.{Ran}

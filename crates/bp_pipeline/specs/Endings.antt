@@ -9,7 +9,7 @@ use Rattle.graph_nodes.specs.declared.graph.Node.{Node}
 use Rattle.module_graph.specs.declared.direction.Direction.TheVariants.{BottomUp}
 use Rattle.module_graph.specs.Planned.{plan_of}
 use Rattle.mutator_rules.specs.declared.config.Config.{Config}
-use Rattle.pass_core.specs.Outcomes.{PassMeans}
+use Rattle.serial_pass.specs.Outcomes.{PassMeans}
 use Rattle.bp_pipeline.specs.Journals.{HasRun, IsJournal, plan_at}
 use Rattle.bp_pipeline.specs.Mutators.{passes}
 use Rattle.bp_pipeline.specs.Passes.{StepMeans, pass_at}

@@ -17,7 +17,7 @@ use Rattle.module_graph.specs.Planned.{plan_of}
 use Rattle.mutator_rules.specs.declared.config.Config.{Config}
 use Rattle.ninja_file.specs.declared.file.NinjaFile.{NinjaFile}
 use Rattle.ninja_write.specs.Meaning.{text_of}
-use Rattle.pass_core.specs.Outcomes.{PassMeans}
+use Rattle.serial_pass.specs.Outcomes.{PassMeans}
 use Rattle.bp_pipeline.specs.declared.sizes.Sizes.{Sizes}
 use Rattle.bp_pipeline.specs.Course.{GraphAfter}
 use Rattle.bp_pipeline.specs.Mutators.{mutator_count}

@@ -8,8 +8,8 @@ use Rattle.module_graph.specs.declared.direction.Direction.{Direction}
 use Rattle.module_graph.specs.declared.direction.Direction.TheVariants.{BottomUp, TopDown}
 use Rattle.module_graph.specs.Planned.{plan_of}
 use Rattle.mutator_rules.specs.declared.config.Config.{Config}
-use Rattle.pass_core.specs.declared.plan.Plan.{Plan}
-use Rattle.pass_core.specs.Orders.{IsLegal, numbers}
+use Rattle.serial_pass.specs.declared.plan.Plan.{Plan}
+use Rattle.serial_pass.specs.Orders.{IsLegal, numbers}
 use Rattle.pass_ways.specs.Visits.{visits}
 use Rattle.bp_pipeline.specs.declared.passes.Pass.{Pass}
 use Rattle.bp_pipeline.specs.declared.passes.Pass.TheVariants.{AskDefaults, MergeDefaults, SplitTargets, SplitImages}

@@ -4,7 +4,7 @@ ghost use Rattle.build_actions.specs.Acts.{acts_at};
 ghost use Rattle.module_graph.specs.declared.direction.Direction.TheVariants.{BottomUp};
 ghost use Rattle.module_graph.specs.Planned.{plan_of};
 ghost use Rattle.order_text.specs.Lines.{IsVisit};
-ghost use Rattle.pass_core.specs.Outcomes.{PassMeans};
+ghost use Rattle.serial_pass.specs.Outcomes.{PassMeans};
 ghost use Rattle.pass_ways.specs.Ways.{AnswersWay};
 ghost use Rattle.bp_pipeline.specs.Runs.{AnswersAll, MayStart, MayStep, TellsPass};
 ghost use Rattle.bp_pipeline.specs.Generated.{AreSizes};

@@ -16,9 +16,9 @@ use mutator_kinds::laws::{
 };
 use mutator_rules::Split;
 use order_text::laws::{journals_are_read_back, one_lines, some_lines};
-use pass_core::laws::{at_most_one_outcome, outs_are_many};
 use pass_ways::laws::{lines_say_one_order, one_refusal, parts_are_short, refused_have_no_order};
 use reverse_deps::laws::{applied_keeps, one_outcome, some_outcome};
+use serial_pass::laws::{at_most_one_outcome, outs_are_many};
 use target_mutators::laws::{image_variants_differ, target_variants_differ};
 use transition_rules::laws::{
     mutate_keeps, one_mutate_outcome, one_wants_outcome, some_mutate_outcome, some_wants_outcome,
@@ -135,7 +135,7 @@ pub fn some_text()
     some_graph();
     plans_of_graphs_are_plans::<Props>();
     valid_plans_have_no_cycle::<Props>();
-    pass_core::laws::one_outcome::<Actions>();
+    serial_pass::laws::one_outcome::<Actions>();
 }
 
 /// Lines are replayed to a text or a fault, since they say a legal order of each pass or are refused in it.
@@ -146,7 +146,7 @@ pub fn some_replay()
     some_step();
     plans_of_graphs_are_plans::<Props>();
     valid_plans_have_no_cycle::<Props>();
-    pass_core::laws::one_outcome::<Actions>();
+    serial_pass::laws::one_outcome::<Actions>();
 }
 
 /// An order file is replayed to a text or a fault.

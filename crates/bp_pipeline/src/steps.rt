@@ -36,7 +36,7 @@ use module_graph::Graph;
 use module_rules::Record;
 use mutator_kinds::PassGraph;
 use mutator_rules::{BottomUp, Split};
-use pass_core::laws::outs_are_many;
+use serial_pass::laws::outs_are_many;
 use std::alloc::Global;
 use std::thread::Threads;
 use target_mutators::laws::{image_variants_differ, target_variants_differ};

@@ -9,9 +9,9 @@ use Rattle.bp_faults.proofs.Phases.{value_once, goes_on_once, then_once}
 use Rattle.bp_ports.specs.Files.{Files}
 use Rattle.bp_props.specs.declared.module.Module.{Module}
 use Rattle.bp_props.specs.declared.props.Props.{Props}
-use Rattle.pass_core.specs.declared.plan.Plan.{Plan}
-use Rattle.pass_core.specs.Laws.{AtMostOneOutcome}
-use Rattle.pass_core.specs.Outcomes.{PassMeans}
+use Rattle.serial_pass.specs.declared.plan.Plan.{Plan}
+use Rattle.serial_pass.specs.Laws.{AtMostOneOutcome}
+use Rattle.serial_pass.specs.Outcomes.{PassMeans}
 use Rattle.graph_nodes.specs.declared.graph.Node.{Node}
 use Rattle.module_graph.specs.declared.direction.Direction.TheVariants.{BottomUp}
 use Rattle.module_graph.specs.Planned.{plan_of}

@@ -7,7 +7,7 @@ use bp_format::laws::{one_edit, one_format};
 use bp_load::laws::{one_list, one_load};
 use bp_pipeline::laws::{earlier_graphs, one_graph, one_order, some_graph, some_order, some_text};
 use build_actions::Actions;
-use pass_core::laws::at_most_one_outcome;
+use serial_pass::laws::at_most_one_outcome;
 use synthetic_tree::laws::{one_tree, some_tree};
 
 /// A job has one outcome, since each of its phases has.

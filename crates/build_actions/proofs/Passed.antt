@@ -1,7 +1,7 @@
 -- What a pass over a graph makes.
 use Rattle.std.proofs.Common.{map, sym, ap, ◌∙◌, arith}
 use Rattle.std.specs.Prelude.{slice_index_or}
-use Rattle.pass_core.specs.Laws.{OutsAreMany, OutsMeetTheirEquation}
+use Rattle.serial_pass.specs.Laws.{OutsAreMany, OutsMeetTheirEquation}
 use Rattle.module_graph.specs.declared.direction.Direction.TheVariants.{BottomUp}
 use Rattle.module_graph.specs.Laws.{PredecessorsAreTargets}
 use Rattle.module_graph.specs.Planned.{plan_of}

@@ -17,8 +17,8 @@ use Rattle.graph_nodes.specs.Nodes.{targets}
 use Rattle.module_graph.specs.declared.direction.Direction.TheVariants.{BottomUp}
 use Rattle.module_graph.specs.Laws.{PredecessorsAreTargets}
 use Rattle.module_graph.specs.Planned.{plan_edges, plan_of}
-use Rattle.pass_core.specs.Laws.{PredecessorsAreNodes, PredecessorsAreLess}
-use Rattle.pass_core.specs.Plans.{IsPlan, HasNoCycle}
+use Rattle.serial_pass.specs.Laws.{PredecessorsAreNodes, PredecessorsAreLess}
+use Rattle.serial_pass.specs.Plans.{IsPlan, HasNoCycle}
 use Rattle.bp_props.specs.declared.module.Module.{Module}
 use Rattle.bp_props.specs.declared.props.Props.{Props}
 use Rattle.bp_props.specs.declared.source.Source.{Source}

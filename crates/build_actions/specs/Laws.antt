@@ -8,8 +8,8 @@ use Rattle.graph_nodes.specs.declared.variation.Variation.{Variation}
 use Rattle.graph_nodes.specs.Names.{variant_name_of}
 use Rattle.module_graph.specs.Planned.{plan_edges, plan_of}
 use Rattle.module_graph.specs.declared.direction.Direction.TheVariants.{BottomUp}
-use Rattle.pass_core.specs.Plans.{IsPlan, HasNoCycle}
-use Rattle.pass_core.specs.Outcomes.{PassOutcomeMeans}
+use Rattle.serial_pass.specs.Plans.{IsPlan, HasNoCycle}
+use Rattle.serial_pass.specs.Outcomes.{PassOutcomeMeans}
 use Rattle.bp_props.specs.declared.module.Module.{Module}
 use Rattle.bp_props.specs.declared.props.Props.{Props}
 use Rattle.build_actions.specs.declared.actions.Actions.{Actions}

@@ -5,7 +5,7 @@ ghost use Rattle.build_actions.specs.Laws.{PassesMake, NoOutputTwice, NamesTellV
 use crate::Actions;
 use bp_props::Props;
 use module_graph::laws::{predecessors_are_targets, variant_names_are_plain};
-use pass_core::laws::{
+use serial_pass::laws::{
     outs_are_many, outs_meet_their_equation, predecessors_are_less, predecessors_are_nodes,
 };
 

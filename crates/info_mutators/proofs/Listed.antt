@@ -16,7 +16,7 @@ use Rattle.info_mutators.specs.Kept.{last_of_each, first_of_each, is_short, if_s
 use Rattle.info_mutators.specs.Inside.{values_behind}
 use Rattle.info_mutators.specs.Info.{is_same_node, line_part, link_line_of, shared_part, needed_part, slibs_of}
 use Rattle.info_mutators.specs.Info.{own_includes, include_part, includes_of, export_part, exports_of}
-use Rattle.pass_core.specs.Orders.{numbers}
+use Rattle.serial_pass.specs.Orders.{numbers}
 use Rattle.std.specs.Str.{bytes_eq}
 use Rattle.bp_props.specs.declared.props.Props.{Props}
 use Rattle.info_mutators.specs.Dependencies.{Dependency}

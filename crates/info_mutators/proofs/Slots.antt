@@ -10,7 +10,7 @@ use Rattle.std.proofs.lemmas.List.Folds.{list_any-append}
 use Rattle.indexmap.specs.IndexSet.{insert_key}
 use Rattle.bp_faults.specs.declared.ids.NodeId.{NodeId}
 use Rattle.bp_faults.proofs.Lists.{get_else}
-use Rattle.pass_core.specs.Orders.{numbers}
+use Rattle.serial_pass.specs.Orders.{numbers}
 use Rattle.info_mutators.specs.Inside.{is_noted_by, KnowsNoted, NotesOther, StaysNoted}
 use Rattle.info_mutators.proofs.Noted.{or_false}
 

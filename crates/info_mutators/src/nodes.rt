@@ -1,7 +1,7 @@
 ghost use Rattle.std.specs.Prelude.{◌≡◌, OnOk, IfOk, reverse};
 ghost use Rattle.std.specs.Option.{option_map};
 ghost use Rattle.std.specs.List.{flat_map};
-ghost use Rattle.pass_core.specs.Orders.{numbers};
+ghost use Rattle.serial_pass.specs.Orders.{numbers};
 ghost use Rattle.info_mutators.specs.Info.{line_part, link_line_of, shared_part, needed_part, slibs_of};
 ghost use Rattle.info_mutators.specs.Inside.{NotesNumbers};
 ghost use Rattle.info_mutators.specs.Kept.{if_short};

@@ -1,6 +1,6 @@
 ghost use Rattle.std.specs.Prelude.{◌≡◌, ◌≤◌, ◌-◌, ◌∷◌, [], IfOk, OnOk, OnErr, slice_get, length, take, drop, reverse};
 ghost use Rattle.std.specs.Option.{option_map, unwrap_or};
-ghost use Rattle.pass_core.specs.Orders.{numbers};
+ghost use Rattle.serial_pass.specs.Orders.{numbers};
 ghost use Rattle.info_mutators.specs.Inside.{NotesNumbers, NotesOther, StaysNoted};
 ghost use Rattle.info_mutators.specs.Kept.{if_short};
 
@@ -28,7 +28,7 @@ pub struct Notes {
 
 impl Model for Notes {
     ghost use Rattle.std.specs.Prelude.{List, ℕ};
-    ghost use Rattle.pass_core.specs.Orders.{numbers};
+    ghost use Rattle.serial_pass.specs.Orders.{numbers};
     ghost use Rattle.info_mutators.specs.Inside.{KnowsNoted};
 
     ghost Value = { List ℕ };

@@ -2,7 +2,7 @@
 use Rattle.std.proofs.Common.{◌≡◌, ◌+◌, ◌<◌, ◌≤◌, ℕ, zero, suc, List, map, length, take, get_or, refl, ap, sym, subst}
 use Rattle.std.proofs.Common.{arith, take_all}
 use Rattle.std.specs.List.{AllByRecursion}
-use Rattle.pass_core.specs.declared.plan.PlanEdge.{PlanEdge}
+use Rattle.serial_pass.specs.declared.plan.PlanEdge.{PlanEdge}
 use Rattle.bp_faults.proofs.Lists.{all_map, all_append, all_image}
 use Rattle.graph_nodes.specs.declared.graph.Node.{Node}
 use Rattle.graph_nodes.specs.Laws.{OneMoreItem}

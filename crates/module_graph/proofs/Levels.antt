@@ -10,8 +10,8 @@ use Rattle.std.proofs.lemmas.List.Elements.{Contains-push, Contains-append_left}
 use Rattle.std.proofs.lemmas.List.Sums.{sum_by-set}
 use mathlib.Core.Logic.{dite}
 use native.Mathlib.Decide.{ℕ_discrete}
-use Rattle.pass_core.specs.declared.plan.PlanEdge.{PlanEdge}
-use Rattle.pass_core.specs.Plans.{in_edges, HaveEndsBelow}
+use Rattle.serial_pass.specs.declared.plan.PlanEdge.{PlanEdge}
+use Rattle.serial_pass.specs.Plans.{in_edges, HaveEndsBelow}
 use Rattle.module_graph.specs.Walks.{Walk}
 use Rattle.module_graph.specs.Search.{found_at, BeginWithin, IsGrowing, IsGiven, AreDistances, unfound}
 use Rattle.bp_faults.proofs.Lists.{all_map, all_append}

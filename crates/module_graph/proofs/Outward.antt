@@ -4,7 +4,7 @@ use Rattle.std.proofs.Common.{subst, arith, zero-add}
 use Rattle.std.specs.Prelude.{Contains}
 use Rattle.std.specs.List.{AllByRecursion}
 use Rattle.std.proofs.lemmas.List.Elements.{All-from_recursion, recursion_from_All, All-contains, All-contains_itself}
-use Rattle.pass_core.specs.declared.plan.PlanEdge.{PlanEdge}
+use Rattle.serial_pass.specs.declared.plan.PlanEdge.{PlanEdge}
 use Rattle.bp_faults.proofs.Lists.{all_map, all_append, all_image, all_before}
 use Rattle.graph_nodes.specs.declared.graph.Edge.{Edge}
 use Rattle.graph_nodes.specs.declared.graph.Node.{Node}

@@ -5,9 +5,9 @@ use Rattle.std.specs.List.{AllByRecursion, IsDistinct}
 use Rattle.std.specs.Prelude.{Contains, max}
 use Rattle.std.proofs.lemmas.List.Elements.{recursion_from_All, All-contains_itself, Contains-get_or}
 use Rattle.std.proofs.Math.Decide.{dec_lt}
-use Rattle.pass_core.specs.declared.plan.PlanEdge.{PlanEdge}
-use Rattle.pass_core.specs.Plans.{in_edges, predecessors, HasNoCycle, HaveEndsBelow}
-use Rattle.pass_core.specs.Heights.{above_all, unroll}
+use Rattle.serial_pass.specs.declared.plan.PlanEdge.{PlanEdge}
+use Rattle.serial_pass.specs.Plans.{in_edges, predecessors, HasNoCycle, HaveEndsBelow}
+use Rattle.serial_pass.specs.Heights.{above_all, unroll}
 use Rattle.module_graph.specs.Walks.{Leads, Walk, NoneReturns}
 use Rattle.bp_faults.proofs.Lists.{all_map, below_top, map-same, all_image, all_before}
 use Rattle.module_graph.proofs.Sorted.{all_into, each_into}

@@ -7,8 +7,8 @@ use Rattle.std.proofs.Math.Decide.{dec_lt}
 use mathlib.Core.Logic.{dite}
 use native.Mathlib.Decide.{ℕ_discrete}
 use Rattle.bp_faults.specs.declared.fault.Fault.{Fault}
-use Rattle.pass_core.specs.declared.plan.PlanEdge.{PlanEdge}
-use Rattle.pass_core.specs.Plans.{HaveEndsBelow}
+use Rattle.serial_pass.specs.declared.plan.PlanEdge.{PlanEdge}
+use Rattle.serial_pass.specs.Plans.{HaveEndsBelow}
 use Rattle.bp_faults.proofs.Lists.{all_map, all_append}
 use Rattle.graph_nodes.specs.declared.graph.Edge.{Edge}
 use Rattle.graph_nodes.specs.declared.graph.Node.{Node}

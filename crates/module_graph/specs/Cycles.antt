@@ -3,7 +3,7 @@ use Rattle.std.specs.Prelude.{◌≡◌, ◌≢◌, ◌<◌, ◌≤◌, ◌++◌
 use Rattle.std.specs.List.{AllByRecursion}
 use Rattle.bp_faults.specs.declared.fault.Fault.{Fault}
 use Rattle.bp_faults.specs.declared.kind.FaultKind.TheVariants.{Cycle}
-use Rattle.pass_core.specs.declared.plan.PlanEdge.{PlanEdge}
+use Rattle.serial_pass.specs.declared.plan.PlanEdge.{PlanEdge}
 use Rattle.graph_nodes.specs.declared.graph.Edge.{Edge}
 use Rattle.graph_nodes.specs.declared.graph.Node.{Node}
 use Rattle.graph_nodes.specs.Names.{name_at}

@@ -1,8 +1,8 @@
 -- What holds of every graph and its plans.
 use Rattle.std.specs.Prelude.{◌≡◌, ◌<◌, ◌≤◌, ◌↔◌, ◌++◌, ℕ, suc, List, [], ◌∷◌, map, length, Result}
 use Rattle.bp_faults.specs.declared.fault.Fault.{Fault}
-use Rattle.pass_core.specs.declared.plan.PlanEdge.{PlanEdge}
-use Rattle.pass_core.specs.Plans.{HaveEndsBelow, HasNoCycle, IsPlan, in_edges, predecessors}
+use Rattle.serial_pass.specs.declared.plan.PlanEdge.{PlanEdge}
+use Rattle.serial_pass.specs.Plans.{HaveEndsBelow, HasNoCycle, IsPlan, in_edges, predecessors}
 use Rattle.graph_nodes.specs.declared.graph.Edge.{Edge}
 use Rattle.graph_nodes.specs.declared.graph.Node.{Node}
 use Rattle.graph_nodes.specs.Nodes.{targets, NameNodes}

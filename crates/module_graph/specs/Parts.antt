@@ -1,7 +1,7 @@
 -- Numberings of nodes by strong components. No public contract speaks of it.
 use Rattle.std.specs.Prelude.{◌≡◌, ◌<◌, ◌≤◌, ◌⊎◌, ℕ, List, [], ◌∷◌, slice_index}
 use Rattle.std.specs.List.{AllByRecursion}
-use Rattle.pass_core.specs.declared.plan.PlanEdge.{PlanEdge}
+use Rattle.serial_pass.specs.declared.plan.PlanEdge.{PlanEdge}
 use Rattle.graph_nodes.specs.declared.graph.Edge.{Edge}
 use Rattle.module_graph.specs.Walks.{Leads, Walk, Returns}
 

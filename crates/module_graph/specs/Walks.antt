@@ -1,6 +1,6 @@
 -- Walks along edges.
 use Rattle.std.specs.Prelude.{◌≡◌, ℕ, zero, suc, List, Contains}
-use Rattle.pass_core.specs.declared.plan.PlanEdge.{PlanEdge}
+use Rattle.serial_pass.specs.declared.plan.PlanEdge.{PlanEdge}
 
 -- Some edge leads from n to m.
 abbrev pub Leads : List PlanEdge → ℕ → ℕ → Type 0

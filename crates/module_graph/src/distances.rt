@@ -1,7 +1,7 @@
 ghost use Rattle.std.specs.Prelude.{◌≡◌, ◌<◌, ◌+◌, ℕ, [], length, IfOk};
 ghost use Rattle.std.specs.List.{AllByRecursion};
-ghost use Rattle.pass_core.specs.InEdges.{AreStarts};
-ghost use Rattle.pass_core.specs.Plans.{IsPlan};
+ghost use Rattle.serial_pass.specs.InEdges.{AreStarts};
+ghost use Rattle.serial_pass.specs.Plans.{IsPlan};
 ghost use Rattle.module_graph.specs.Search.{AreDistances, GrowsPast, IsGiven, unfound};
 
 use bp_faults::{NodeId, OutOfMemory};

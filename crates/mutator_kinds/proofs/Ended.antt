@@ -4,8 +4,8 @@ use Rattle.std.specs.Prelude.{IfOk, IsErr, IsErrAnd}
 use Rattle.std.specs.Arc.{arc_value}
 use Rattle.bp_faults.specs.declared.fault.Fault.{Fault}
 use Rattle.bp_faults.specs.declared.ids.NodeId.{NodeId}
-use Rattle.pass_core.specs.declared.plan.Plan.{Plan}
-use Rattle.pass_core.specs.Outcomes.{PassOutcomeMeans}
+use Rattle.serial_pass.specs.declared.plan.Plan.{Plan}
+use Rattle.serial_pass.specs.Outcomes.{PassOutcomeMeans}
 use Rattle.mutator_rules.specs.Outcomes.{KindOutcome, FaultAt}
 use Rattle.pass_ways.specs.declared.error.WayError.{WayError}
 use Rattle.pass_ways.specs.declared.error.WayError.TheVariants.{At, Refused, OutOfMemory}

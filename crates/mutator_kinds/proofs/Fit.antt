@@ -9,10 +9,10 @@ use Rattle.std.proofs.lemmas.List.Quantifiers.{position-Some}
 use Rattle.bp_faults.specs.declared.fault.Fault.{Fault}
 use Rattle.bp_faults.specs.declared.ids.NodeId.{NodeId}
 use Rattle.bp_faults.proofs.Lists.{all_each}
-use Rattle.pass_core.specs.declared.plan.Plan.{Plan}
-use Rattle.pass_core.specs.Laws.{OutsMeetTheirEquation}
-use Rattle.pass_core.specs.Outcomes.{PassOutcomeMeans}
-use Rattle.pass_core.specs.Plans.{IsPlan, HasNoCycle}
+use Rattle.serial_pass.specs.declared.plan.Plan.{Plan}
+use Rattle.serial_pass.specs.Laws.{OutsMeetTheirEquation}
+use Rattle.serial_pass.specs.Outcomes.{PassOutcomeMeans}
+use Rattle.serial_pass.specs.Plans.{IsPlan, HasNoCycle}
 use Rattle.graph_nodes.specs.declared.graph.Edge.{Edge}
 use Rattle.graph_nodes.specs.declared.graph.Node.{Node}
 use Rattle.graph_nodes.specs.declared.variation.Variation.{Variation}

@@ -6,9 +6,9 @@ use Rattle.std.specs.Option.{option_map}
 use Rattle.bp_faults.specs.declared.fault.Fault.{Fault}
 use Rattle.bp_faults.specs.declared.ids.NodeId.{NodeId}
 use Rattle.bp_faults.specs.declared.limits.TheConstants.{MOST_EDGES, MOST_NODES}
-use Rattle.pass_core.specs.declared.plan.Plan.{Plan}
-use Rattle.pass_core.specs.Laws.{AtMostOneOutcome}
-use Rattle.pass_core.specs.Outcomes.{PassOutcomeMeans}
+use Rattle.serial_pass.specs.declared.plan.Plan.{Plan}
+use Rattle.serial_pass.specs.Laws.{AtMostOneOutcome}
+use Rattle.serial_pass.specs.Outcomes.{PassOutcomeMeans}
 use Rattle.graph_nodes.specs.declared.graph.Edge.{Edge}
 use Rattle.graph_nodes.specs.declared.graph.EdgeKind.{EdgeKind}
 use Rattle.graph_nodes.specs.declared.graph.Node.{Node}

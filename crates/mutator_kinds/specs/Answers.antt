@@ -1,7 +1,7 @@
 -- What the calls answer.
 use Rattle.std.specs.Prelude.{Result, Ok, Err, ⊤}
-use Rattle.pass_core.specs.declared.error.PassError.{PassError}
-use Rattle.pass_core.specs.declared.error.PassError.TheVariants.{At, OutOfMemory}
+use Rattle.serial_pass.specs.declared.error.PassError.{PassError}
+use Rattle.serial_pass.specs.declared.error.PassError.TheVariants.{At, OutOfMemory}
 use Rattle.mutator_rules.specs.Outcomes.{KindOutcome, Made, FaultAt}
 
 -- An answer is an outcome that is meant, as the view shows it, or memory ran out.

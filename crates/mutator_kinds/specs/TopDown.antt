@@ -1,7 +1,7 @@
 -- What a rule from the top down makes of a graph.
 use Rattle.std.specs.Prelude.{◌≡◌, ℕ, List, Result, Ok, Err}
 use Rattle.bp_faults.specs.declared.fault.Fault.{Fault}
-use Rattle.pass_core.specs.Outcomes.{PassOutcomeMeans}
+use Rattle.serial_pass.specs.Outcomes.{PassOutcomeMeans}
 use Rattle.graph_nodes.specs.declared.graph.EdgeKind.{EdgeKind}
 use Rattle.graph_nodes.specs.declared.graph.Node.{Node}
 use Rattle.module_graph.specs.declared.direction.Direction.TheVariants.{TopDown}

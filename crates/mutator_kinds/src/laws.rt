@@ -6,7 +6,9 @@ ghost use Rattle.mutator_kinds.specs.Laws.{SomeTopDownOutcome, SomeBottomUpOutco
 use module_graph::Variation;
 use module_graph::laws::{plans_of_graphs_are_plans, valid_plans_have_no_cycle};
 use mutator_rules::Split;
-use pass_core::laws::{at_most_one_outcome, one_outcome, outs_are_many, outs_meet_their_equation};
+use serial_pass::laws::{
+    at_most_one_outcome, one_outcome, outs_are_many, outs_meet_their_equation,
+};
 use variant_graphs::laws::{
     limits_tell, new_payloads_keep_modules, new_payloads_leave_axes_free, new_payloads_stay_valid,
     other_axes_stay_free, splits_keep_modules, splits_stay_valid,

@@ -9,10 +9,10 @@ use Rattle.std.proofs.lemmas.List.{length-map, length-take-le, take-map, drop-ma
 use Rattle.std.proofs.lemmas.List.FromFn.{fill_by_all, get_or-map-range_with_len, length-map-range_with_len}
 use mathlib.Core.Logic.{dite}
 use Rattle.bp_faults.specs.declared.ids.NodeId.{NodeId}
-use Rattle.pass_core.specs.declared.plan.Plan.{Plan}
-use Rattle.pass_core.specs.declared.plan.PlanEdge.{PlanEdge}
-use Rattle.pass_core.specs.Plans.{in_edges, predecessors}
-use Rattle.pass_core.specs.InEdges.{edges_below, AreStarts}
+use Rattle.serial_pass.specs.declared.plan.Plan.{Plan}
+use Rattle.serial_pass.specs.declared.plan.PlanEdge.{PlanEdge}
+use Rattle.serial_pass.specs.Plans.{in_edges, predecessors}
+use Rattle.serial_pass.specs.InEdges.{edges_below, AreStarts}
 use Rattle.graph_nodes.specs.declared.graph.EdgeKind.{EdgeKind}
 use Rattle.graph_nodes.specs.declared.graph.EdgeKind.TheVariants.{Static}
 use Rattle.graph_nodes.specs.declared.graph.Node.{Node}

@@ -2,7 +2,7 @@ ghost use Rattle.std.specs.Prelude.{◌≡◌, ◌≤◌, ◌<◌, List, IfOk, [
 ghost use Rattle.module_graph.specs.declared.direction.Direction.TheVariants.{TopDown};
 ghost use Rattle.module_graph.specs.Graphs.{IsNumbered};
 ghost use Rattle.module_graph.specs.Planned.{plan_of};
-ghost use Rattle.pass_core.specs.Plans.{IsPlan};
+ghost use Rattle.serial_pass.specs.Plans.{IsPlan};
 ghost use Rattle.mutator_rules.specs.Arrivals.{all_arrivals, arrivals};
 ghost use Rattle.mutator_rules.specs.Inside.{AreCuts, HaveRoom, StandFrom, pieces};
 

@@ -13,7 +13,7 @@ use Rattle.bp_faults.specs.declared.limits.TheConstants.{MOST_MODULES}
 use Rattle.bp_faults.proofs.Lists.{all_append, all_each}
 use Rattle.bp_props.specs.declared.module.Module.{Module}
 use Rattle.bp_props.specs.declared.props.Props.{Props}
-use Rattle.pass_core.specs.Laws.{OutsAreMany}
+use Rattle.serial_pass.specs.Laws.{OutsAreMany}
 use Rattle.graph_nodes.specs.declared.graph.Edge.{Edge}
 use Rattle.graph_nodes.specs.declared.graph.Node.{Node}
 use Rattle.graph_nodes.specs.declared.variation.Variation.{Variation}

@@ -16,7 +16,7 @@ use Rattle.ninja_file.specs.Meaning.{IsWellFormed}
 use Rattle.ninja_read.specs.Meaning.{reading, Reads}
 use Rattle.ninja_text.specs.Meaning.{WrittenIsReadBack}
 use Rattle.ninja_write.specs.Meaning.{text_of}
-use Rattle.pass_core.specs.Outcomes.{PassMeans}
+use Rattle.serial_pass.specs.Outcomes.{PassMeans}
 use Rattle.bp_pipeline.specs.Generated.{text_within_limit, ActionsMean, FileMeans}
 use Rattle.output_forms.specs.Laws.{FilesOfGraphsAreWellFormed, GeneratedFilesAreWellFormed, ReadsGenerated}
 use Rattle.output_forms.specs.Laws.{GeneratedTextsAreReadBack}

@@ -4,12 +4,12 @@ use Rattle.std.specs.Prelude.{⊤}
 use Rattle.std.specs.List.{AllByRecursion, range_with_len}
 use Rattle.bp_faults.specs.declared.fault.Fault.{Fault}
 use Rattle.bp_faults.proofs.Lists.{all_before}
-use Rattle.pass_core.specs.declared.plan.Plan.{Plan}
-use Rattle.pass_core.specs.Heights.{unroll}
-use Rattle.pass_core.specs.Outcomes.{PassOutcomeMeans}
-use Rattle.pass_core.specs.Plans.{predecessors}
-use Rattle.pass_core.specs.Results.{NodeResult, Done, Bad, Poisoned, result_of_visit, cons_if, all_outs, judged_result}
-use Rattle.pass_core.specs.Results.{node_result}
+use Rattle.serial_pass.specs.declared.plan.Plan.{Plan}
+use Rattle.serial_pass.specs.Heights.{unroll}
+use Rattle.serial_pass.specs.Outcomes.{PassOutcomeMeans}
+use Rattle.serial_pass.specs.Plans.{predecessors}
+use Rattle.serial_pass.specs.Results.{NodeResult, Done, Bad, Poisoned, result_of_visit, cons_if, all_outs, judged_result}
+use Rattle.serial_pass.specs.Results.{node_result}
 use Rattle.output_forms.proofs.Each.{IfThere, all_made}
 
 -- An answer has a property, if it is a result.

@@ -26,7 +26,7 @@ use Rattle.ninja_file.specs.Meaning.{IsWellFormed}
 use Rattle.ninja_read.specs.declared.reader.NinjaError.{NinjaError}
 use Rattle.ninja_read.specs.Meaning.{reading, Reads}
 use Rattle.ninja_text.specs.Meaning.{ReadBackMeans}
-use Rattle.pass_core.specs.Outcomes.{PassOutcomeMeans}
+use Rattle.serial_pass.specs.Outcomes.{PassOutcomeMeans}
 use Rattle.output_forms.specs.Forms.{HaveForms, AreSound}
 use Rattle.output_forms.specs.Modules.{MayBeListed, AreFormed}
 use Rattle.output_forms.specs.Texts.{HasTexts, HasSoundTexts}

@@ -14,7 +14,7 @@ use module_graph::Variation;
 use module_graph::laws::{plans_of_graphs_are_plans, valid_plans_have_no_cycle};
 use mutator_rules::Split;
 use ninja_text::laws::what_was_written_is_read_back;
-use pass_core::laws::outs_are_many;
+use serial_pass::laws::outs_are_many;
 use target_mutators::laws::{image_variants_differ, target_variants_differ};
 use transition_rules::laws::wants_split;
 use variant_graphs::laws::{

@@ -7,12 +7,12 @@ use Rattle.std.proofs.lemmas.List.{length-map, length-replicate}
 use Rattle.std.proofs.lemmas.List.FromFn.{length-range_with_len}
 use Rattle.std.proofs.lemmas.Option.{get_or_from_slice_get}
 use Rattle.bp_faults.specs.declared.fault.Fault.{Fault}
-use Rattle.pass_core.specs.declared.plan.Plan.{Plan}
+use Rattle.serial_pass.specs.declared.plan.Plan.{Plan}
 use Rattle.pass_core.specs.declared.published.Published.{Published}
-use Rattle.pass_core.specs.Plans.{predecessors, HasNoCycle, IsPlan}
-use Rattle.pass_core.specs.InEdges.{AreStarts}
-use Rattle.pass_core.specs.Outcomes.{TakesPlan}
-use Rattle.pass_core.specs.Results.{NodeResult, node_result}
+use Rattle.serial_pass.specs.Plans.{predecessors, HasNoCycle, IsPlan}
+use Rattle.serial_pass.specs.InEdges.{AreStarts}
+use Rattle.serial_pass.specs.Outcomes.{TakesPlan}
+use Rattle.serial_pass.specs.Results.{NodeResult, node_result}
 use Rattle.pass_core.specs.Shown.{published_result}
 use Rattle.pass_core.specs.CoreStates.{CoreState, beginning, IsFinished}
 use Rattle.pass_core.specs.CoreKept.{IsCore, shown_in}

@@ -9,13 +9,15 @@ use Rattle.std.proofs.lemmas.List.{get_or-set_other, get_or-set_same}
 use Rattle.std.proofs.lemmas.Option.{slice_get_within}
 use Rattle.bp_faults.specs.declared.fault.Fault.{Fault}
 use Rattle.bp_faults.specs.declared.ids.NodeId.{NodeId}
-use Rattle.pass_core.specs.declared.plan.Plan.{Plan}
+use Rattle.serial_pass.specs.declared.plan.Plan.{Plan}
 use Rattle.pass_core.specs.declared.published.Published.{Published}
 use Rattle.pass_core.specs.declared.step.Step.{Step}
 use Rattle.pass_core.specs.declared.step.Step.TheVariants.{Claim, Fetch, Fill, Subtract}
-use Rattle.pass_core.specs.Results.{node_result}
+use Rattle.serial_pass.specs.Laws.{ResultsMeetTheirEquation}
+use Rattle.serial_pass.specs.Results.{node_result}
 use Rattle.pass_core.specs.Shown.{published_result}
-use Rattle.pass_core.specs.CoreStates.{CoreState, from_of, to_of, numbers_into, IsMarked, VisitWasMade, visit_result}
+use Rattle.serial_pass.specs.InEdges.{numbers_into}
+use Rattle.pass_core.specs.CoreStates.{CoreState, from_of, to_of, IsMarked, VisitWasMade, visit_result}
 use Rattle.pass_core.specs.CoreStates.{Allows, after}
 use Rattle.pass_core.specs.CoreKept.{IsSound, IsCore, PublishesLast, unmarked_count, shown_in}
 use Rattle.bp_faults.proofs.Lists.{get_here, get_else}
@@ -54,9 +56,12 @@ module _ {O : Type 0} (mean : ℕ → List O → Result O Fault) (takes : ℕ �
         core.sound.fetched_many,
       )
 
+module _ {O : Type 0} (mean : ℕ → List O → Result O Fault) (takes : ℕ → ℕ → Type 0) (plan : Plan) (starts : List ℕ)
+    (s : CoreState O) (unfetched : List ℕ) (published : List (Option (Published O))) (steps : ℕ)
+    (core : IsCore mean takes plan starts s unfetched published steps) (equation : ResultsMeetTheirEquation O) where
   module _ (t : Step) (may : Allows plan s t) where
     pub after_sound : IsSound mean plan (after mean plan s t)
-    after_sound = step_keeps mean plan core.is_plan core.free s core.sound t may
+    after_sound = step_keeps mean plan core.is_plan core.free s core.sound equation t may
 
     after_core : (counts : List ℕ) (now : List (Option (Published O))) → length counts ≡ plan.count
         → ((n : ℕ) → n < plan.count → slice_index counts n ≡ unmarked_count plan.edges (after mean plan s t).fetched n)
@@ -83,7 +88,8 @@ module _ {O : Type 0} (mean : ℕ → List O → Result O Fault) (takes : ℕ �
     module _ (n : ℕ) (inside : n < plan.count) (was : VisitWasMade plan (after mean plan s t) n) (p : Published O)
         (is : published_result p ≡ visit_result mean plan (after mean plan s t) n) where
       right_now : published_result p ≡ node_result mean plan n
-      right_now = is ∙ made_right mean plan core.is_plan core.free (after mean plan s t) after_sound n inside was
+      right_now =
+          is ∙ made_right mean plan core.is_plan core.free (after mean plan s t) after_sound equation n inside was
 
       set_right : ((m : ℕ) → VisitWasMade plan s m → VisitWasMade plan (after mean plan s t) m)
           → (m : ℕ) (q : Published O) → slice_get (slice_set published n (Some p)) m ≡ Some (Some q)
@@ -126,7 +132,7 @@ module _ {O : Type 0} (mean : ℕ → List O → Result O Fault) (takes : ℕ �
   filled_is filled e q lt was is =
       map_set shown_in filled e (Some q)
       ∙ ap (λ r. slice_set (map shown_in filled) e (Some r)) (is ∙ sym (made_right mean plan core.is_plan core.free s
-      core.sound (from_of plan e) (source_inside mean plan core.is_plan core.free e lt) was))
+      core.sound equation (from_of plan e) (source_inside mean plan core.is_plan core.free e lt) was))
 
   pub subtract_core : (e : ℕ) (may : Allows plan s (Subtract e))
       → IsCore mean takes plan starts (after mean plan s (Subtract e)) unfetched published (steps + 1)

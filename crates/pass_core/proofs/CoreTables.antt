@@ -5,10 +5,10 @@ use Rattle.std.specs.Prelude.{slice_get, slice_index, slice_set, is_some, nat_eq
 use Rattle.std.proofs.lemmas.List.{get_or-map}
 use Rattle.std.proofs.lemmas.Option.{slice_get_read}
 use Rattle.std.proofs.lemmas.Bool.Decides.{nat_tests}
-use Rattle.pass_core.specs.declared.plan.Plan.{Plan}
-use Rattle.pass_core.specs.declared.plan.PlanEdge.{PlanEdge}
+use Rattle.serial_pass.specs.declared.plan.Plan.{Plan}
+use Rattle.serial_pass.specs.declared.plan.PlanEdge.{PlanEdge}
 use Rattle.pass_core.specs.declared.published.Published.{Published}
-use Rattle.pass_core.specs.Results.{NodeResult}
+use Rattle.serial_pass.specs.Results.{NodeResult}
 use Rattle.pass_core.specs.Shown.{published_result}
 use Rattle.pass_core.specs.CoreStates.{CoreState, from_of, to_of}
 use Rattle.pass_core.specs.CoreViews.{CoreView}

@@ -7,18 +7,22 @@ use Rattle.std.specs.Arc.{arc_value}
 use Rattle.std.proofs.lemmas.List.{take_more, map-append, take-append-drop, length-map}
 use Rattle.std.proofs.Math.Seq.{drop-cons}
 use Rattle.bp_faults.specs.declared.fault.Fault.{Fault}
-use Rattle.pass_core.specs.Results.{NodeResult, Done, Bad, Poisoned, IsDone, cons_if, all_outs, result_of_visit}
-use Rattle.pass_core.specs.Results.{judged_result}
-use Rattle.pass_core.proofs.Gathered.{all_of_cons}
+use Rattle.serial_pass.specs.Results.{NodeResult, Done, Bad, Poisoned, IsDone, cons_if, all_outs, result_of_visit}
+use Rattle.serial_pass.specs.Results.{judged_result}
 
 module _ {O : Type 0} where
+  cons_there : (x : O) (r : Option (List O)) (os : List O) → cons_if x r ≡ Some os
+      → (rest : List O) × (r ≡ Some rest) × (os ≡ x ∷ rest)
+  cons_there x None os h = cc
+  cons_there x (Some rest) os h = (rest, refl, cc)
+
   outs_snoc : (rs : List (NodeResult O)) (os : List O) (o : O) → all_outs rs ≡ Some os
       → all_outs (rs ++ Done o ∷ []) ≡ Some (os ++ o ∷ [])
   outs_snoc [] os o h = let e : [] ≡ os = cc in rw (← e) refl
   outs_snoc (Bad f ∷ rs) os o h = cc
   outs_snoc (Poisoned ∷ rs) os o h = cc
   outs_snoc (Done x ∷ rs) os o h =
-      let t = all_of_cons x (all_outs rs) os h in
+      let t = cons_there x (all_outs rs) os h in
       ap (cons_if x) (outs_snoc rs t.0 o t.1) ∙ sym (ap (λ (l : List O). Some (l ++ o ∷ [])) t.2)
 
   outs_stop : (rs qs : List (NodeResult O)) (r : NodeResult O) → (IsDone r → ⊥) → all_outs (rs ++ r ∷ qs) ≡ None
@@ -34,7 +38,7 @@ module _ {O : Type 0} where
   outs_length (Bad f ∷ rs) os h = cc
   outs_length (Poisoned ∷ rs) os h = cc
   outs_length (Done x ∷ rs) os h =
-      let t = all_of_cons x (all_outs rs) os h in ap length t.2 ∙ ap suc (outs_length rs t.0 t.1)
+      let t = cons_there x (all_outs rs) os h in ap length t.2 ∙ ap suc (outs_length rs t.0 t.1)
 
   module _ {X : Type 0} (g : X → NodeResult O) (xs : List X) (i : ℕ) (d : X) (lt : i < length xs) where
     pub outs_more : (os : List O) (o : O) → g (get_or xs i d) ≡ Done o → all_outs (map g (take i xs)) ≡ Some os

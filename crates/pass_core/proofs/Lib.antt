@@ -1,19 +1,3 @@
-pub mod Predecessors
-pub mod Unrolled
-pub mod Induction
-pub mod Unique
-pub mod Gathering
-pub mod OutEquations
-pub mod Legal
-pub mod Sorted
-pub mod Outcome
-pub mod InEdgesPlaced
-pub mod Climbing
-pub mod Paths
-pub mod Ranked
-pub mod Gathered
-pub mod Visited
-pub mod Along
 pub mod Marks
 pub mod Numbered
 pub mod Sound
@@ -21,7 +5,6 @@ pub mod Repeats
 pub mod Progress
 pub mod Listed
 pub mod Readied
-pub mod AlongLegal
 pub mod HeldOuts
 pub mod PlacedValues
 pub mod Reaching

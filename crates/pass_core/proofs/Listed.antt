@@ -8,16 +8,16 @@ use Rattle.std.proofs.Math.Seq.{take-length}
 use Rattle.std.proofs.lemmas.List.{take_more, get_or-take, length-take-le, length-replicate}
 use mathlib.Core.Logic.{dite}
 use Rattle.bp_faults.specs.declared.fault.Fault.{Fault}
-use Rattle.pass_core.specs.declared.plan.Plan.{Plan}
-use Rattle.pass_core.specs.Plans.{predecessors}
-use Rattle.pass_core.specs.Orders.{IsLegal}
+use Rattle.serial_pass.specs.declared.plan.Plan.{Plan}
+use Rattle.serial_pass.specs.Plans.{predecessors}
+use Rattle.serial_pass.specs.Laws.{AtMostOneOutcome}
+use Rattle.serial_pass.specs.Orders.{IsLegal}
 use Rattle.pass_core.specs.CoreStates.{IsMarked, IsUnmarked, marks}
 use Rattle.pass_core.specs.OrderOutcomes.{IsReadyAfter, IsReadyAt, IsFirstRefused, IsShort, OrderOutcome, Ran, Refused}
 use Rattle.pass_core.specs.OrderOutcomes.{Short, IsOrderOutcome}
 use Rattle.bp_faults.proofs.Lists.{all_map, all_pushed, all_contained, same_at}
 use Rattle.pass_core.proofs.Marks.{marks_more, marks_most, marks_full, marks_none, marked_or, marked_before}
 use Rattle.pass_core.proofs.Marks.{still_marked, now_marked, not_both, get_blank}
-use Rattle.pass_core.proofs.Unique.{outcome_unique}
 
 -- After some entries of a list, each of them ready, what was visited is marked.
 pub record IsChecked (plan : Plan) (order : List ℕ) (index : ℕ) (visited : List Bool) : Type 0 where
@@ -175,10 +175,10 @@ module _ (plan : Plan) (order : List ℕ) where
       (λ less. absurd (a.refused (b.ready j less)))
       (λ more. dite (dec_lt k j) (λ less. absurd (b.refused (a.ready k less))) (λ no. omega arith))
 
-module _ {O : Type 0} (mean : ℕ → List O → Result O Fault) (plan : Plan) where
+module _ {O : Type 0} (mean : ℕ → List O → Result O Fault) (plan : Plan) (one : AtMostOneOutcome O) where
   pub legal_agree : (order other : List ℕ) → IsLegal plan order → IsLegal plan other → (x y : OrderOutcome O)
       → IsOrderOutcome mean plan order x → IsOrderOutcome mean plan other y → x ≡ y
-  legal_agree order other l m (Ran r) (Ran s) a b = ap Ran (outcome_unique mean plan r s a.1 b.1)
+  legal_agree order other l m (Ran r) (Ran s) a b = ap Ran (one mean plan r s a.1 b.1)
   legal_agree order other l m (Ran r) (Refused k) a b = absurd (never_refused plan other m k b)
   legal_agree order other l m (Ran r) (Short k) a b = absurd (never_short plan other m k b)
   legal_agree order other l m (Refused k) y a b = absurd (never_refused plan order l k a)
@@ -186,7 +186,7 @@ module _ {O : Type 0} (mean : ℕ → List O → Result O Fault) (plan : Plan) w
 
   pub one_outcome : (order : List ℕ) (x y : OrderOutcome O) → IsOrderOutcome mean plan order x
       → IsOrderOutcome mean plan order y → x ≡ y
-  one_outcome order (Ran r) (Ran s) a b = ap Ran (outcome_unique mean plan r s a.1 b.1)
+  one_outcome order (Ran r) (Ran s) a b = ap Ran (one mean plan r s a.1 b.1)
   one_outcome order (Ran r) (Refused k) a b = absurd (never_refused plan order a.0 k b)
   one_outcome order (Ran r) (Short k) a b = absurd (never_short plan order a.0 k b)
   one_outcome order (Refused j) (Ran r) a b = absurd (never_refused plan order b.0 j a)

@@ -4,9 +4,10 @@ use Rattle.std.proofs.Common.{replicate, refl, ap, arith, ◌∙◌, sym, subst,
 use Rattle.std.specs.Prelude.{slice_index, slice_set, if◌then◌else◌}
 use Rattle.std.specs.List.{AllByRecursion}
 use Rattle.std.proofs.lemmas.Bool.Decides.{nat_tests}
-use Rattle.pass_core.specs.declared.plan.PlanEdge.{PlanEdge}
-use Rattle.pass_core.specs.Plans.{sources, predecessors}
-use Rattle.pass_core.specs.CoreStates.{numbers_into, IsMarked, IsUnmarked}
+use Rattle.serial_pass.specs.declared.plan.PlanEdge.{PlanEdge}
+use Rattle.serial_pass.specs.Plans.{sources, predecessors}
+use Rattle.serial_pass.specs.InEdges.{numbers_into}
+use Rattle.pass_core.specs.CoreStates.{IsMarked, IsUnmarked}
 use Rattle.pass_core.specs.CoreKept.{one_if, unmarked_count}
 
 abbrev pub targets : List PlanEdge → List ℕ

@@ -9,15 +9,16 @@ use Rattle.std.proofs.lemmas.List.Elements.{recursion_from_All}
 use Rattle.std.proofs.lemmas.List.FromFn.{get_or-range_with_len, length-range_with_len}
 use Rattle.std.proofs.lemmas.Option.{slice_get-get_or}
 use Rattle.bp_faults.specs.declared.fault.Fault.{Fault}
-use Rattle.pass_core.specs.declared.plan.Plan.{Plan}
+use Rattle.serial_pass.specs.declared.plan.Plan.{Plan}
 use Rattle.pass_core.specs.declared.step.Step.{Step}
 use Rattle.pass_core.specs.declared.step.Step.TheVariants.{Claim, Fetch, Fill, Subtract}
-use Rattle.pass_core.specs.Plans.{predecessors, HasNoCycle, IsPlan}
-use Rattle.pass_core.specs.Results.{node_result}
-use Rattle.pass_core.specs.CoreStates.{CoreState, from_of, to_of, numbers_into, IsMarked, IsFilled, VisitWasMade}
+use Rattle.serial_pass.specs.Plans.{predecessors, HasNoCycle, IsPlan}
+use Rattle.serial_pass.specs.Results.{node_result}
+use Rattle.serial_pass.specs.Laws.{PredecessorsAreNodes, PredecessorsAreLess, ResultsMeetTheirEquation}
+use Rattle.serial_pass.specs.InEdges.{numbers_into}
+use Rattle.pass_core.specs.CoreStates.{CoreState, from_of, to_of, IsMarked, IsFilled, VisitWasMade}
 use Rattle.pass_core.specs.CoreStates.{visit_result, Allows, IsFinished, entries}
-use Rattle.pass_core.proofs.Induction.{plan_induction}
-use Rattle.bp_faults.proofs.Lists.{map-same}
+use Rattle.bp_faults.proofs.Lists.{all_map, both, map-same}
 use Rattle.pass_core.proofs.Marks.{marked_or, filled_or, marks_most, marks_full, full_marks, fills_most, fills_full}
 use Rattle.pass_core.proofs.Marks.{full_fills}
 use Rattle.pass_core.proofs.Numbered.{into_sources, all_into, each_into, left_none, none_left}
@@ -37,6 +38,21 @@ each_or P (suc k) h =
 all_under : (P : ℕ → Type 0) (f : ℕ → ℕ) (ks : List ℕ) → AllByRecursion P (map f ks) → AllByRecursion (λ k. P (f k)) ks
 all_under P f [] h = tt
 all_under P f (k ∷ ks) h = (h.0, all_under P f ks h.1)
+
+module _ (plan : Plan) (is_plan : IsPlan plan) (free : HasNoCycle plan.edges) (nodes : PredecessorsAreNodes)
+    (less : PredecessorsAreLess) (P : ℕ → Type 0)
+    (step : (n : ℕ) → n < plan.count → AllByRecursion P (predecessors plan.edges n) → P n) where
+  by_rank : (fuel n : ℕ) → n < plan.count → free.rank n < fuel → P n
+  by_rank zero n lt r = absurd (omega arith)
+  by_rank (suc k) n lt r =
+      step n lt (all_map (λ m. (m < plan.count) × (free.rank m < free.rank n)) P
+      (λ m h. by_rank k m h.0 (let a = h.1 in omega arith)) (predecessors plan.edges n)
+      (both (λ m. m < plan.count) (λ m. free.rank m < free.rank n) (predecessors plan.edges n)
+      (nodes plan.count plan.edges n is_plan.ends) (less free.rank plan.edges n free.rises)))
+
+  -- what holds of a node where it holds of its predecessors holds of every node
+  by_predecessors : (n : ℕ) → n < plan.count → P n
+  by_predecessors n lt = by_rank (suc (free.rank n)) n lt (omega arith)
 
 module _ {O : Type 0} (mean : ℕ → List O → Result O Fault) (plan : Plan) (is_plan : IsPlan plan)
     (free : HasNoCycle plan.edges) (s : CoreState O) (sound : IsSound mean plan s) where
@@ -121,16 +137,17 @@ module _ {O : Type 0} (mean : ℕ → List O → Result O Fault) (plan : Plan) (
     fetched = λ e lt. (edges e lt).2;
   }
 
-  pub goes_or_finished : MayGo ⊎ IsFinished plan s
-  goes_or_finished =
+  goes_or_finished : PredecessorsAreNodes → PredecessorsAreLess → MayGo ⊎ IsFinished plan s
+  goes_or_finished nodes less =
       ⊎_elim inl
       (λ visited. ⊎_elim inl (λ edges. inr (finished_if visited edges)) (each_or (λ e. IsFilled s e
       × IsMarked s.subtracted e × IsMarked s.fetched e) (length plan.edges) (edge_or visited)))
       (each_or (VisitWasMade plan s) plan.count
-      (plan_induction plan is_plan.ends free (λ n. MayGo ⊎ VisitWasMade plan s n) visited_or))
+      (by_predecessors plan is_plan free nodes less (λ n. MayGo ⊎ VisitWasMade plan s n) visited_or))
 
-  pub never_stuck : (IsFinished plan s → ⊥) → MayGo
-  never_stuck unfinished = ⊎_elim (λ go. go) (λ done. absurd (unfinished done)) goes_or_finished
+  pub never_stuck : PredecessorsAreNodes → PredecessorsAreLess → (IsFinished plan s → ⊥) → MayGo
+  never_stuck nodes less unfinished =
+      ⊎_elim (λ go. go) (λ done. absurd (unfinished done)) (goes_or_finished nodes less)
 
   pub entries_when_finished : IsFinished plan s → entries s ≡ plan.count + 3 * length plan.edges
   entries_when_finished done =
@@ -174,13 +191,14 @@ module _ {O : Type 0} (mean : ℕ → List O → Result O Fault) (plan : Plan) (
       left_none plan.edges s.subtracted (to_of plan e) sound.subtracted_many
       (sound.awaited (to_of plan e) claimed) e lt refl
 
-  pub results_when_finished : IsFinished plan s → map (visit_result mean plan s) (range_with_len 0 plan.count)
+  pub results_when_finished : ResultsMeetTheirEquation O → IsFinished plan s
+      → map (visit_result mean plan s) (range_with_len 0 plan.count)
       ≡ map (node_result mean plan) (range_with_len 0 plan.count)
-  results_when_finished done =
+  results_when_finished equation done =
       map-same (visit_result mean plan s) (node_result mean plan) (range_with_len 0 plan.count)
       (recursion_from_All (λ n. visit_result mean plan s n ≡ node_result mean plan n) (range_with_len 0 plan.count)
       (λ k d lt.
       let inside : k < plan.count = omega (arith, length-range_with_len 0 plan.count) in
       let same = get_or-range_with_len 0 plan.count k d inside ∙ zero-add k in
       subst (λ n. visit_result mean plan s n ≡ node_result mean plan n) (sym same)
-      (made_right mean plan is_plan free s sound k inside (done.visited k inside))))
+      (made_right mean plan is_plan free s sound equation k inside (done.visited k inside))))

@@ -1,7 +1,7 @@
 -- A state that is reached leads to another by each step that it allows.
 use Rattle.std.proofs.Common.{◌≡◌, ℕ, List, [], ◌∷◌, ◌++◌, ◌+◌, length-append, refl, ap, ◌∙◌, sym, subst, Result}
 use Rattle.bp_faults.specs.declared.fault.Fault.{Fault}
-use Rattle.pass_core.specs.declared.plan.Plan.{Plan}
+use Rattle.serial_pass.specs.declared.plan.Plan.{Plan}
 use Rattle.pass_core.specs.declared.step.Step.{Step}
 use Rattle.pass_core.specs.CoreStates.{CoreState, Allows, after, beginning, after_all, AreAllowed, IsReachedIn}
 

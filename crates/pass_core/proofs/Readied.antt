@@ -5,13 +5,14 @@ use Rattle.std.specs.Prelude.{slice_get}
 use Rattle.std.specs.List.{AllByRecursion}
 use Rattle.std.proofs.Math.Seq.{take-length}
 use Rattle.std.proofs.lemmas.Option.{slice_get-get_or}
-use Rattle.std.proofs.lemmas.List.{take_more, map-append}
+use Rattle.std.proofs.Math.ListN.{get_or-map}
+use Rattle.std.proofs.lemmas.List.{take_more, map-append, length-map}
 use Rattle.std.proofs.lemmas.List.Elements.{All-from_recursion}
-use Rattle.pass_core.specs.declared.plan.PlanEdge.{PlanEdge}
-use Rattle.pass_core.specs.Plans.{sources, in_edges, predecessors, HaveEndsBelow}
+use Rattle.serial_pass.specs.declared.plan.PlanEdge.{PlanEdge}
+use Rattle.serial_pass.specs.Plans.{sources, in_edges, predecessors, HaveEndsBelow}
+use Rattle.serial_pass.specs.Laws.{PredecessorsAreNodes}
 use Rattle.pass_core.specs.CoreStates.{IsMarked}
 use Rattle.bp_faults.proofs.Lists.{all_pushed}
-use Rattle.pass_core.proofs.Predecessors.{in_edges_below, source_at}
 
 pub mark_read : (marks : List Bool) (k : ℕ) (b : Bool) → k < length marks → get_or marks k false ≡ b
     → slice_get marks k ≡ Some b
@@ -19,11 +20,15 @@ mark_read marks k b lt is = slice_get-get_or marks k false lt ∙ ap Some is
 
 module _ (edges es : List PlanEdge) (count n : ℕ) (below : HaveEndsBelow count edges) (same : es ≡ in_edges edges n)
     (i : ℕ) (d : PlanEdge) (lt : i < length es) where
-  pub source_below : (get_or es i d).from.0 < count
-  source_below =
-      All-from_recursion (λ (e : PlanEdge). e.from.0 < count) es
-      (subst (AllByRecursion (λ (e : PlanEdge). e.from.0 < count)) (sym same) (in_edges_below count n edges below)) i d
-      lt
+  source_has : (P : ℕ → Type 0) → AllByRecursion P (predecessors edges n) → P (get_or es i d).from.0
+  source_has P all =
+      let each : AllByRecursion P (sources es) =
+      subst (λ (l : List PlanEdge). AllByRecursion P (sources l)) (sym same) all in
+      subst P (get_or-map (λ (e : PlanEdge). e.from.0) es i d)
+      (All-from_recursion P (sources es) each i d.from.0 (omega (arith, length-map es (λ (e : PlanEdge). e.from.0))))
+
+  pub source_below : PredecessorsAreNodes → (get_or es i d).from.0 < count
+  source_below nodes = source_has (λ m. m < count) (nodes count edges n below)
 
   module _ (marks : List Bool) where
     pub marked_one_more : AllByRecursion (IsMarked marks) (sources (take i es)) → IsMarked marks (get_or es i d).from.0
@@ -33,9 +38,7 @@ module _ (edges es : List PlanEdge) (count n : ℕ) (below : HaveEndsBelow count
         (all_pushed (IsMarked marks) (sources (take i es)) (get_or es i d).from.0 before here)
 
     pub marked_source : AllByRecursion (IsMarked marks) (predecessors edges n) → IsMarked marks (get_or es i d).from.0
-    marked_source all =
-        source_at (IsMarked marks) es i d
-        (subst (λ (l : List PlanEdge). AllByRecursion (IsMarked marks) (sources l)) (sym same) all) lt
+    marked_source all = source_has (IsMarked marks) all
 
 pub marked_whole : (edges es : List PlanEdge) (n i : ℕ) (marks : List Bool) → es ≡ in_edges edges n → i ≤ length es
     → length es ≤ i → AllByRecursion (IsMarked marks) (sources (take i es))

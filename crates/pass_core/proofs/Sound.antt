@@ -10,13 +10,15 @@ use Rattle.std.proofs.lemmas.List.Elements.{All-from_recursion}
 use Rattle.std.proofs.lemmas.List.FromFn.{get_or-range_with_len, length-range_with_len}
 use Rattle.std.proofs.lemmas.Option.{slice_get_within, get_or_from_slice_get}
 use Rattle.bp_faults.specs.declared.fault.Fault.{Fault}
-use Rattle.pass_core.specs.declared.plan.Plan.{Plan}
-use Rattle.pass_core.specs.declared.plan.PlanEdge.{PlanEdge}
+use Rattle.serial_pass.specs.declared.plan.Plan.{Plan}
+use Rattle.serial_pass.specs.declared.plan.PlanEdge.{PlanEdge}
 use Rattle.pass_core.specs.declared.step.Step.{Step}
 use Rattle.pass_core.specs.declared.step.Step.TheVariants.{Claim, Fetch, Fill, Subtract}
-use Rattle.pass_core.specs.Plans.{predecessors, HasNoCycle, IsPlan}
-use Rattle.pass_core.specs.Results.{NodeResult, all_outs, judged_result, node_result}
-use Rattle.pass_core.specs.CoreStates.{CoreState, from_of, to_of, numbers_into, IsMarked, IsUnmarked, result_in}
+use Rattle.serial_pass.specs.Plans.{predecessors, HasNoCycle, IsPlan}
+use Rattle.serial_pass.specs.Results.{NodeResult, all_outs, judged_result, node_result}
+use Rattle.serial_pass.specs.Laws.{ResultsMeetTheirEquation}
+use Rattle.serial_pass.specs.InEdges.{numbers_into}
+use Rattle.pass_core.specs.CoreStates.{CoreState, from_of, to_of, IsMarked, IsUnmarked, result_in}
 use Rattle.pass_core.specs.CoreStates.{IsFilled, edge_result, VisitWasMade, visit_result, Allows, after, beginning}
 use Rattle.pass_core.specs.CoreStates.{after_all, AreAllowed, IsReached, entries}
 use Rattle.bp_faults.proofs.Lists.{all_map, map-same, get_here, get_else}
@@ -24,7 +26,6 @@ use Rattle.pass_core.proofs.Marks.{marked_before, still_filled, get_blank, marks
 use Rattle.pass_core.proofs.Marks.{fills_none}
 use Rattle.pass_core.specs.CoreKept.{IsSound, unmarked_count}
 use Rattle.pass_core.proofs.Numbered.{into_sources, left_begins, left_lower, left_same}
-use Rattle.pass_core.proofs.Unrolled.{result_equation}
 
 map_map : {A B C : Type 0} (g : B → C) (f : A → B) (xs : List A) → map (λ x. g (f x)) xs ≡ map g (map f xs)
 map_map g f [] = refl
@@ -54,9 +55,9 @@ module _ {O : Type 0} (mean : ℕ → List O → Result O Fault) (plan : Plan) (
     filled_inside e r h = subst (λ x. e < x) sound.filled_many (slice_get_within s.filled e r h)
 
     -- what a visit makes of what its in-edges hold is the node's result
-    pub made_right : (n : ℕ) → n < plan.count → VisitWasMade plan s n
+    pub made_right : ResultsMeetTheirEquation O → (n : ℕ) → n < plan.count → VisitWasMade plan s n
         → visit_result mean plan s n ≡ node_result mean plan n
-    made_right n lt was =
+    made_right equation n lt was =
         let each : AllByRecursion (λ e. edge_result s e ≡ node_result mean plan (from_of plan e))
         (numbers_into 0 plan.edges n) =
         all_map (IsMarked s.fetched) (λ e. edge_result s e ≡ node_result mean plan (from_of plan e)) held_right
@@ -68,7 +69,7 @@ module _ {O : Type 0} (mean : ℕ → List O → Result O Fault) (plan : Plan) (
         ∙ ap (map (node_result mean plan))
         (into_sources (from_of plan) 0 plan.edges n (λ i. ap (from_of plan) (zero-add i))) in
         ap (λ (rs : List (NodeResult O)). judged_result (mean n) (all_outs rs)) all
-        ∙ sym (result_equation plan is_plan.ends free mean n lt)
+        ∙ sym (equation mean plan n is_plan free lt)
 
     claim_keeps : (n : ℕ) → IsUnmarked s.claimed n → slice_get s.counters n ≡ Some 0 → IsSound mean plan (record {
       counters = s.counters;
@@ -125,7 +126,8 @@ module _ {O : Type 0} (mean : ℕ → List O → Result O Fault) (plan : Plan) (
         let it : x ≡ r = cc in sym it ∙ is ∙ ap (λ y. node_result mean plan (from_of plan y)) (sym same))
         (λ other. sound.right k r (sym (get_else s.filled e k (Some x) other) ∙ h))
 
-    fill_keeps : (e : ℕ) → VisitWasMade plan s (from_of plan e) → slice_get s.filled e ≡ Some None
+    fill_keeps : ResultsMeetTheirEquation O → (e : ℕ) → VisitWasMade plan s (from_of plan e)
+        → slice_get s.filled e ≡ Some None
         → IsSound mean plan (record {
           counters = s.counters;
           claimed = s.claimed;
@@ -133,7 +135,7 @@ module _ {O : Type 0} (mean : ℕ → List O → Result O Fault) (plan : Plan) (
           subtracted = s.subtracted;
           fetched = s.fetched;
         })
-    fill_keeps e was none = record {
+    fill_keeps equation e was none = record {
       counters_many = sound.counters_many;
       claimed_many = sound.claimed_many;
       filled_many = length-set s.filled e (Some (visit_result mean plan s (from_of plan e))) ∙ sound.filled_many;
@@ -141,7 +143,7 @@ module _ {O : Type 0} (mean : ℕ → List O → Result O Fault) (plan : Plan) (
       fetched_many = sound.fetched_many;
       right =
           right_at e (visit_result mean plan s (from_of plan e)) none
-          (made_right (from_of plan e) (source_inside e (filled_inside e None none)) was);
+          (made_right equation (from_of plan e) (source_inside e (filled_inside e None none)) was);
       taken =
           λ k h. let t = sound.taken k h in
           (t.0, still_filled s.filled e k (visit_result mean plan s (from_of plan e)) t.0 none t.1);
@@ -189,11 +191,11 @@ module _ {O : Type 0} (mean : ℕ → List O → Result O Fault) (plan : Plan) (
       awaited = λ n h. still_none e (filled_inside e (Some filled.0) filled.1) u n (sound.awaited n h);
     }
 
-    pub step_keeps : (t : Step) → Allows plan s t → IsSound mean plan (after mean plan s t)
-    step_keeps (Claim n) h = claim_keeps n.0 h.0 h.1
-    step_keeps (Fetch e) h = fetch_keeps e h.1
-    step_keeps (Fill e) h = fill_keeps e h.0 h.1
-    step_keeps (Subtract e) h = subtract_keeps e h.0 h.1
+    pub step_keeps : ResultsMeetTheirEquation O → (t : Step) → Allows plan s t → IsSound mean plan (after mean plan s t)
+    step_keeps equation (Claim n) h = claim_keeps n.0 h.0 h.1
+    step_keeps equation (Fetch e) h = fetch_keeps e h.1
+    step_keeps equation (Fill e) h = fill_keeps equation e h.0 h.1
+    step_keeps equation (Subtract e) h = subtract_keeps e h.0 h.1
 
     -- an allowed step adds one entry
     pub step_adds : (t : Step) → Allows plan s t → entries (after mean plan s t) ≡ suc (entries s)
@@ -234,22 +236,25 @@ module _ {O : Type 0} (mean : ℕ → List O → Result O Fault) (plan : Plan) (
       let c = marks_none (length plan.edges) in
       omega arith
 
-  all_keep : (steps : List Step) (s : CoreState O) → IsSound mean plan s → AreAllowed mean plan s steps → IsSound mean
-      plan (after_all mean plan s steps) × (entries (after_all mean plan s steps) ≡ length steps + entries s)
-  all_keep [] s sound h = (sound, omega arith)
-  all_keep (t ∷ ts) s sound h =
-      let rest = all_keep ts (after mean plan s t) (step_keeps s sound t h.0) h.1 in
+  all_keep : ResultsMeetTheirEquation O → (steps : List Step) (s : CoreState O) → IsSound mean plan s
+      → AreAllowed mean plan s steps → IsSound mean plan (after_all mean plan s steps)
+      × (entries (after_all mean plan s steps) ≡ length steps + entries s)
+  all_keep equation [] s sound h = (sound, omega arith)
+  all_keep equation (t ∷ ts) s sound h =
+      let rest = all_keep equation ts (after mean plan s t) (step_keeps s sound equation t h.0) h.1 in
       let one = step_adds s sound t h.0 in
       (rest.0, omega (arith, rest.1))
 
-  module _ (steps : List Step) (s : CoreState O) (reached : IsReached mean plan steps s) where
+  module _ (equation : ResultsMeetTheirEquation O) (steps : List Step) (s : CoreState O)
+      (reached : IsReached mean plan steps s) where
     pub reached_sound : IsSound mean plan s
     reached_sound =
-        subst (IsSound mean plan) (sym reached.there) (all_keep steps (beginning plan) begins_sound reached.allowed).0
+        subst (IsSound mean plan) (sym reached.there)
+        (all_keep equation steps (beginning plan) begins_sound reached.allowed).0
 
     -- there is one entry for each step
     pub reached_entries : entries s ≡ length steps
     reached_entries =
-        let all = (all_keep steps (beginning plan) begins_sound reached.allowed).1 in
+        let all = (all_keep equation steps (beginning plan) begins_sound reached.allowed).1 in
         let none = begins_empty in
         ap entries reached.there ∙ omega arith

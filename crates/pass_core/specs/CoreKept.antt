@@ -3,13 +3,13 @@ use Rattle.std.specs.Prelude.{◌≡◌, ◌<◌, ◌+◌, ◌==◌, ℕ, Bool, 
 use Rattle.std.specs.Prelude.{slice_index, slice_set, Option, Some, Result}
 use Rattle.std.specs.Option.{option_map}
 use Rattle.bp_faults.specs.declared.fault.Fault.{Fault}
-use Rattle.pass_core.specs.declared.plan.Plan.{Plan}
-use Rattle.pass_core.specs.declared.plan.PlanEdge.{PlanEdge}
+use Rattle.serial_pass.specs.declared.plan.Plan.{Plan}
+use Rattle.serial_pass.specs.declared.plan.PlanEdge.{PlanEdge}
 use Rattle.pass_core.specs.declared.published.Published.{Published}
-use Rattle.pass_core.specs.Plans.{IsPlan, HasNoCycle}
-use Rattle.pass_core.specs.InEdges.{AreStarts}
-use Rattle.pass_core.specs.Outcomes.{TakesPlan}
-use Rattle.pass_core.specs.Results.{NodeResult, all_outs, node_result}
+use Rattle.serial_pass.specs.Plans.{IsPlan, HasNoCycle}
+use Rattle.serial_pass.specs.InEdges.{AreStarts}
+use Rattle.serial_pass.specs.Outcomes.{TakesPlan}
+use Rattle.serial_pass.specs.Results.{NodeResult, all_outs, node_result}
 use Rattle.pass_core.specs.Shown.{published_result}
 use Rattle.pass_core.specs.CoreStates.{CoreState, from_of, result_in, IsMarked, IsFilled, VisitWasMade}
 use Rattle.pass_core.specs.CoreStates.{IsReachedIn, entries}

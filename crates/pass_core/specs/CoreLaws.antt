@@ -2,10 +2,10 @@
 use Rattle.std.specs.Prelude.{◌≡◌, ◌≢◌, ◌<◌, ◌+◌, ◌*◌, ℕ, List, map, length, slice_get, Some, Result}
 use Rattle.std.specs.List.{AllPairs, range_with_len}
 use Rattle.bp_faults.specs.declared.fault.Fault.{Fault}
-use Rattle.pass_core.specs.declared.plan.Plan.{Plan}
+use Rattle.serial_pass.specs.declared.plan.Plan.{Plan}
 use Rattle.pass_core.specs.declared.step.Step.{Step}
-use Rattle.pass_core.specs.Plans.{IsPlan, HasNoCycle}
-use Rattle.pass_core.specs.Results.{NodeResult, node_result}
+use Rattle.serial_pass.specs.Plans.{IsPlan, HasNoCycle}
+use Rattle.serial_pass.specs.Results.{NodeResult, node_result}
 use Rattle.pass_core.specs.CoreStates.{CoreState, from_of, to_of, IsMarked, visit_result, Allows, IsReached, IsFinished}
 use Rattle.pass_core.specs.CoreStates.{entries}
 

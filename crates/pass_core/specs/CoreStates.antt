@@ -1,16 +1,17 @@
 -- The core machine: the states of a pass whose nodes are visited in any order that the counters allow, and the four
 -- steps that lead from one state to the next.
-use Rattle.std.specs.Prelude.{◌≡◌, ◌<◌, ◌+◌, ◌-◌, ◌==◌, ℕ, suc, Bool, true, false, List, [], ◌∷◌, length, map}
-use Rattle.std.specs.Prelude.{replicate, slice_get, slice_index, slice_set, if◌then◌else◌, Option, Some, None}
+use Rattle.std.specs.Prelude.{◌≡◌, ◌<◌, ◌+◌, ◌-◌, ℕ, suc, Bool, true, false, List, [], ◌∷◌, length, map}
+use Rattle.std.specs.Prelude.{replicate, slice_get, slice_index, slice_set, Option, Some, None}
 use Rattle.std.specs.Prelude.{is_some, Result, ⊤}
 use Rattle.std.specs.List.{AllByRecursion, range_with_len}
 use Rattle.bp_faults.specs.declared.fault.Fault.{Fault}
-use Rattle.pass_core.specs.declared.plan.Plan.{Plan}
-use Rattle.pass_core.specs.declared.plan.PlanEdge.{PlanEdge}
+use Rattle.serial_pass.specs.declared.plan.Plan.{Plan}
+use Rattle.serial_pass.specs.declared.plan.PlanEdge.{PlanEdge}
 use Rattle.pass_core.specs.declared.step.Step.{Step}
 use Rattle.pass_core.specs.declared.step.Step.TheVariants.{Claim, Fetch, Fill, Subtract}
-use Rattle.pass_core.specs.Plans.{sources, predecessors}
-use Rattle.pass_core.specs.Results.{NodeResult, Poisoned, all_outs, judged_result}
+use Rattle.serial_pass.specs.Plans.{sources, predecessors}
+use Rattle.serial_pass.specs.InEdges.{numbers_into}
+use Rattle.serial_pass.specs.Results.{NodeResult, Poisoned, all_outs, judged_result}
 
 -- A state of a pass: by node number its counter and whether it is claimed, and by edge number what the edge holds
 -- where it is filled, and whether it is subtracted and fetched.
@@ -28,11 +29,6 @@ from_of plan e = slice_index (sources plan.edges) e
 -- The target of the edge of a number.
 abbrev pub to_of : Plan → ℕ → ℕ
 to_of plan e = slice_index (map (λ (d : PlanEdge). d.to.0) plan.edges) e
-
--- The numbers of the edges into a node, where the first edge has the number k.
-abbrev pub numbers_into : ℕ → List PlanEdge → ℕ → List ℕ
-numbers_into k [] n = []
-numbers_into k (d ∷ ds) n = if d.to.0 == n then k ∷ numbers_into (suc k) ds n else numbers_into (suc k) ds n
 
 -- What has that number is marked.
 abbrev pub IsMarked : List Bool → ℕ → Type 0

@@ -1,5 +1,5 @@
 -- What a contract sees of a core.
-use Rattle.pass_core.specs.declared.plan.Plan.{Plan}
+use Rattle.serial_pass.specs.declared.plan.Plan.{Plan}
 use Rattle.pass_core.specs.CoreStates.{CoreState}
 
 -- A core has its plan and its visitor, and is in a state.

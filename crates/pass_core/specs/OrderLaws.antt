@@ -1,9 +1,9 @@
 -- What holds of runs along lists of nodes, whatever a visitor means.
 use Rattle.std.specs.Prelude.{◌≡◌, ℕ, List, Result}
 use Rattle.bp_faults.specs.declared.fault.Fault.{Fault}
-use Rattle.pass_core.specs.declared.plan.Plan.{Plan}
-use Rattle.pass_core.specs.Plans.{IsPlan, HasNoCycle}
-use Rattle.pass_core.specs.Orders.{IsLegal}
+use Rattle.serial_pass.specs.declared.plan.Plan.{Plan}
+use Rattle.serial_pass.specs.Plans.{IsPlan, HasNoCycle}
+use Rattle.serial_pass.specs.Orders.{IsLegal}
 use Rattle.pass_core.specs.OrderOutcomes.{OrderOutcome, IsOrderOutcome}
 
 module _ (O : Type 0) where

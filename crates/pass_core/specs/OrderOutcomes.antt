@@ -5,12 +5,12 @@ use Rattle.std.specs.List.{AllByRecursion, Contains}
 use Rattle.std.specs.Arc.{arc_value}
 use Rattle.std.specs.declared.sync.Arc.{Arc}
 use Rattle.bp_faults.specs.declared.fault.Fault.{Fault}
-use Rattle.pass_core.specs.declared.plan.Plan.{Plan}
+use Rattle.serial_pass.specs.declared.plan.Plan.{Plan}
 use Rattle.pass_core.specs.declared.order_error.OrderError.{OrderError}
 use Rattle.pass_core.specs.declared.order_error.OrderError.TheVariants.{NotReady, Ends, At, OutOfMemory}
-use Rattle.pass_core.specs.Plans.{predecessors}
-use Rattle.pass_core.specs.Orders.{IsLegal}
-use Rattle.pass_core.specs.Outcomes.{PassOutcomeMeans}
+use Rattle.serial_pass.specs.Plans.{predecessors}
+use Rattle.serial_pass.specs.Orders.{IsLegal}
+use Rattle.serial_pass.specs.Outcomes.{PassOutcomeMeans}
 
 -- After the nodes before it a node is ready: it is a node of the plan, it isn't among them, and all its predecessors
 -- are.

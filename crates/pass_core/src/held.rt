@@ -3,12 +3,12 @@ ghost use Rattle.std.specs.Prelude.{IfOk, OnOk, OnErr, IsTrue};
 ghost use Rattle.std.specs.Option.{option_map};
 ghost use Rattle.std.specs.Arc.{arc_value};
 ghost use Rattle.pass_core.specs.CoreKept.{held_outs, PublishesLast};
-ghost use Rattle.pass_core.specs.Results.{judged_result};
+ghost use Rattle.serial_pass.specs.Results.{judged_result};
 ghost use Rattle.pass_core.specs.Shown.{published_result};
 
 use crate::published::Published;
-use crate::visit::{Visit, VisitError};
 use bp_faults::{NodeId, OutOfMemory};
+use serial_pass::{Visit, VisitError};
 use std::alloc::Global;
 use std::sync::Arc;
 

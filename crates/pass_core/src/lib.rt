@@ -1,38 +1,26 @@
-//! The core of a pass: a plan of nodes is visited, each node after its predecessors, and every
-//! schedule comes to one outcome.
+//! The core of a pass: its nodes are visited in any order that the edges allow, and every such order
+//! comes to one outcome.
 //!
-//! A plan and a visitor flow in; the visitor's results by node number flow out, or the fault of the
-//! first node in serial order that has none. It is measured by `node_result` in `specs/Results.antt`
-//! and by `PassOutcomeMeans` in `specs/Outcomes.antt`. `laws` says what holds of these for every plan.
+//! Steps or a list of nodes flow in, with a plan and a visitor; the visitor's results flow out, which are
+//! those of the pass by one worker. It is measured by `specs/CoreStates.antt`, the states and steps of the
+//! core machine, and by `OrderOutcome` in `specs/OrderOutcomes.antt`. `laws` says what holds of these for
+//! every plan. Plans, visits and the pass by one worker are those of `serial_pass`.
 #![tactic(auto)]
 
-mod error;
-mod height;
 mod held;
-mod in_edges;
 pub mod laws;
 mod machine;
-mod order;
 mod order_error;
 mod order_run;
-mod pass;
-mod plan;
 mod published;
-mod serial;
-mod slots;
 mod step;
-mod visit;
 
-pub use error::PassError;
-pub use height::heights;
-pub use in_edges::{edges_into, starts_of};
 pub use machine::Core;
-pub use order::serial_order;
 pub use order_error::OrderError;
 pub use order_run::{check_order, run_order};
-pub use pass::run_pass;
-pub use plan::{Plan, PlanEdge};
 pub use published::Published;
-pub use serial::run_serial;
+pub use serial_pass::{
+    PassError, Plan, PlanEdge, Visit, VisitError, edges_into, heights, run_pass, run_serial,
+    serial_order, starts_of,
+};
 pub use step::{Step, StepError};
-pub use visit::{Visit, VisitError};

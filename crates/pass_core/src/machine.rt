@@ -2,13 +2,13 @@ ghost use Rattle.std.specs.Prelude.{◌≡◌, ◌<◌, ◌↔◌, map, IfOk, Is
 ghost use Rattle.std.specs.List.{range_with_len};
 
 use crate::held::{held_by, publish_last};
-use crate::in_edges::{in_degrees, starts_of};
-use crate::plan::Plan;
 use crate::published::Published;
-use crate::slots::{empty_slots, no_marks, unwrapped};
 use crate::step::{Step, StepError};
-use crate::visit::Visit;
 use bp_faults::{NodeId, OutOfMemory};
+use serial_pass::laws::{
+    edge_numbers_are_together, results_meet_their_equation, starts_of_edges_rise,
+};
+use serial_pass::{Plan, Visit, empty_slots, in_degrees, no_marks, starts_of, unwrapped};
 use std::alloc::Global;
 use std::marker::Model;
 
@@ -50,7 +50,7 @@ impl<V: Visit> Core<V> {
     ghost use Rattle.pass_core.specs.declared.step.Step.TheVariants.{Claim, Fetch, Fill, Subtract};
     ghost use Rattle.pass_core.specs.CoreAnswers.{AnswersCoreStep};
     ghost use Rattle.pass_core.specs.CoreStates.{IsFinished, IsReachedIn};
-    ghost use Rattle.pass_core.specs.Plans.{IsPlan, HasNoCycle};
+    ghost use Rattle.serial_pass.specs.Plans.{IsPlan, HasNoCycle};
 
     /// How many steps were taken. Its clauses are what the laws of the core machine ask of a state, for every core.
     pub fn steps(&self) -> u64
@@ -87,6 +87,9 @@ impl<V: Visit> Core<V> {
         if n.0 >= self.plan.count || self.claimed[node] || self.counters[node] != 0 {
             return Err(StepError::NotAllowed(Step::Claim(n)));
         }
+        results_meet_their_equation::<V::Out>();
+        edge_numbers_are_together();
+        starts_of_edges_rise();
         let held = held_by(&self.filled, &self.starts, n);
         let last = self.unfetched[node] == 0;
         publish_last(alloc, &self.visitor, n, held, last, &mut self.published)?;
@@ -107,6 +110,9 @@ impl<V: Visit> Core<V> {
         if !self.claimed[node] {
             return Err(StepError::NotAllowed(Step::Fetch(e)));
         }
+        results_meet_their_equation::<V::Out>();
+        edge_numbers_are_together();
+        starts_of_edges_rise();
         let held = held_by(&self.filled, &self.starts, n);
         let last = self.unfetched[node] == 1;
         publish_last(alloc, &self.visitor, n, held, last, &mut self.published)?;
@@ -123,6 +129,7 @@ impl<V: Visit> Core<V> {
         if edge >= self.filled.len() || self.filled[edge].is_some() {
             return Err(StepError::NotAllowed(Step::Fill(e)));
         }
+        results_meet_their_equation::<V::Out>();
         let source = self.plan.edges.as_slice()[edge].from.0 as usize;
         match &self.published[source] {
             Some(result) => {
@@ -141,6 +148,7 @@ impl<V: Visit> Core<V> {
         if edge >= self.filled.len() || self.filled[edge].is_none() || self.subtracted[edge] {
             return Err(StepError::NotAllowed(Step::Subtract(e)));
         }
+        results_meet_their_equation::<V::Out>();
         let node = self.plan.edges.as_slice()[edge].to.0 as usize;
         self.counters[node] -= 1;
         self.subtracted[edge] = true;
@@ -153,9 +161,9 @@ impl<V: Visit + Drop> Core<V> {
     ghost use Rattle.std.specs.Prelude.{◌≡◌, map};
     ghost use Rattle.std.specs.List.{range_with_len};
     ghost use Rattle.pass_core.specs.CoreStates.{IsFinished, beginning};
-    ghost use Rattle.pass_core.specs.Outcomes.{TakesPlan};
-    ghost use Rattle.pass_core.specs.Plans.{IsPlan, HasNoCycle};
-    ghost use Rattle.pass_core.specs.Results.{node_result};
+    ghost use Rattle.serial_pass.specs.Outcomes.{TakesPlan};
+    ghost use Rattle.serial_pass.specs.Plans.{IsPlan, HasNoCycle};
+    ghost use Rattle.serial_pass.specs.Results.{node_result};
     ghost use Rattle.pass_core.specs.Shown.{published_result};
 
     /// A pass that hasn't begun.

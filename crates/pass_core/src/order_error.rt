@@ -1,5 +1,5 @@
-use crate::error::PassError;
 use bp_faults::{Fault, NodeId, OutOfMemory};
+use serial_pass::PassError;
 use std::alloc::AllocError;
 use thiserror::Error;
 

@@ -1,20 +1,15 @@
-ghost use Rattle.std.specs.Prelude.{◌≡◌, ◌↔◌, length, map, IfOk, IfSome, IsTrue, Ok};
-ghost use Rattle.std.specs.Arc.{arc_value};
-ghost use Rattle.pass_core.specs.InEdges.{AreStarts};
+ghost use Rattle.std.specs.Prelude.{◌≡◌, ◌↔◌, length, IsTrue};
+ghost use Rattle.serial_pass.specs.InEdges.{AreStarts};
 ghost use Rattle.pass_core.specs.Inside.{IsReadyByMarks};
 ghost use Rattle.pass_core.specs.OrderOutcomes.{AnswersLegality, AnswersOrder};
-ghost use Rattle.pass_core.specs.Orders.{IsLegal, numbers};
-ghost use Rattle.pass_core.specs.Outcomes.{PassOutcomeMeans, TakesPlan};
-ghost use Rattle.pass_core.specs.Plans.{IsPlan, HasNoCycle};
+ghost use Rattle.serial_pass.specs.Orders.{numbers};
+ghost use Rattle.serial_pass.specs.Outcomes.{TakesPlan};
+ghost use Rattle.serial_pass.specs.Plans.{IsPlan, HasNoCycle};
 
-use crate::error::PassError;
-use crate::in_edges::{edges_into, starts_of};
 use crate::order_error::OrderError;
-use crate::plan::Plan;
-use crate::serial::{run_serial, visit_at};
-use crate::slots::{empty_slots, no_marks, unwrapped};
-use crate::visit::Visit;
-use bp_faults::{NodeId, OutOfMemory};
+use bp_faults::NodeId;
+use serial_pass::laws::predecessors_are_nodes;
+use serial_pass::{Plan, Visit, edges_into, no_marks, run_serial, starts_of, visit_along};
 use std::alloc::Global;
 use std::sync::Arc;
 
@@ -25,6 +20,7 @@ fn is_ready(plan: &Plan, starts: &[u32], n: NodeId, visited: &[bool]) -> bool
     requires many { length visited.now ≡ plan.now.count }
     ensures { IsTrue result ↔ IsReadyByMarks plan.now visited.now n.0 }
 {
+    predecessors_are_nodes();
     if n.0 >= plan.count || visited[n.0 as usize] {
         return false;
     }
@@ -58,34 +54,6 @@ pub fn check_order(
         return Err(OrderError::Ends(order.len() as u32));
     }
     Ok(())
-}
-
-/// Visits the nodes one after another in a legal order. There are no results where a visit has a fault.
-fn visit_along<V: Visit>(
-    alloc: Global,
-    plan: &Plan,
-    v: &V,
-    starts: &[u32],
-    order: &[NodeId],
-) -> Result<Option<Vec<Arc<V::Out>>>, OutOfMemory>
-    requires plan { IsPlan plan.now }
-    requires free { HasNoCycle plan.now.edges }
-    requires takes { TakesPlan (V.takes v.now) plan.now }
-    requires starts { AreStarts plan.now starts.now }
-    requires legal { IsLegal plan.now (numbers order.now) }
-    ensures { IfOk result
-        (λ r. IfSome r (λ outs. PassOutcomeMeans (V.meaning v.now) plan.now (Ok (map arc_value outs.items)))) }
-{
-    let mut made = empty_slots(alloc, plan.count)?;
-    let mut ins = Vec::new(alloc);
-    for n in order {
-        match visit_at(alloc, plan, v, starts, *n, &made, &mut ins) {
-            Ok(out) => made[n.0 as usize] = Some(out),
-            Err(PassError::At(_, _)) => return Ok(None),
-            Err(PassError::OutOfMemory) => return Err(OutOfMemory),
-        }
-    }
-    Ok(Some(unwrapped(alloc, made)?))
 }
 
 /// Visits the nodes of a plan in the order of a list, on one thread.

@@ -1,8 +1,8 @@
 -- Results of the plans of the tests, where each node makes its own number.
 use Rattle.std.proofs.Common.{◌≡◌, ℕ, List, refl, subst, sym, Ok, Result}
 use Rattle.bp_faults.specs.declared.fault.Fault.{Fault}
-use Rattle.pass_core.specs.declared.plan.Plan.{Plan}
-use Rattle.pass_core.specs.Results.{Done, node_result}
+use Rattle.serial_pass.specs.declared.plan.Plan.{Plan}
+use Rattle.serial_pass.specs.Results.{Done, node_result}
 use Rattle.ready_counters.specs.Edges.{result_at}
 use Rattle.pass_tests.specs.Counters.{pair, chain}
 

@@ -1,7 +1,7 @@
 -- Plans of the tests.
 use Rattle.std.specs.Prelude.{ℕ, [], ◌∷◌}
-use Rattle.pass_core.specs.declared.plan.Plan.{Plan}
-use Rattle.pass_core.specs.declared.plan.PlanEdge.{PlanEdge}
+use Rattle.serial_pass.specs.declared.plan.Plan.{Plan}
+use Rattle.serial_pass.specs.declared.plan.PlanEdge.{PlanEdge}
 use Rattle.ready_counters.specs.declared.view.View.{View}
 use Rattle.ready_counters.specs.Views.{all_of_it, lighter, one, with_claim, with_fetch, with_filled, with_subtract}
 use Rattle.ready_counters.specs.Views.{with_ticket}

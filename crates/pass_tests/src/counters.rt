@@ -1,7 +1,7 @@
 ghost use Rattle.std.specs.Prelude.{◌≡◌, ◌<◌, IfOk, Ok, ⊤};
 ghost use Rattle.std.specs.Arc.{arc_value};
-ghost use Rattle.pass_core.specs.Plans.{IsPlan};
-ghost use Rattle.pass_core.specs.Results.{Done};
+ghost use Rattle.serial_pass.specs.Plans.{IsPlan};
+ghost use Rattle.serial_pass.specs.Results.{Done};
 ghost use Rattle.pass_core.specs.Shown.{published_result};
 ghost use Rattle.ready_counters.specs.Answers.{AnswersSubtract};
 ghost use Rattle.ready_counters.specs.Seen.{plan_on_board, view_of, IsSeatOf};

@@ -1,6 +1,6 @@
 ghost use Rattle.std.specs.Prelude.{◌≡◌, IsTrue, IfOk, IfSome, Ok, ⊤};
 ghost use Rattle.pass_tests.specs.Visits.{counted_but};
-ghost use Rattle.pass_core.specs.Plans.{IsPlan, HasNoCycle};
+ghost use Rattle.serial_pass.specs.Plans.{IsPlan, HasNoCycle};
 
 use bp_faults::{Fault, FaultKind, NodeId, OutOfMemory, Place, Seq};
 use pass_core::{

@@ -1,5 +1,5 @@
 ghost use Rattle.std.specs.Prelude.{◌≡◌, ◌≤◌, ◌<◌, length, IfOk, ⊤, []};
-ghost use Rattle.pass_core.specs.Plans.{IsPlan, HasNoCycle};
+ghost use Rattle.serial_pass.specs.Plans.{IsPlan, HasNoCycle};
 ghost use Rattle.pass_tests.specs.Ways.{number_unless};
 ghost use Rattle.pass_ways.specs.Visits.{visits};
 ghost use Rattle.pass_ways.specs.Ways.{Follows, IsPassWay};

@@ -1,5 +1,5 @@
 ghost use Rattle.std.specs.Prelude.{◌≡◌, ◌≤◌, IsTrue, ⊤};
-ghost use Rattle.pass_core.specs.Plans.{IsPlan, HasNoCycle};
+ghost use Rattle.serial_pass.specs.Plans.{IsPlan, HasNoCycle};
 ghost use Rattle.pass_tests.specs.Workers.{number_but};
 
 use bp_faults::{Fault, FaultKind, NodeId, OutOfMemory, Place, Seq};

@@ -18,11 +18,11 @@ use native.Mathlib.Decide.{ℕ_discrete}
 use Rattle.bp_faults.specs.declared.ids.NodeId.{NodeId}
 use Rattle.bp_faults.proofs.Lists.{all_map, all_contained, all_pushed, get_here, get_else, same_at}
 use Rattle.bp_faults.proofs.Lists.{all_append, all_before}
-use Rattle.pass_core.specs.declared.plan.Plan.{Plan}
-use Rattle.pass_core.specs.declared.plan.PlanEdge.{PlanEdge}
+use Rattle.serial_pass.specs.declared.plan.Plan.{Plan}
+use Rattle.serial_pass.specs.declared.plan.PlanEdge.{PlanEdge}
 use Rattle.pass_core.specs.CoreStates.{IsMarked}
-use Rattle.pass_core.specs.Orders.{IsLegal, numbers}
-use Rattle.pass_core.specs.Plans.{in_edges, predecessors, sources, IsPlan, StandByTarget}
+use Rattle.serial_pass.specs.Orders.{IsLegal, numbers}
+use Rattle.serial_pass.specs.Plans.{in_edges, predecessors, sources, IsPlan, StandByTarget}
 use Rattle.pass_ways.specs.Stretches.{stretch, joined_stretches, TellsStretches, KeepsMarks, MarksSources, AddsEdges}
 use Rattle.pass_ways.specs.Stretches.{IsLinked, LinksStretches, IsPlanOfStretches}
 use Rattle.pass_ways.proofs.Stretched.{in_stretch, joined_stretches-push}

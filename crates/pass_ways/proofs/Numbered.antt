@@ -1,7 +1,7 @@
 -- Nodes by their numbers.
 use Rattle.std.proofs.Common.{◌≡◌, ℕ, List, [], ◌∷◌, map, refl, ap}
 use Rattle.bp_faults.specs.declared.ids.NodeId.{NodeId}
-use Rattle.pass_core.specs.Orders.{numbers}
+use Rattle.serial_pass.specs.Orders.{numbers}
 
 abbrev pub nodes_numbered : List ℕ → List NodeId
 nodes_numbered ns = map (λ n. record { 0 = n }) ns

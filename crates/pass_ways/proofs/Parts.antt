@@ -6,8 +6,8 @@ use Rattle.std.specs.List.{AllByRecursion, AllPairs, Contains}
 use Rattle.std.proofs.lemmas.List.{get_or-take, length-take-le, take-map}
 use Rattle.bp_faults.specs.declared.ids.NodeId.{NodeId}
 use Rattle.bp_faults.proofs.Lists.{contains_earlier, same_at}
-use Rattle.pass_core.specs.declared.plan.Plan.{Plan}
-use Rattle.pass_core.specs.Orders.{numbers}
+use Rattle.serial_pass.specs.declared.plan.Plan.{Plan}
+use Rattle.serial_pass.specs.Orders.{numbers}
 use Rattle.pass_core.specs.OrderOutcomes.{IsReadyAfter, IsReadyAt, IsFirstRefused, IsShort}
 use Rattle.pass_ways.specs.OrderFiles.{IsPart}
 use Rattle.pass_ways.proofs.Lacking.{one_lacks, fewer_where_one_lacks}

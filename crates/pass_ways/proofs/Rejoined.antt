@@ -12,10 +12,10 @@ use Rattle.std.proofs.lemmas.Nat.{div_below}
 use mathlib.Core.Logic.{dite}
 use Rattle.bp_faults.proofs.Lists.{all_with, all_contained, contains_earlier, same_at}
 use Rattle.bp_faults.specs.declared.ids.NodeId.{NodeId}
-use Rattle.pass_core.specs.declared.plan.Plan.{Plan}
-use Rattle.pass_core.specs.Orders.{IsLegal, numbers}
+use Rattle.serial_pass.specs.declared.plan.Plan.{Plan}
+use Rattle.serial_pass.specs.Orders.{IsLegal, numbers}
 use Rattle.pass_core.specs.OrderOutcomes.{IsReadyAfter}
-use Rattle.pass_core.specs.Plans.{predecessors}
+use Rattle.serial_pass.specs.Plans.{predecessors}
 use Rattle.pass_ways.specs.Stretches.{stretch, joined_stretches, AreReady, IsLinked, IsPlanOfStretches}
 use Rattle.pass_ways.proofs.Parts.{ready_inside, ready_apart}
 use Rattle.pass_ways.proofs.Readied.{ready_append, ready_at, ready_from}

@@ -1,11 +1,11 @@
 -- Orders cut in stretches of one size, and the plan of the stretches. No public contract speaks of it.
 use Rattle.std.specs.Prelude.{◌≡◌, ◌<◌, ◌≤◌, ◌*◌, ◌/◌, ◌++◌, ℕ, Bool, List, [], ◌∷◌, length, take, drop, slice_index}
 use Rattle.std.specs.List.{AllByRecursion, Contains}
-use Rattle.pass_core.specs.declared.plan.Plan.{Plan}
-use Rattle.pass_core.specs.declared.plan.PlanEdge.{PlanEdge}
+use Rattle.serial_pass.specs.declared.plan.Plan.{Plan}
+use Rattle.serial_pass.specs.declared.plan.PlanEdge.{PlanEdge}
 use Rattle.pass_core.specs.CoreStates.{IsMarked}
 use Rattle.pass_core.specs.OrderOutcomes.{IsReadyAfter}
-use Rattle.pass_core.specs.Plans.{predecessors, sources, HasNoCycle, IsPlan, StandByTarget}
+use Rattle.serial_pass.specs.Plans.{predecessors, sources, HasNoCycle, IsPlan, StandByTarget}
 
 -- The entries of a stretch. Stretches are counted from 0, and the last may be shorter than the others.
 abbrev pub stretch : {X : Type 0} → ℕ → ℕ → List X → List X

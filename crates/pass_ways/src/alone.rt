@@ -1,5 +1,5 @@
-ghost use Rattle.pass_core.specs.Outcomes.{TakesPlan};
-ghost use Rattle.pass_core.specs.Plans.{IsPlan, HasNoCycle};
+ghost use Rattle.serial_pass.specs.Outcomes.{TakesPlan};
+ghost use Rattle.serial_pass.specs.Plans.{IsPlan, HasNoCycle};
 ghost use Rattle.pass_ways.specs.Inside.{AnswersAlone};
 
 use crate::deep::deep_order;
@@ -7,10 +7,10 @@ use crate::error::WayError;
 use crate::way_run::WayRun;
 use bp_faults::{NodeId, Seq};
 use bp_ports::Gate;
-use pass_core::laws::serial_order_is_legal;
 use pass_core::{
     OrderError, PassError, Plan, Visit, VisitError, run_order, run_serial, serial_order, starts_of,
 };
+use serial_pass::laws::serial_order_is_legal;
 use std::alloc::Global;
 use std::sync::Arc;
 

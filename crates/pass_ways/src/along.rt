@@ -1,6 +1,6 @@
 ghost use Rattle.std.specs.Prelude.{◌≡◌, ◌≤◌, ◌<◌, suc, length, drop, IfOk};
-ghost use Rattle.pass_core.specs.Outcomes.{TakesPlan};
-ghost use Rattle.pass_core.specs.Plans.{IsPlan, HasNoCycle};
+ghost use Rattle.serial_pass.specs.Outcomes.{TakesPlan};
+ghost use Rattle.serial_pass.specs.Plans.{IsPlan, HasNoCycle};
 ghost use Rattle.pass_ways.specs.Inside.{IsTaken, RefusesWith};
 ghost use Rattle.pass_ways.specs.OrderFiles.{IsRefused, Say, stopped_at};
 ghost use Rattle.pass_ways.specs.Ways.{AnswersBy};

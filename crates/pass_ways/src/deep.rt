@@ -1,8 +1,8 @@
 //! An order by a search in depth: each node stands behind its predecessors, and near the last of them, so that what a
 //! pass makes lies together. Nothing is proved of it: whoever takes the order tests it.
 
-ghost use Rattle.pass_core.specs.InEdges.{AreStarts};
-ghost use Rattle.pass_core.specs.Plans.{IsPlan};
+ghost use Rattle.serial_pass.specs.InEdges.{AreStarts};
+ghost use Rattle.serial_pass.specs.Plans.{IsPlan};
 
 use bp_faults::{NodeId, OutOfMemory};
 use pass_core::{Plan, PlanEdge, edges_into};

@@ -2,9 +2,9 @@
 
 ghost use Rattle.std.specs.Prelude.{IfOk, IfSome, IsTrue, ◌≤◌, ◌<◌, length};
 ghost use Rattle.bp_faults.specs.declared.limits.TheConstants.{MOST_WORKERS};
-ghost use Rattle.pass_core.specs.InEdges.{AreStarts};
-ghost use Rattle.pass_core.specs.Orders.{IsLegal, numbers};
-ghost use Rattle.pass_core.specs.Plans.{IsPlan, HasNoCycle};
+ghost use Rattle.serial_pass.specs.InEdges.{AreStarts};
+ghost use Rattle.serial_pass.specs.Orders.{IsLegal, numbers};
+ghost use Rattle.serial_pass.specs.Plans.{IsPlan, HasNoCycle};
 ghost use Rattle.pass_ways.specs.Idle.{AnswersIdle, AnswersIdleBy};
 ghost use Rattle.pass_ways.specs.OrderFiles.{IsRefused, Say};
 ghost use Rattle.pass_ways.specs.Ways.{Follows, IsPassWay};
@@ -16,8 +16,8 @@ use crate::stretches::visit_stretches;
 use crate::way::{OrderLines, Way};
 use bp_faults::{NodeId, OutOfMemory, Seq};
 use bp_ports::Gate;
-use pass_core::laws::serial_order_is_legal;
 use pass_core::{OrderError, Plan, check_order, serial_order, starts_of};
+use serial_pass::laws::serial_order_is_legal;
 use std::alloc::Global;
 use std::thread::Threads;
 

@@ -5,18 +5,18 @@ ghost use Rattle.std.specs.Prelude.{◌≡◌, ◌≤◌, ◌<◌, ◌*◌, ℕ,
 ghost use Rattle.std.specs.List.{AllByRecursion};
 ghost use Rattle.bp_faults.specs.declared.ids.NodeId.{NodeId};
 ghost use Rattle.bp_faults.specs.declared.limits.TheConstants.{MOST_WORKERS};
-ghost use Rattle.pass_core.specs.declared.plan.PlanEdge.{PlanEdge};
+ghost use Rattle.serial_pass.specs.declared.plan.PlanEdge.{PlanEdge};
 ghost use Rattle.pass_core.specs.CoreStates.{IsMarked};
-ghost use Rattle.pass_core.specs.InEdges.{AreStarts};
-ghost use Rattle.pass_core.specs.Orders.{IsLegal, numbers};
-ghost use Rattle.pass_core.specs.Plans.{IsPlan, HasNoCycle, sources};
+ghost use Rattle.serial_pass.specs.InEdges.{AreStarts};
+ghost use Rattle.serial_pass.specs.Orders.{IsLegal, numbers};
+ghost use Rattle.serial_pass.specs.Plans.{IsPlan, HasNoCycle, sources};
 ghost use Rattle.pass_ways.specs.Stretches.{stretch, joined_stretches, AddsEdges, IsPlanOfStretches, KeepsMarks};
 ghost use Rattle.pass_ways.specs.Stretches.{MarksSources, TellsStretches};
 
 use bp_faults::{NodeId, OutOfMemory, Seq};
 use bp_ports::{Gate, OpenGate};
-use pass_core::laws::results_meet_their_equation;
 use pass_core::{PassError, Plan, PlanEdge, Visit, VisitError, edges_into};
+use serial_pass::laws::results_meet_their_equation;
 use std::alloc::Global;
 use std::sync::Arc;
 use std::thread::Threads;

@@ -1,5 +1,5 @@
-ghost use Rattle.pass_core.specs.Outcomes.{TakesPlan};
-ghost use Rattle.pass_core.specs.Plans.{IsPlan, HasNoCycle};
+ghost use Rattle.serial_pass.specs.Outcomes.{TakesPlan};
+ghost use Rattle.serial_pass.specs.Plans.{IsPlan, HasNoCycle};
 ghost use Rattle.pass_ways.specs.Ways.{AnswersWay, Follows, IsPassWay};
 
 use crate::alone::run_alone;
@@ -8,8 +8,8 @@ use crate::error::WayError;
 use crate::way::Way;
 use bp_faults::{NodeId, Seq};
 use bp_ports::Gate;
-use pass_core::laws::{one_serial_order, serial_order_is_legal};
 use pass_core::{PassError, Plan, Visit};
+use serial_pass::laws::{one_serial_order, serial_order_is_legal};
 use std::alloc::Global;
 use std::sync::Arc;
 use std::thread::Threads;

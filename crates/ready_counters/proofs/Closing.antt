@@ -9,10 +9,10 @@ use mathlib.Core.Logic.{dite}
 use native.Mathlib.Decide.{ℕ_discrete}
 use lib.ListN.{get_elem?}
 use Rattle.atomic_table.specs.Table.{State}
-use Rattle.pass_core.specs.declared.plan.PlanEdge.{PlanEdge}
+use Rattle.serial_pass.specs.declared.plan.PlanEdge.{PlanEdge}
 use Rattle.pass_core.specs.declared.published.Published.{Published}
-use Rattle.pass_core.specs.Results.{NodeResult}
-use Rattle.pass_core.specs.declared.plan.Plan.{Plan}
+use Rattle.serial_pass.specs.Results.{NodeResult}
+use Rattle.serial_pass.specs.declared.plan.Plan.{Plan}
 use Rattle.ready_counters.specs.declared.view.View.{View}
 use Rattle.ready_counters.specs.Edges.{edge_target, edge_source}
 use Rattle.ready_counters.specs.Meaning.{IsView, IsBoard}

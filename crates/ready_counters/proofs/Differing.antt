@@ -9,9 +9,9 @@ use Rattle.std.proofs.lemmas.List.{set-get_or}
 use lib.ListN.{get_elem?}
 use Rattle.atomic_table.specs.Table.{State, Me, keeps, Allows, stepped}
 use Rattle.atomic_table.proofs.Lists.{set_again}
-use Rattle.pass_core.specs.declared.plan.PlanEdge.{PlanEdge}
+use Rattle.serial_pass.specs.declared.plan.PlanEdge.{PlanEdge}
 use Rattle.pass_core.specs.declared.published.Published.{Published}
-use Rattle.pass_core.specs.Results.{NodeResult}
+use Rattle.serial_pass.specs.Results.{NodeResult}
 use Rattle.ready_counters.specs.declared.view.View.{View}
 use Rattle.ready_counters.specs.Meaning.{IsBoard}
 use Rattle.ready_counters.specs.Sums.{uses}

@@ -4,9 +4,9 @@ use Rattle.std.proofs.Common.{arith, ◌∙◌, sym, subst, add-zero, zero-add}
 use Rattle.std.specs.Prelude.{if◌then◌else◌}
 use Rattle.std.specs.List.{AllByRecursion}
 use Rattle.std.proofs.lemmas.Bool.Decides.{nat_tests}
-use Rattle.pass_core.specs.declared.plan.PlanEdge.{PlanEdge}
-use Rattle.pass_core.specs.Plans.{predecessors}
-use Rattle.pass_core.specs.CoreStates.{numbers_into}
+use Rattle.serial_pass.specs.declared.plan.PlanEdge.{PlanEdge}
+use Rattle.serial_pass.specs.Plans.{predecessors}
+use Rattle.serial_pass.specs.InEdges.{numbers_into}
 use Rattle.ready_counters.specs.Edges.{edge_source, edge_target}
 
 module _ {X : Type 0} (f g : ℕ → X) where

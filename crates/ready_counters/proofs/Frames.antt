@@ -9,9 +9,9 @@ use native.Mathlib.Decide.{ℕ_discrete}
 use lib.ListN.{get_elem?}
 use Rattle.atomic_table.specs.Table.{State}
 use Rattle.atomic_table.proofs.Lists.{at_set}
-use Rattle.pass_core.specs.declared.plan.PlanEdge.{PlanEdge}
+use Rattle.serial_pass.specs.declared.plan.PlanEdge.{PlanEdge}
 use Rattle.pass_core.specs.declared.published.Published.{Published}
-use Rattle.pass_core.specs.Results.{NodeResult}
+use Rattle.serial_pass.specs.Results.{NodeResult}
 use Rattle.ready_counters.specs.declared.view.View.{View}
 use Rattle.ready_counters.specs.Meaning.{HasWord, IsView, HasCounters, HasTickets, HasEdge, HasEdges, IsBoard}
 use Rattle.ready_counters.specs.Sums.{claims, opens, fills, subtractions, fetches, draws, drawn_numbers, uses}

@@ -2,7 +2,7 @@
 use Rattle.std.proofs.Common.{◌≡◌, ◌+◌, ◌<◌, ◌≤◌, ◌==◌, ℕ, zero, suc, List, [], ◌∷◌, length, refl, ap, arith, ◌∙◌, sym}
 use Rattle.std.proofs.Common.{true, false, add-zero, eq-eqb, ne_eqb, Bool}
 use Rattle.std.specs.Prelude.{if◌then◌else◌}
-use Rattle.pass_core.specs.declared.plan.PlanEdge.{PlanEdge}
+use Rattle.serial_pass.specs.declared.plan.PlanEdge.{PlanEdge}
 use Rattle.ready_counters.specs.Edges.{left_from, lacks, edge_target}
 
 lacks_less : (a b : ℕ) → a ≤ b → lacks b ≤ lacks a

@@ -5,10 +5,10 @@ use Rattle.std.specs.Prelude.{slice_get, slice_index}
 use Rattle.std.specs.List.{AllByRecursion, Contains}
 use mathlib.Core.Logic.{dite}
 use native.Mathlib.Decide.{ℕ_discrete}
-use Rattle.pass_core.specs.declared.plan.Plan.{Plan}
-use Rattle.pass_core.specs.declared.plan.PlanEdge.{PlanEdge}
-use Rattle.pass_core.specs.Plans.{HaveEndsBelow}
-use Rattle.pass_core.specs.Orders.{IsLegal}
+use Rattle.serial_pass.specs.declared.plan.Plan.{Plan}
+use Rattle.serial_pass.specs.declared.plan.PlanEdge.{PlanEdge}
+use Rattle.serial_pass.specs.Plans.{HaveEndsBelow}
+use Rattle.serial_pass.specs.Orders.{IsLegal}
 use Rattle.bp_faults.proofs.Lists.{contains_earlier}
 use Rattle.ready_counters.proofs.Entering.{all_sources}
 use Rattle.ready_counters.specs.Edges.{edge_source, edge_target}

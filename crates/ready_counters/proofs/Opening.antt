@@ -10,16 +10,16 @@ use native.Mathlib.Decide.{ℕ_discrete}
 use Rattle.bp_faults.proofs.Lists.{same_at}
 use lib.ListN.{get_elem?}
 use Rattle.atomic_table.specs.Table.{opening}
-use Rattle.pass_core.specs.declared.plan.PlanEdge.{PlanEdge}
+use Rattle.serial_pass.specs.declared.plan.PlanEdge.{PlanEdge}
 use Rattle.pass_core.specs.declared.published.Published.{Published}
-use Rattle.pass_core.specs.Results.{NodeResult}
+use Rattle.serial_pass.specs.Results.{NodeResult}
 use Rattle.ready_counters.specs.declared.view.View.{View}
 use Rattle.ready_counters.specs.Edges.{left_from, edge_target}
 use Rattle.ready_counters.specs.Meaning.{IsView, IsBoard}
 use Rattle.ready_counters.specs.Sums.{sum_below}
 use Rattle.ready_counters.specs.Views.{all_of_it}
 use Rattle.ready_counters.specs.Meaning.{AreFirst}
-use Rattle.pass_core.specs.declared.plan.Plan.{Plan}
+use Rattle.serial_pass.specs.declared.plan.Plan.{Plan}
 use Rattle.ready_counters.proofs.Left.{left_bound}
 use Rattle.ready_counters.proofs.Seating.{empty_view}
 

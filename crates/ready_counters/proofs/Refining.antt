@@ -12,15 +12,15 @@ use lib.ListN.{get_elem?}
 use Rattle.atomic_table.specs.Table.{State}
 use Rattle.atomic_table.proofs.Lists.{set_else}
 use Rattle.bp_faults.specs.declared.fault.Fault.{Fault}
-use Rattle.pass_core.specs.declared.plan.Plan.{Plan}
-use Rattle.pass_core.specs.declared.plan.PlanEdge.{PlanEdge}
+use Rattle.serial_pass.specs.declared.plan.Plan.{Plan}
+use Rattle.serial_pass.specs.declared.plan.PlanEdge.{PlanEdge}
 use Rattle.pass_core.specs.declared.published.Published.{Published}
 use Rattle.pass_core.specs.declared.step.Step.TheVariants.{Claim, Fetch, Fill, Subtract}
 use Rattle.pass_core.specs.CoreStates.{CoreState, Allows, after, IsMarked, VisitWasMade, IsFilled, IsFinished}
 use Rattle.pass_core.specs.CoreStates.{edge_result, visit_result, beginning}
-use Rattle.pass_core.specs.Laws.{ResultsMeetTheirEquation}
-use Rattle.pass_core.specs.Plans.{IsPlan, HasNoCycle, predecessors}
-use Rattle.pass_core.specs.Results.{NodeResult, node_result, judged_result, all_outs}
+use Rattle.serial_pass.specs.Laws.{ResultsMeetTheirEquation}
+use Rattle.serial_pass.specs.Plans.{IsPlan, HasNoCycle, predecessors}
+use Rattle.serial_pass.specs.Results.{NodeResult, node_result, judged_result, all_outs}
 use Rattle.ready_counters.specs.declared.view.View.{View}
 use Rattle.ready_counters.specs.Views.{nothing, one, all_of_it, lighter, together, times, with_claim, with_ticket}
 use Rattle.ready_counters.specs.Views.{with_open, with_fill, with_subtract, with_fetch}

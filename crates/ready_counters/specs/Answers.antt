@@ -1,6 +1,6 @@
 -- What a claim and a subtraction answer, by the view of the seat that asks.
 use Rattle.std.specs.Prelude.{◌≡◌, ◌<◌, ◌≤◌, ℕ, List, length, Bool, true, false}
-use Rattle.pass_core.specs.declared.plan.PlanEdge.{PlanEdge}
+use Rattle.serial_pass.specs.declared.plan.PlanEdge.{PlanEdge}
 use Rattle.ready_counters.specs.declared.view.View.{View}
 use Rattle.ready_counters.specs.declared.claim.Claim.{Claim}
 use Rattle.ready_counters.specs.declared.claim.Claim.TheVariants.{Claimed, NotReady, Gone}

@@ -6,10 +6,10 @@ use mathlib.Core.Option.{some}
 use lib.ListN.{get_elem?}
 use Rattle.atomic_table.specs.Table.{State}
 use Rattle.bp_faults.specs.declared.fault.Fault.{Fault}
-use Rattle.pass_core.specs.declared.plan.Plan.{Plan}
+use Rattle.serial_pass.specs.declared.plan.Plan.{Plan}
 use Rattle.pass_core.specs.declared.published.Published.{Published}
 use Rattle.pass_core.specs.CoreStates.{IsFinished, beginning}
-use Rattle.pass_core.specs.Plans.{IsPlan, HasNoCycle}
+use Rattle.serial_pass.specs.Plans.{IsPlan, HasNoCycle}
 use Rattle.ready_counters.specs.declared.view.View.{View}
 use Rattle.ready_counters.specs.Views.{all_of_it}
 use Rattle.ready_counters.specs.Meaning.{AreFirst, IsBoardOf}

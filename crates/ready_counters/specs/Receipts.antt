@@ -1,7 +1,7 @@
 -- What contracts see of a receipt.
 use Rattle.std.specs.Prelude.{List}
 use Rattle.bp_faults.specs.declared.ids.NodeId.{NodeId}
-use Rattle.pass_core.specs.declared.plan.Plan.{Plan}
+use Rattle.serial_pass.specs.declared.plan.Plan.{Plan}
 
 -- The plan of the board that was closed, and the order of its tickets.
 pub record ReceiptView : Type 0 where

@@ -1,7 +1,7 @@
 -- What contracts see of a board and of a seat.
 use Rattle.std.specs.Prelude.{◌≡◌}
-use Rattle.pass_core.specs.declared.plan.Plan.{Plan}
-use Rattle.pass_core.specs.declared.visit.Visit.{Ghosts}
+use Rattle.serial_pass.specs.declared.plan.Plan.{Plan}
+use Rattle.serial_pass.specs.declared.visit.Visit.{Ghosts}
 use Rattle.ready_counters.specs.declared.board.Board.{Board}
 use Rattle.ready_counters.specs.declared.seat.Seat.{Seat}
 use Rattle.ready_counters.specs.declared.view.View.{View}

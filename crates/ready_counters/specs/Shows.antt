@@ -6,11 +6,11 @@ use mathlib.Core.Option.{some}
 use lib.ListN.{get_elem?}
 use Rattle.atomic_table.specs.Table.{State}
 use Rattle.bp_faults.specs.declared.fault.Fault.{Fault}
-use Rattle.pass_core.specs.declared.plan.Plan.{Plan}
+use Rattle.serial_pass.specs.declared.plan.Plan.{Plan}
 use Rattle.pass_core.specs.declared.step.Step.{Step}
 use Rattle.pass_core.specs.declared.step.Step.TheVariants.{Claim, Fetch, Fill, Subtract}
 use Rattle.pass_core.specs.CoreStates.{CoreState, Allows, after}
-use Rattle.pass_core.specs.Results.{NodeResult}
+use Rattle.serial_pass.specs.Results.{NodeResult}
 use Rattle.ready_counters.specs.declared.view.View.{View}
 use Rattle.ready_counters.specs.Views.{nothing, one, lighter, together, times, with_claim, with_ticket, with_open}
 use Rattle.ready_counters.specs.Views.{with_fill, with_subtract, with_fetch}

@@ -57,8 +57,8 @@ impl<V: Visit> Drop for Board<V> {
 impl<V: Visit> Board<V> {
     ghost use Rattle.std.specs.Prelude.{◌≤◌, IfOk, [], ◌∷◌};
     ghost use Rattle.std.specs.Arc.{arc_value};
-    ghost use Rattle.pass_core.specs.Orders.{IsLegal, numbers};
-    ghost use Rattle.pass_core.specs.Plans.{IsPlan};
+    ghost use Rattle.serial_pass.specs.Orders.{IsLegal, numbers};
+    ghost use Rattle.serial_pass.specs.Plans.{IsPlan};
     ghost use Rattle.pass_core.specs.Shown.{published_result};
     ghost use Rattle.ready_counters.specs.Answers.{AnswersClaim, AnswersSubtract};
     ghost use Rattle.ready_counters.specs.Edges.{edge_source, edge_target, result_at, HasFetched};

@@ -2,7 +2,7 @@
 
 ghost use Rattle.ready_counters.specs.Laws.{NewBoardShowsBeginning, StepsAreCoreSteps, DoneBoardShowsFinished};
 
-use pass_core::laws::results_meet_their_equation;
+use serial_pass::laws::results_meet_their_equation;
 
 /// A new board shows a core of which nothing is done.
 pub fn new_board_shows_beginning<O>()

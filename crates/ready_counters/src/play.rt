@@ -1,6 +1,6 @@
 ghost use Rattle.std.specs.Prelude.{ℕ, List};
-ghost use Rattle.pass_core.specs.declared.plan.PlanEdge.{PlanEdge};
-ghost use Rattle.pass_core.specs.Results.{NodeResult};
+ghost use Rattle.serial_pass.specs.declared.plan.PlanEdge.{PlanEdge};
+ghost use Rattle.serial_pass.specs.Results.{NodeResult};
 
 use crate::rule::Slot;
 use crate::view::View;
@@ -23,7 +23,7 @@ pub trait Pick<O> {
 
 impl<O> Pick<O> for Brand {
     ghost use Rattle.std.specs.Prelude.{[]};
-    ghost use Rattle.pass_core.specs.Results.NodeResult.{Poisoned};
+    ghost use Rattle.serial_pass.specs.Results.NodeResult.{Poisoned};
 
     ghost count = { 0 };
 

@@ -1,5 +1,5 @@
 ghost use Rattle.std.specs.Prelude.{◌≡◌};
-ghost use Rattle.pass_core.specs.Orders.{IsLegal, numbers};
+ghost use Rattle.serial_pass.specs.Orders.{IsLegal, numbers};
 ghost use Rattle.ready_counters.specs.Receipts.{ReceiptView};
 
 use bp_faults::NodeId;
@@ -15,7 +15,7 @@ pub struct Receipt<V> {
 }
 
 impl<V> Model for Receipt<V> {
-    ghost use Rattle.pass_core.specs.Orders.{IsLegal, numbers};
+    ghost use Rattle.serial_pass.specs.Orders.{IsLegal, numbers};
     ghost use Rattle.ready_counters.specs.Receipts.{ReceiptView};
 
     ghost Value = { ReceiptView };

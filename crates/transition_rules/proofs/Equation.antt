@@ -1,7 +1,7 @@
 -- The variations of the nodes meet their equation.
 use Rattle.std.proofs.Common.{◌≡◌, ◌<◌, ◌++◌, ℕ, List, [], ◌∷◌, map, length, get_or, refl, ap, ◌∙◌, sym, Result, Ok}
-use Rattle.pass_core.specs.Laws.{OutsMeetTheirEquation}
-use Rattle.pass_core.specs.Plans.{predecessors}
+use Rattle.serial_pass.specs.Laws.{OutsMeetTheirEquation}
+use Rattle.serial_pass.specs.Plans.{predecessors}
 use Rattle.graph_nodes.specs.declared.graph.Node.{Node}
 use Rattle.graph_nodes.specs.declared.variation.Variation.{Variation}
 use Rattle.module_graph.specs.declared.direction.Direction.TheVariants.{TopDown}

@@ -16,9 +16,9 @@ use module_graph::laws::{
 };
 use module_graph::{Direction, Graph, plan};
 use mutator_rules::Transition;
-use pass_core::laws::outs_are_many;
 use pass_core::{Visit, VisitError};
 use pass_ways::{Way, WayError, WayRun, run_by_way};
+use serial_pass::laws::outs_are_many;
 use std::alloc::Global;
 use std::sync::Arc;
 use std::thread::Threads;

@@ -1,6 +1,6 @@
 ghost use Rattle.std.specs.Prelude.{◌≤◌, ◌<◌, IfOk, Some};
 ghost use Rattle.bp_faults.specs.declared.limits.TheConstants.{MOST_WORKERS};
-ghost use Rattle.pass_core.specs.Orders.{IsLegal, numbers};
+ghost use Rattle.serial_pass.specs.Orders.{IsLegal, numbers};
 ghost use Rattle.module_graph.specs.declared.direction.Direction.TheVariants.{BottomUp, TopDown};
 ghost use Rattle.module_graph.specs.Graphs.{IsValid};
 ghost use Rattle.module_graph.specs.Planned.{plan_of};

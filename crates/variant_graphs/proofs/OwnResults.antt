@@ -9,11 +9,11 @@ use Rattle.std.proofs.lemmas.List.FromFn.{length-map-range_with_len, get_or-map-
 use Rattle.std.proofs.lemmas.Option.{slice_get_within}
 use Rattle.bp_faults.proofs.Lists.{same_at, some_there}
 use Rattle.bp_faults.specs.declared.fault.Fault.{Fault}
-use Rattle.pass_core.specs.Laws.{OneSolution, PredecessorsAreNodes}
-use Rattle.pass_core.specs.Outcomes.{PassOutcomeMeans}
-use Rattle.pass_core.specs.Plans.{IsPlan, HasNoCycle, predecessors}
-use Rattle.pass_core.specs.Results.{NodeResult, Done, Poisoned, all_outs, cons_if, judged_result, node_result}
-use Rattle.pass_core.specs.Results.{result_of_visit}
+use Rattle.serial_pass.specs.Laws.{OneSolution, PredecessorsAreNodes}
+use Rattle.serial_pass.specs.Outcomes.{PassOutcomeMeans}
+use Rattle.serial_pass.specs.Plans.{IsPlan, HasNoCycle, predecessors}
+use Rattle.serial_pass.specs.Results.{NodeResult, Done, Poisoned, all_outs, cons_if, judged_result, node_result}
+use Rattle.serial_pass.specs.Results.{result_of_visit}
 use Rattle.graph_nodes.specs.declared.graph.Node.{Node}
 use Rattle.module_graph.specs.declared.direction.Direction.{Direction}
 use Rattle.module_graph.specs.Planned.{plan_edges, plan_of}

@@ -7,8 +7,8 @@ use Rattle.std.specs.List.{AllByRecursion, AllPairs, filter_map}
 use Rattle.std.proofs.lemmas.List.{length-map, set-set, set-get_or, get_or-set_same}
 use Rattle.std.proofs.lemmas.List.Elements.{All-from_recursion}
 use Rattle.std.proofs.lemmas.Option.{get_or_from_slice_get, slice_get_within}
-use Rattle.pass_core.specs.declared.plan.PlanEdge.{PlanEdge}
-use Rattle.pass_core.specs.Plans.{HasNoCycle}
+use Rattle.serial_pass.specs.declared.plan.PlanEdge.{PlanEdge}
+use Rattle.serial_pass.specs.Plans.{HasNoCycle}
 use Rattle.bp_faults.proofs.Lists.{all_with, all_append, all_image}
 use Rattle.bp_faults.proofs.Lists.{all_split, Apart, apart_pairs, pairs_apart, apart_append, apart_image, all_each}
 use Rattle.bp_faults.proofs.Lists.{all_before}

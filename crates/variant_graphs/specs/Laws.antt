@@ -5,7 +5,7 @@ use Rattle.std.specs.List.{AllByRecursion}
 use Rattle.bp_faults.specs.declared.fault.Fault.{Fault}
 use Rattle.bp_faults.specs.declared.ids.ModuleId.{ModuleId}
 use Rattle.bp_faults.specs.declared.place.Place.{Place}
-use Rattle.pass_core.specs.Outcomes.{PassOutcomeMeans}
+use Rattle.serial_pass.specs.Outcomes.{PassOutcomeMeans}
 use Rattle.graph_nodes.specs.declared.graph.Edge.{Edge}
 use Rattle.graph_nodes.specs.declared.graph.Node.{Node}
 use Rattle.graph_nodes.specs.declared.variation.Variation.TheVariants.{Empty}

@@ -10,7 +10,7 @@ use module_graph::laws::{
     edges_join_nodes, none_returns_where_numbering_rises, plans_of_graphs_are_plans,
     valid_plans_have_no_cycle,
 };
-use pass_core::laws::{one_solution, predecessors_are_nodes};
+use serial_pass::laws::{one_solution, predecessors_are_nodes};
 
 /// The graph after a split is valid where the old one was.
 pub fn splits_stay_valid<P, B>()

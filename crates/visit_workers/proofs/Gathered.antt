@@ -5,11 +5,11 @@ use Rattle.std.specs.Prelude.{slice_index}
 use Rattle.std.proofs.lemmas.List.{get_or-take, get_or-drop, take_more, map-append}
 use Rattle.std.proofs.Math.Decide.{dec_lt}
 use mathlib.Core.Logic.{dite}
-use Rattle.pass_core.specs.declared.plan.Plan.{Plan}
-use Rattle.pass_core.specs.declared.plan.PlanEdge.{PlanEdge}
-use Rattle.pass_core.specs.Plans.{IsPlan, StandByTarget, in_edges}
-use Rattle.pass_core.specs.InEdges.{edges_below, AreStarts}
-use Rattle.pass_core.specs.Laws.{InEdgesAreTogether, StartsOfEdgesRise, IndicesTellTargets}
+use Rattle.serial_pass.specs.declared.plan.Plan.{Plan}
+use Rattle.serial_pass.specs.declared.plan.PlanEdge.{PlanEdge}
+use Rattle.serial_pass.specs.Plans.{IsPlan, StandByTarget, in_edges}
+use Rattle.serial_pass.specs.InEdges.{edges_below, AreStarts}
+use Rattle.serial_pass.specs.Laws.{InEdgesAreTogether, StartsOfEdgesRise, IndicesTellTargets}
 use Rattle.ready_counters.specs.Edges.{edge_source, edge_target}
 
 edge_to : (edges : List PlanEdge) (i : ℕ) (d : PlanEdge) → i < length edges

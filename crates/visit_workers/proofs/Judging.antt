@@ -8,13 +8,13 @@ use Rattle.std.proofs.lemmas.List.{length-map}
 use Rattle.pass_core.specs.declared.published.Published.{Published}
 use Rattle.pass_core.specs.declared.published.Published.TheVariants.{Done, Bad, Poisoned}
 use Rattle.bp_faults.specs.declared.fault.Fault.{Fault}
-use Rattle.pass_core.specs.Results.{NodeResult, all_outs, cons_if, judged_result, result_of_visit as shown_as}
-use Rattle.pass_core.specs.Results.{node_result}
-use Rattle.pass_core.specs.Plans.{IsPlan, HasNoCycle, predecessors}
-use Rattle.pass_core.specs.declared.plan.Plan.{Plan}
-use Rattle.pass_core.specs.Results.NodeResult.{Done as IsDone, Bad as IsBad, Poisoned as IsPoisoned}
+use Rattle.serial_pass.specs.Results.{NodeResult, all_outs, cons_if, judged_result, result_of_visit as shown_as}
+use Rattle.serial_pass.specs.Results.{node_result}
+use Rattle.serial_pass.specs.Plans.{IsPlan, HasNoCycle, predecessors}
+use Rattle.serial_pass.specs.declared.plan.Plan.{Plan}
+use Rattle.serial_pass.specs.Results.NodeResult.{Done as IsDone, Bad as IsBad, Poisoned as IsPoisoned}
 use Rattle.pass_core.specs.Shown.{published_result}
-use Rattle.pass_core.specs.Laws.{ResultsMeetTheirEquation}
+use Rattle.serial_pass.specs.Laws.{ResultsMeetTheirEquation}
 use Rattle.visit_workers.specs.Settled.{outcomes}
 
 module _ {O : Type 0} where

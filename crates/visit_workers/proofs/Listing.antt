@@ -10,8 +10,8 @@ use Rattle.std.proofs.lemmas.List.{drop_more, get_or_read}
 use Rattle.std.proofs.Math.Decide.{dec_lt}
 use mathlib.Core.Logic.{dite}
 use native.Mathlib.Decide.{ℕ_discrete}
-use Rattle.pass_core.specs.declared.plan.PlanEdge.{PlanEdge}
-use Rattle.pass_core.specs.Plans.{HaveEndsBelow}
+use Rattle.serial_pass.specs.declared.plan.PlanEdge.{PlanEdge}
+use Rattle.serial_pass.specs.Plans.{HaveEndsBelow}
 use Rattle.ready_counters.specs.Edges.{edge_source}
 use Rattle.ready_counters.specs.Views.{times}
 use Rattle.visit_workers.proofs.Counting.{times_here, times_else, times_append}

@@ -1,6 +1,6 @@
 -- The edges out of each node, by their numbers. No public contract speaks of it.
 use Rattle.std.specs.Prelude.{◌≡◌, ◌<◌, ◌==◌, ℕ, suc, List, [], ◌∷◌, length, slice_index, if◌then◌else◌}
-use Rattle.pass_core.specs.declared.plan.PlanEdge.{PlanEdge}
+use Rattle.serial_pass.specs.declared.plan.PlanEdge.{PlanEdge}
 use Rattle.visit_workers.specs.declared.links.Outs.{Outs}
 
 -- The numbers of the edges out of a node, where the first edge has the number k.

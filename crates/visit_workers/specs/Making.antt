@@ -2,10 +2,10 @@
 use Rattle.std.specs.Prelude.{◌≡◌, ◌<◌, ℕ, List, map, slice_get, Some, Result, Ok, Err}
 use Rattle.std.specs.List.{AllByRecursion}
 use Rattle.bp_faults.specs.declared.fault.Fault.{Fault}
-use Rattle.pass_core.specs.declared.plan.Plan.{Plan}
-use Rattle.pass_core.specs.Results.{NodeResult, IsDone, node_result}
-use Rattle.pass_core.specs.Outcomes.{AnswersPass}
-use Rattle.pass_core.specs.declared.error.PassError.{PassError}
+use Rattle.serial_pass.specs.declared.plan.Plan.{Plan}
+use Rattle.serial_pass.specs.Results.{NodeResult, IsDone, node_result}
+use Rattle.serial_pass.specs.Outcomes.{AnswersPass}
+use Rattle.serial_pass.specs.declared.error.PassError.{PassError}
 use Rattle.ready_counters.specs.declared.view.View.{View}
 use Rattle.ready_counters.specs.Views.{tickets_for, ticket_number, tickets_with}
 use Rattle.visit_workers.specs.declared.made.Made.{Made}

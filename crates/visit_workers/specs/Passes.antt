@@ -4,11 +4,11 @@ use Rattle.std.specs.List.{AllByRecursion, range_with_len}
 use Rattle.std.specs.declared.sync.Arc.{Arc}
 use Rattle.bp_faults.specs.declared.fault.Fault.{Fault}
 use Rattle.pass_core.specs.declared.published.Published.{Published}
-use Rattle.pass_core.specs.InEdges.{AreStarts}
-use Rattle.pass_core.specs.Outcomes.{TakesPlan}
-use Rattle.pass_core.specs.Plans.{IsPlan, HasNoCycle, predecessors}
-use Rattle.pass_core.specs.Results.{NodeResult, node_result}
-use Rattle.pass_core.specs.declared.visit.Visit.{Ghosts}
+use Rattle.serial_pass.specs.InEdges.{AreStarts}
+use Rattle.serial_pass.specs.Outcomes.{TakesPlan}
+use Rattle.serial_pass.specs.Plans.{IsPlan, HasNoCycle, predecessors}
+use Rattle.serial_pass.specs.Results.{NodeResult, node_result}
+use Rattle.serial_pass.specs.declared.visit.Visit.{Ghosts}
 use Rattle.ready_counters.specs.declared.seat.Seat.{Seat}
 use Rattle.ready_counters.specs.declared.view.View.{View}
 use Rattle.ready_counters.specs.Seen.{plan_on_board, visitor_of, view_of}

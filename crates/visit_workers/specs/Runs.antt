@@ -1,10 +1,10 @@
 -- What a pass on many workers answers.
 use Rattle.std.specs.Prelude.{◌≡◌, ℕ, List, Result, Ok, Err}
 use Rattle.bp_faults.specs.declared.fault.Fault.{Fault}
-use Rattle.pass_core.specs.declared.plan.Plan.{Plan}
-use Rattle.pass_core.specs.declared.error.PassError.{PassError}
-use Rattle.pass_core.specs.Orders.{IsLegal, numbers}
-use Rattle.pass_core.specs.Outcomes.{AnswersPass}
+use Rattle.serial_pass.specs.declared.plan.Plan.{Plan}
+use Rattle.serial_pass.specs.declared.error.PassError.{PassError}
+use Rattle.serial_pass.specs.Orders.{IsLegal, numbers}
+use Rattle.serial_pass.specs.Outcomes.{AnswersPass}
 use Rattle.visit_workers.specs.declared.pass_run.PassRun.{PassRun}
 
 module _ {V O : Type 0} where

@@ -1,7 +1,7 @@
 -- What a worker's task keeps. No public contract speaks of it.
 use Rattle.std.specs.Prelude.{◌≡◌, ℕ, List, Result, false}
 use Rattle.bp_faults.specs.declared.fault.Fault.{Fault}
-use Rattle.pass_core.specs.declared.visit.Visit.{Ghosts}
+use Rattle.serial_pass.specs.declared.visit.Visit.{Ghosts}
 use Rattle.ready_counters.specs.Seen.{view_of}
 use Rattle.visit_workers.specs.declared.pass.Pass.{Pass}
 use Rattle.visit_workers.specs.declared.task.Task.{Task}

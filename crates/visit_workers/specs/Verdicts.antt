@@ -1,7 +1,7 @@
 -- What workers find of nodes, as results. No public contract speaks of it.
 use Rattle.std.specs.Prelude.{List, map}
 use Rattle.std.specs.Arc.{arc_value}
-use Rattle.pass_core.specs.Results.{NodeResult, Done, Bad, Poisoned}
+use Rattle.serial_pass.specs.Results.{NodeResult, Done, Bad, Poisoned}
 use Rattle.visit_workers.specs.declared.verdict.Verdict.{Verdict}
 use Rattle.visit_workers.specs.declared.verdict.Verdict.TheVariants.{Done as FoundDone, Bad as FoundBad}
 use Rattle.visit_workers.specs.declared.verdict.Verdict.TheVariants.{Poisoned as FoundPoisoned}

@@ -12,8 +12,8 @@ use bp_faults::{NodeId, OutOfMemory};
 use bp_ports::Gate;
 use crossbeam_deque::Worker;
 use pass_core::Visit;
-use pass_core::laws::{in_edges_are_together, indices_tell_targets, starts_of_edges_rise};
 use ready_counters::{Claim, Seat};
+use serial_pass::laws::{in_edges_are_together, indices_tell_targets, starts_of_edges_rise};
 
 /// Does all that is to do for a node that was just claimed. Its ticket is drawn after its visit.
 fn visit_claimed<V: Visit, G: Gate>(

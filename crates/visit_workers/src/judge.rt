@@ -1,7 +1,7 @@
 ghost use Rattle.std.specs.Prelude.{◌≡◌, ◌<◌, if◌then◌else◌, map, IfOk, None, Some};
 ghost use Rattle.std.specs.Arc.{arc_value};
-ghost use Rattle.pass_core.specs.Plans.{predecessors};
-ghost use Rattle.pass_core.specs.Results.{all_outs};
+ghost use Rattle.serial_pass.specs.Plans.{predecessors};
+ghost use Rattle.serial_pass.specs.Results.{all_outs};
 ghost use Rattle.visit_workers.specs.Passes.{IsPass, result_of, AreInsOf};
 ghost use Rattle.visit_workers.specs.Settled.{outcomes};
 ghost use Rattle.visit_workers.specs.Verdicts.{verdict_result};
@@ -10,8 +10,8 @@ use crate::pass::Pass;
 use crate::verdict::Verdict;
 use bp_faults::{NodeId, OutOfMemory};
 use bp_ports::Gate;
-use pass_core::laws::results_meet_their_equation;
 use pass_core::{Published, Visit, VisitError};
+use serial_pass::laws::results_meet_their_equation;
 use std::sync::Arc;
 
 /// Puts what they made into a list, as far as they are done, and tells whether all of them are. What the list held

@@ -1,5 +1,5 @@
 ghost use Rattle.std.specs.Prelude.{IfOk};
-ghost use Rattle.pass_core.specs.Plans.{IsPlan};
+ghost use Rattle.serial_pass.specs.Plans.{IsPlan};
 ghost use Rattle.visit_workers.specs.Links.{AreOuts};
 
 use bp_faults::OutOfMemory;

@@ -14,9 +14,9 @@ use crate::verdict::Verdict;
 use bp_faults::{NodeId, OutOfMemory};
 use bp_ports::Gate;
 use crossbeam_deque::Worker;
-use pass_core::laws::{in_edges_are_together, indices_tell_targets, starts_of_edges_rise};
 use pass_core::{Published, Visit, edges_into};
 use ready_counters::Seat;
+use serial_pass::laws::{in_edges_are_together, indices_tell_targets, starts_of_edges_rise};
 use std::sync::Arc;
 
 /// Fetches all edges into a node into a list. What the list held before is dropped, and its memory serves again.

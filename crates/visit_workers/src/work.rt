@@ -1,5 +1,5 @@
 ghost use Rattle.std.specs.Prelude.{◌≡◌, ◌<◌, ◌≤◌, ℕ, OnOk};
-ghost use Rattle.pass_core.specs.Orders.{IsLegal, numbers};
+ghost use Rattle.serial_pass.specs.Orders.{IsLegal, numbers};
 ghost use Rattle.ready_counters.specs.Seen.{view_of, IsSeatOf};
 ghost use Rattle.ready_counters.specs.Views.{whole, times};
 ghost use Rattle.visit_workers.specs.Passes.{IsPass, Works};

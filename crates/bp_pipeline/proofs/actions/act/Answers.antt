@@ -4,8 +4,8 @@ use Rattle.bp_props.specs.declared.props.Props.{Props}
 use Rattle.build_actions.specs.Acts.{acts_at}
 use Rattle.graph_nodes.specs.declared.graph.Graph.{Graph}
 use Rattle.module_graph.specs.declared.direction.Direction.TheVariants.{BottomUp}
-use Rattle.pass_core.specs.declared.plan.Plan.{Plan}
-use Rattle.pass_core.specs.Plans.{HasNoCycle}
+use Rattle.serial_pass.specs.declared.plan.Plan.{Plan}
+use Rattle.serial_pass.specs.Plans.{HasNoCycle}
 use Rattle.pass_ways.specs.Ways.{AnswersWay}
 use Rattle.bp_pipeline.proofs.actions.act.Goals as goal
 

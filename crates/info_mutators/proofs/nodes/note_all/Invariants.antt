@@ -1,6 +1,6 @@
 use Rattle.std.proofs.Common.{◌≡◌, take, nat_eq}
 use Rattle.indexmap.specs.IndexSet.{insert_all}
-use Rattle.pass_core.specs.Orders.{numbers}
+use Rattle.serial_pass.specs.Orders.{numbers}
 use Rattle.info_mutators.specs.Kept.{if_short}
 use Rattle.info_mutators.proofs.nodes.note_all.Given as goal
 

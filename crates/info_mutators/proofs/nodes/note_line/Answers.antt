@@ -1,5 +1,5 @@
 use Rattle.std.proofs.Common.{◌-◌, arith, nat_eq}
-use Rattle.pass_core.specs.Orders.{numbers}
+use Rattle.serial_pass.specs.Orders.{numbers}
 use Rattle.info_mutators.specs.Dependencies.{Dependency}
 use Rattle.info_mutators.specs.Info.{line_part}
 use Rattle.info_mutators.proofs.Noted.{end_noted}

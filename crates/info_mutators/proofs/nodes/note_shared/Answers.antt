@@ -1,5 +1,5 @@
 use Rattle.std.proofs.Common.{nat_eq}
-use Rattle.pass_core.specs.Orders.{numbers}
+use Rattle.serial_pass.specs.Orders.{numbers}
 use Rattle.info_mutators.specs.Dependencies.{Dependency}
 use Rattle.info_mutators.specs.Info.{shared_part}
 use Rattle.info_mutators.proofs.Noted.{part_noted}

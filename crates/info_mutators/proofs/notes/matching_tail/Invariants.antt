@@ -1,5 +1,5 @@
 use Rattle.std.proofs.Common.{◌≡◌, ◌-◌, length, take, drop, reverse}
-use Rattle.pass_core.specs.Orders.{numbers}
+use Rattle.serial_pass.specs.Orders.{numbers}
 use Rattle.info_mutators.proofs.notes.matching_tail.Given as goal
 
 abbrev pub invariant-loop-count : goal.invariant-loop-count

@@ -1,6 +1,6 @@
 use Rattle.std.proofs.Common.{◌∙◌, ap, sym, subst, length}
-use Rattle.pass_core.specs.declared.plan.Plan.{Plan}
-use Rattle.pass_core.specs.Plans.{IsPlan}
+use Rattle.serial_pass.specs.declared.plan.Plan.{Plan}
+use Rattle.serial_pass.specs.Plans.{IsPlan}
 use Rattle.module_graph.proofs.PlanOf.{plan_of_is_plan}
 use Rattle.module_graph.proofs.direction.plan.Goals as goal
 

@@ -1,8 +1,8 @@
 use Rattle.std.proofs.Common.{◌≡◌, ◌+◌, ◌<◌, ℕ, List, [], length, take, get_or, arith, sym, subst, ◌∙◌, take_all}
 use Rattle.std.specs.Prelude.{slice_index}
 use Rattle.std.specs.List.{AllByRecursion}
-use Rattle.pass_core.specs.declared.plan.PlanEdge.{PlanEdge}
-use Rattle.pass_core.specs.Plans.{in_edges}
+use Rattle.serial_pass.specs.declared.plan.PlanEdge.{PlanEdge}
+use Rattle.serial_pass.specs.Plans.{in_edges}
 use Rattle.module_graph.specs.Search.{BeginWithin, IsGiven, IsGrowing}
 use Rattle.module_graph.proofs.Levels.{edge_done, node_done, from_inside, as_many, all_next}
 use Rattle.module_graph.proofs.distances.grow.Goals as goal

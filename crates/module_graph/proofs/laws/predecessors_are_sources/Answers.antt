@@ -1,5 +1,5 @@
 use Rattle.std.proofs.Common.{ap, length}
-use Rattle.pass_core.specs.Plans.{sources}
+use Rattle.serial_pass.specs.Plans.{sources}
 use Rattle.module_graph.specs.Graphs.{edges_of}
 use Rattle.module_graph.proofs.Sorted.{into_by_target}
 use Rattle.module_graph.proofs.laws.predecessors_are_sources.Goals as goal

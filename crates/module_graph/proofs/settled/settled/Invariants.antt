@@ -1,6 +1,6 @@
 use Rattle.std.proofs.Common.{◌<◌, ◌≤◌, take, length, slice_index}
 use Rattle.std.specs.List.{AllByRecursion}
-use Rattle.pass_core.specs.declared.plan.PlanEdge.{PlanEdge}
+use Rattle.serial_pass.specs.declared.plan.PlanEdge.{PlanEdge}
 use Rattle.module_graph.specs.Graphs.{edges_of}
 use Rattle.module_graph.specs.Parts.{IsFirstByParts}
 use Rattle.module_graph.proofs.settled.settled.Given as goal

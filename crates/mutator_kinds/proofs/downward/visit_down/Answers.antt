@@ -1,7 +1,7 @@
 use Rattle.std.proofs.Common.{◌∙◌, ◌<◌, ap, subst, sym, length}
 use Rattle.std.proofs.lemmas.List.{length-map}
-use Rattle.pass_core.specs.declared.plan.Plan.{Plan}
-use Rattle.pass_core.specs.Plans.{HasNoCycle, predecessors}
+use Rattle.serial_pass.specs.declared.plan.Plan.{Plan}
+use Rattle.serial_pass.specs.Plans.{HasNoCycle, predecessors}
 use Rattle.module_graph.specs.declared.direction.Direction.TheVariants.{TopDown}
 use Rattle.mutator_rules.specs.Arrivals.{arrivals}
 use Rattle.pass_ways.specs.Ways.{AnswersWay}

@@ -1,6 +1,6 @@
 use Rattle.std.proofs.Common.{◌∙◌, ◌<◌, ap, subst, sym, length}
-use Rattle.pass_core.specs.declared.plan.Plan.{Plan}
-use Rattle.pass_core.specs.Plans.{HasNoCycle, predecessors}
+use Rattle.serial_pass.specs.declared.plan.Plan.{Plan}
+use Rattle.serial_pass.specs.Plans.{HasNoCycle, predecessors}
 use Rattle.module_graph.specs.declared.direction.Direction.TheVariants.{BottomUp}
 use Rattle.pass_ways.specs.Ways.{AnswersWay}
 use Rattle.mutator_kinds.specs.Inside.{AreFit}

@@ -3,7 +3,7 @@ use Rattle.std.specs.Arc.{arc_value}
 use Rattle.std.proofs.lemmas.List.{map-append}
 use Rattle.pass_core.specs.CoreKept.{shown_in}
 use Rattle.pass_core.specs.CoreStates.{result_in}
-use Rattle.pass_core.specs.Results.{IsDone}
+use Rattle.serial_pass.specs.Results.{IsDone}
 use Rattle.pass_core.proofs.HeldOuts.{outs_more, outs_none}
 use Rattle.pass_core.proofs.held.gather_held.Goals as goal
 

@@ -2,7 +2,7 @@ use Rattle.std.proofs.Common.{◌∙◌, ap, sym, subst, map, Some, Ok, Err}
 use Rattle.std.proofs.lemmas.List.{length-map}
 use Rattle.pass_core.specs.CoreKept.{shown_in}
 use Rattle.pass_core.specs.CoreStates.{result_in}
-use Rattle.pass_core.specs.Results.{Done, judged_result}
+use Rattle.serial_pass.specs.Results.{Done, judged_result}
 use Rattle.pass_core.proofs.HeldOuts.{none_gathered, passed_many, judged_gathered}
 use Rattle.pass_core.proofs.held.visit_held.Goals as goal
 

@@ -1,7 +1,7 @@
 use Rattle.std.proofs.Common.{◌≡◌, ◌<◌, length, get_or, arith, rules}
 use Rattle.std.proofs.lemmas.List.{length-map, get_or-map}
 use Rattle.bp_faults.specs.declared.ids.NodeId.{NodeId}
-use Rattle.pass_core.specs.Orders.{numbers}
+use Rattle.serial_pass.specs.Orders.{numbers}
 use Rattle.pass_core.proofs.Listed.{checked_none, index_small, ready_shows, refused_at, checked_more, short_if}
 use Rattle.pass_core.proofs.Listed.{legal_if}
 use Rattle.pass_core.proofs.order_run.check_order.Goals as goal

@@ -1,4 +1,4 @@
-use Rattle.pass_core.specs.Orders.{numbers}
+use Rattle.serial_pass.specs.Orders.{numbers}
 use Rattle.pass_core.proofs.Listed.{IsChecked}
 use Rattle.pass_core.proofs.order_run.check_order.Given as goal
 

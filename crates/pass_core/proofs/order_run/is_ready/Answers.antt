@@ -1,5 +1,5 @@
 use Rattle.std.proofs.Common.{arith, get_or, ◌<◌, sym, subst, refl, true, false}
-use Rattle.pass_core.specs.declared.plan.PlanEdge.{PlanEdge}
+use Rattle.serial_pass.specs.declared.plan.PlanEdge.{PlanEdge}
 use Rattle.pass_core.proofs.Marks.{not_both}
 use Rattle.pass_core.proofs.Readied.{mark_read, source_below, marked_one_more, marked_source, marked_whole}
 use Rattle.pass_core.proofs.order_run.is_ready.Goals as goal
@@ -8,7 +8,8 @@ pub bounds-visited-edge : goal.bounds-visited-edge
 bounds-visited-edge c =
     let d : PlanEdge = record { from = record { 0 = 0 }; to = record { 0 = 0 } } in
     rw c.requires.many (source_below c.args.plan.now.edges c.edges_into-edge-items.result.now c.args.plan.now.count
-    c.args.n.0 c.requires.plan.ends c.edges_into-edge-items.ensures c.loop-edge.edge-index d c.loop-edge-test.true)
+    c.args.n.0 c.requires.plan.ends c.edges_into-edge-items.ensures c.loop-edge.edge-index d c.loop-edge-test.true
+    c.predecessors_are_nodes.ensures)
 
 pub returns-then-not-visited-edge : goal.returns-then-not-visited-edge
 returns-then-not-visited-edge c =
@@ -16,7 +17,8 @@ returns-then-not-visited-edge c =
     let k = (get_or c.edges_into-edge-items.result.now c.loop-edge.edge-index d).from.0 in
     let lt : k < c.args.plan.now.count =
     source_below c.args.plan.now.edges c.edges_into-edge-items.result.now c.args.plan.now.count c.args.n.0
-    c.requires.plan.ends c.edges_into-edge-items.ensures c.loop-edge.edge-index d c.loop-edge-test.true in (
+    c.requires.plan.ends c.edges_into-edge-items.ensures c.loop-edge.edge-index d c.loop-edge-test.true
+    c.predecessors_are_nodes.ensures in (
       (λ no. cc),
       λ is. absurd (not_both c.args.visited.now k
           (marked_source c.args.plan.now.edges c.edges_into-edge-items.result.now c.args.plan.now.count c.args.n.0
@@ -32,7 +34,8 @@ loop-edge-preserved c =
     let k = (get_or c.edges_into-edge-items.result.now c.loop-edge.edge-index d).from.0 in
     let lt : k < c.args.plan.now.count =
     source_below c.args.plan.now.edges c.edges_into-edge-items.result.now c.args.plan.now.count c.args.n.0
-    c.requires.plan.ends c.edges_into-edge-items.ensures c.loop-edge.edge-index d c.loop-edge-test.true in
+    c.requires.plan.ends c.edges_into-edge-items.ensures c.loop-edge.edge-index d c.loop-edge-test.true
+    c.predecessors_are_nodes.ensures in
     marked_one_more c.args.plan.now.edges c.edges_into-edge-items.result.now c.args.plan.now.count c.args.n.0
     c.requires.plan.ends c.edges_into-edge-items.ensures c.loop-edge.edge-index d c.loop-edge-test.true
     c.args.visited.now c.loop-edge.invariant

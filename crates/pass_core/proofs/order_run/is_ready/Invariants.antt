@@ -1,7 +1,7 @@
 use Rattle.std.proofs.Common.{take}
 use Rattle.std.specs.List.{AllByRecursion}
 use Rattle.pass_core.specs.CoreStates.{IsMarked}
-use Rattle.pass_core.specs.Plans.{sources}
+use Rattle.serial_pass.specs.Plans.{sources}
 use Rattle.pass_core.proofs.order_run.is_ready.Given as goal
 
 abbrev pub invariant-loop-edge : goal.invariant-loop-edge

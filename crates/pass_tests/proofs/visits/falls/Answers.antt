@@ -2,8 +2,8 @@ use Rattle.std.proofs.Common.{◌≡◌, ◌<◌, ◌≤◌, ◌-◌, ◌++◌, 
 use Rattle.std.specs.List.{AllByRecursion}
 use Rattle.std.proofs.Math.Seq.{take-length}
 use Rattle.std.proofs.lemmas.List.{take_more}
-use Rattle.pass_core.specs.declared.plan.PlanEdge.{PlanEdge}
-use Rattle.pass_core.specs.Plans.{StandByTarget, HasNoCycle}
+use Rattle.serial_pass.specs.declared.plan.PlanEdge.{PlanEdge}
+use Rattle.serial_pass.specs.Plans.{StandByTarget, HasNoCycle}
 use Rattle.pass_tests.proofs.visits.falls.Invariants.{Falls}
 use Rattle.bp_faults.proofs.Lists.{all_map, all_pushed}
 use Rattle.pass_tests.proofs.visits.falls.Goals as goal

@@ -1,5 +1,5 @@
 use Rattle.std.proofs.Common.{◌∙◌, sym, subst, arith}
-use Rattle.pass_core.specs.Plans.{HasNoCycle}
+use Rattle.serial_pass.specs.Plans.{HasNoCycle}
 use Rattle.pass_tests.proofs.visits.two_edges.Goals as goal
 
 pub returns-clause-free : goal.returns-clause-free

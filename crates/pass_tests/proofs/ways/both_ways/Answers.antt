@@ -1,6 +1,6 @@
 use Rattle.std.proofs.Common.{◌∙◌, ◌-◌, ◌+◌, ◌*◌, List, sym, subst, arith}
-use Rattle.pass_core.specs.declared.plan.PlanEdge.{PlanEdge}
-use Rattle.pass_core.specs.Plans.{HasNoCycle}
+use Rattle.serial_pass.specs.declared.plan.PlanEdge.{PlanEdge}
+use Rattle.serial_pass.specs.Plans.{HasNoCycle}
 use Rattle.pass_tests.proofs.ways.both_ways.Goals as goal
 
 pub returns-clause-free : goal.returns-clause-free

@@ -1,6 +1,6 @@
 use Rattle.std.proofs.Common.{◌∙◌, ◌++◌, ◌∷◌, [], List, sym, subst, arith}
-use Rattle.pass_core.specs.declared.plan.PlanEdge.{PlanEdge}
-use Rattle.pass_core.specs.Plans.{HasNoCycle}
+use Rattle.serial_pass.specs.declared.plan.PlanEdge.{PlanEdge}
+use Rattle.serial_pass.specs.Plans.{HasNoCycle}
 use Rattle.pass_tests.proofs.ways.two_nodes.Goals as goal
 
 abbrev only : PlanEdge

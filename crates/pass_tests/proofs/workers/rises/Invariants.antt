@@ -1,7 +1,7 @@
 use Rattle.std.proofs.Common.{◌<◌, ◌≤◌, ℕ, List, take}
 use Rattle.std.specs.List.{AllByRecursion}
-use Rattle.pass_core.specs.declared.plan.PlanEdge.{PlanEdge}
-use Rattle.pass_core.specs.Plans.{HaveEndsBelow, StandByTarget}
+use Rattle.serial_pass.specs.declared.plan.PlanEdge.{PlanEdge}
+use Rattle.serial_pass.specs.Plans.{HaveEndsBelow, StandByTarget}
 use Rattle.pass_tests.proofs.workers.rises.Given as goal
 
 pub record Rises (count target : ℕ) (es : List PlanEdge) : Type 0 where

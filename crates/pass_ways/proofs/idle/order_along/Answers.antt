@@ -1,5 +1,5 @@
 use Rattle.std.proofs.Common.{◌≤◌, ◌∙◌, arith, length, refl, subst, sym, Err}
-use Rattle.pass_core.specs.Orders.{IsLegal, numbers}
+use Rattle.serial_pass.specs.Orders.{IsLegal, numbers}
 use Rattle.pass_ways.specs.Idle.{AnswersIdleBy}
 use Rattle.pass_ways.specs.OrderFiles.{IsRefused, Say}
 use Rattle.pass_ways.proofs.Refusing.{by_refusal}

@@ -1,5 +1,5 @@
 use Rattle.std.proofs.Common.{◌≡◌, take}
-use Rattle.pass_core.specs.Orders.{numbers}
+use Rattle.serial_pass.specs.Orders.{numbers}
 use Rattle.pass_ways.specs.Stretches.{joined_stretches}
 use Rattle.pass_ways.proofs.stretches.join_stretches.Given as goal
 

@@ -1,4 +1,4 @@
-use Rattle.pass_core.specs.declared.plan.PlanEdge.{PlanEdge}
+use Rattle.serial_pass.specs.declared.plan.PlanEdge.{PlanEdge}
 use Rattle.pass_ways.proofs.Linked.{marked_more}
 use Rattle.pass_ways.proofs.stretches.mark_sources.Goals as goal
 

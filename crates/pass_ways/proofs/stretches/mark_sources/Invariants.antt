@@ -2,7 +2,7 @@ use Rattle.std.proofs.Common.{take}
 use Rattle.std.specs.Prelude.{slice_index}
 use Rattle.std.specs.List.{AllByRecursion}
 use Rattle.pass_core.specs.CoreStates.{IsMarked}
-use Rattle.pass_core.specs.Plans.{sources}
+use Rattle.serial_pass.specs.Plans.{sources}
 use Rattle.pass_ways.specs.Stretches.{KeepsMarks}
 use Rattle.pass_ways.proofs.stretches.mark_sources.Given as goal
 

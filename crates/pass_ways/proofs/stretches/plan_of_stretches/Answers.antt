@@ -3,7 +3,7 @@ use Rattle.std.specs.Prelude.{slice_index}
 use Rattle.std.specs.List.{AllByRecursion}
 use Rattle.std.proofs.lemmas.List.{length-map}
 use Rattle.bp_faults.specs.declared.ids.NodeId.{NodeId}
-use Rattle.pass_core.specs.Orders.{numbers}
+use Rattle.serial_pass.specs.Orders.{numbers}
 use Rattle.pass_ways.specs.Stretches.{stretch, AddsEdges, MarksSources, TellsStretches}
 use Rattle.pass_ways.proofs.Linked.{nodes_inside, told_below, links_more, plan_made}
 use Rattle.pass_ways.proofs.Stretched.{stretch-map}

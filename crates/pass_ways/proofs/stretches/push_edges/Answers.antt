@@ -1,7 +1,7 @@
 use Rattle.std.proofs.Common.{◌≡◌, ◌<◌, ◌+◌, ◌∙◌, ap, arith, refl, true, false, Some, length, sym, subst}
 use Rattle.std.specs.Prelude.{Vec}
 use Rattle.std.specs.Global.{Global}
-use Rattle.pass_core.specs.declared.plan.PlanEdge.{PlanEdge}
+use Rattle.serial_pass.specs.declared.plan.PlanEdge.{PlanEdge}
 use Rattle.pass_ways.specs.Stretches.{AddsEdges}
 use Rattle.pass_ways.proofs.Linked.{mark_read, adds_skipped, adds_pushed}
 use Rattle.pass_ways.proofs.stretches.push_edges.Goals as goal

@@ -3,8 +3,8 @@ use Rattle.std.specs.Prelude.{slice_index}
 use Rattle.std.specs.List.{AllByRecursion}
 use Rattle.std.proofs.lemmas.List.{with_items_is}
 use Rattle.bp_faults.specs.declared.ids.NodeId.{NodeId}
-use Rattle.pass_core.specs.declared.plan.PlanEdge.{PlanEdge}
-use Rattle.pass_core.specs.Orders.{numbers}
+use Rattle.serial_pass.specs.declared.plan.PlanEdge.{PlanEdge}
+use Rattle.serial_pass.specs.Orders.{numbers}
 use Rattle.pass_ways.specs.Stretches.{KeepsMarks, MarksSources}
 use Rattle.pass_ways.proofs.Linked.{sources_inside, each_below, sources_more}
 use Rattle.pass_ways.proofs.stretches.sources_of.Goals as goal

@@ -1,5 +1,5 @@
 use Rattle.std.proofs.Common.{◌≡◌, length, take}
-use Rattle.pass_core.specs.Orders.{numbers}
+use Rattle.serial_pass.specs.Orders.{numbers}
 use Rattle.pass_ways.specs.Stretches.{MarksSources}
 use Rattle.pass_ways.proofs.stretches.sources_of.Given as goal
 

@@ -2,7 +2,7 @@ use Rattle.std.proofs.Common.{◌<◌, ◌≤◌, ◌/◌, length, get_or, arith
 use Rattle.std.proofs.Math.Nat.{div-le_self}
 use Rattle.std.proofs.lemmas.List.{length-map, get_or-map}
 use Rattle.bp_faults.specs.declared.ids.NodeId.{NodeId}
-use Rattle.pass_core.specs.Orders.{numbers}
+use Rattle.serial_pass.specs.Orders.{numbers}
 use Rattle.pass_ways.proofs.Linked.{node_inside, tells_more}
 use Rattle.pass_ways.proofs.Told.{legal_whole}
 use Rattle.pass_ways.proofs.stretches.stretch_numbers.Goals as goal

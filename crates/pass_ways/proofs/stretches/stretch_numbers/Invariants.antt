@@ -1,4 +1,4 @@
-use Rattle.pass_core.specs.Orders.{numbers}
+use Rattle.serial_pass.specs.Orders.{numbers}
 use Rattle.pass_ways.specs.Stretches.{TellsStretches}
 use Rattle.pass_ways.proofs.stretches.stretch_numbers.Given as goal
 

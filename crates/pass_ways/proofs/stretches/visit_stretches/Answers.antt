@@ -3,7 +3,7 @@ use Rattle.std.specs.Prelude.{IfOk, Vec}
 use Rattle.std.specs.Global.{Global}
 use Rattle.std.proofs.lemmas.List.{length-map}
 use Rattle.bp_faults.specs.declared.ids.NodeId.{NodeId}
-use Rattle.pass_core.specs.Orders.{IsLegal, numbers}
+use Rattle.serial_pass.specs.Orders.{IsLegal, numbers}
 use Rattle.pass_ways.specs.Stretches.{joined_stretches}
 use Rattle.pass_ways.proofs.Rejoined.{nodes_legal}
 use Rattle.pass_ways.proofs.Told.{legal_whole}

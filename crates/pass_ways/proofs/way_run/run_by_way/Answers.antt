@@ -1,5 +1,5 @@
 use Rattle.std.proofs.Common.{◌++◌, subst, sym}
-use Rattle.pass_core.specs.Orders.{IsLegal}
+use Rattle.serial_pass.specs.Orders.{IsLegal}
 use Rattle.pass_ways.specs.Visits.{visits}
 use Rattle.pass_ways.specs.Ways.{Follows, RefusesPass}
 use Rattle.pass_ways.proofs.ByWay.{answers_by_way}

@@ -1,5 +1,5 @@
 use Rattle.std.proofs.Common.{◌<◌, subst, length, arith, get_or, rules}
-use Rattle.pass_core.specs.declared.plan.PlanEdge.{PlanEdge}
+use Rattle.serial_pass.specs.declared.plan.PlanEdge.{PlanEdge}
 use Rattle.ready_counters.proofs.Opening.{edge_to, found_small, first_more_as}
 use Rattle.ready_counters.proofs.words.first_words.Goals as goal
 

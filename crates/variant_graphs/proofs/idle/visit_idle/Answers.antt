@@ -1,6 +1,6 @@
 use Rattle.std.proofs.Common.{subst, sym}
-use Rattle.pass_core.specs.declared.plan.Plan.{Plan}
-use Rattle.pass_core.specs.Plans.{HasNoCycle}
+use Rattle.serial_pass.specs.declared.plan.Plan.{Plan}
+use Rattle.serial_pass.specs.Plans.{HasNoCycle}
 use Rattle.variant_graphs.proofs.idle.visit_idle.Goals as goal
 
 pub order_by_way-requires-clause-free : goal.order_by_way-requires-clause-free

@@ -1,9 +1,9 @@
 use Rattle.std.proofs.Common.{◌∙◌, ◌∷◌, refl, sym, subst}
-use Rattle.pass_core.specs.declared.plan.Plan.{Plan}
+use Rattle.serial_pass.specs.declared.plan.Plan.{Plan}
 use Rattle.ready_counters.specs.declared.claim.Claim.{Claim}
 use Rattle.ready_counters.specs.Answers.{AnswersClaim}
 use Rattle.std.proofs.Common.{ap}
-use Rattle.pass_core.specs.Results.{node_result}
+use Rattle.serial_pass.specs.Results.{node_result}
 use Rattle.ready_counters.specs.Seen.{view_of}
 use Rattle.visit_workers.specs.Making.{IsMadeBy}
 use Rattle.visit_workers.proofs.Sweeping.{reaches_waiting}

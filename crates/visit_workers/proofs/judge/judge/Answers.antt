@@ -1,8 +1,8 @@
 use Rattle.std.proofs.Common.{◌∙◌, ap, sym, subst, map, length, Ok, Err}
 use Rattle.std.specs.Arc.{arc_value}
 use Rattle.std.proofs.lemmas.List.{length-map}
-use Rattle.pass_core.specs.Results.{all_outs}
-use Rattle.pass_core.specs.Results.NodeResult.{Done, Bad}
+use Rattle.serial_pass.specs.Results.{all_outs}
+use Rattle.serial_pass.specs.Results.NodeResult.{Done, Bad}
 use Rattle.visit_workers.specs.Settled.{outcomes}
 use Rattle.visit_workers.proofs.Judging.{poisoned, visited, as_many, told_none, told_some}
 use Rattle.visit_workers.proofs.judge.judge.Goals as goal

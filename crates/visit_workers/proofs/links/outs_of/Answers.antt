@@ -1,5 +1,5 @@
 use Rattle.std.proofs.Common.{arith}
-use Rattle.pass_core.specs.declared.plan.PlanEdge.{PlanEdge}
+use Rattle.serial_pass.specs.declared.plan.PlanEdge.{PlanEdge}
 use Rattle.visit_workers.proofs.Listing.{one_more_as}
 use Rattle.visit_workers.proofs.links.outs_of.Goals as goal
 

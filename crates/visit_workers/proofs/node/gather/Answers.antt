@@ -2,9 +2,9 @@ use Rattle.std.proofs.Common.{◌≡◌, ◌<◌, ◌≤◌, ◌+◌, ◌∙◌,
 use Rattle.std.specs.Prelude.{slice_index}
 use Rattle.std.specs.Arc.{arc_value}
 use Rattle.std.proofs.lemmas.List.{map-append}
-use Rattle.pass_core.specs.declared.plan.Plan.{Plan}
-use Rattle.pass_core.specs.declared.plan.PlanEdge.{PlanEdge}
-use Rattle.pass_core.specs.Results.{node_result}
+use Rattle.serial_pass.specs.declared.plan.Plan.{Plan}
+use Rattle.serial_pass.specs.declared.plan.PlanEdge.{PlanEdge}
+use Rattle.serial_pass.specs.Results.{node_result}
 use Rattle.pass_core.specs.Shown.{published_result}
 use Rattle.bp_faults.proofs.Lists.{take-past}
 use Rattle.ready_counters.specs.Edges.{edge_target, result_at}
@@ -107,4 +107,4 @@ returns-clause-values g c =
     ∙ ap (map (λ (d : PlanEdge). node_result (g.V.Visit.meaning c.args.pass.now.visitor.now) c.args.pass.now.plan.now
     d.from.0)) (take-past c.loop-edge._edge-index c.edges_into-edges.result.now past ∙ c.edges_into-edges.ensures)
     ∙ mapped (node_result (g.V.Visit.meaning c.args.pass.now.visitor.now) c.args.pass.now.plan.now)
-    (Rattle.pass_core.specs.Plans.in_edges c.args.pass.now.plan.now.edges c.args.n.0)
+    (Rattle.serial_pass.specs.Plans.in_edges c.args.pass.now.plan.now.edges c.args.n.0)

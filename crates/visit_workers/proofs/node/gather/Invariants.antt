@@ -1,7 +1,7 @@
 use Rattle.std.proofs.Common.{◌≡◌, ◌+◌, take, map}
 use Rattle.std.specs.Prelude.{slice_index}
-use Rattle.pass_core.specs.declared.plan.PlanEdge.{PlanEdge}
-use Rattle.pass_core.specs.Results.{node_result}
+use Rattle.serial_pass.specs.declared.plan.PlanEdge.{PlanEdge}
+use Rattle.serial_pass.specs.Results.{node_result}
 use Rattle.ready_counters.specs.Seen.{view_of, IsSeatOf}
 use Rattle.visit_workers.specs.Settled.{IsGathering, outcomes}
 use Rattle.visit_workers.proofs.node.gather.Given as goal

@@ -1,6 +1,6 @@
 use Rattle.std.proofs.Common.{◌∙◌, sym, subst}
-use Rattle.pass_core.specs.declared.plan.Plan.{Plan}
-use Rattle.pass_core.specs.Orders.{numbers}
+use Rattle.serial_pass.specs.declared.plan.Plan.{Plan}
+use Rattle.serial_pass.specs.Orders.{numbers}
 use Rattle.ready_counters.specs.Ends.{IsByTicket}
 use Rattle.ready_counters.specs.Seen.{view_of}
 use Rattle.visit_workers.proofs.Making.{by_tickets}

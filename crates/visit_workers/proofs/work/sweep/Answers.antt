@@ -1,5 +1,5 @@
 use Rattle.std.proofs.Common.{◌<◌, ◌∙◌, sym, subst, arith}
-use Rattle.pass_core.specs.Orders.{numbers}
+use Rattle.serial_pass.specs.Orders.{numbers}
 use Rattle.ready_counters.specs.Seen.{view_of}
 use Rattle.visit_workers.specs.Settled.{Reaches}
 use Rattle.visit_workers.proofs.Sweeping.{swept_all, swept_more, entry_inside, number_at, many_numbers}

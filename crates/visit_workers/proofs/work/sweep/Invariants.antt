@@ -1,6 +1,6 @@
 use Rattle.std.proofs.Common.{◌≡◌, ◌<◌, ◌≤◌, ℕ, length}
 use Rattle.std.specs.Prelude.{slice_index}
-use Rattle.pass_core.specs.Orders.{numbers}
+use Rattle.serial_pass.specs.Orders.{numbers}
 use Rattle.ready_counters.specs.Views.{times}
 use Rattle.ready_counters.specs.Seen.{view_of, IsSeatOf}
 use Rattle.visit_workers.specs.Making.{IsWorking}

@@ -3,7 +3,7 @@ use Rattle.std.proofs.Common.{OnOk}
 use Rattle.std.specs.Option.{unwrap_or}
 use Rattle.std.proofs.lemmas.Result.{on_ok_weaker}
 use Rattle.indexmap.specs.IndexSet.{insert_key}
-use Rattle.pass_core.specs.Orders.{numbers}
+use Rattle.serial_pass.specs.Orders.{numbers}
 use Rattle.info_mutators.specs.Inside.{KnowsNoted}
 use Rattle.info_mutators.specs.Kept.{if_short}
 use Rattle.info_mutators.proofs.Slots.{held_there, held_by_other, other_known, other_list, free_is_new, owner_noted}

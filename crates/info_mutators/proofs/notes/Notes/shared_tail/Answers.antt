@@ -1,7 +1,7 @@
 use Rattle.std.proofs.Common.{◌∙◌, ap, sym, take, List}
 use Rattle.std.proofs.lemmas.List.{take-map}
 use Rattle.bp_faults.specs.declared.ids.NodeId.{NodeId}
-use Rattle.pass_core.specs.Orders.{numbers}
+use Rattle.serial_pass.specs.Orders.{numbers}
 use Rattle.info_mutators.proofs.notes.Notes.shared_tail.Goals as goal
 
 pub returns-clause-same : goal.returns-clause-same

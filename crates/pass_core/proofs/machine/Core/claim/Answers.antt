@@ -17,7 +17,8 @@ held_by-held-requires-clause-rises g c =
     let kept = c.self.invariant in
     let f = c.self.inside in
     let inside : c.args.n.0 < f.plan.count = omega arith in
-    rw c.deref-2.ensures.value (starts_rise f.plan f.starts.items kept.is_plan kept.are_starts c.args.n.0 inside)
+    rw c.deref-2.ensures.value
+    (starts_rise c.starts_of_edges_rise.ensures f.plan f.starts.items kept.is_plan kept.are_starts c.args.n.0 inside)
 
 pub held_by-held-requires-clause-ends : goal.held_by-held-requires-clause-ends
 held_by-held-requires-clause-ends g c =
@@ -26,7 +27,8 @@ held_by-held-requires-clause-ends g c =
     let inside : c.args.n.0 < f.plan.count = omega arith in
     rw (c.deref-2.ensures.value, c.deref.ensures.value)
     (subst (λ x. slice_index f.starts.items (c.args.n.0 + 1) ≤ x) (sym (sym (length-map f.filled.items shown_in)
-    ∙ kept.sound.filled_many)) (starts_end f.plan f.starts.items kept.is_plan kept.are_starts c.args.n.0 inside))
+    ∙ kept.sound.filled_many))
+    (starts_end c.starts_of_edges_rise.ensures f.plan f.starts.items kept.is_plan kept.are_starts c.args.n.0 inside))
 
 pub publish_last-requires-clause-takes : goal.publish_last-requires-clause-takes
 publish_last-requires-clause-takes g c =
@@ -37,8 +39,10 @@ publish_last-requires-clause-takes g c =
     let many : length f.filled.items ≡ length f.plan.edges =
     sym (length-map f.filled.items shown_in) ∙ kept.sound.filled_many in
     let slice = rw (c.deref-2.ensures.value, c.deref.ensures.value) at c.held_by-held.ensures in
-    subst (λ k. g.V.Visit.takes f.visitor c.args.n.0 k) (slice_many f.plan f.starts.items kept.is_plan kept.are_starts
-    c.args.n.0 inside f.filled.items many c.held_by-held.result.now slice) (kept.takes_plan c.args.n.0 inside)
+    subst (λ k. g.V.Visit.takes f.visitor c.args.n.0 k)
+    (slice_many c.starts_of_edges_rise.ensures f.plan f.starts.items kept.is_plan kept.are_starts
+    c.args.n.0 inside c.edge_numbers_are_together.ensures f.filled.items many c.held_by-held.result.now slice)
+    (kept.takes_plan c.args.n.0 inside)
 
 pub overflow_add-self : goal.overflow_add-self
 overflow_add-self g c =
@@ -65,12 +69,14 @@ invariant_of-self-2 g c =
     ∙ same_at f.unfetched.items c.args.n.0 c.index-2.result.now 0
     (subst (λ x. c.args.n.0 < x) (sym kept.unfetched_many) inside) in
     claim_core (g.V.Visit.meaning f.visitor) (g.V.Visit.takes f.visitor) f.plan f.starts.items s f.unfetched.items
-    f.published.items f.steps kept c.args.n may inside c.publish_last.new.published.items
+    f.published.items f.steps kept c.results_meet_their_equation.ensures c.args.n may inside
+    c.publish_last.new.published.items
     (publishes_as c.args.n.0 _ (visit_result (g.V.Visit.meaning f.visitor) f.plan s c.args.n.0) f.published.items
     c.publish_last.new.published.items
     (test_zero c.index-2.result.now (slice_index f.unfetched.items c.args.n.0) 0 counted)
     (zero_test c.index-2.result.now (slice_index f.unfetched.items c.args.n.0) 0 counted)
-    (slice_judged f.plan f.starts.items kept.is_plan kept.are_starts c.args.n.0 inside f.filled.items many
+    (slice_judged c.starts_of_edges_rise.ensures f.plan f.starts.items kept.is_plan kept.are_starts c.args.n.0 inside
+    c.edge_numbers_are_together.ensures f.filled.items many
     c.held_by-held.result.now slice (g.V.Visit.meaning f.visitor c.args.n.0)) c.in_ok-publish_last.ensures.done)
 
 pub returns : goal.returns

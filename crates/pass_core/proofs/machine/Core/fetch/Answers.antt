@@ -1,7 +1,7 @@
 use Rattle.std.proofs.Common.{◌≡◌, ◌+◌, ◌∙◌, ◌<◌, ◌≤◌, length, not, true, false, ap, sym, subst, arith, rules, refl}
 use Rattle.std.specs.Prelude.{slice_index}
 use Rattle.std.proofs.lemmas.List.{length-map}
-use Rattle.pass_core.specs.declared.plan.PlanEdge.{PlanEdge}
+use Rattle.serial_pass.specs.declared.plan.PlanEdge.{PlanEdge}
 use Rattle.pass_core.specs.declared.step.Step.TheVariants.{Fetch}
 use Rattle.pass_core.specs.CoreStates.{Allows, to_of, after}
 use Rattle.pass_core.specs.CoreKept.{IsCore, state_of, shown_in}
@@ -27,7 +27,8 @@ held_by-held-requires-clause-rises g c =
     let to = to_is f.plan c.as_slice.result.now c.as_slice.ensures c.args.e d inside in
     let at = target_inside (g.V.Visit.meaning f.visitor) f.plan kept.is_plan kept.free c.args.e inside in
     let in_node : node < f.plan.count = subst (λ x. x < f.plan.count) to at in
-    rw c.deref-2.ensures.value (starts_rise f.plan f.starts.items kept.is_plan kept.are_starts node in_node)
+    rw c.deref-2.ensures.value
+    (starts_rise c.starts_of_edges_rise.ensures f.plan f.starts.items kept.is_plan kept.are_starts node in_node)
 
 pub held_by-held-requires-clause-ends : goal.held_by-held-requires-clause-ends
 held_by-held-requires-clause-ends g c =
@@ -42,7 +43,8 @@ held_by-held-requires-clause-ends g c =
     let in_node : node < f.plan.count = subst (λ x. x < f.plan.count) to at in
     rw (c.deref-2.ensures.value, c.deref.ensures.value)
     (subst (λ x. slice_index f.starts.items (node + 1) ≤ x) (sym (sym (length-map f.filled.items shown_in)
-    ∙ kept.sound.filled_many)) (starts_end f.plan f.starts.items kept.is_plan kept.are_starts node in_node))
+    ∙ kept.sound.filled_many))
+    (starts_end c.starts_of_edges_rise.ensures f.plan f.starts.items kept.is_plan kept.are_starts node in_node))
 
 pub publish_last-requires-clause-takes : goal.publish_last-requires-clause-takes
 publish_last-requires-clause-takes g c =
@@ -59,8 +61,10 @@ publish_last-requires-clause-takes g c =
     let many : length f.filled.items ≡ length f.plan.edges =
     sym (length-map f.filled.items shown_in) ∙ kept.sound.filled_many in
     let slice = rw (c.deref-2.ensures.value, c.deref.ensures.value) at c.held_by-held.ensures in
-    subst (λ k. g.V.Visit.takes f.visitor node k) (slice_many f.plan f.starts.items kept.is_plan kept.are_starts node
-    in_node f.filled.items many c.held_by-held.result.now slice) (kept.takes_plan node in_node)
+    subst (λ k. g.V.Visit.takes f.visitor node k)
+    (slice_many c.starts_of_edges_rise.ensures f.plan f.starts.items kept.is_plan kept.are_starts node
+    in_node c.edge_numbers_are_together.ensures f.filled.items many c.held_by-held.result.now slice)
+    (kept.takes_plan node in_node)
 
 pub invariant_of-self : goal.invariant_of-self
 invariant_of-self g c =
@@ -94,7 +98,8 @@ overflow_sub-index_mut g c =
     let ready : to_of f.plan c.args.e < length f.unfetched.items =
     subst (λ x. to_of f.plan c.args.e < x) (sym kept.unfetched_many) at in
     let some = fetch_some (g.V.Visit.meaning f.visitor)
-    (g.V.Visit.takes f.visitor) f.plan f.starts.items s f.unfetched.items f.published.items f.steps kept c.args.e may in
+    (g.V.Visit.takes f.visitor) f.plan f.starts.items s f.unfetched.items f.published.items f.steps kept
+    c.results_meet_their_equation.ensures c.args.e may in
     let is = count_is f.plan c.as_slice.result.now c.as_slice.ensures c.args.e d inside f.unfetched.items
     c.index_mut.result.now ready c.index_mut.ensures.value in
     omega arith
@@ -139,13 +144,14 @@ invariant_of-self-2 g c =
     (visit_result (g.V.Visit.meaning f.visitor) f.plan s node) f.published.items c.publish_last.new.published.items
     (test_zero c.index-3.result.now (slice_index f.unfetched.items node) 1 counted) (zero_test c.index-3.result.now
     (slice_index f.unfetched.items node) 1 counted)
-    (slice_judged f.plan f.starts.items kept.is_plan kept.are_starts node in_node f.filled.items many
+    (slice_judged c.starts_of_edges_rise.ensures f.plan f.starts.items kept.is_plan kept.are_starts node in_node
+    c.edge_numbers_are_together.ensures f.filled.items many
     c.held_by-held.result.now slice (g.V.Visit.meaning f.visitor node)) c.in_ok-publish_last.ensures.done in
     subst (λ us. IsCore (g.V.Visit.meaning f.visitor) (g.V.Visit.takes f.visitor) f.plan f.starts.items
     (after (g.V.Visit.meaning f.visitor) f.plan s (Fetch c.args.e)) us c.publish_last.new.published.items (f.steps + 1))
     (sym lowered)
     (fetch_core (g.V.Visit.meaning f.visitor) (g.V.Visit.takes f.visitor) f.plan f.starts.items s f.unfetched.items
-    f.published.items f.steps kept c.args.e may c.publish_last.new.published.items
+    f.published.items f.steps kept c.results_meet_their_equation.ensures c.args.e may c.publish_last.new.published.items
     (subst (λ x. PublishesLast (slice_index f.unfetched.items x ≡ 1) x (visit_result (g.V.Visit.meaning f.visitor)
     f.plan s x) f.published.items c.publish_last.new.published.items) (sym to) published))
 

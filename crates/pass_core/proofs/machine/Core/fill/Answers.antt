@@ -1,7 +1,7 @@
 use Rattle.std.proofs.Common.{◌≡◌, ◌+◌, ◌∙◌, ◌<◌, length, ap, sym, subst, rules, refl, Some, None}
 use Rattle.std.specs.Prelude.{slice_get}
 use Rattle.std.proofs.lemmas.List.{length-map}
-use Rattle.pass_core.specs.declared.plan.PlanEdge.{PlanEdge}
+use Rattle.serial_pass.specs.declared.plan.PlanEdge.{PlanEdge}
 use Rattle.pass_core.specs.declared.step.Step.TheVariants.{Fill}
 use Rattle.pass_core.specs.CoreStates.{Allows, from_of}
 use Rattle.pass_core.specs.CoreKept.{IsCore, state_of, shown_in}
@@ -39,7 +39,8 @@ invariant_of-self g c =
           (sym c.is_some.ensures ∙ c.if-is_some.false),
     ) in
     let filled = filled_is (g.V.Visit.meaning f.visitor) (g.V.Visit.takes f.visitor) f.plan f.starts.items s
-    f.unfetched.items f.published.items f.steps kept f.filled.items c.args.e c.in_ok-copy-in-Some.field-0 inside right.1
+    f.unfetched.items f.published.items f.steps kept c.results_meet_their_equation.ensures f.filled.items c.args.e
+    c.in_ok-copy-in-Some.field-0 inside right.1
     (c.in_ok-copy-in-Some.ensures ∙ right.0) in
     subst (λ fs. IsCore (g.V.Visit.meaning f.visitor) (g.V.Visit.takes f.visitor) f.plan f.starts.items (record {
       counters = f.counters.items;
@@ -49,7 +50,8 @@ invariant_of-self g c =
       fetched = f.fetched.items;
     }) f.unfetched.items f.published.items (f.steps + 1))
     (sym filled) (fill_core (g.V.Visit.meaning f.visitor)
-    (g.V.Visit.takes f.visitor) f.plan f.starts.items s f.unfetched.items f.published.items f.steps kept c.args.e may)
+    (g.V.Visit.takes f.visitor) f.plan f.starts.items s f.unfetched.items f.published.items f.steps kept
+    c.results_meet_their_equation.ensures c.args.e may)
 
 pub returns-in_ok-copy-in-Some : goal.returns-in_ok-copy-in-Some
 returns-in_ok-copy-in-Some g c =
@@ -75,7 +77,8 @@ returns-in_ok-copy-in-Some g c =
           (sym c.is_some.ensures ∙ c.if-is_some.false),
     ) in
     let filled = filled_is (g.V.Visit.meaning f.visitor) (g.V.Visit.takes f.visitor) f.plan f.starts.items s
-    f.unfetched.items f.published.items f.steps kept f.filled.items c.args.e c.in_ok-copy-in-Some.field-0 inside right.1
+    f.unfetched.items f.published.items f.steps kept c.results_meet_their_equation.ensures f.filled.items c.args.e
+    c.in_ok-copy-in-Some.field-0 inside right.1
     (c.in_ok-copy-in-Some.ensures ∙ right.0) in
     rw (← c.self.view_is) (
       may,

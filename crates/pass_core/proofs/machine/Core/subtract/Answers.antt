@@ -1,7 +1,7 @@
 use Rattle.std.proofs.Common.{◌+◌, ◌∙◌, ◌<◌, length, not, true, false, ap, sym, subst, arith, rules}
 use Rattle.std.specs.Prelude.{slice_set}
 use Rattle.std.proofs.lemmas.List.{length-map}
-use Rattle.pass_core.specs.declared.plan.PlanEdge.{PlanEdge}
+use Rattle.serial_pass.specs.declared.plan.PlanEdge.{PlanEdge}
 use Rattle.pass_core.specs.declared.step.Step.TheVariants.{Subtract}
 use Rattle.pass_core.specs.CoreStates.{Allows, to_of}
 use Rattle.pass_core.specs.CoreKept.{IsCore, state_of, shown_in}
@@ -30,7 +30,8 @@ overflow_sub-index_mut g c =
     subst (λ x. to_of f.plan c.args.e < x) (sym kept.sound.counters_many)
     (target_inside (g.V.Visit.meaning f.visitor) f.plan kept.is_plan kept.free c.args.e inside) in
     let some = subtract_some (g.V.Visit.meaning f.visitor)
-    (g.V.Visit.takes f.visitor) f.plan f.starts.items s f.unfetched.items f.published.items f.steps kept c.args.e may in
+    (g.V.Visit.takes f.visitor) f.plan f.starts.items s f.unfetched.items f.published.items f.steps kept
+    c.results_meet_their_equation.ensures c.args.e may in
     let is = count_is f.plan c.as_slice.result.now c.as_slice.ensures c.args.e d inside f.counters.items
     c.index_mut.result.now at c.index_mut.ensures.value in
     omega arith
@@ -64,7 +65,8 @@ invariant_of-self g c =
     (state_of cs f.claimed.items f.filled.items (slice_set f.subtracted.items c.args.e true) f.fetched.items)
     f.unfetched.items f.published.items (f.steps + 1))
     (sym lowered) (subtract_core (g.V.Visit.meaning f.visitor)
-    (g.V.Visit.takes f.visitor) f.plan f.starts.items s f.unfetched.items f.published.items f.steps kept c.args.e may)
+    (g.V.Visit.takes f.visitor) f.plan f.starts.items s f.unfetched.items f.published.items f.steps kept
+    c.results_meet_their_equation.ensures c.args.e may)
 
 pub returns : goal.returns
 returns g c =

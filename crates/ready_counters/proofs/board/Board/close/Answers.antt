@@ -1,6 +1,6 @@
 use Rattle.std.proofs.Common.{◌∙◌, ap, sym, subst}
-use Rattle.pass_core.specs.declared.plan.Plan.{Plan}
-use Rattle.pass_core.specs.Orders.{IsLegal, numbers}
+use Rattle.serial_pass.specs.declared.plan.Plan.{Plan}
+use Rattle.serial_pass.specs.Orders.{IsLegal, numbers}
 use Rattle.ready_counters.specs.Edges.{result_at}
 use Rattle.ready_counters.specs.Seen.{plan_on_board}
 use Rattle.ready_counters.proofs.Closing.{is_done, are_numbered, is_legal}

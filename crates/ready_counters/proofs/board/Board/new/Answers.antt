@@ -1,5 +1,5 @@
 use Rattle.std.proofs.Common.{◌≡◌, ◌<◌, ◌∙◌, ap, sym, subst, length, suc, ◌+◌}
-use Rattle.pass_core.specs.declared.plan.Plan.{Plan}
+use Rattle.serial_pass.specs.declared.plan.Plan.{Plan}
 use Rattle.ready_counters.specs.Edges.{edge_targets}
 use Rattle.ready_counters.specs.Edges.{result_at}
 use Rattle.ready_counters.proofs.Opening.{opening_as}

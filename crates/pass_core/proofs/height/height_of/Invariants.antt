@@ -1,7 +1,0 @@
-use Rattle.std.proofs.Common.{◌≡◌, map, take}
-use Rattle.pass_core.specs.Heights.{height, above_all}
-use Rattle.pass_core.specs.Plans.{sources}
-use Rattle.pass_core.proofs.height.height_of.Given as goal
-
-abbrev pub invariant-loop-edge : goal.invariant-loop-edge
-invariant-loop-edge l = l.height ≡ above_all (map (height l.plan) (sources (take l.edge-index l.edge-items)))

@@ -1,5 +1,0 @@
-use Rattle.pass_core.proofs.Unrolled.{height_equation}
-use Rattle.pass_core.proofs.laws.heights_meet_their_equation.Goals as goal
-
-pub returns : goal.returns
-returns c = λ plan n is free lt. height_equation plan is.ends free n lt

@@ -1,5 +1,0 @@
-use Rattle.pass_core.proofs.Unrolled.{result_equation}
-use Rattle.pass_core.proofs.laws.results_meet_their_equation.Goals as goal
-
-pub returns : goal.returns
-returns g c = λ mean plan n is free lt. result_equation plan is.ends free mean n lt

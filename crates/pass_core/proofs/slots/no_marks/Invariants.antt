@@ -1,5 +1,0 @@
-use Rattle.std.proofs.Common.{◌≡◌, replicate, false}
-use Rattle.pass_core.proofs.slots.no_marks.Given as goal
-
-abbrev pub invariant-loop-slot : goal.invariant-loop-slot
-invariant-loop-slot l = l.marks.items ≡ replicate l._slot false

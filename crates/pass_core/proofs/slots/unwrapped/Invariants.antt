@@ -1,5 +1,0 @@
-use Rattle.std.proofs.Common.{◌≡◌, map, Some}
-use Rattle.pass_core.proofs.slots.unwrapped.Given as goal
-
-abbrev pub invariant-loop-slot : goal.invariant-loop-slot
-invariant-loop-slot g l = map Some l.values.items ≡ l.yielded

@@ -1,0 +1,10 @@
+pub mod Plans
+pub mod Heights
+pub mod Results
+pub mod Outcomes
+pub mod Orders
+pub mod InEdges
+pub mod Made
+pub mod Inside
+pub mod Settling
+pub mod Laws
