@@ -8,7 +8,8 @@ use Rattle.serial_pass.specs.declared.plan.Plan.{Plan}
 use Rattle.serial_pass.specs.Heights.{unroll}
 use Rattle.serial_pass.specs.Outcomes.{PassOutcomeMeans}
 use Rattle.serial_pass.specs.Plans.{predecessors}
-use Rattle.serial_pass.specs.Results.{NodeResult, Done, Bad, Poisoned, result_of_visit, cons_if, all_outs, judged_result}
+use Rattle.serial_pass.specs.Results.{NodeResult, Done, Bad, Poisoned, result_of_visit, cons_if, all_outs}
+use Rattle.serial_pass.specs.Results.{judged_result}
 use Rattle.serial_pass.specs.Results.{node_result}
 use Rattle.output_forms.proofs.Each.{IfThere, all_made}
 
