@@ -7,6 +7,7 @@ use pass_core::{
     Core, OrderError, PassError, Plan, PlanEdge, Published, Step, StepError, Visit, VisitError,
     edges_into, heights, laws, run_order, run_pass, serial_order, starts_of,
 };
+use serial_pass::{in_degrees, laws as serial_laws};
 use std::alloc::Global;
 use std::cell::Cell;
 use std::process::Abort;
@@ -239,6 +240,14 @@ fn edges_into_first(alloc: Global) -> Result<usize, OutOfMemory> {
     Ok(edges_into(&plan, &starts, NodeId(0)).len())
 }
 
+fn diamond_in_degrees(alloc: Global) -> Result<Vec<u32>, OutOfMemory> {
+    let Some(plan) = diamond(alloc)? else {
+        return Ok(Vec::new(alloc));
+    };
+    let starts = starts_of(alloc, &plan)?;
+    in_degrees(alloc, &plan, &starts)
+}
+
 fn diamond_heights(alloc: Global) -> Result<Vec<u32>, OutOfMemory> {
     match diamond(alloc)? {
         Some(plan) => heights(alloc, &plan),
@@ -259,6 +268,7 @@ const ORDER: [NodeId; 4] = [NodeId(3), NodeId(1), NodeId(2), NodeId(0)];
 fn edges_and_heights_of_the_diamond(rt: HostRuntime) -> Result<(), Fail> {
     let alloc = rt.alloc();
     assert_eq!(rt; edges_into_first(alloc)?, 2);
+    assert!(rt; diamond_in_degrees(alloc)?.as_slice() == [2, 1, 1, 0].as_slice());
     assert!(rt; diamond_heights(alloc)?.as_slice() == [2, 1, 1, 0].as_slice());
     Ok(())
 }
@@ -307,26 +317,27 @@ fn an_order_visits_each_node_once(rt: HostRuntime) -> Result<(), Fail> {
 
 #[test]
 fn laws_at_a_type() {
-    laws::in_edges_are_together();
-    laws::starts_of_edges_rise();
-    laws::indices_tell_targets();
-    laws::predecessors_are_nodes();
-    laws::predecessors_are_less();
-    laws::predecessors_come_before();
-    laws::heights_meet_their_equation();
-    laws::heights_are_below_the_count();
-    laws::recursion_meets_its_equation::<u32>();
-    laws::one_serial_order();
-    laws::serial_order_is_legal();
-    laws::earlier_nodes_stand_earlier();
-    laws::results_meet_their_equation::<u32>();
-    laws::one_solution::<u32>();
-    laws::first_undone_is_bad::<u32>();
-    laws::one_outcome::<u32>();
-    laws::at_most_one_outcome::<u32>();
-    laws::pass_gathers::<u32>();
-    laws::outs_are_many::<u32>();
-    laws::outs_meet_their_equation::<u32>();
+    serial_laws::in_edges_are_together();
+    serial_laws::edge_numbers_are_together();
+    serial_laws::starts_of_edges_rise();
+    serial_laws::indices_tell_targets();
+    serial_laws::predecessors_are_nodes();
+    serial_laws::predecessors_are_less();
+    serial_laws::predecessors_come_before();
+    serial_laws::heights_meet_their_equation();
+    serial_laws::heights_are_below_the_count();
+    serial_laws::recursion_meets_its_equation::<u32>();
+    serial_laws::one_serial_order();
+    serial_laws::serial_order_is_legal();
+    serial_laws::earlier_nodes_stand_earlier();
+    serial_laws::results_meet_their_equation::<u32>();
+    serial_laws::one_solution::<u32>();
+    serial_laws::first_undone_is_bad::<u32>();
+    serial_laws::one_outcome::<u32>();
+    serial_laws::at_most_one_outcome::<u32>();
+    serial_laws::pass_gathers::<u32>();
+    serial_laws::outs_are_many::<u32>();
+    serial_laws::outs_meet_their_equation::<u32>();
     laws::filled_edges_hold_results::<u32>();
     laws::no_step_twice::<u32>();
     laws::claimed_after_in_edges::<u32>();
