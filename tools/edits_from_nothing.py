@@ -66,7 +66,8 @@ def main():
         sys.exit("usage: tools/edits_from_nothing.py CHECKOUT [CRATE ..]")
     top = pathlib.Path(sys.argv[1]).resolve()
     crates = [crate for crate in sys.argv[2:] or crates_of(top) if edits_of(top, crate)]
-    picked = {crate: random.Random(f"{os.environ.get('SEED', '1')} {crate}").choice(edits_of(top, crate)) for crate in crates}
+    seed = os.environ.get("SEED", "1")
+    picked = {crate: random.Random(f"{seed} {crate}").choice(edits_of(top, crate)) for crate in crates}
     with tempfile.TemporaryDirectory() as folder, \
             concurrent.futures.ThreadPoolExecutor(int(os.environ.get("JOBS", "4"))) as pool:
         work = pathlib.Path(folder)

@@ -2,12 +2,13 @@
 """Says what the memory of a run holds when it is greatest: `tools/memory_parts.py PROGRAM`.
 
 It runs `build` of a tree of tools/synthetic_modules.py with one worker under valgrind's massif, and prints which functions
-asked for the blocks that are there at the greatest moment, with their share of all. Of what a block was asked for by, the
-first function counts that is neither the C library's nor a list, text or map of the standard library.
+asked for the blocks that are there at the greatest moment, with their share of all. The first function counts that is
+neither the C library's nor of a list, text or map of the standard library, where massif knows it.
 
 MODULES is the size of the tree (10000), LEAST the least share that is printed, in percent (2). It needs valgrind, and is
 no part of the gate.
 """
+import collections
 import os
 import pathlib
 import re
@@ -17,8 +18,7 @@ import tempfile
 
 TOP = pathlib.Path(__file__).resolve().parent.parent
 # The beginnings of names that say only that memory was asked for.
-ASKED = re.compile(r"(malloc|realloc|calloc|aligned_alloc|posix_memalign|memalign|std|core|alloc|std_alloc|std_heap|"
-                   r"std_collections|smallvec|indexmap)\b|<?(std|core|alloc)[:+]")
+ASKED = re.compile(r"(rattle_(re)?alloc|malloc|realloc|calloc|std|core|alloc|std_\w+|smallvec|indexmap)\b|\(heap allocation")
 LINE = re.compile(r"^( *)n(\d+): (\d+) (.*)$")
 
 
@@ -28,25 +28,26 @@ def greatest(text):
     return [] if len(parts) < 2 else parts[1].split("#-----------")[0].splitlines()
 
 
+def name_of(place):
+    """The function of a line, without its address, its object and the hash of its types."""
+    name = re.sub(r"^0x[0-9A-F]+: | \(in .*\)$", "", place)
+    return re.sub(r"::<#[0-9a-f]+>", "", name)
+
+
 def asked_by(lines):
-    """The bytes of each function, and all of them."""
-    sums, whole, path = {}, 0, []
-    for line in lines:
-        match = LINE.match(line)
-        if not match:
-            continue
-        depth, below, count, place = len(match[1]), int(match[2]), int(match[3]), match[4]
-        name = re.sub(r"^\(.*?\)\s*|^0x[0-9A-F]+: | \(in .*\)$| \([^()]*:\d+\)$", "", place)
-        if depth == 0:
-            whole = count
-            continue
-        del path[depth - 1:]
-        path.append(name)
-        if below == 0:
-            known = [one for one in path if not ASKED.match(one)]
-            said = known[0] if known else path[-1]
-            sums[said] = sums.get(said, 0) + count
-    return sums, whole
+    """The bytes of each function, and all of them. Where no caller is known, what asks counts itself."""
+    nodes = [(len(one[1]), int(one[3]), name_of(one[4])) for one in map(LINE.match, lines) if one]
+    sums = collections.Counter()
+    for at, (depth, count, name) in enumerate(nodes):
+        above = []
+        for other, _, caller in reversed(nodes[:at]):
+            if other < depth and (not above or other < above[-1][0]):
+                above.append((other, caller))
+        if all(ASKED.match(caller) for _, caller in above) and not re.match(r"\?\?\?|in \d+ place", name):
+            sums[name] += count
+            if above:
+                sums[above[0][1]] -= count
+    return sums, nodes[0][1] if nodes else 0
 
 
 def main():
