@@ -3,10 +3,11 @@
 
 FIRST is the program of 27 November, commit `29b6041`, which has no `-j`, and each TODAY one of a later commit, as
 `tools/build_unproved.py` or the gate builds them. Each builds a tree of `tools/many_modules.sh` with one target under
-valgrind's callgrind, with the settings of `./bpgen`, each TODAY with one worker and with four. The counts are the same on
-every machine. A row of docs/PERFORMANCE.md is printed for each run.
+valgrind's callgrind, with the settings of `./bpgen`, each TODAY with one worker and with four. The counts are the
+same on every machine. A row of docs/PERFORMANCE.md is printed for each run.
 
-MODULES is the size of the tree (10000), with 64 modules in a file. It needs valgrind and awk, and is no part of the gate.
+MODULES is the size of the tree (10000), with 64 modules in a file. It needs valgrind and awk, and is no part of the
+gate.
 """
 import os
 import pathlib

@@ -1,14 +1,14 @@
 #!/usr/bin/env python3
 """Says what must-fail edits cost where each is tried from nothing: `tools/edits_from_nothing.py CHECKOUT [CRATE ..]`.
 
-`rt ci` tries an edit over what one check of its crate has kept. The kit of the first gate tried each from nothing, which is
-a whole check of the crate. This script plants one edit of each crate of a checkout (or of the crates that are named) in a
-copy, proves that crate with `rt ci CRATE`, and prints the processor time of it in minutes, the number of the crate's edits,
-and what all of them would cost at this rate. The crate must not be proved then, or the script stops. Which edit of a crate
-it takes depends on SEED (1) alone.
+`rt ci` tries an edit over what one check of its crate has kept. The kit of the first gate tried each from nothing,
+which is a whole check of the crate. This script plants one edit of each crate of a checkout (or of the crates that
+are named) in a copy, proves that crate with `rt ci CRATE`, and prints the processor time of it in minutes, the number
+of the crate's edits, and what all of them would cost at this rate. The crate must not be proved then, or the script
+stops. Which edit of a crate it takes depends on SEED (1) alone.
 
-Run `rt ci` in the checkout before, so that all crates below are kept; they aren't proved again then. JOBS (4) checks run at
-once. It is no part of the gate, and no other work should run beside it.
+Run `rt ci` in the checkout before, so that all crates below are kept; they aren't proved again then. JOBS (4) checks
+run at once. It is no part of the gate, and no other work should run beside it.
 """
 import concurrent.futures
 import os

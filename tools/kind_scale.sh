@@ -10,8 +10,8 @@ top=$(cd "$(dirname "$0")/.." && pwd)
 work=$(mktemp -d)
 trap 'rm -rf "$work"' EXIT
 mkdir -p "$work/crates/kind_scale/src" "$work/crates/kind_scale/specs" "$work/crates/kind_scale/proofs"
-for crate in bp_faults bp_ports serial_pass pass_core graph_nodes module_graph ready_counters visit_workers pass_ways mutator_rules \
-    variant_graphs mutator_kinds transition_rules; do
+for crate in bp_faults bp_ports serial_pass pass_core graph_nodes module_graph ready_counters visit_workers pass_ways \
+    mutator_rules variant_graphs mutator_kinds transition_rules; do
     mkdir -p "$work/crates/$crate/out"
     for part in src specs proofs; do
         cp -r "$top/crates/$crate/$part" "$work/crates/$crate/"
@@ -21,8 +21,8 @@ for crate in bp_faults bp_ports serial_pass pass_core graph_nodes module_graph r
     fi
     grep "^$crate[ :]" "$top/crates.txt" >> "$work/crates.txt"
 done
-echo "kind_scale: bp_faults bp_ports serial_pass pass_core graph_nodes module_graph mutator_rules variant_graphs mutator_kinds transition_rules anyhow" \
-    >> "$work/crates.txt"
+echo "kind_scale: bp_faults bp_ports serial_pass pass_core graph_nodes module_graph mutator_rules variant_graphs" \
+    "mutator_kinds transition_rules anyhow" >> "$work/crates.txt"
 cp "$top/HANDLES" "$work/HANDLES"
 cd "$work/crates/kind_scale"
 cat > src/main.rt << 'END'

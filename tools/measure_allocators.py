@@ -1,13 +1,15 @@
 #!/usr/bin/env python3
 """Measures a program with other allocators in front of the C library's: `tools/measure_allocators.py [PROGRAM]`.
 
-PROGRAM is `./bpgen` where none is named. `build`, and `graph` after the last mutator, are run with four workers on a tree
-of tools/synthetic_modules.py, with each allocator of LIBRARIES that is there, in turns, so that a slow minute meets all of
-them. A row of docs/PERFORMANCE.md is printed for each: the least and the middle user and system time of RUNS runs (5), the
-least and the middle time by the clock, and the greatest memory of `build`. It stops where two write different bytes.
+PROGRAM is `./bpgen` where none is named. `build`, and `graph` after the last mutator, are run with four workers on a
+tree of tools/synthetic_modules.py, with each allocator of LIBRARIES that is there, in turns, so that a slow minute
+meets all of them. A row of docs/PERFORMANCE.md is printed for each: the least and the middle user and system time of
+RUNS runs (5), the least and the middle time by the clock, and the greatest memory of `build`. It stops where two
+write different bytes.
 
-MODULES is the size of the tree (100000), LIBRARIES a list of files with a colon between two (those of Debian's packages
-libjemalloc2, libmimalloc2.0 and libtcmalloc-minimal4). It is no part of the gate, and no other work should run beside it.
+MODULES is the size of the tree (100000), LIBRARIES a list of files with a colon between two (those of Debian's
+packages libjemalloc2, libmimalloc2.0 and libtcmalloc-minimal4). It is no part of the gate, and no other work should
+run beside it.
 """
 import filecmp
 import os

@@ -1,7 +1,8 @@
 #!/bin/sh
-# Measures `replay` along a journal: `measure_replay.sh [PROGRAM]`, by default ./bpgen. A tree of synthetic_modules.py is
-# built with one worker and a journal, and replayed along it. It prints the lines of the journal, and for both commands the
-# least processor time (user and system) of several runs and the greatest memory. It stops where they write different bytes.
+# Measures `replay` along a journal: `measure_replay.sh [PROGRAM]`, by default ./bpgen. A tree of synthetic_modules.py
+# is built with one worker and a journal, and replayed along it. It prints the lines of the journal, and for both
+# commands the least processor time (user and system) of several runs and the greatest memory. It stops where they
+# write different bytes.
 #
 #   MODULES  number of modules (100000)
 #   RUNS     runs of each (3)

@@ -1,12 +1,12 @@
 #!/usr/bin/env python3
 """Says what the memory of a run holds when it is greatest: `tools/memory_parts.py PROGRAM`.
 
-It runs `build` of a tree of tools/synthetic_modules.py with one worker under valgrind's massif, and prints which functions
-asked for the blocks that are there at the greatest moment, with their share of all. The first function counts that is
-neither the C library's nor of a list, text or map of the standard library, where massif knows it.
+It runs `build` of a tree of tools/synthetic_modules.py with one worker under valgrind's massif, and prints which
+functions asked for the blocks that are there at the greatest moment, with their share of all. The first function
+counts that is neither the C library's nor of a list, text or map of the standard library, where massif knows it.
 
-MODULES is the size of the tree (10000), LEAST the least share that is printed, in percent (2). It needs valgrind, and is
-no part of the gate.
+MODULES is the size of the tree (10000), LEAST the least share that is printed, in percent (2). It needs valgrind, and
+is no part of the gate.
 """
 import collections
 import os

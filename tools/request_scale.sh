@@ -9,7 +9,8 @@ work=$(mktemp -d)
 trap 'rm -rf "$work"' EXIT
 mkdir -p "$work/crates/request_scale/src" "$work/crates/request_scale/specs"
 mkdir -p "$work/crates/request_scale/proofs/checks"
-for crate in bp_faults bp_names name_index bp_props serial_pass pass_core graph_nodes module_graph mutator_rules reverse_deps; do
+for crate in bp_faults bp_names name_index bp_props serial_pass pass_core graph_nodes module_graph mutator_rules \
+    reverse_deps; do
     mkdir -p "$work/crates/$crate/out"
     for part in src specs proofs; do
         cp -r "$top/crates/$crate/$part" "$work/crates/$crate/"
@@ -19,7 +20,8 @@ for crate in bp_faults bp_names name_index bp_props serial_pass pass_core graph_
     fi
     grep "^$crate[ :]" "$top/crates.txt" >> "$work/crates.txt"
 done
-echo "request_scale: bp_faults bp_props serial_pass pass_core graph_nodes module_graph mutator_rules reverse_deps anyhow" >> "$work/crates.txt"
+echo "request_scale: bp_faults bp_props serial_pass pass_core graph_nodes module_graph mutator_rules reverse_deps anyhow" \
+    >> "$work/crates.txt"
 cp "$top/HANDLES" "$work/HANDLES"
 cd "$work/crates/request_scale"
 cat > src/main.rt << 'END'

@@ -1,9 +1,10 @@
 #!/usr/bin/env python3
 """Says what one worker and four spend their processor time on: `tools/sample_parts.py PROGRAM`.
 
-It samples `build` of a tree of `tools/many_modules.sh` with one target by Linux's perf, 4,000 times a second, with the
-settings of `./bpgen`, and sorts the samples by the function that they are in. One worker and four are run in turns, RUNS
-times (5), and the middle of each part is printed, a row of docs/PERFORMANCE.md each. Sampling makes all of it longer.
+It samples `build` of a tree of `tools/many_modules.sh` with one target by Linux's perf, 4,000 times a second, with
+the settings of `./bpgen`, and sorts the samples by the function that they are in. One worker and four are run in
+turns, RUNS times (5), and the middle of each part is printed, a row of docs/PERFORMANCE.md each. Sampling makes all
+of it longer.
 
 MODULES and FILES are those of the tree (100000 and 1563). It needs perf and awk, and is no part of the gate. No other
 work should run beside it.
@@ -23,8 +24,8 @@ RATE = 4000
 PARTS = [
     ("clearing pages that are touched first", r"clear_(page|huge_page|subpage)", None),
     ("the system, but for clearing pages", None, r"\[(kernel|guest\.kernel)|\[unknown\]|vmlinux|\.ko$"),
-    ("`malloc` and `free`", r"(_*(libc_)?(malloc|free|realloc|calloc|memalign)$|_int_|malloc_|unlink_chunk|sysmalloc|systrim|"
-     r"tcache_|arena_get|heap_|alloc_perturb|lll_lock|_*lll_lock)", None),
+    ("`malloc` and `free`", r"(_*(libc_)?(malloc|free|realloc|calloc|memalign)$|_int_|malloc_|unlink_chunk|sysmalloc|"
+     r"systrim|tcache_|arena_get|heap_|alloc_perturb|lll_lock|_*lll_lock)", None),
     ("copies of memory", r"_*(memcpy|memmove|memset)", None),
     ("boards, deques and stealing", r"(ready_counters|visit_workers|crossbeam_deque|atomic_table)\b", None),
 ]
