@@ -1,6 +1,7 @@
 //! What holds of every plan without a cycle: each law is the contract of a function that does nothing.
 
-ghost use Rattle.serial_pass.specs.Laws.{InEdgesAreTogether, EdgeNumbersAreTogether, StartsOfEdgesRise, IndicesTellTargets};
+ghost use Rattle.serial_pass.specs.Laws.{InEdgesAreTogether, EdgeNumbersAreTogether};
+ghost use Rattle.serial_pass.specs.Laws.{StartsOfEdgesRise, IndicesTellTargets};
 ghost use Rattle.serial_pass.specs.Laws.{PredecessorsAreNodes, PredecessorsAreLess, PredecessorsComeBefore};
 ghost use Rattle.serial_pass.specs.Laws.{HeightsMeetTheirEquation, HeightsAreBelowTheCount, RecursionMeetsItsEquation};
 ghost use Rattle.serial_pass.specs.Laws.{OneSerialOrder, SerialIsLegal, EarlierNodesStandEarlier};
