@@ -51,12 +51,13 @@ def cost_of(top, crate, edit, work):
     copy = work / crate
     shutil.copytree(top, copy, symlinks=True, ignore=shutil.ignore_patterns("out", "must-fail"))
     planted(copy / "crates" / crate, edit)
+    subprocess.run(["rt", "fmt"], cwd=copy / "crates" / crate, stdout=subprocess.DEVNULL, check=True)
     with open(work / f"{crate}.log", "wb") as log:
         child = subprocess.Popen(["rt", "ci", crate], cwd=copy, stdout=log, stderr=log)
         _, _, used = os.wait4(child.pid, 0)
     told = (work / f"{crate}.log").read_text(errors="replace")
     shutil.rmtree(copy)
-    if f"rt: {crate} NOT PROVED" not in told:
+    if f"rt: {crate} NOT PROVED" not in told or "is not in the layout" in told:
         sys.exit(f"edits_from_nothing: {crate}: {edit.stem} wasn't refused:\n{told[-2000:]}")
     return (used.ru_utime + used.ru_stime) / 60
 
