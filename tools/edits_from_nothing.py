@@ -1,34 +1,56 @@
 #!/usr/bin/env python3
-"""Leaves one must-fail edit of each crate in a checkout: `tools/edits_from_nothing.py CHECKOUT`.
+"""Runs `rt ci` and has it try each must-fail edit from nothing: `tools/edits_from_nothing.py LOG`.
 
-`rt ci` tries an edit over what one check of its crate has kept; but where a crate has a single edit, it tries that from
-nothing, which is a whole check of the crate, as the kit of the first gate did with each. So after this
-`tools/gate_costs.py rt ci` in the checkout prints, in its column 'Before edits', what one edit of each crate costs from
-nothing. Which edit is left depends on SEED (1) alone. It prints each crate, the number of edits that it had, and the
-one that is left. The checkout should be a copy, since the other edits are removed. It is no part of the gate.
+`rt ci` tries the edits of a crate over what one check of it has kept; the kit of the first gate tried each from
+nothing, which is a whole check of the crate. This runs a copy of the text of `rt` in memory, in which two lines are
+changed: no crate has a check that its edits begin with, and the edits are tried by turns, the first of each crate and
+then the second, so that each crate has had about as many when the run is interrupted. LOG gets a line for each edit
+that was tried: its crate, its file, what it came to, and how many seconds it took. It ends with the status of `rt ci`.
+It is no part of the gate.
 """
 import os
-import pathlib
-import random
+import shutil
 import sys
+import time
+
+CHANGES = [
+    ("    has_seed = len(edits) > 1 or edits and start\n", "    has_seed = False\n"),
+    ("key=lambda it: (fills(it), -behind[it])", "key=lambda it: (fills(it), it[2] if len(it) > 2 else 0, -behind[it])"),
+]
 
 
-def leave_one(folder, seed):
-    """Removes all edits of a crate but one, and says which."""
-    edits = sorted(folder.glob("*.edit"))
-    left = random.Random(f"{seed} {folder.parent.name}").choice(edits)
-    for edit in edits:
-        if edit != left:
-            edit.unlink()
-    print(f"{folder.parent.name}: {len(edits)}, {left.stem}")
+def changed(text):
+    """The text of `rt` with the changes."""
+    for old, new in CHANGES:
+        if text.count(old) != 1:
+            sys.exit(f"this kit's rt has no line to change: {old.strip()}")
+        text = text.replace(old, new)
+    return text
+
+
+def logged(must_fail, path):
+    """`must_fail` of `rt`, which tries one edit, with a line of the log for each."""
+
+    def tried(crate, edit, flags, kept=None):
+        began = time.time()
+        found = must_fail(crate, edit, flags, kept)
+        with open(path, "a", encoding="utf-8") as log:
+            print(crate.name, os.path.basename(edit), found[0], f"{time.time() - began:.1f}", file=log)
+        return found
+
+    return tried
 
 
 def main():
     if len(sys.argv) != 2:
-        sys.exit("usage: tools/edits_from_nothing.py CHECKOUT")
-    for folder in sorted(pathlib.Path(sys.argv[1]).glob("crates/*/must-fail")):
-        if any(folder.glob("*.edit")):
-            leave_one(folder, os.environ.get("SEED", "1"))
+        sys.exit("usage: tools/edits_from_nothing.py LOG")
+    path = os.path.realpath(shutil.which("rt") or sys.exit("rt isn't on the path"))
+    with open(path, encoding="utf-8") as file:
+        text = changed(file.read())
+    names = {"__name__": "rt", "__file__": path}
+    exec(compile(text, path, "exec"), names)
+    names["must_fail"] = logged(names["must_fail"], os.path.abspath(sys.argv[1]))
+    sys.exit(names["main"](["ci"]))
 
 
 if __name__ == "__main__":
