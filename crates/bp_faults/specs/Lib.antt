@@ -9,4 +9,5 @@ pub mod Targets
 pub mod Paths
 pub mod Characters
 pub mod Line
+pub mod Limits
 pub mod Laws
