@@ -10,4 +10,6 @@ pub mod Paths
 pub mod Characters
 pub mod Line
 pub mod Limits
+pub mod Same
+pub mod Equalities
 pub mod Laws
