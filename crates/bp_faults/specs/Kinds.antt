@@ -9,9 +9,9 @@ use Rattle.bp_faults.specs.declared.kind.FaultKind.TheVariants.{MissingName, Bad
 use Rattle.bp_faults.specs.declared.kind.FaultKind.TheVariants.{NotDefaults, Cycle, MissingVariant, BadSource, BadValue}
 use Rattle.bp_faults.specs.declared.kind.FaultKind.TheVariants.{BadPath, DuplicateSource, LinkTooLong, TooMany, NoFile}
 use Rattle.bp_faults.specs.declared.kind.FaultKind.TheVariants.{FileTooLarge, BadList, OutputTooLarge, NotReady}
-use Rattle.bp_faults.specs.declared.kind.FaultKind.TheVariants.{OrderEnds, NotBuilt, TextTooLong, NoModule, NotList}
+use Rattle.bp_faults.specs.declared.kind.FaultKind.TheVariants.{OrderEnds, TextTooLong, NoModule, NotList}
 
--- Each kind has a number.
+-- Each kind has a number. 37 stays unused.
 abbrev pub fault_number : FaultKind → ℕ
 fault_number NotUtf8 = 1
 fault_number BadChar = 2
@@ -49,7 +49,6 @@ fault_number BadList = 33
 fault_number OutputTooLarge = 34
 fault_number NotReady = 35
 fault_number OrderEnds = 36
-fault_number NotBuilt = 37
 fault_number TextTooLong = 40
 fault_number NoModule = 41
 fault_number NotList = 42
@@ -92,7 +91,6 @@ fault_text BadList = codes "bad path in list"
 fault_text OutputTooLarge = codes "output is too large"
 fault_text NotReady = codes "not ready"
 fault_text OrderEnds = codes "order ends early"
-fault_text NotBuilt = codes "not built yet"
 fault_text TextTooLong = codes "text is too long"
 fault_text NoModule = codes "no such module"
 fault_text NotList = codes "not a list"

@@ -9,4 +9,7 @@ pub mod Targets
 pub mod Paths
 pub mod Characters
 pub mod Line
+pub mod Limits
+pub mod Same
+pub mod Equalities
 pub mod Laws

@@ -41,7 +41,6 @@ number_small K.BadList = lit< tt
 number_small K.OutputTooLarge = lit< tt
 number_small K.NotReady = lit< tt
 number_small K.OrderEnds = lit< tt
-number_small K.NotBuilt = lit< tt
 number_small K.TextTooLong = lit< tt
 number_small K.NoModule = lit< tt
 number_small K.NotList = lit< tt
