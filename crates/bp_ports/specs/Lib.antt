@@ -8,5 +8,6 @@ pub mod FreeStore
 pub mod FreeSink
 pub mod FsStore
 pub mod FailedReads
+pub mod RealFiles
 pub mod NewFiles
 pub mod StdSink

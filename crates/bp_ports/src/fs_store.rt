@@ -1,14 +1,15 @@
-ghost use Rattle.std.specs.Prelude.{◌≡◌, ◌≤◌, Some, None, IfOk, IfSome, length};
+ghost use Rattle.std.specs.Prelude.{◌≡◌, ◌≤◌, Some, None, IfOk, IfSome, OnOk, length};
 ghost use Rattle.bp_ports.specs.Files.{ReadGives};
 ghost use Rattle.bp_ports.specs.FailedReads.{read_failure, open_failure};
+ghost use Rattle.bp_ports.specs.RealFiles.{OpenedGives, SomeOpeningGives};
 
 use crate::replace::replace;
 use crate::{Failed, ReadError, Store};
 use bp_faults::Text;
 use std::alloc::Global;
-use std::fs;
 use std::io::{ErrorKind, Read};
 use std::rt::{Clock, Files};
+use std::{fs, io};
 
 // Why an open file isn't read, by the kind of the system's error.
 fn read_error(kind: ErrorKind) -> ReadError
@@ -43,6 +44,21 @@ pub fn contents<F: Read + Drop>(alloc: Global, reader: F, limit: u64) -> Result<
     }
 }
 
+// What the system answered to the opening of a file, read where it is open: at most so many bytes.
+fn read_opened<F: Read + Drop>(
+    alloc: Global,
+    opened: io::Result<F>,
+    limit: u64,
+) -> Result<Vec<u8>, ReadError>
+    ensures gives { OpenedGives (λ file. F.remaining file) opened limit result }
+    ensures bound { IfOk result (λ bytes. length bytes.items ≤ limit) }
+{
+    match opened {
+        Ok(file) => contents(alloc, file, limit),
+        Err(error) => Err(open_error(error.kind())),
+    }
+}
+
 /// The files of the system. It tells nothing of them.
 #[derive(Drop)]
 pub struct FsStore<R> {
@@ -68,18 +84,17 @@ impl<R: Files + Clock + Drop> FsStore<R> {
 
     // The file's bytes, at most so many.
     fn bytes(&self, alloc: Global, path: &str, limit: u64) -> Result<Vec<u8>, ReadError>
-        ensures { IfOk result (λ bytes. length bytes.items ≤ limit) }
+        ensures opened { SomeOpeningGives (λ file. R.File.remaining file) limit result }
+        ensures bound { IfOk result (λ bytes. length bytes.items ≤ limit) }
     {
-        match fs::open(&self.rt, path) {
-            Ok(file) => contents(alloc, file, limit),
-            Err(error) => Err(open_error(error.kind())),
-        }
+        read_opened(alloc, fs::open(&self.rt, path), limit)
     }
 }
 
 impl<R: Files + Clock + Drop> Store for FsStore<R> {
     ghost use Rattle.bp_ports.specs.Causes.{HasCause, HasCauseAt, count_after, read_count_after};
     ghost use Rattle.bp_ports.specs.FsStore.{failed_reads, failed_writes};
+    ghost use Rattle.bp_ports.specs.RealFiles.{SomeFileGains};
 
     ghost files = { λ s. None };
 
@@ -92,6 +107,9 @@ impl<R: Files + Clock + Drop> Store for FsStore<R> {
         ensures cause { HasCauseAt ReadError.Failed (failed_reads self.old) (failed_reads self.new) result }
         ensures writes { failed_writes self.new ≡ failed_writes self.old }
         ensures raised { failed_reads self.new ≡ read_count_after result (failed_reads self.old) }
+
+        // The answer is that of some opening of a file, at this limit.
+        ensures opened { SomeOpeningGives (λ file. R.File.remaining file) limit result }
     {
         match self.bytes(alloc, path.as_str(), limit) {
             Err(ReadError::Failed) => {
@@ -106,6 +124,9 @@ impl<R: Files + Clock + Drop> Store for FsStore<R> {
         ensures cause { HasCause (failed_writes self.old) (failed_writes self.new) result }
         ensures reads { failed_reads self.new ≡ failed_reads self.old }
         ensures raised { failed_writes self.new ≡ count_after result (failed_writes self.old) }
+
+        // Nothing is done before all the bytes are with a file.
+        ensures gained { OnOk result (SomeFileGains (λ file. R.File.contents file) bytes.now) }
     {
         match replace(&self.rt, path.as_str(), bytes) {
             Ok(()) => Ok(()),

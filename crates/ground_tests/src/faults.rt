@@ -1,3 +1,4 @@
+use crate::rows::check_row;
 use bp_faults::{
     Fault, FaultKind, Item, ModuleId, NodeId, OutOfMemory, Path, Payload, Place, Refusal, Seq,
     Target, Text, fault_line, is_barred_in_paths, is_control,
@@ -37,35 +38,29 @@ fn printed(alloc: Global, fault: &Fault) -> Result<Option<String>, OutOfMemory> 
     }
 }
 
-/// Whether a fault of a subject is copied, and printed as this line.
-fn prints(
+/// How a fault of a subject is printed.
+fn printed_on(
     alloc: Global,
     kind: FaultKind,
     at: Place,
     subject: &str,
-    want: &str,
-) -> Result<bool, OutOfMemory> {
-    let fault = Fault::on(alloc, kind, at, text(alloc, subject)?);
-    match printed(alloc, &fault)? {
-        Some(line) => Ok(line.as_str() == want),
-        None => Ok(false),
-    }
+) -> Result<Option<String>, OutOfMemory> {
+    printed(alloc, &Fault::on(alloc, kind, at, text(alloc, subject)?))
 }
 
 #[test]
 fn faults_are_printed_with_their_subjects(rt: HostRuntime) -> Result<(), Fail> {
-    let line = "list:1:1: error 33: bad path in list: ../x\n";
-    assert!(rt; prints(rt.alloc(), FaultKind::BadList, place(0, 1, 1), "../x", line)?);
-    let line = ":30:4: error 2: unexpected character: ?[é?\n";
-    assert!(rt;
-        prints(
-            rt.alloc(),
-            FaultKind::BadChar,
-            place(2, 30, 4),
-            "\u{1b}[é\u{7f}",
-            line
-        )?
-    );
+    let line = printed_on(rt.alloc(), FaultKind::BadList, place(0, 1, 1), "../x")?;
+    let want = "list:1:1: error 33: bad path in list: ../x\n";
+    assert_eq!(rt; line.as_ref().map(|line| line.as_str()), Some(want));
+    let line = printed_on(
+        rt.alloc(),
+        FaultKind::BadChar,
+        place(2, 30, 4),
+        "\u{1b}[é\u{7f}",
+    )?;
+    let want = ":30:4: error 2: unexpected character: ?[é?\n";
+    assert_eq!(rt; line.as_ref().map(|line| line.as_str()), Some(want));
     Ok(())
 }
 
@@ -144,22 +139,20 @@ const WORDS: &[(&str, bool)] = &[
     ("..", false),
 ];
 
-/// The first word that is wrongly a normal path, or isn't one.
-fn wrongly_normal(
-    alloc: Global,
-    words: &[(&'static str, bool)],
-) -> Result<Option<&'static str>, OutOfMemory> {
-    for (word, want) in words {
-        if takes_path(alloc, word)? != *want {
-            return Ok(Some(*word));
-        }
+// The words that are wrongly normal paths, or aren't.
+fn wrongly_normal(alloc: Global) -> Result<String, OutOfMemory> {
+    let mut wrong = String::new(alloc);
+    for (word, want) in WORDS {
+        let found = takes_path(alloc, word)?;
+        check_row(&mut wrong, *word, found, *want)?;
     }
-    Ok(None)
+    Ok(wrong)
 }
 
 #[test]
 fn paths_are_normal_and_are_copied(rt: HostRuntime) -> Result<(), Fail> {
-    assert_eq!(rt; wrongly_normal(rt.alloc(), WORDS)?, None);
+    let wrong = wrongly_normal(rt.alloc())?;
+    assert!(rt; wrong.is_empty(), "{wrong}");
     Ok(())
 }
 
@@ -197,19 +190,20 @@ const LENGTHS: &[(usize, u32)] = &[
     (17, 40),
 ];
 
-/// The first length of which texts differ.
-fn wrongly_long(alloc: Global) -> Result<Option<u32>, OutOfMemory> {
+// The rooms and lengths of which texts differ.
+fn wrongly_long(alloc: Global) -> Result<String, OutOfMemory> {
+    let mut wrong = String::new(alloc);
     for (room, count) in LENGTHS {
-        if !is_same_text(alloc, *room, *count)? {
-            return Ok(Some(*count));
-        }
+        let found = is_same_text(alloc, *room, *count)?;
+        check_row(&mut wrong, (*room, *count), found, true)?;
     }
-    Ok(None)
+    Ok(wrong)
 }
 
 #[test]
 fn short_texts_grow_long(rt: HostRuntime) -> Result<(), Fail> {
-    assert_eq!(rt; wrongly_long(rt.alloc())?, None);
+    let wrong = wrongly_long(rt.alloc())?;
+    assert!(rt; wrong.is_empty(), "{wrong}");
     Ok(())
 }
 
@@ -275,19 +269,20 @@ const CHARACTERS: &[(char, bool, bool)] = &[
     ('\u{80}', false, false),
 ];
 
-/// The first character that is wrongly a control character, or wrongly barred in paths.
-fn wrongly_barred(rows: &[(char, bool, bool)]) -> Option<char> {
-    for (c, control, barred) in rows {
-        if is_control(*c) != *control || is_barred_in_paths(*c) != *barred {
-            return Some(*c);
-        }
+// The characters that are wrongly control characters, or wrongly barred in paths.
+fn wrongly_barred(alloc: Global) -> Result<String, OutOfMemory> {
+    let mut wrong = String::new(alloc);
+    for (c, control, barred) in CHARACTERS {
+        let found = (is_control(*c), is_barred_in_paths(*c));
+        check_row(&mut wrong, *c, found, (*control, *barred))?;
     }
-    None
+    Ok(wrong)
 }
 
 #[test]
 fn characters_are_barred(rt: HostRuntime) -> Result<(), Fail> {
-    assert_eq!(rt; wrongly_barred(CHARACTERS), None);
+    let wrong = wrongly_barred(rt.alloc())?;
+    assert!(rt; wrong.is_empty(), "{wrong}");
     Ok(())
 }
 

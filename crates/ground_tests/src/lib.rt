@@ -7,3 +7,5 @@ mod faults;
 mod names;
 #[cfg(test)]
 mod ports;
+#[cfg(test)]
+mod rows;

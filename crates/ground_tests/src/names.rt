@@ -1,3 +1,4 @@
+use crate::rows::check_row;
 use bp_faults::{Item, OutOfMemory, Place, Text};
 use bp_names::{NameSet, NameTable};
 use std::alloc::Global;
@@ -21,73 +22,63 @@ const KNOWN: &[(&str, Option<u32>)] = &[
     ("c", None),
 ];
 
-/// The first name that the set takes for new, or for known, when it isn't.
-fn wrongly_learnt(
-    set: &mut NameSet<'static>,
-    rows: &[(&'static str, u32, u32)],
-) -> Result<Option<&'static str>, OutOfMemory> {
-    for (name, number, first) in rows {
-        if set.learn(*name)? != (number == first) {
-            return Ok(Some(*name));
-        }
+// The names that the set takes for new, or for known, when they aren't.
+fn wrongly_learnt(alloc: Global, set: &mut NameSet<'static>) -> Result<String, OutOfMemory> {
+    let mut wrong = String::new(alloc);
+    for (name, number, first) in LEARNT {
+        let found = set.learn(*name)?;
+        check_row(&mut wrong, (*name, *number), found, number == first)?;
     }
-    Ok(None)
+    Ok(wrong)
 }
 
-/// The first name that the set knows though it wasn't learnt, or doesn't know.
-fn wrongly_known(
-    set: &NameSet<'static>,
-    rows: &[(&'static str, Option<u32>)],
-) -> Option<&'static str> {
-    for (name, first) in rows {
-        if set.knows(*name) != first.is_some() {
-            return Some(*name);
-        }
+// The names that the set knows though they weren't learnt, or doesn't know.
+fn wrongly_known(alloc: Global, set: &NameSet<'static>) -> Result<String, OutOfMemory> {
+    let mut wrong = String::new(alloc);
+    for (name, first) in KNOWN {
+        check_row(&mut wrong, *name, set.knows(*name), first.is_some())?;
     }
-    None
+    Ok(wrong)
 }
 
 #[test]
 fn a_set_knows_the_names_that_it_learnt(rt: HostRuntime) -> Result<(), Fail> {
     let mut set = NameSet::new(rt.alloc());
-    let learnt = wrongly_learnt(&mut set, LEARNT)?;
-    let known = wrongly_known(&set, KNOWN);
-    assert_eq!(rt; (learnt, known, set.len()), (None, None, 4));
+    let wrong = wrongly_learnt(rt.alloc(), &mut set)?;
+    assert!(rt; wrong.is_empty(), "{wrong}");
+    let wrong = wrongly_known(rt.alloc(), &set)?;
+    assert!(rt; wrong.is_empty(), "{wrong}");
+    assert_eq!(rt; set.len(), 4);
     Ok(())
 }
 
-/// The first name that the table gives another first number when it learns it.
-fn wrongly_numbered(
-    table: &mut NameTable<'static>,
-    rows: &[(&'static str, u32, u32)],
-) -> Result<Option<&'static str>, OutOfMemory> {
-    for (name, number, first) in rows {
-        if table.learn(*name, *number)?.unwrap_or(*number) != *first {
-            return Ok(Some(*name));
-        }
+// The names that the table gives another first number when it learns them.
+fn wrongly_numbered(alloc: Global, table: &mut NameTable<'static>) -> Result<String, OutOfMemory> {
+    let mut wrong = String::new(alloc);
+    for (name, number, first) in LEARNT {
+        let found = table.learn(*name, *number)?.unwrap_or(*number);
+        check_row(&mut wrong, (*name, *number), found, *first)?;
     }
-    Ok(None)
+    Ok(wrong)
 }
 
-/// The first name that the table has with another number, or wrongly has or lacks.
-fn wrongly_found(
-    table: &NameTable<'static>,
-    rows: &[(&'static str, Option<u32>)],
-) -> Option<&'static str> {
-    for (name, first) in rows {
-        if table.number_of(*name) != *first {
-            return Some(*name);
-        }
+// The names that the table has with another number, or wrongly has or lacks.
+fn wrongly_found(alloc: Global, table: &NameTable<'static>) -> Result<String, OutOfMemory> {
+    let mut wrong = String::new(alloc);
+    for (name, first) in KNOWN {
+        check_row(&mut wrong, *name, table.number_of(*name), *first)?;
     }
-    None
+    Ok(wrong)
 }
 
 #[test]
 fn a_table_has_the_first_numbers_of_names(rt: HostRuntime) -> Result<(), Fail> {
     let mut table = NameTable::new(rt.alloc());
-    let learnt = wrongly_numbered(&mut table, LEARNT)?;
-    let found = wrongly_found(&table, KNOWN);
-    assert_eq!(rt; (learnt, found, table.len()), (None, None, 4));
+    let wrong = wrongly_numbered(rt.alloc(), &mut table)?;
+    assert!(rt; wrong.is_empty(), "{wrong}");
+    let wrong = wrongly_found(rt.alloc(), &table)?;
+    assert!(rt; wrong.is_empty(), "{wrong}");
+    assert_eq!(rt; table.len(), 4);
     Ok(())
 }
 

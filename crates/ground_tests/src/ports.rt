@@ -1,5 +1,6 @@
 mod real_files;
 
+use crate::rows::check_row;
 use bp_faults::{NodeId, OutOfMemory, Text};
 use bp_ports::{
     Failed, FreeSink, FreeStore, Gate, MemSink, MemStore, OpenGate, ReadError, Sink, StdSink, Store,
@@ -43,7 +44,7 @@ fn enters<G: Gate + Sync>(gate: &G) {
 }
 
 /// A call of a store: a read of at most so many bytes, a write, or a look at what it holds.
-#[derive(Clone, Copy)]
+#[derive(Clone, Copy, Debug)]
 enum Call {
     Read(&'static str, u64),
     Write(&'static str, &'static str),
@@ -51,9 +52,9 @@ enum Call {
 }
 
 /// The bytes that are read, as a text, or the error.
-fn shown_read(
+fn shown_read<S: Store>(
     alloc: Global,
-    store: &mut MemStore,
+    store: &mut S,
     path: &str,
     limit: u64,
 ) -> Result<String, OutOfMemory> {
@@ -110,25 +111,25 @@ const CALLS: &[(Call, &str)] = &[
     (Call::Read("b", 3), "no such file"),
 ];
 
-/// What the first call gives that doesn't give what it should.
-fn differing(
+// The calls that give something else.
+fn wrong_calls(
     alloc: Global,
     store: &mut MemStore,
     calls: &[(Call, &str)],
-) -> Result<Option<String>, OutOfMemory> {
+) -> Result<String, OutOfMemory> {
+    let mut wrong = String::new(alloc);
     for (call, want) in calls {
         let found = shown(alloc, store, *call)?;
-        if found.as_str() != *want {
-            return Ok(Some(found));
-        }
+        check_row(&mut wrong, *call, found.as_str(), *want)?;
     }
-    Ok(None)
+    Ok(wrong)
 }
 
 #[test]
 fn the_listed_calls_of_a_store_fail(rt: HostRuntime) -> Result<(), Fail> {
     let mut store = failing_store(rt.alloc())?;
-    assert!(rt; differing(rt.alloc(), &mut store, CALLS)?.is_none());
+    let wrong = wrong_calls(rt.alloc(), &mut store, CALLS)?;
+    assert!(rt; wrong.is_empty(), "{wrong}");
     assert_eq!(rt; store.calls(), 7);
     Ok(())
 }
@@ -148,7 +149,8 @@ const WRITES: &[(Call, &str)] = &[
 #[test]
 fn a_write_uses_up_room(rt: HostRuntime) -> Result<(), Fail> {
     let mut store = small_store(rt.alloc())?;
-    assert!(rt; differing(rt.alloc(), &mut store, WRITES)?.is_none());
+    let wrong = wrong_calls(rt.alloc(), &mut store, WRITES)?;
+    assert!(rt; wrong.is_empty(), "{wrong}");
     Ok(())
 }
 
@@ -209,21 +211,27 @@ const PUTS: &[(&str, bool, &str)] = &[
     ("", true, "abcdef0123"),
 ];
 
-/// The first text that isn't put as it should be.
-fn wrongly_put(sink: &mut MemSink, rows: &[(&'static str, bool, &str)]) -> Option<&'static str> {
-    for (word, is_put, behind) in rows {
-        let found = puts(sink, word.as_bytes());
-        if found.is_ok() != *is_put || sink.bytes() != behind.as_bytes() {
-            return Some(*word);
-        }
+// The texts that are put otherwise.
+fn wrong_puts(alloc: Global, sink: &mut MemSink) -> Result<String, OutOfMemory> {
+    let mut wrong = String::new(alloc);
+    for (word, is_put, behind) in PUTS {
+        let found = puts(sink, word.as_bytes()).is_ok();
+        let bytes = sink.bytes();
+        check_row(
+            &mut wrong,
+            *word,
+            (found, bytes),
+            (*is_put, behind.as_bytes()),
+        )?;
     }
-    None
+    Ok(wrong)
 }
 
 #[test]
 fn a_put_that_fails_appends_half(rt: HostRuntime) -> Result<(), Fail> {
     let mut sink = MemSink::new(rt.alloc(), 10, vec![in rt.alloc(); 2]?)?;
-    assert_eq!(rt; wrongly_put(&mut sink, PUTS), None);
+    let wrong = wrong_puts(rt.alloc(), &mut sink)?;
+    assert!(rt; wrong.is_empty(), "{wrong}");
     Ok(())
 }
 
