@@ -13,7 +13,7 @@ pub mod Levels
 pub mod Nearer
 pub mod Climbing
 pub mod Outward
-pub mod Back
+pub mod Least
 pub mod Starting
 pub mod Ways
 pub mod OneCycle

@@ -4,4 +4,3 @@ pub mod Planned
 pub mod Laws
 pub mod Cycles
 pub mod Search
-pub mod Parts

@@ -1,6 +1,6 @@
 -- How an index finds names by slots. No public contract speaks of it.
 use Rattle.std.specs.Borrow.{Bor}
-use Rattle.std.specs.Prelude.{◌≡◌, ◌≤◌, ℕ, ◌-◌, Bool, false, cond, List, map, length, nat_eq, bit_and, slice_get}
+use Rattle.std.specs.Prelude.{◌≡◌, ◌≤◌, ℕ, ◌-◌, ◌*◌, Bool, false, cond, List, map, length, nat_eq, bit_and, slice_get}
 use Rattle.std.specs.Prelude.{Option, Some, None, if◌then◌else◌}
 use Rattle.std.specs.Str.{bytes_eq}
 use Rattle.bp_names.specs.Meaning.{number_of}
@@ -31,3 +31,7 @@ pub record FindsBySlots (mask : ℕ) (marks : List ℕ) (names others : List (Li
       → number_of names name ≡ number_by (slice_get marks (bit_and (key_of name) mask)) names others name
   pub within : (name : List ℕ) → number_of names name ≡ None → number_of others name ≡ None
   pub owned : (slot mark : ℕ) → slice_get marks slot ≡ Some mark → mark ≤ length names
+
+-- There are at least four slots for each of so many names.
+abbrev pub HasRoomFor : ℕ → List ℕ → Type 0
+HasRoomFor count marks = 4 * count ≤ length marks

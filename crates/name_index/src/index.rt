@@ -9,9 +9,6 @@ use bp_names::NameTable;
 use std::alloc::Global;
 use std::marker::Model;
 
-/// How many slots an index has at first.
-const FIRST_SLOTS: usize = 64;
-
 /// An index of names: all names with their numbers, and slots by which they are found. Contracts see it as the list of
 /// the names with their numbers.
 #[derive(Debug, Drop)]
@@ -22,14 +19,15 @@ pub struct NameIndex<'a> {
 }
 
 impl<'a> Model for NameIndex<'a> {
-    ghost use Rattle.std.specs.Prelude.{List, ℕ};
-    ghost use Rattle.name_index.specs.Slots.{names_of, FindsBySlots};
+    ghost use Rattle.std.specs.Prelude.{List, ℕ, length};
+    ghost use Rattle.name_index.specs.Slots.{names_of, FindsBySlots, HasRoomFor};
 
     ghost Value = { List (List ℕ × ℕ) };
 
     ghost view = { λ t. names_of t.names.items };
 
-    ghost invariant = { λ t. FindsBySlots t.slots.mask t.slots.marks.items (names_of t.names.items) t.slots.others };
+    ghost invariant = { λ t. FindsBySlots t.slots.mask t.slots.marks.items (names_of t.names.items) t.slots.others
+        × HasRoomFor (length t.names.items) t.slots.marks.items };
 }
 
 impl<'a> NameIndex<'a> {
@@ -48,25 +46,13 @@ impl<'a> NameIndex<'a> {
         }
     }
 
-    /// There are at least four slots for each name and one more.
-    fn make_room(&mut self) -> Result<(), OutOfMemory>
-        ensures { self.new ≡ self.old }
-    {
-        let slots = self.slots.marks.len();
-        if self.names.len() >= slots / 4 {
-            let more = slots.saturating_mul(4).max(FIRST_SLOTS);
-            self.slots = Slots::of(self.alloc, more, &self.names)?;
-        }
-        Ok(())
-    }
-
     /// Adds a name.
     fn add(&mut self, key: u64, name: &'a str, number: u32) -> Result<(), OutOfMemory>
         requires { key ≡ key_of name.now }
         ensures added { OnOk result (self.new ≡ self.old ++ (name.now, number) ∷ []) }
         ensures err { OnErr result (self.new ≡ self.old) }
     {
-        self.make_room()?;
+        self.slots.make_room(self.alloc, &self.names)?;
         self.names.reserve(1)?;
         self.slots.place(key, self.names.len(), name, number)?;
         self.names.push((name, number))?;

@@ -1,12 +1,15 @@
-ghost use Rattle.std.specs.Prelude.{◌≡◌, ℕ, ◌∷◌, ◌++◌, List, [], length, IfOk, OnOk, OnErr, slice_get, bit_and};
+ghost use Rattle.std.specs.Prelude.{◌≡◌, ℕ, ◌+◌, ◌∷◌, ◌++◌, List, [], length, IfOk, OnOk, OnErr, slice_get, bit_and};
 ghost use Rattle.std.specs.Option.{option_map};
 ghost use Rattle.name_index.specs.Keys.{key_of};
-ghost use Rattle.name_index.specs.Slots.{is_free, names_of, by_owner, number_by, FindsBySlots};
+ghost use Rattle.name_index.specs.Slots.{is_free, names_of, by_owner, number_by, FindsBySlots, HasRoomFor};
 
 use crate::key::key_of;
 use bp_faults::OutOfMemory;
 use bp_names::NameTable;
 use std::alloc::Global;
+
+/// How many slots there are at first.
+const FIRST_SLOTS: usize = 64;
 
 /// How many names can own slots.
 const MOST_NAMES: usize = 4_294_967_295;
@@ -46,7 +49,8 @@ fn by_owner(owner: Option<(&str, u32)>, others: &NameTable<'_>, name: &str) -> O
 impl<'a> Slots<'a> {
     /// So many free slots, which are a power of two, or none. No slots take no memory.
     pub fn free(alloc: Global, count: usize) -> Result<Slots<'a>, OutOfMemory>
-        ensures { IfOk result (λ slots. FindsBySlots slots.mask slots.marks.items [] slots.others) }
+        ensures found { IfOk result (λ slots. FindsBySlots slots.mask slots.marks.items [] slots.others) }
+        ensures many { IfOk result (λ slots. length slots.marks.items ≡ count) }
     {
         Ok(Slots {
             marks: vec![in alloc; 0; count]?,
@@ -61,7 +65,9 @@ impl<'a> Slots<'a> {
         count: usize,
         names: &[(&'a str, u32)],
     ) -> Result<Slots<'a>, OutOfMemory>
-        ensures { IfOk result (λ slots. FindsBySlots slots.mask slots.marks.items (names_of names.now) slots.others) }
+        ensures found { IfOk result (λ slots. FindsBySlots slots.mask slots.marks.items (names_of names.now)
+            slots.others) }
+        ensures many { IfOk result (λ slots. length slots.marks.items ≡ count) }
     {
         let mut slots = Slots::free(alloc, count)?;
         for (index, (name, number)) in names.iter().enumerate() {
@@ -95,6 +101,7 @@ impl<'a> Slots<'a> {
             → FindsBySlots self.old.mask self.old.marks.items names self.old.others
             → OnOk result (FindsBySlots self.new.mask self.new.marks.items (names ++ (name.now, number) ∷ [])
             self.new.others) }
+        ensures many { length self.new.marks.items ≡ length self.old.marks.items }
         ensures err { OnErr result (self.new ≡ self.old) }
     {
         if index >= MOST_NAMES {
@@ -105,6 +112,24 @@ impl<'a> Slots<'a> {
             self.marks[slot] = index as u32 + 1;
         } else {
             self.others.learn(name, number)?;
+        }
+        Ok(())
+    }
+
+    /// There are at least four slots for each of the names and one more: where there are fewer, each name is put into
+    /// its slot among four times as many.
+    pub fn make_room(&mut self, alloc: Global, names: &[(&'a str, u32)]) -> Result<(), OutOfMemory>
+        requires found { FindsBySlots self.old.mask self.old.marks.items (names_of names.now) self.old.others }
+        requires room { HasRoomFor (length names.now) self.old.marks.items }
+        ensures found { OnOk result (FindsBySlots self.new.mask self.new.marks.items (names_of names.now)
+            self.new.others) }
+        ensures room { OnOk result (HasRoomFor (length names.now + 1) self.new.marks.items) }
+        ensures err { OnErr result (self.new ≡ self.old) }
+    {
+        let slots = self.marks.len();
+        if names.len() >= slots / 4 {
+            let more = slots.saturating_mul(4).max(FIRST_SLOTS);
+            *self = Slots::of(alloc, more, names)?;
         }
         Ok(())
     }

@@ -1,5 +1,5 @@
 use Rattle.graph_nodes.specs.declared.graph.EdgeKind.TheVariants.{Defaults}
-use Rattle.module_graph.proofs.Back.{least_step}
+use Rattle.module_graph.proofs.Least.{least_step}
 use Rattle.module_graph.proofs.settled.least_target.Goals as goal
 
 pub loop-edge-preserved : goal.loop-edge-preserved

@@ -1,14 +1,13 @@
-use Rattle.std.proofs.Common.{◌≡◌, ◌∙◌, ◌<◌, ◌≤◌, ⊎_elim, ℕ, List, take, slice_index, length, arith, subst, sym}
+use Rattle.std.proofs.Common.{◌≡◌, ◌∙◌, ◌<◌, ◌≤◌, ℕ, List, take, slice_index, length, arith, subst, sym}
 use Rattle.std.proofs.Common.{ap}
+use Rattle.std.specs.List.{AllByRecursion}
 use Rattle.std.proofs.lemmas.Bool.Decides.{nat_tests}
 use Rattle.bp_faults.proofs.Lists.{all_map}
 use Rattle.serial_pass.specs.declared.plan.PlanEdge.{PlanEdge}
 use Rattle.graph_nodes.specs.declared.graph.Edge.{Edge}
 use Rattle.graph_nodes.specs.declared.graph.Node.{Node}
 use Rattle.module_graph.specs.Graphs.{edges_of}
-use Rattle.module_graph.specs.Parts.{AreParts, HasTarget}
 use Rattle.module_graph.specs.Walks.{Returns}
-use Rattle.module_graph.proofs.Back.{IsLeast, comes_back, never_down}
 use Rattle.module_graph.proofs.Climbing.{all_edges_more, none_below}
 use Rattle.module_graph.proofs.settled.settled.Goals as goal
 
@@ -22,10 +21,9 @@ loop-n-preserved g c =
     let nodes = c.as_slice-nodes.result.now in
     let x = c.index-nodes-n.result in
     let inv = c.loop-n.invariant in
-    let is_least : IsLeast numbers x.edges least = subst (λ (es : List Edge). IsLeast numbers es least)
-    (c.as_slice.ensures ∙ ap (λ (y : Node _). y.edges) (sym c.index-nodes-n.is))
-    (c.least_target-least.ensures.below, c.least_target-least.ensures.met) in
-    let above = is_least.0 in
+    let above : AllByRecursion (λ (e : Edge). least ≤ number e.to.0) x.edges =
+    subst (λ (es : List Edge). AllByRecursion (λ (e : Edge). least ≤ number e.to.0) es)
+    (c.as_slice.ensures ∙ ap (λ (y : Node _). y.edges) (sym c.index-nodes-n.is)) c.least_target-least.ensures in
     let lt : n < length nodes = omega arith in
     let is : c.from-number.result ≡ number n = c.from-number.ensures in
     let climbs : number n ≤ least = omega (arith, is, c.if-least-number.false) in
@@ -43,35 +41,7 @@ loop-n-preserved g c =
           (λ e h lt. h (omega arith)) (edges_of (take n nodes)) inv.2)
           (all_map (λ (e : Edge). least ≤ number e.to.0) (λ (e : Edge). n < r → number n < number e.to.0)
           (λ e h lt. let s = strict lt in omega arith) x.edges above),
-      λ parts below. ⊎_elim
-          (λ kept. subst (Returns (edges_of nodes)) (sym kept) (inv.3 parts (omega arith)))
-          (λ here.
-          let equal : least ≡ number n = grind (arith, nat_tests) in
-          subst (Returns (edges_of nodes)) (sym here.0)
-          (comes_back numbers nodes n x lt c.index-nodes-n.is parts
-          (⊎_elim (λ target. subst (HasTarget numbers x.edges) equal target) (λ max. absurd (omega arith)) is_least.1)))
-          c.narrowed-first.ensures.one,
     )
-
-pub returns-then-least-number-clause-exact : goal.returns-then-least-number-clause-exact
-returns-then-least-number-clause-exact g c = λ parts some.
-    let numbers = c.args.numbers.now in
-    let n = c.loop-n.n in
-    let least = c.least_target-least.result in
-    let nodes = c.as_slice-nodes.result.now in
-    let x = c.index-nodes-n.result in
-    let is_least : IsLeast numbers x.edges least = subst (λ (es : List Edge). IsLeast numbers es least)
-    (c.as_slice.ensures ∙ ap (λ (y : Node _). y.edges) (sym c.index-nodes-n.is))
-    (c.least_target-least.ensures.below, c.least_target-least.ensures.met) in
-    let lt : n < length nodes = omega arith in
-    let is : c.from-number.result ≡ slice_index numbers n = c.from-number.ensures in
-    let here : AreParts (edges_of nodes) numbers =
-    subst (λ (ns : List (Node _)). AreParts (edges_of ns) numbers) (sym c.as_slice-nodes.ensures) parts in
-    let no : ⊥ = ⊎_elim
-    (λ target. never_down numbers nodes n x lt c.index-nodes-n.is here least target
-    (let less = c.if-least-number.true in omega arith))
-    (λ max. let fits = c.from-number.type_inv in let less = c.if-least-number.true in omega arith) is_least.1 in
-    absurd no
 
 pub returns-clause-none : goal.returns-clause-none
 returns-clause-none g c =
