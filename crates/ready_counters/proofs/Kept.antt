@@ -1,5 +1,5 @@
 -- The parts of the rule of a board, from the rule.
-use Rattle.std.proofs.Common.{◌≡◌, ◌+◌, ◌<◌, ◌≤◌, ℕ, zero, suc, List, [], ◌∷◌, length, refl, arith, subst, Option, None}
+use Rattle.std.proofs.Common.{◌≡◌, ◌+◌, ◌^◌, ◌<◌, ◌≤◌, ℕ, zero, suc, List, [], ◌∷◌, length, refl, arith, Option, None}
 use Rattle.std.specs.Prelude.{slice_index, ◌↔◌}
 use Rattle.std.specs.declared.sync.Arc.{Arc}
 use Rattle.std.proofs.Math.Decide.{dec_lt}
@@ -10,13 +10,12 @@ use Rattle.serial_pass.specs.declared.plan.PlanEdge.{PlanEdge}
 use Rattle.pass_core.specs.declared.published.Published.{Published}
 use Rattle.serial_pass.specs.Results.{NodeResult}
 use Rattle.ready_counters.specs.declared.view.View.{View}
-use Rattle.ready_counters.specs.Edges.{left_from, edge_target, edge_source}
-use Rattle.ready_counters.specs.Meaning.{claimed_word, HasWord, HasEdge, IsFull, IsBoard, IsView}
-use Rattle.ready_counters.specs.Parts.{HasEntries, HasCounts, HasClaims, HasStates, HasOrder, HasSlots, HasNumbers}
+use Rattle.ready_counters.specs.Edges.{left_from, edge_source}
+use Rattle.ready_counters.specs.Meaning.{claimed_word, HasWord, HasEdge, IsFull, IsBoard}
+use Rattle.ready_counters.specs.Parts.{HasEntries, HasCounts, HasStates, HasOrder, HasSlots, HasNumbers}
 use Rattle.ready_counters.specs.Parts.{HasParts}
 use Rattle.ready_counters.specs.Sums.{total_of, claims, opens, fills, subtractions, fetches, draws, uses}
-use Rattle.ready_counters.specs.Sums.{drawn_numbers}
-use Rattle.ready_counters.specs.Views.{times, tickets_for}
+use Rattle.ready_counters.specs.Views.{times}
 use Rattle.ready_counters.proofs.Knowing.{is_taken, none_left, filled_drawn, drawn_claimed, subtracted_filled}
 use Rattle.ready_counters.proofs.Left.{left_bound}
 
@@ -148,7 +147,7 @@ module _ {O A : Type 0} (count : ℕ) (edges : List PlanEdge) (result : ℕ → 
   counts = record {
     taken = λ n lt. (
       λ w. (is_taken (claims s.views n) (slice_index s.words n) (left n) (word_of n lt)
-      (let a = left_bound (subtractions s.views) 0 edges n in omega (arith, a, few)) w).0,
+          (let a = left_bound (subtractions s.views) 0 edges n in omega (arith, a, few)) w).0,
       λ le. taken_word (claims s.views n) (slice_index s.words n) (left n) (word_of n lt) le,
     );
     free = λ n lt z. free_word (claims s.views n) (slice_index s.words n) (left n) (word_of n lt) z;

@@ -1,6 +1,6 @@
 -- The rule of a board in seven parts: what is listed, the counters, the claims, the states of the edges, the order in
 -- which a seat does things, the slots and the tickets. They follow from the rule (`boards_keep_their_parts`).
-use Rattle.std.specs.Prelude.{◌≡◌, ◌+◌, ◌<◌, ◌≤◌, ◌⊎◌, ◌↔◌, ℕ, List, length, slice_index, Option, None}
+use Rattle.std.specs.Prelude.{◌≡◌, ◌+◌, ◌<◌, ◌≤◌, ◌↔◌, ℕ, List, length, slice_index, Option, None}
 use Rattle.std.specs.declared.sync.Arc.{Arc}
 use mathlib.Core.Option.{Option as Maybe, some}
 use lib.ListN.{get_elem?}
