@@ -14,6 +14,8 @@ use Rattle.ready_counters.specs.declared.view.View.{View}
 use Rattle.ready_counters.specs.Views.{all_of_it}
 use Rattle.ready_counters.specs.Meaning.{AreFirst, IsBoardOf}
 use Rattle.ready_counters.specs.Ends.{IsDoneBy}
+use Rattle.ready_counters.specs.Edges.{result_at}
+use Rattle.ready_counters.specs.Parts.{HasParts}
 use Rattle.ready_counters.specs.Shows.{core_of, BoardStep, core_step, IsStep, LeadsBy}
 
 -- The words and the one view of a new board show a core of which nothing is done.
@@ -36,3 +38,10 @@ DoneBoardShowsFinished O = (mean : ℕ → List O → Result O Fault) (plan : Pl
     (s : State (Option (Arc (Published O) Global)) View) → IsPlan plan
     → IsBoardOf mean plan s → get_elem? s.views id ≡ some v
     → IsDoneBy plan.count plan.edges v → IsFinished plan (core_of mean plan s.words s.views)
+
+-- The rule of a board says all of this: what is listed, the counters, the claims, the states of the edges, the order in
+-- which a seat does things, the slots and the tickets.
+abbrev pub BoardsKeepTheirParts : Type 0 → Type 0
+BoardsKeepTheirParts O = (mean : ℕ → List O → Result O Fault) (plan : Plan)
+    (s : State (Option (Arc (Published O) Global)) View) → IsPlan plan → IsBoardOf mean plan s
+    → HasParts plan.count plan.edges (result_at mean plan) s

@@ -9,3 +9,4 @@ pub mod Seen
 pub mod Inside
 pub mod Shows
 pub mod Laws
+pub mod Parts
