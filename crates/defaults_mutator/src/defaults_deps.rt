@@ -1,10 +1,13 @@
-ghost use Rattle.std.specs.Prelude.{◌≡◌, None, IfOk, IsTrue, length};
+ghost use Rattle.std.specs.Prelude.{◌≡◌, None, IfOk, IsTrue, length, map};
 ghost use Rattle.std.specs.List.{list_all};
+ghost use Rattle.std.specs.Arc.{arc_value};
+ghost use Rattle.bp_faults.specs.Answers.{Answers};
+ghost use Rattle.graph_nodes.specs.Nodes.{targets};
 ghost use Rattle.defaults_mutator.specs.Asked.{defaults_asked};
 ghost use Rattle.defaults_mutator.specs.Idle.{names_no_defaults};
 ghost use Rattle.module_rules.specs.Rules.{asks};
 ghost use Rattle.module_rules.specs.Shaped.{asks_shaped};
-ghost use Rattle.mutator_rules.specs.Conditions.{MayRun, indices_in};
+ghost use Rattle.mutator_rules.specs.Conditions.{MayRun, MayVisit, indices_in};
 ghost use Rattle.mutator_rules.specs.Idle.{LeavesAll};
 
 use crate::leaving::name_no_defaults;
@@ -44,7 +47,7 @@ impl<'a> DefaultsDeps<'a> {
     }
 
     /// Whether the rule leaves every node of a graph as it is: no node names defaults.
-    pub fn leaves_all(&self, g: &Graph<Record<'a>>) -> bool
+    pub fn leaves_all(&self, g: &Graph<Record<'_>>) -> bool
         requires { MayRun (indices_in (length self.now)) g.now.nodes }
         ensures alone { IsTrue result → LeavesAll (asks defaults_asked self.now) g.now.nodes }
         ensures exact { result ≡ list_all names_no_defaults g.now.nodes }
@@ -67,24 +70,31 @@ fn ask_defaults(
     Ok(asked)
 }
 
-impl<'a> BottomUp<Record<'a>> for DefaultsDeps<'a> {
+impl<'a, 'm> BottomUp<Record<'m>> for DefaultsDeps<'a> {
     ghost splits_along = { λ rule. None };
 
     ghost meaning = { λ rule. asks defaults_asked rule };
 
     ghost accepts = { λ rule. indices_in (length rule) };
 
-    fn axis(&self) -> Option<Axis> {
+    fn axis(&self) -> Option<Axis>
+        ensures { result ≡ None }
+    {
         None
     }
 
     fn visit(
         &self,
         alloc: Global,
-        g: &Graph<Record<'a>>,
+        g: &Graph<Record<'m>>,
         n: NodeId,
-        _ins: &[Arc<Split<Record<'a>>>],
-    ) -> Result<Split<Record<'a>>, VisitError> {
+        _ins: &[Arc<Split<Record<'m>>>],
+    ) -> Result<Split<Record<'m>>, VisitError>
+        requires may { MayVisit (indices_in (length self.now)) g.now.nodes n.0 }
+        requires each { length _ins.now ≡ length (targets g.now.nodes n.0) }
+        ensures { Answers (λ out. out) result
+            (asks defaults_asked self.now g.now.nodes n.0 (map arc_value _ins.now)) }
+    {
         let at = Seen::at(self.mods, g, n);
         let asked = ask_defaults(alloc, at.module, at.node)?;
         Ok(one_variant(alloc, at.node.payload.copy(alloc)?, asked)?)

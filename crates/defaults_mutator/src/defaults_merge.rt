@@ -1,11 +1,13 @@
 ghost use Rattle.std.specs.Prelude.{◌≡◌, None, IfOk, IsTrue, length, map};
 ghost use Rattle.std.specs.Arc.{arc_value};
 ghost use Rattle.std.specs.List.{list_all};
+ghost use Rattle.bp_faults.specs.Answers.{Answers};
+ghost use Rattle.graph_nodes.specs.Nodes.{targets};
 ghost use Rattle.defaults_mutator.specs.Idle.{has_no_edges};
 ghost use Rattle.defaults_mutator.specs.Merged.{over_defaults, defaults_merged};
 ghost use Rattle.module_rules.specs.Rules.{renews};
 ghost use Rattle.module_rules.specs.Shaped.{renews_shaped};
-ghost use Rattle.mutator_rules.specs.Conditions.{MayRun, indices_in};
+ghost use Rattle.mutator_rules.specs.Conditions.{MayRun, MayVisit, indices_in};
 ghost use Rattle.mutator_rules.specs.Idle.{LeavesAll};
 
 use crate::following::followed;
@@ -45,7 +47,7 @@ impl<'a> DefaultsMerge<'a> {
     }
 
     /// Whether the rule leaves every node of a graph as it is: it does where no node has edges, and says no else.
-    pub fn leaves_all(&self, g: &Graph<Record<'a>>) -> bool
+    pub fn leaves_all(&self, g: &Graph<Record<'_>>) -> bool
         requires { MayRun (indices_in (length self.now)) g.now.nodes }
         ensures alone { IsTrue result → LeavesAll (renews defaults_merged self.now) g.now.nodes }
         ensures exact { result ≡ list_all has_no_edges g.now.nodes }
@@ -88,24 +90,31 @@ fn merge<'m>(
     over_defaults(alloc, item.kind, &node.payload, given)
 }
 
-impl<'a> BottomUp<Record<'a>> for DefaultsMerge<'a> {
+impl<'a, 'm> BottomUp<Record<'m>> for DefaultsMerge<'a> {
     ghost splits_along = { λ rule. None };
 
     ghost meaning = { λ rule. renews defaults_merged rule };
 
     ghost accepts = { λ rule. indices_in (length rule) };
 
-    fn axis(&self) -> Option<Axis> {
+    fn axis(&self) -> Option<Axis>
+        ensures { result ≡ None }
+    {
         None
     }
 
     fn visit(
         &self,
         alloc: Global,
-        g: &Graph<Record<'a>>,
+        g: &Graph<Record<'m>>,
         n: NodeId,
-        ins: &[Arc<Split<Record<'a>>>],
-    ) -> Result<Split<Record<'a>>, VisitError> {
+        ins: &[Arc<Split<Record<'m>>>],
+    ) -> Result<Split<Record<'m>>, VisitError>
+        requires may { MayVisit (indices_in (length self.now)) g.now.nodes n.0 }
+        requires each { length ins.now ≡ length (targets g.now.nodes n.0) }
+        ensures { Answers (λ out. out) result
+            (renews defaults_merged self.now g.now.nodes n.0 (map arc_value ins.now)) }
+    {
         let at = Seen::at(self.mods, g, n);
         let made = merge(alloc, at.module, at.node, ins)?;
         Ok(one_variant(alloc, made, Seq::new(Vec::new(alloc)))?)

@@ -1,8 +1,10 @@
 ghost use Rattle.std.specs.Prelude.{◌≡◌, ◌<◌, IfOk, None, map, length};
 ghost use Rattle.std.specs.Arc.{arc_value};
 ghost use Rattle.std.specs.List.{AllByRecursion};
+ghost use Rattle.bp_faults.specs.Answers.{Answers};
 ghost use Rattle.graph_nodes.specs.declared.graph.Edge.{Edge};
-ghost use Rattle.mutator_rules.specs.Conditions.{MayRun, indices_in};
+ghost use Rattle.graph_nodes.specs.Nodes.{targets};
+ghost use Rattle.mutator_rules.specs.Conditions.{MayRun, MayVisit, indices_in};
 ghost use Rattle.info_mutators.specs.Dependencies.{dependencies_of};
 ghost use Rattle.info_mutators.specs.Info.{too_long, with_short_lists, info_meant};
 ghost use Rattle.info_mutators.specs.Shaped.{info_shaped};
@@ -101,24 +103,30 @@ impl<'a> Info<'a> {
     }
 }
 
-impl<'a> BottomUp<Record<'a>> for Info<'a> {
+impl<'a, 'm> BottomUp<Record<'m>> for Info<'a> {
     ghost splits_along = { λ rule. None };
 
     ghost meaning = { λ rule. info_meant rule };
 
     ghost accepts = { λ rule. indices_in (length rule) };
 
-    fn axis(&self) -> Option<Axis> {
+    fn axis(&self) -> Option<Axis>
+        ensures { result ≡ None }
+    {
         None
     }
 
     fn visit(
         &self,
         alloc: Global,
-        g: &Graph<Record<'a>>,
+        g: &Graph<Record<'m>>,
         n: NodeId,
-        ins: &[Arc<Split<Record<'a>>>],
-    ) -> Result<Split<Record<'a>>, VisitError> {
+        ins: &[Arc<Split<Record<'m>>>],
+    ) -> Result<Split<Record<'m>>, VisitError>
+        requires may { MayVisit (indices_in (length self.now)) g.now.nodes n.0 }
+        requires each { length ins.now ≡ length (targets g.now.nodes n.0) }
+        ensures { Answers (λ out. out) result (info_meant self.now g.now.nodes n.0 (map arc_value ins.now)) }
+    {
         let at = Seen::at(self.mods, g, n);
         let edges = at.node.edges.as_slice();
         let dependencies = dependencies_of(alloc, self.mods, g, edges, ins)?;

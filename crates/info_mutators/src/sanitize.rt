@@ -1,8 +1,10 @@
 ghost use Rattle.std.specs.Prelude.{◌≡◌, ◌&&◌, IfOk, IsTrue, OnOk, map, length};
 ghost use Rattle.std.specs.Arc.{arc_value};
 ghost use Rattle.std.specs.List.{list_all};
+ghost use Rattle.bp_faults.specs.Answers.{Answers};
+ghost use Rattle.graph_nodes.specs.Nodes.{targets};
 ghost use Rattle.info_mutators.specs.Dependencies.{is_archived};
-ghost use Rattle.mutator_rules.specs.Conditions.{indices_in};
+ghost use Rattle.mutator_rules.specs.Conditions.{MayVisit, indices_in};
 ghost use Rattle.mutator_rules.specs.Idle.{KeepsPayloads, WantsNothing};
 ghost use Rattle.info_mutators.specs.Idle.{is_off, is_unsanitized};
 ghost use Rattle.info_mutators.specs.Sanitize.{outgoing_of, incoming_of};
@@ -96,7 +98,7 @@ impl<'a> Sanitize<'a> {
     }
 
     /// Whether nothing is wanted of any node of a graph but the variation that is empty: no module is on.
-    pub fn wants_nothing(&self, g: &Graph<Record<'a>>) -> bool
+    pub fn wants_nothing(&self, g: &Graph<Record<'_>>) -> bool
         ensures nothing { IsTrue result → WantsNothing sanitize_meant g.now.nodes }
         ensures exact { result ≡ list_all is_off g.now.nodes }
     {
@@ -104,7 +106,7 @@ impl<'a> Sanitize<'a> {
     }
 
     /// Whether the records of all nodes of a graph are kept: no node has code of the sanitizer in it.
-    pub fn keeps_payloads(&self, g: &Graph<Record<'a>>) -> bool
+    pub fn keeps_payloads(&self, g: &Graph<Record<'_>>) -> bool
         ensures keeps { IsTrue result → KeepsPayloads (sanitize_meant.mutate g.now.nodes) g.now.nodes }
         ensures exact { result ≡ list_all is_unsanitized g.now.nodes }
     {
@@ -112,21 +114,26 @@ impl<'a> Sanitize<'a> {
     }
 }
 
-impl<'a> Transition<Record<'a>> for Sanitize<'a> {
+impl<'a, 'm> Transition<Record<'m>> for Sanitize<'a> {
     ghost meaning = { λ rule. sanitize_meant };
 
     ghost accepts = { λ rule. indices_in (length rule) };
 
-    fn axis(&self) -> Axis {
+    fn axis(&self) -> Axis
+        ensures { result ≡ sanitize_meant.axis }
+    {
         Axis::Sanitize
     }
 
     fn split(
         &self,
         alloc: Global,
-        g: &Graph<Record<'a>>,
+        g: &Graph<Record<'m>>,
         n: NodeId,
-    ) -> Result<Vec<Variation>, VisitError> {
+    ) -> Result<Vec<Variation>, VisitError>
+        requires { MayVisit (indices_in (length self.now)) g.now.nodes n.0 }
+        ensures { Answers (λ list. list.items) result (sanitize_meant.split g.now.nodes n.0) }
+    {
         let own = &Seen::at(self.mods, g, n).node.payload;
         let mut list = Vec::with_capacity(alloc, 1)?;
         list.push(asan_or(Variation::Empty, own))?;
@@ -135,11 +142,14 @@ impl<'a> Transition<Record<'a>> for Sanitize<'a> {
 
     fn outgoing(
         &self,
-        _g: &Graph<Record<'a>>,
+        _g: &Graph<Record<'m>>,
         _n: NodeId,
         kind: EdgeKind,
         v: Variation,
-    ) -> Variation {
+    ) -> Variation
+        requires { MayVisit (indices_in (length self.now)) _g.now.nodes _n.0 }
+        ensures { result ≡ sanitize_meant.outgoing _g.now.nodes _n.0 kind v }
+    {
         if is_archived(kind) {
             v
         } else {
@@ -147,7 +157,10 @@ impl<'a> Transition<Record<'a>> for Sanitize<'a> {
         }
     }
 
-    fn incoming(&self, g: &Graph<Record<'a>>, n: NodeId, w: Variation) -> Variation {
+    fn incoming(&self, g: &Graph<Record<'m>>, n: NodeId, w: Variation) -> Variation
+        requires { MayVisit (indices_in (length self.now)) g.now.nodes n.0 }
+        ensures { result ≡ sanitize_meant.incoming g.now.nodes n.0 w }
+    {
         let own = &Seen::at(self.mods, g, n).node.payload;
         if is_never(own) {
             Variation::Empty
@@ -159,10 +172,14 @@ impl<'a> Transition<Record<'a>> for Sanitize<'a> {
     fn mutate(
         &self,
         alloc: Global,
-        g: &Graph<Record<'a>>,
+        g: &Graph<Record<'m>>,
         n: NodeId,
-        ins: &[Arc<Record<'a>>],
-    ) -> Result<Record<'a>, VisitError> {
+        ins: &[Arc<Record<'m>>],
+    ) -> Result<Record<'m>, VisitError>
+        requires may { MayVisit (indices_in (length self.now)) g.now.nodes n.0 }
+        requires each { length ins.now ≡ length (targets g.now.nodes n.0) }
+        ensures { Answers (λ out. out) result (sanitize_meant.mutate g.now.nodes n.0 (map arc_value ins.now)) }
+    {
         let node = Seen::at(self.mods, g, n).node;
         let compiles = is_asan(node.vars.get(Axis::Sanitize));
         let has = node.payload.given().asan

@@ -1,8 +1,9 @@
 ghost use Rattle.std.specs.Prelude.{◌≡◌, IsTrue, Some, map, length, if◌then◌else◌};
 ghost use Rattle.std.specs.Arc.{arc_value};
 ghost use Rattle.std.specs.List.{list_all};
+ghost use Rattle.bp_faults.specs.Answers.{Answers};
 ghost use Rattle.mutator_rules.specs.Arrivals.{kinds_into};
-ghost use Rattle.mutator_rules.specs.Conditions.{indices_in};
+ghost use Rattle.mutator_rules.specs.Conditions.{MayVisit, indices_in};
 ghost use Rattle.mutator_rules.specs.Idle.{KeepsPayloads};
 ghost use Rattle.info_mutators.specs.Idle.{has_no_level};
 ghost use Rattle.info_mutators.specs.SdkLevel.{is_level_handed, lesser, least, handed_levels, own_level_or};
@@ -90,7 +91,7 @@ impl<'a> SdkLevel<'a> {
     }
 
     /// Whether the records of all nodes of a graph are kept: no node sets a level, and none has one.
-    pub fn keeps_payloads(&self, g: &Graph<Record<'a>>) -> bool
+    pub fn keeps_payloads(&self, g: &Graph<Record<'_>>) -> bool
         ensures keeps { IsTrue result → KeepsPayloads
             (λ n ins. level_meant g.now.nodes n (kinds_into g.now.nodes n) ins) g.now.nodes }
         ensures exact { result ≡ list_all has_no_level g.now.nodes }
@@ -99,7 +100,7 @@ impl<'a> SdkLevel<'a> {
     }
 }
 
-impl<'a> TopDown<Record<'a>> for SdkLevel<'a> {
+impl<'a, 'm> TopDown<Record<'m>> for SdkLevel<'a> {
     ghost meaning = { λ rule. level_meant };
 
     ghost accepts = { λ rule. indices_in (length rule) };
@@ -107,11 +108,16 @@ impl<'a> TopDown<Record<'a>> for SdkLevel<'a> {
     fn visit(
         &self,
         alloc: Global,
-        g: &Graph<Record<'a>>,
+        g: &Graph<Record<'m>>,
         n: NodeId,
         kinds: &[EdgeKind],
-        ins: &[Arc<Record<'a>>],
-    ) -> Result<Record<'a>, VisitError> {
+        ins: &[Arc<Record<'m>>],
+    ) -> Result<Record<'m>, VisitError>
+        requires may { MayVisit (indices_in (length self.now)) g.now.nodes n.0 }
+        requires kinds { kinds.now ≡ kinds_into g.now.nodes n.0 }
+        requires each { length ins.now ≡ length kinds.now }
+        ensures { Answers (λ out. out) result (level_meant g.now.nodes n.0 kinds.now (map arc_value ins.now)) }
+    {
         let own = &Seen::at(self.mods, g, n).node.payload;
         let handed = least_handed(kinds, ins).unwrap_or(NO_LEVEL);
         let level = own_level_or(handed, own.given().min_sdk_version);

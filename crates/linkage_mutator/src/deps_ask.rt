@@ -1,9 +1,12 @@
-ghost use Rattle.std.specs.Prelude.{◌≡◌, ◌++◌, None, IfOk, OnOk, length};
+ghost use Rattle.std.specs.Prelude.{◌≡◌, ◌++◌, None, IfOk, OnOk, length, map};
+ghost use Rattle.std.specs.Arc.{arc_value};
+ghost use Rattle.bp_faults.specs.Answers.{Answers};
+ghost use Rattle.graph_nodes.specs.Nodes.{targets};
 ghost use Rattle.linkage_mutator.specs.Deps.{named_items, libraries_asked, deps_of, deps_asked};
 ghost use Rattle.module_rules.specs.Asking.{requests};
 ghost use Rattle.module_rules.specs.Rules.{asks};
 ghost use Rattle.module_rules.specs.Shaped.{asks_shaped};
-ghost use Rattle.mutator_rules.specs.Conditions.{indices_in};
+ghost use Rattle.mutator_rules.specs.Conditions.{MayVisit, indices_in};
 
 use crate::wanting::own_with;
 use bp_faults::{NodeId, OutOfMemory, Payload, Seq};
@@ -109,24 +112,31 @@ fn deps_asked(
     deps_of(alloc, item.kind, &node.vars, &node.payload)
 }
 
-impl<'a> BottomUp<Record<'a>> for DepsAsk<'a> {
+impl<'a, 'm> BottomUp<Record<'m>> for DepsAsk<'a> {
     ghost splits_along = { λ rule. None };
 
     ghost meaning = { λ rule. asks deps_asked rule };
 
     ghost accepts = { λ rule. indices_in (length rule) };
 
-    fn axis(&self) -> Option<Axis> {
+    fn axis(&self) -> Option<Axis>
+        ensures { result ≡ None }
+    {
         None
     }
 
     fn visit(
         &self,
         alloc: Global,
-        g: &Graph<Record<'a>>,
+        g: &Graph<Record<'m>>,
         n: NodeId,
-        _ins: &[Arc<Split<Record<'a>>>],
-    ) -> Result<Split<Record<'a>>, VisitError> {
+        _ins: &[Arc<Split<Record<'m>>>],
+    ) -> Result<Split<Record<'m>>, VisitError>
+        requires may { MayVisit (indices_in (length self.now)) g.now.nodes n.0 }
+        requires each { length _ins.now ≡ length (targets g.now.nodes n.0) }
+        ensures { Answers (λ out. out) result
+            (asks deps_asked self.now g.now.nodes n.0 (map arc_value _ins.now)) }
+    {
         let at = Seen::at(self.mods, g, n);
         let asked = deps_asked(alloc, at.module, at.node)?;
         Ok(one_variant(alloc, at.node.payload.copy(alloc)?, asked)?)

@@ -1,10 +1,13 @@
-ghost use Rattle.std.specs.Prelude.{◌≡◌, Some, IfOk, length};
+ghost use Rattle.std.specs.Prelude.{◌≡◌, Some, IfOk, length, map};
+ghost use Rattle.std.specs.Arc.{arc_value};
+ghost use Rattle.bp_faults.specs.Answers.{Answers};
 ghost use Rattle.linkage_mutator.specs.Links.{has_link, pic_if_linked, links_of, link_variants};
 ghost use Rattle.graph_nodes.specs.declared.variations.Axis.TheVariants.{Link};
+ghost use Rattle.graph_nodes.specs.Nodes.{targets};
 ghost use Rattle.module_rules.specs.Groups.{with_group};
 ghost use Rattle.module_rules.specs.Rules.{splits};
 ghost use Rattle.module_rules.specs.Shaped.{splits_shaped};
-ghost use Rattle.mutator_rules.specs.Conditions.{indices_in};
+ghost use Rattle.mutator_rules.specs.Conditions.{MayVisit, indices_in};
 
 use bp_faults::{NodeId, OutOfMemory, Payload, Seq};
 use bp_props::{GroupId, Module, ModuleKind};
@@ -105,24 +108,31 @@ fn link_variants<'m>(
     Ok(variants)
 }
 
-impl<'a> BottomUp<Record<'a>> for LinkSplit<'a> {
+impl<'a, 'm> BottomUp<Record<'m>> for LinkSplit<'a> {
     ghost splits_along = { λ rule. Some Link };
 
     ghost meaning = { λ rule. splits link_variants rule };
 
     ghost accepts = { λ rule. indices_in (length rule) };
 
-    fn axis(&self) -> Option<Axis> {
+    fn axis(&self) -> Option<Axis>
+        ensures { result ≡ Some Link }
+    {
         Some(Axis::Link)
     }
 
     fn visit(
         &self,
         alloc: Global,
-        g: &Graph<Record<'a>>,
+        g: &Graph<Record<'m>>,
         n: NodeId,
-        _ins: &[Arc<Split<Record<'a>>>],
-    ) -> Result<Split<Record<'a>>, VisitError> {
+        _ins: &[Arc<Split<Record<'m>>>],
+    ) -> Result<Split<Record<'m>>, VisitError>
+        requires may { MayVisit (indices_in (length self.now)) g.now.nodes n.0 }
+        requires each { length _ins.now ≡ length (targets g.now.nodes n.0) }
+        ensures { Answers (λ out. out) result
+            (splits link_variants self.now g.now.nodes n.0 (map arc_value _ins.now)) }
+    {
         let at = Seen::at(self.mods, g, n);
         Ok(Split {
             variants: link_variants(alloc, at.module, at.node)?,

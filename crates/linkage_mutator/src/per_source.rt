@@ -1,13 +1,16 @@
-ghost use Rattle.std.specs.Prelude.{◌≡◌, ◌∷◌, [], Some, IfOk, IsTrue, length};
+ghost use Rattle.std.specs.Prelude.{◌≡◌, ◌∷◌, [], Some, IfOk, IsTrue, length, map};
 ghost use Rattle.std.specs.List.{list_all};
+ghost use Rattle.std.specs.Arc.{arc_value};
+ghost use Rattle.bp_faults.specs.Answers.{Answers};
 ghost use Rattle.linkage_mutator.specs.Idle.{is_built_once};
 ghost use Rattle.linkage_mutator.specs.Sources.{with_sources, variant_of_source, each_source, is_split};
 ghost use Rattle.linkage_mutator.specs.Sources.{source_variants};
 ghost use Rattle.graph_nodes.specs.declared.variations.Axis.TheVariants.{PerSource as SourceAxis};
 ghost use Rattle.graph_nodes.specs.Numbered.{by_number};
+ghost use Rattle.graph_nodes.specs.Nodes.{targets};
 ghost use Rattle.module_rules.specs.Rules.{splits};
 ghost use Rattle.module_rules.specs.Shaped.{splits_shaped};
-ghost use Rattle.mutator_rules.specs.Conditions.{MayRun, indices_in};
+ghost use Rattle.mutator_rules.specs.Conditions.{MayRun, MayVisit, indices_in};
 ghost use Rattle.mutator_rules.specs.Idle.{LeavesAll};
 
 use crate::leaving::are_built_once;
@@ -46,7 +49,7 @@ impl<'a> PerSource<'a> {
     }
 
     /// Whether the rule leaves every node of a graph as it is: no node is to be built for each of its sources.
-    pub fn leaves_all(&self, g: &Graph<Record<'a>>) -> bool
+    pub fn leaves_all(&self, g: &Graph<Record<'_>>) -> bool
         requires { MayRun (indices_in (length self.now)) g.now.nodes }
         ensures alone { IsTrue result → LeavesAll (splits source_variants self.now) g.now.nodes }
         ensures exact { result ≡ list_all is_built_once g.now.nodes }
@@ -121,24 +124,31 @@ fn source_variants<'m>(
     each_source(alloc, split, &node.payload, own.base.srcs.items.as_slice())
 }
 
-impl<'a> BottomUp<Record<'a>> for PerSource<'a> {
+impl<'a, 'm> BottomUp<Record<'m>> for PerSource<'a> {
     ghost splits_along = { λ rule. Some SourceAxis };
 
     ghost meaning = { λ rule. splits source_variants rule };
 
     ghost accepts = { λ rule. indices_in (length rule) };
 
-    fn axis(&self) -> Option<Axis> {
+    fn axis(&self) -> Option<Axis>
+        ensures { result ≡ Some SourceAxis }
+    {
         Some(Axis::PerSource)
     }
 
     fn visit(
         &self,
         alloc: Global,
-        g: &Graph<Record<'a>>,
+        g: &Graph<Record<'m>>,
         n: NodeId,
-        _ins: &[Arc<Split<Record<'a>>>],
-    ) -> Result<Split<Record<'a>>, VisitError> {
+        _ins: &[Arc<Split<Record<'m>>>],
+    ) -> Result<Split<Record<'m>>, VisitError>
+        requires may { MayVisit (indices_in (length self.now)) g.now.nodes n.0 }
+        requires each { length _ins.now ≡ length (targets g.now.nodes n.0) }
+        ensures { Answers (λ out. out) result
+            (splits source_variants self.now g.now.nodes n.0 (map arc_value _ins.now)) }
+    {
         let at = Seen::at(self.mods, g, n);
         Ok(Split {
             variants: source_variants(alloc, at.module, at.node)?,

@@ -1,12 +1,15 @@
 ghost use Rattle.std.specs.Prelude.{◌≡◌, map, None, IfOk, IsTrue, length, option_copied};
 ghost use Rattle.std.specs.List.{list_all};
+ghost use Rattle.std.specs.Arc.{arc_value};
+ghost use Rattle.bp_faults.specs.Answers.{Answers};
+ghost use Rattle.graph_nodes.specs.Nodes.{targets};
 ghost use Rattle.linkage_mutator.specs.Idle.{is_no_plugin};
 ghost use Rattle.linkage_mutator.specs.Plugins.{kind_named, link_of_host, plugin_request, is_shared, plugins_asked};
 ghost use Rattle.linkage_mutator.specs.Inside.{kind_at};
 ghost use Rattle.linkage_mutator.specs.Plugins.{IsNameTable, IsNameTableIfSome};
 ghost use Rattle.module_rules.specs.Rules.{asks};
 ghost use Rattle.module_rules.specs.Shaped.{asks_shaped};
-ghost use Rattle.mutator_rules.specs.Conditions.{MayRun, indices_in};
+ghost use Rattle.mutator_rules.specs.Conditions.{MayRun, MayVisit, indices_in};
 ghost use Rattle.mutator_rules.specs.Idle.{LeavesAll};
 
 use crate::leaving::are_no_plugins;
@@ -67,7 +70,7 @@ impl<'a, 't> PluginsAsk<'a, 't> {
     }
 
     /// Whether the rule leaves every node of a graph as it is: no node is a plugin.
-    pub fn leaves_all(&self, g: &Graph<Record<'a>>) -> bool
+    pub fn leaves_all(&self, g: &Graph<Record<'_>>) -> bool
         requires { MayRun (indices_in (length self.now)) g.now.nodes }
         ensures alone { IsTrue result → LeavesAll (asks (plugins_asked self.now) self.now) g.now.nodes }
         ensures exact { result ≡ list_all is_no_plugin g.now.nodes }
@@ -183,24 +186,31 @@ impl<'a, 't> PluginsAsk<'a, 't> {
     }
 }
 
-impl<'a, 't> BottomUp<Record<'a>> for PluginsAsk<'a, 't> {
+impl<'a, 't, 'm> BottomUp<Record<'m>> for PluginsAsk<'a, 't> {
     ghost splits_along = { λ rule. None };
 
     ghost meaning = { λ rule. asks (plugins_asked rule) rule };
 
     ghost accepts = { λ rule. indices_in (length rule) };
 
-    fn axis(&self) -> Option<Axis> {
+    fn axis(&self) -> Option<Axis>
+        ensures { result ≡ None }
+    {
         None
     }
 
     fn visit(
         &self,
         alloc: Global,
-        g: &Graph<Record<'a>>,
+        g: &Graph<Record<'m>>,
         n: NodeId,
-        _ins: &[Arc<Split<Record<'a>>>],
-    ) -> Result<Split<Record<'a>>, VisitError> {
+        _ins: &[Arc<Split<Record<'m>>>],
+    ) -> Result<Split<Record<'m>>, VisitError>
+        requires may { MayVisit (indices_in (length self.now)) g.now.nodes n.0 }
+        requires each { length _ins.now ≡ length (targets g.now.nodes n.0) }
+        ensures { Answers (λ out. out) result
+            (asks (plugins_asked self.now) self.now g.now.nodes n.0 (map arc_value _ins.now)) }
+    {
         let at = Seen::at(self.mods, g, n);
         let asked = self.plugins_asked(alloc, at.module, at.node)?;
         Ok(one_variant(alloc, at.node.payload.copy(alloc)?, asked)?)

@@ -45,6 +45,18 @@ impl<'m> GivenProps<'m> {
         }
     }
 
+    /// The same properties, lent by no module: shared as they are, or a copy of what is lent.
+    pub fn kept(self, alloc: Global) -> Result<GivenProps<'static>, OutOfMemory>
+        ensures { IfOk result (λ made. props_of made ≡ props_of self.entry) }
+    {
+        match self {
+            GivenProps::Lent(props) => {
+                Ok(GivenProps::Shared(Arc::new(alloc, props.copy(alloc)?)?))
+            }
+            GivenProps::Shared(props) => Ok(GivenProps::Shared(props)),
+        }
+    }
+
     /// The properties, to change them: moved where nobody else holds them, else a copy.
     pub fn into_props(self, alloc: Global) -> Result<Props, OutOfMemory>
         ensures { IfOk result (λ props. props ≡ props_of self.entry) }

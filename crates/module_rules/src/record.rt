@@ -105,17 +105,34 @@ impl<'m> Record<'m> {
         })
     }
 
+    /// The record of properties that others may hold too. It and its copies share them.
+    pub fn shared(alloc: Global, props: Arc<Props>) -> Result<Record<'m>, OutOfMemory>
+        ensures { IfOk result (λ made. made ≡ arc_value props) }
+    {
+        Ok(Record {
+            pic: false,
+            level: props.level,
+            lists: lists_in(alloc, &props)?,
+            given: GivenProps::Shared(props),
+        })
+    }
+
     /// The record of other properties. Its copies share them.
     pub fn new(alloc: Global, props: Props) -> Result<Record<'m>, OutOfMemory>
         ensures { IfOk result (λ made. made ≡ props) }
     {
-        let level = props.level;
-        let lists = lists_in(alloc, &props)?;
+        Record::shared(alloc, Arc::new(alloc, props)?)
+    }
+
+    /// The same record, which no module lends anything: what is shared stays shared, and what is lent is copied.
+    pub fn kept(self, alloc: Global) -> Result<Record<'static>, OutOfMemory>
+        ensures { IfOk result (λ made. made ≡ self.entry) }
+    {
         Ok(Record {
-            given: GivenProps::Shared(Arc::new(alloc, props)?),
-            pic: false,
-            level,
-            lists,
+            given: self.given.kept(alloc)?,
+            pic: self.pic,
+            level: self.level,
+            lists: self.lists,
         })
     }
 

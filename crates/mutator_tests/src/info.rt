@@ -66,7 +66,7 @@ fn edge(kind: EdgeKind, to: u32) -> Edge
     }
 }
 
-fn node<'m>(alloc: Global, module: u32, payload: Record<'m>, edges: Vec<Edge>) -> Node<Record<'m>>
+fn node(alloc: Global, module: u32, payload: Record<'static>, edges: Vec<Edge>) -> Node<Record<'static>>
     ensures module { result.«module».0 ≡ «module» }
     ensures edges { result.edges ≡ edges.items }
 {
@@ -99,11 +99,11 @@ fn small_world(alloc: Global) -> Result<World, OutOfMemory>
 }
 
 /// A node of each of the modules. The app's record is given, and that of the module that it depends on in three ways.
-fn small_graph<'m>(
+fn small_graph(
     alloc: Global,
     app: Props,
     other: Props,
-) -> Result<Graph<Record<'m>>, OutOfMemory>
+) -> Result<Graph<Record<'static>>, OutOfMemory>
     ensures app { IfOk result (λ g. MayVisit (indices_in 3) g.nodes 0) }
     ensures other { IfOk result (λ g. MayVisit (indices_in 3) g.nodes 2) }
     ensures four { IfOk result (λ g. length (targets g.nodes 0) ≡ 4) }
@@ -137,7 +137,7 @@ fn library(alloc: Global, made: Made) -> Result<Props, OutOfMemory> {
     Ok(record)
 }
 
-fn done<'m>(alloc: Global, props: Props) -> Result<Arc<Split<Record<'m>>>, OutOfMemory> {
+fn done(alloc: Global, props: Props) -> Result<Arc<Split<Record<'static>>>, OutOfMemory> {
     let made = one_variant(alloc, Record::new(alloc, props)?, Seq::new(Vec::new(alloc)))?;
     Ok(Arc::new(alloc, made)?)
 }
@@ -210,16 +210,16 @@ fn config(alloc: Global) -> Config {
     }
 }
 
-fn made_library<'m>(alloc: Global, made: Made) -> Result<Arc<Split<Record<'m>>>, OutOfMemory> {
+fn made_library(alloc: Global, made: Made) -> Result<Arc<Split<Record<'static>>>, OutOfMemory> {
     done(alloc, library(alloc, made)?)
 }
 
-fn made_empty<'m>(alloc: Global) -> Result<Arc<Split<Record<'m>>>, OutOfMemory> {
+fn made_empty(alloc: Global) -> Result<Arc<Split<Record<'static>>>, OutOfMemory> {
     done(alloc, Props::empty(alloc))
 }
 
 /// What a rule made of the four libraries.
-fn four_libraries<'m>(alloc: Global) -> Result<Vec<Arc<Split<Record<'m>>>>, OutOfMemory>
+fn four_libraries(alloc: Global) -> Result<Vec<Arc<Split<Record<'static>>>>, OutOfMemory>
     ensures { IfOk result (λ ins. length ins.items ≡ 4) }
 {
     let mut ins = Vec::new(alloc);
@@ -231,25 +231,25 @@ fn four_libraries<'m>(alloc: Global) -> Result<Vec<Arc<Split<Record<'m>>>>, OutO
 }
 
 /// The lists of an app, by what a rule made of its four libraries.
-fn lists_of_app<'m>(
+fn lists_of_app(
     alloc: Global,
-    world: &'m World,
+    world: &World,
     app: Props,
-    ins: &[Arc<Split<Record<'m>>>],
+    ins: &[Arc<Split<Record<'static>>>],
 ) -> Result<String, OutOfMemory>
     requires three { length world.now.mods.items ≡ 3 }
     requires four { length ins.now ≡ 4 }
 {
-    let graph: Graph<Record<'m>> = small_graph(alloc, app, Props::empty(alloc))?;
+    let graph: Graph<Record<'static>> = small_graph(alloc, app, Props::empty(alloc))?;
     let rule = Info::new(&world.mods, &world.config);
     let answer = rule.visit(alloc, &graph, NodeId(0), ins);
     lists(alloc, &answer)
 }
 
-fn lists_in<'m>(alloc: Global, world: &'m World) -> Result<String, OutOfMemory>
+fn lists_in(alloc: Global, world: &World) -> Result<String, OutOfMemory>
     requires { length world.now.mods.items ≡ 3 }
 {
-    let ins: Vec<Arc<Split<Record<'m>>>> = four_libraries(alloc)?;
+    let ins: Vec<Arc<Split<Record<'static>>>> = four_libraries(alloc)?;
     lists_of_app(alloc, world, app(alloc)?, &ins)
 }
 
@@ -305,10 +305,10 @@ fn directories(alloc: Global, count: u32) -> Result<Seq<Path>, OutOfMemory> {
 }
 
 /// A library with long lists.
-fn with_long_lists<'m>(
+fn with_long_lists(
     alloc: Global,
     (exports, line, slibs): Lengths,
-) -> Result<Arc<Split<Record<'m>>>, OutOfMemory> {
+) -> Result<Arc<Split<Record<'static>>>, OutOfMemory> {
     let mut long = Props::empty(alloc);
     long.exports = directories(alloc, exports)?;
     long.line = first_nodes(alloc, line)?;
@@ -318,14 +318,14 @@ fn with_long_lists<'m>(
 
 /// A static library with such lists: the app's own are as long, since their nodes from 0 on have the app's libraries
 /// among them.
-fn long_lists_in<'m>(
+fn long_lists_in(
     alloc: Global,
-    world: &'m World,
+    world: &World,
     lengths: Lengths,
 ) -> Result<String, OutOfMemory>
     requires { length world.now.mods.items ≡ 3 }
 {
-    let mut ins: Vec<Arc<Split<Record<'m>>>> = Vec::new(alloc);
+    let mut ins: Vec<Arc<Split<Record<'static>>>> = Vec::new(alloc);
     ins.push(with_long_lists(alloc, lengths)?)?;
     ins.push(made_empty(alloc)?)?;
     ins.push(made_empty(alloc)?)?;
@@ -354,13 +354,13 @@ fn how_long_the_lists_may_be(rt: HostRuntime) -> Result<(), Fail> {
     Ok(())
 }
 
-fn leveled<'m>(alloc: Global, level: u32) -> Result<Arc<Record<'m>>, OutOfMemory> {
+fn leveled(alloc: Global, level: u32) -> Result<Arc<Record<'static>>, OutOfMemory> {
     let mut props = Props::empty(alloc);
     props.level = level;
     Ok(Arc::new(alloc, Record::new(alloc, props)?)?)
 }
 
-fn three_leveled<'m>(alloc: Global, levels: [u32; 3]) -> Result<Vec<Arc<Record<'m>>>, OutOfMemory>
+fn three_leveled(alloc: Global, levels: [u32; 3]) -> Result<Vec<Arc<Record<'static>>>, OutOfMemory>
     ensures { IfOk result (λ ins. length ins.items ≡ 3) }
 {
     let mut ins = Vec::new(alloc);
@@ -371,16 +371,16 @@ fn three_leveled<'m>(alloc: Global, levels: [u32; 3]) -> Result<Vec<Arc<Record<'
 }
 
 /// The level of the module that the app depends on as a shared, a header and a whole library.
-fn level_in<'m>(
+fn level_in(
     alloc: Global,
-    world: &'m World,
+    world: &World,
     other: Props,
     levels: [u32; 3],
 ) -> Result<u32, OutOfMemory>
     requires { length world.now.mods.items ≡ 3 }
 {
-    let ins: Vec<Arc<Record<'m>>> = three_leveled(alloc, levels)?;
-    let graph: Graph<Record<'m>> = small_graph(alloc, Props::empty(alloc), other)?;
+    let ins: Vec<Arc<Record<'static>>> = three_leveled(alloc, levels)?;
+    let graph: Graph<Record<'static>> = small_graph(alloc, Props::empty(alloc), other)?;
     let kinds = [EdgeKind::Shared, EdgeKind::Header, EdgeKind::Whole];
     let rule = SdkLevel::new(&world.mods, &world.config);
     match rule.visit(alloc, &graph, NodeId(2), &kinds, &ins) {
@@ -404,13 +404,13 @@ fn levels_come_from_dependents(rt: HostRuntime) -> Result<(), Fail> {
     Ok(())
 }
 
-fn sanitized<'m>(alloc: Global, asan: bool) -> Result<Arc<Record<'m>>, OutOfMemory> {
+fn sanitized(alloc: Global, asan: bool) -> Result<Arc<Record<'static>>, OutOfMemory> {
     let mut props = Props::empty(alloc);
     props.asan = asan;
     Ok(Arc::new(alloc, Record::new(alloc, props)?)?)
 }
 
-fn four_sanitized<'m>(alloc: Global, asan: [bool; 4]) -> Result<Vec<Arc<Record<'m>>>, OutOfMemory>
+fn four_sanitized(alloc: Global, asan: [bool; 4]) -> Result<Vec<Arc<Record<'static>>>, OutOfMemory>
     ensures { IfOk result (λ ins. length ins.items ≡ 4) }
 {
     let mut ins = Vec::new(alloc);
@@ -422,15 +422,15 @@ fn four_sanitized<'m>(alloc: Global, asan: [bool; 4]) -> Result<Vec<Arc<Record<'
 }
 
 /// How many flags the app is compiled and linked with, where the results of its four dependencies have that field.
-fn flags_in<'m>(
+fn flags_in(
     alloc: Global,
-    world: &'m World,
+    world: &World,
     asan: [bool; 4],
 ) -> Result<(usize, usize), OutOfMemory>
     requires { length world.now.mods.items ≡ 3 }
 {
-    let ins: Vec<Arc<Record<'m>>> = four_sanitized(alloc, asan)?;
-    let graph: Graph<Record<'m>> = small_graph(alloc, Props::empty(alloc), Props::empty(alloc))?;
+    let ins: Vec<Arc<Record<'static>>> = four_sanitized(alloc, asan)?;
+    let graph: Graph<Record<'static>> = small_graph(alloc, Props::empty(alloc), Props::empty(alloc))?;
     let rule = Sanitize::new(&world.mods, &world.config);
     match rule.mutate(alloc, &graph, NodeId(0), &ins) {
         Ok(record) => {
@@ -458,7 +458,7 @@ fn what_is_sanitized(rt: HostRuntime) -> Result<(), Fail> {
 }
 
 /// An app with the sanitizer, and a module that never has it.
-fn sanitized_graph<'m>(alloc: Global) -> Result<Graph<Record<'m>>, OutOfMemory>
+fn sanitized_graph(alloc: Global) -> Result<Graph<Record<'static>>, OutOfMemory>
     ensures app { IfOk result (λ g. MayVisit (indices_in 3) g.nodes 0) }
     ensures other { IfOk result (λ g. MayVisit (indices_in 3) g.nodes 2) }
 {
@@ -470,13 +470,13 @@ fn sanitized_graph<'m>(alloc: Global) -> Result<Graph<Record<'m>>, OutOfMemory>
 }
 
 /// What the app and the other module take, and what goes out along a whole and along a shared edge.
-fn along_in<'m>(
+fn along_in(
     alloc: Global,
-    world: &'m World,
+    world: &World,
 ) -> Result<(Variation, Variation, Variation, Variation), OutOfMemory>
     requires { length world.now.mods.items ≡ 3 }
 {
-    let made: Graph<Record<'m>> = sanitized_graph(alloc)?;
+    let made: Graph<Record<'static>> = sanitized_graph(alloc)?;
     let rule = Sanitize::new(&world.mods, &world.config);
     let graph = &made;
     Ok((
@@ -509,10 +509,10 @@ fn sanitized_along_edges(rt: HostRuntime) -> Result<(), Fail> {
 }
 
 /// Whether the rule splits by sanitizer, and the app has that variation alone.
-fn axis_and_own_in<'m>(alloc: Global, world: &'m World) -> Result<(bool, bool), OutOfMemory>
+fn axis_and_own_in(alloc: Global, world: &World) -> Result<(bool, bool), OutOfMemory>
     requires { length world.now.mods.items ≡ 3 }
 {
-    let graph: Graph<Record<'m>> = sanitized_graph(alloc)?;
+    let graph: Graph<Record<'static>> = sanitized_graph(alloc)?;
     let rule = Sanitize::new(&world.mods, &world.config);
     let own = match rule.split(alloc, &graph, NodeId(0)) {
         Ok(own) => own.as_slice() == [Variation::Asan].as_slice(),

@@ -12,6 +12,8 @@ mod linkage;
 #[cfg(test)]
 mod pipeline;
 #[cfg(test)]
+mod records;
+#[cfg(test)]
 mod reverse;
 #[cfg(test)]
 mod targets;

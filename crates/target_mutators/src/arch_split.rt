@@ -1,11 +1,14 @@
-ghost use Rattle.std.specs.Prelude.{◌≡◌, ◌++◌, [], Some, IfOk, OnOk, length};
+ghost use Rattle.std.specs.Prelude.{◌≡◌, ◌++◌, [], Some, IfOk, OnOk, length, map};
 ghost use Rattle.std.specs.List.{list_any};
+ghost use Rattle.std.specs.Arc.{arc_value};
+ghost use Rattle.bp_faults.specs.Answers.{Answers};
 ghost use Rattle.graph_nodes.specs.declared.variation.Variation.TheVariants.{Common};
 ghost use Rattle.graph_nodes.specs.declared.variations.Axis.TheVariants.{Target as TargetAxis};
+ghost use Rattle.graph_nodes.specs.Nodes.{targets};
 ghost use Rattle.module_rules.specs.Rules.{splits};
 ghost use Rattle.module_rules.specs.Shaped.{splits_shaped};
 ghost use Rattle.module_rules.specs.Variants.{if_enabled};
-ghost use Rattle.mutator_rules.specs.Conditions.{indices_in};
+ghost use Rattle.mutator_rules.specs.Conditions.{MayVisit, indices_in};
 ghost use Rattle.target_mutators.specs.Arch.{is_supported, default_multilib, multilib_of, is_of_class, is_narrow};
 ghost use Rattle.target_mutators.specs.Arch.{is_taken, is_built, target_variant, target_variants, variants_for_targets};
 ghost use Rattle.target_mutators.specs.Arch.{arch_variants};
@@ -195,24 +198,31 @@ impl<'a> ArchSplit<'a> {
     }
 }
 
-impl<'a> BottomUp<Record<'a>> for ArchSplit<'a> {
+impl<'a, 'm> BottomUp<Record<'m>> for ArchSplit<'a> {
     ghost splits_along = { λ rule. Some TargetAxis };
 
     ghost meaning = { λ rule. splits (arch_variants rule.1) rule.0 };
 
     ghost accepts = { λ rule. indices_in (length rule.0) };
 
-    fn axis(&self) -> Option<Axis> {
+    fn axis(&self) -> Option<Axis>
+        ensures { result ≡ Some TargetAxis }
+    {
         Some(Axis::Target)
     }
 
     fn visit(
         &self,
         alloc: Global,
-        g: &Graph<Record<'a>>,
+        g: &Graph<Record<'m>>,
         n: NodeId,
-        _ins: &[Arc<Split<Record<'a>>>],
-    ) -> Result<Split<Record<'a>>, VisitError> {
+        _ins: &[Arc<Split<Record<'m>>>],
+    ) -> Result<Split<Record<'m>>, VisitError>
+        requires may { MayVisit (indices_in (length self.now.0)) g.now.nodes n.0 }
+        requires each { length _ins.now ≡ length (targets g.now.nodes n.0) }
+        ensures { Answers (λ out. out) result
+            (splits (arch_variants self.now.1) self.now.0 g.now.nodes n.0 (map arc_value _ins.now)) }
+    {
         let at = Seen::at(self.mods, g, n);
         Ok(Split {
             variants: arch_variants(alloc, self.config, at.module, at.node)?,

@@ -1,10 +1,13 @@
-ghost use Rattle.std.specs.Prelude.{◌≡◌, ◌++◌, ◌∷◌, [], Some, IfOk, IsTrue, OnOk, cond, length};
+ghost use Rattle.std.specs.Prelude.{◌≡◌, ◌++◌, ◌∷◌, [], Some, IfOk, IsTrue, OnOk, cond, length, map};
 ghost use Rattle.std.specs.List.{list_all};
+ghost use Rattle.std.specs.Arc.{arc_value};
+ghost use Rattle.bp_faults.specs.Answers.{Answers};
 ghost use Rattle.graph_nodes.specs.declared.variation.Variation.TheVariants.{Empty};
 ghost use Rattle.graph_nodes.specs.declared.variations.Axis.TheVariants.{Image};
+ghost use Rattle.graph_nodes.specs.Nodes.{targets};
 ghost use Rattle.module_rules.specs.Rules.{splits};
 ghost use Rattle.module_rules.specs.Shaped.{splits_shaped};
-ghost use Rattle.mutator_rules.specs.Conditions.{MayRun, indices_in};
+ghost use Rattle.mutator_rules.specs.Conditions.{MayRun, MayVisit, indices_in};
 ghost use Rattle.mutator_rules.specs.Idle.{LeavesAll};
 ghost use Rattle.target_mutators.specs.Idle.{is_in_system_alone};
 ghost use Rattle.target_mutators.specs.Images.{image_variant, device_images, image_variants};
@@ -134,7 +137,7 @@ impl<'a> ImageSplit<'a> {
     }
 
     /// Whether the rule leaves every node of a graph as it is: each for a device is in the system's own image alone.
-    pub fn leaves_all(&self, g: &Graph<Record<'a>>) -> bool
+    pub fn leaves_all(&self, g: &Graph<Record<'_>>) -> bool
         requires { MayRun (indices_in (length self.now)) g.now.nodes }
         ensures alone { IsTrue result → LeavesAll (splits image_variants self.now) g.now.nodes }
         ensures exact { result ≡ list_all is_in_system_alone g.now.nodes }
@@ -144,24 +147,31 @@ impl<'a> ImageSplit<'a> {
     }
 }
 
-impl<'a> BottomUp<Record<'a>> for ImageSplit<'a> {
+impl<'a, 'm> BottomUp<Record<'m>> for ImageSplit<'a> {
     ghost splits_along = { λ rule. Some Image };
 
     ghost meaning = { λ rule. splits image_variants rule };
 
     ghost accepts = { λ rule. indices_in (length rule) };
 
-    fn axis(&self) -> Option<Axis> {
+    fn axis(&self) -> Option<Axis>
+        ensures { result ≡ Some Image }
+    {
         Some(Axis::Image)
     }
 
     fn visit(
         &self,
         alloc: Global,
-        g: &Graph<Record<'a>>,
+        g: &Graph<Record<'m>>,
         n: NodeId,
-        _ins: &[Arc<Split<Record<'a>>>],
-    ) -> Result<Split<Record<'a>>, VisitError> {
+        _ins: &[Arc<Split<Record<'m>>>],
+    ) -> Result<Split<Record<'m>>, VisitError>
+        requires may { MayVisit (indices_in (length self.now)) g.now.nodes n.0 }
+        requires each { length _ins.now ≡ length (targets g.now.nodes n.0) }
+        ensures { Answers (λ out. out) result
+            (splits image_variants self.now g.now.nodes n.0 (map arc_value _ins.now)) }
+    {
         let at = Seen::at(self.mods, g, n);
         Ok(Split {
             variants: image_variants(alloc, at.module, at.node)?,
