@@ -28,7 +28,6 @@ mod workshop;
 pub use bp_faults::Refusal as GenError;
 pub use course::{graph_after, shared_graph_after};
 pub use generated::{Generated, generate};
-pub use mutators::mutators_to;
 pub use replayed::{replay, replay_lines};
 pub use shown::show_graph;
 pub use sizes::Sizes;

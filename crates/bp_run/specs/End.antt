@@ -1,18 +1,15 @@
 -- How a call ended, before and after it is said. Only the contracts of steps speak of it.
-use Rattle.std.specs.Prelude.{◌≡◌, ◌⊎◌, ℕ, List, ◌++◌, Option, Some, None, IsNone, IsSomeAnd, ⊤}
+use Rattle.std.specs.Prelude.{◌≡◌, ◌⊎◌, ℕ, List, Option, Some, None, IsNone, IsSomeAnd, ⊤}
 use Rattle.std.specs.FinMap.{insert}
-use Rattle.std.specs.declared.io.ErrorKind.{ErrorKind}
-use Rattle.std.specs.declared.io.ErrorKind.TheVariants.{OutOfMemory as NoMemory}
 use Rattle.bp_faults.specs.Line.{line_of}
-use Rattle.bp_ports.specs.Causes.{Rose}
-use Rattle.bp_ports.specs.Files.{Files, WhereTold, AppendsPart}
+use Rattle.bp_ports.specs.Files.{Files, WhereTold}
 use Rattle.command_words.specs.Usage.{usage_line}
 use Rattle.bp_run.specs.declared.words.Command.{Command}
 use Rattle.bp_run.specs.declared.words.Configuration.{Configuration}
 use Rattle.bp_run.specs.declared.words.Configuration.TheVariants.{Build, Graph, Synth}
 use Rattle.bp_run.specs.declared.end.End.{End}
 use Rattle.bp_run.specs.declared.stop.Stop.{Stop}
-use Rattle.bp_run.specs.Lines.{read_line, memory_line, output_line}
+use Rattle.bp_run.specs.Lines.{read_line, memory_line}
 use Rattle.bp_run.specs.declared.made.Journal.{Journal}
 use Rattle.bp_run.specs.declared.made.Made.{Made}
 use Rattle.bp_run.specs.Run.{DoneBy, FaultBy, ReadBy, WriteBy, IsUnwritten, IsUnjournaled, IsPrinted, IsUnshown}
@@ -89,25 +86,3 @@ Stopped paths (Stop.Fault fault) (End.Fault line) = line ≡ line_of fault paths
 Stopped paths (Stop.Read path) (End.Read line) = line ≡ read_line path
 Stopped paths stop End.OutOfMemory = ⊤
 Stopped paths stop end = ⊥
-
--- How a call ends whose words can't be read, by the kind of the system's error.
-abbrev pub end_without_words : ErrorKind → End
-end_without_words NoMemory = End.OutOfMemory
-end_without_words kind = End.Usage
-
--- The text stands behind what the output had, and nothing was said.
-pub record IsShownWhole (text : List ℕ) (old new before after : Stream) : Type 0 where
-  pub out : WhereTold (λ had has. has ≡ had ++ text) old.bytes new.bytes
-  pub silent : SaysNothing before after
-
--- The put on the output failed, which may have gained a first part of the text, and then the line for it was said.
-pub record IsShownInPart (text : List ℕ) (old new before after : Stream) : Type 0 where
-  pub cause : Rose old.faults new.faults
-  pub out : WhereTold (AppendsPart text) old.bytes new.bytes
-  pub told : Says before after output_line
-
--- What printing a text comes to, by the exit status: of the output before and after, and of the stream for messages.
-pub record PrintMeans (text : List ℕ) (old new before after : Stream) (status : ℕ) : Type 0 where
-  pub known : (status ≡ 0) ⊎ (status ≡ 4)
-  pub done : status ≡ 0 → IsShownWhole text old new before after
-  pub write : status ≡ 4 → IsShownInPart text old new before after

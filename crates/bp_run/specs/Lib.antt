@@ -6,4 +6,5 @@ pub mod Lines
 pub mod World
 pub mod Run
 pub mod End
+pub mod Start
 pub mod Laws

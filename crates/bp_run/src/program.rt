@@ -1,12 +1,14 @@
-ghost use Rattle.std.specs.Prelude.{◌≡◌};
-ghost use Rattle.bp_run.specs.End.{end_without_words, PrintMeans};
-ghost use Rattle.bp_run.specs.World.{stream};
+ghost use Rattle.std.specs.Prelude.{◌≡◌, IfOk, IfErr};
+ghost use Rattle.command_words.specs.Notices.{notice_of};
+ghost use Rattle.bp_run.specs.Start.{AnswersWords, AnswersNoWords, PrintMeans};
+ghost use Rattle.bp_run.specs.Words.{command_of};
+ghost use Rattle.bp_run.specs.World.{world, stream};
 
-use crate::end::{End, report, status};
 use crate::run;
 use bp_faults::Text;
-use bp_ports::{FsStore, OpenGate, Sink, StdSink};
+use bp_ports::{FsStore, Gate, OpenGate, Sink, StdSink, Store};
 use command_words::notice_of;
+use std::alloc::Global;
 use std::io::ErrorKind;
 use std::process::ExitCode;
 use std::rt::Env;
@@ -20,16 +22,6 @@ fn read_words(rt: &(impl Env + AllocGlobal)) -> io::Result<Vec<Text>> {
         words.push(Text::new(word))?;
     }
     Ok(words)
-}
-
-// How a call ends whose words can't be read. A word that isn't UTF-8 is a faulty word.
-fn end_without_words(kind: ErrorKind) -> End
-    ensures { result ≡ end_without_words kind }
-{
-    match kind {
-        ErrorKind::OutOfMemory => End::OutOfMemory,
-        _ => End::Usage,
-    }
 }
 
 // Prints the text of a notice: the exit status. It takes no memory, so the line for a failure is a literal.
@@ -46,30 +38,44 @@ fn print<O: Sink, D: Sink>(text: &str, out: &mut O, diag: &mut D) -> u8
     }
 }
 
-/// The program, over the real files and streams. The first argument is the runtime once more, as the one that may start
-/// threads.
-pub fn start<R: Threads + Sync>(threads: &R, rt: HostRuntime) -> ExitCode {
-    let mut diag = StdSink::err(rt);
-    let words = match read_words(&rt) {
-        Ok(words) => words,
-        Err(error) => {
-            let end = end_without_words(error.kind());
-            report(&end, &mut diag);
-            return ExitCode::from(status(&end));
-        }
-    };
-    let mut out = StdSink::out(rt);
-    if let Some(notice) = notice_of(&words) {
-        return ExitCode::from(print(notice.text(), &mut out, &mut diag));
+// What the program does for the words that the system gives, or for its error where it gives none: the exit status. A
+// word that isn't UTF-8 is such an error, and is answered as a faulty word is.
+fn answer<R: Threads + Sync, S: Store, O: Sink, D: Sink, G: Gate + Sync>(
+    rt: &R,
+    alloc: Global,
+    given: Result<Vec<Text>, ErrorKind>,
+    store: &mut S,
+    out: &mut O,
+    diag: &mut D,
+    gate: &G,
+) -> u8
+    ensures words { IfOk given (λ words. AnswersWords (notice_of words.items) (command_of words.items)
+        (world S.Store O.Sink store.old out.old) (world S.Store O.Sink store.new out.new)
+        (stream D.Sink diag.old) (stream D.Sink diag.new) result) }
+    ensures none { IfErr given (λ kind. AnswersNoWords kind
+        (world S.Store O.Sink store.old out.old) (world S.Store O.Sink store.new out.new)
+        (stream D.Sink diag.old) (stream D.Sink diag.new) result) }
+{
+    match given {
+        Ok(words) => match notice_of(&words) {
+            Some(notice) => print(notice.text(), out, diag),
+            None => run(rt, alloc, &words, store, out, diag, gate),
+        },
+        Err(ErrorKind::OutOfMemory) => 5,
+        Err(_) => run(rt, alloc, &[], store, out, diag, gate),
     }
-    let mut store = FsStore::new(rt);
-    ExitCode::from(run(
+}
+
+/// The program, over the real words, files and streams. The first argument is the runtime once more, as the one that
+/// may start threads.
+pub fn start<R: Threads + Sync>(threads: &R, rt: HostRuntime) -> ExitCode {
+    ExitCode::from(answer(
         threads,
         rt.alloc(),
-        &words,
-        &mut store,
-        &mut out,
-        &mut diag,
+        read_words(&rt).map_err(|error| error.kind()),
+        &mut FsStore::new(rt),
+        &mut StdSink::out(rt),
+        &mut StdSink::err(rt),
         &OpenGate,
     ))
 }

@@ -24,18 +24,19 @@ fn store_with(alloc: Global, text: &[u8]) -> Result<MemStore, OutOfMemory> {
     store_of(alloc, one_file(alloc, "Android.bp", text)?)
 }
 
-// Whether the words leave this text in the file of the path, and say nothing.
-fn leaves<R: Threads + Sync>(
+// How the words end, unless they leave this text in the file of the path, and say nothing.
+fn other_than_left<R: Threads + Sync>(
     rt: &R,
     alloc: Global,
     words: &str,
     path: &str,
     text: &str,
-) -> Result<bool, OutOfMemory> {
+) -> Result<Option<String>, OutOfMemory> {
     let mut store = store_with(alloc, TEXT.as_bytes())?;
     let ended = end_of(rt, alloc, words, &mut store)?;
     let is_held = store.held(path) == Some(text.as_bytes());
-    Ok(is_held && store.calls() == 2 && ended.shows(0, "", ""))
+    let is_right = is_held && store.calls() == 2 && ended.shows(0, "", "");
+    ended.unless(alloc, is_right)
 }
 
 // Whether every file is as it was.
@@ -43,17 +44,17 @@ fn is_kept(store: &MemStore, text: &[u8]) -> bool {
     store.held("Android.bp") == Some(text) && store.held("o").is_none()
 }
 
-// Whether the words are refused with status 1 and this line, and every file is as it was.
-fn refuses<R: Threads + Sync>(
+// How the words end, unless with status 1 and this line, and every file as it was.
+fn other_than_refused<R: Threads + Sync>(
     rt: &R,
     alloc: Global,
     words: &str,
     text: &[u8],
     line: &str,
-) -> Result<bool, OutOfMemory> {
+) -> Result<Option<String>, OutOfMemory> {
     let mut store = store_with(alloc, text)?;
     let ended = end_of(rt, alloc, words, &mut store)?;
-    Ok(ended.tells(1, line) && is_kept(&store, text))
+    ended.unless(alloc, ended.tells(1, line) && is_kept(&store, text))
 }
 
 /// Words, a path, and the text that is there then.
@@ -63,15 +64,15 @@ const LAYOUTS: &[(&str, &str, &str)] = &[
     ("fmt --out=o --in=Android.bp", "Android.bp", TEXT),
 ];
 
-// The first words that leave another text.
+// The first words that leave another text, and how they end.
 fn other_layout<R: Threads + Sync>(
     rt: &R,
     alloc: Global,
     cases: &[(&'static str, &str, &str)],
-) -> Result<Option<&'static str>, OutOfMemory> {
+) -> Result<Option<(&'static str, String)>, OutOfMemory> {
     for (words, path, text) in cases {
-        if !leaves(rt, alloc, words, path, text)? {
-            return Ok(Some(*words));
+        if let Some(came) = other_than_left(rt, alloc, words, path, text)? {
+            return Ok(Some((*words, came)));
         }
     }
     Ok(None)
@@ -93,27 +94,27 @@ const EDITS: &[(&str, &str)] = &[
     ("--property=srcs", "srcs:[],cflags:[\"-g\"]"),
 ];
 
-// Whether the words, behind those for FILE and OUT, make this of the lists.
-fn edits<R: Threads + Sync>(
+// How the words, behind those for FILE and OUT, end, unless they make this of the lists.
+fn other_than_edited<R: Threads + Sync>(
     rt: &R,
     alloc: Global,
     words: &str,
     lists: &str,
-) -> Result<bool, OutOfMemory> {
+) -> Result<Option<String>, OutOfMemory> {
     let words = format!(in alloc; "edit -i Android.bp -o Android.bp -m a {words}")?;
     let text = format!(in alloc; "cc_binary{{name:\"a\",{lists},// t\n}}\n")?;
-    leaves(rt, alloc, words.as_str(), "Android.bp", text.as_str())
+    other_than_left(rt, alloc, words.as_str(), "Android.bp", text.as_str())
 }
 
-// The first words that make something else of them.
+// The first words that make something else of them, and how they end.
 fn other_edit<R: Threads + Sync>(
     rt: &R,
     alloc: Global,
     cases: &[(&'static str, &str)],
-) -> Result<Option<&'static str>, OutOfMemory> {
+) -> Result<Option<(&'static str, String)>, OutOfMemory> {
     for (words, lists) in cases {
-        if !edits(rt, alloc, words, lists)? {
-            return Ok(Some(*words));
+        if let Some(came) = other_than_edited(rt, alloc, words, lists)? {
+            return Ok(Some((*words, came)));
         }
     }
     Ok(None)
@@ -149,16 +150,16 @@ const FAULTS: &[(&str, &str, &str)] = &[
     ),
 ];
 
-// The first line that isn't told so.
+// The first line that isn't told so, and what came.
 fn other_fault<R: Threads + Sync>(
     rt: &R,
     alloc: Global,
     cases: &[(&str, &str, &'static str)],
-) -> Result<Option<&'static str>, OutOfMemory> {
+) -> Result<Option<(&'static str, String)>, OutOfMemory> {
     for (command, text, line) in cases {
         let words = format!(in alloc; "{command} -i Android.bp -o o")?;
-        if !refuses(rt, alloc, words.as_str(), text.as_bytes(), line)? {
-            return Ok(Some(*line));
+        if let Some(came) = other_than_refused(rt, alloc, words.as_str(), text.as_bytes(), line)? {
+            return Ok(Some((*line, came)));
         }
     }
     Ok(None)
@@ -185,14 +186,14 @@ fn wide_text(alloc: Global) -> Result<String, OutOfMemory> {
     Ok(text)
 }
 
-// Whether a file of these bytes is refused with this line.
-fn refuses_file<R: Threads + Sync>(
+// How `fmt` ends for a file of these bytes, unless with this line.
+fn other_than_file_refused<R: Threads + Sync>(
     rt: &R,
     alloc: Global,
     bytes: &[u8],
     line: &str,
-) -> Result<bool, OutOfMemory> {
-    refuses(rt, alloc, "fmt -i Android.bp -o o", bytes, line)
+) -> Result<Option<String>, OutOfMemory> {
+    other_than_refused(rt, alloc, "fmt -i Android.bp -o o", bytes, line)
 }
 
 // Whether a file at the limit, of spaces alone, gives an empty text.
@@ -207,12 +208,21 @@ fn formats_full<R: Threads + Sync>(rt: &R, alloc: Global) -> Result<bool, OutOfM
 fn files_and_texts_that_are_too_large(rt: HostRuntime) -> Result<(), Fail> {
     let wide = wide_text(rt.alloc())?;
     let line = "Android.bp:1:1: error 40: text is too long\n";
-    assert!(rt; refuses_file(&rt, rt.alloc(), wide.as_bytes(), line)?);
+    assert_eq!(rt;
+        other_than_file_refused(&rt, rt.alloc(), wide.as_bytes(), line)?,
+        None
+    );
     let over = vec![in rt.alloc(); 255; (1 << 20) + 1]?;
     let line = "Android.bp:1:1: error 32: file is too large\n";
-    assert!(rt; refuses_file(&rt, rt.alloc(), over.as_slice(), line)?);
+    assert_eq!(rt;
+        other_than_file_refused(&rt, rt.alloc(), over.as_slice(), line)?,
+        None
+    );
     let line = "Android.bp:2:2: error 1: not UTF-8\n";
-    assert!(rt; refuses_file(&rt, rt.alloc(), b"m{}\n \xff", line)?);
+    assert_eq!(rt;
+        other_than_file_refused(&rt, rt.alloc(), b"m{}\n \xff", line)?,
+        None
+    );
     assert!(rt; formats_full(&rt, rt.alloc())?);
     Ok(())
 }
@@ -223,26 +233,32 @@ const BOTH: &[&str] = &[
     "edit -i Android.bp -o o -m a -p srcs",
 ];
 
-// Whether words whose call of this number fails end so, and every file is as it was.
-fn fails_at<R: Threads + Sync>(
+// How words whose call of this number fails end, unless so, and with every file as it was.
+fn other_than_failed<R: Threads + Sync>(
     rt: &R,
     alloc: Global,
     words: &str,
     call: u32,
     (status, line): (u8, &str),
-) -> Result<bool, OutOfMemory> {
+) -> Result<Option<String>, OutOfMemory> {
     let tree = one_file(alloc, "Android.bp", TEXT.as_bytes())?;
     let mut store = store_that_fails(alloc, tree, call)?;
     let ended = end_of(rt, alloc, words, &mut store)?;
     let is_last = store.calls() == call;
-    Ok(is_last && ended.tells(status, line) && is_kept(&store, TEXT.as_bytes()))
+    let is_right = is_last && ended.tells(status, line) && is_kept(&store, TEXT.as_bytes());
+    ended.unless(alloc, is_right)
 }
 
-// Whether words tell that there is no file.
-fn misses_file<R: Threads + Sync>(rt: &R, alloc: Global, words: &str) -> Result<bool, OutOfMemory> {
+// How words end, unless they tell that there is no file.
+fn other_than_missing<R: Threads + Sync>(
+    rt: &R,
+    alloc: Global,
+    words: &str,
+) -> Result<Option<String>, OutOfMemory> {
     let mut store = store_of(alloc, Vec::new(alloc))?;
     let ended = end_of(rt, alloc, words, &mut store)?;
-    Ok(ended.tells(1, "Android.bp:1:1: error 31: no such file\n"))
+    let is_right = ended.tells(1, "Android.bp:1:1: error 31: no such file\n");
+    ended.unless(alloc, is_right)
 }
 
 #[test]
@@ -250,9 +266,21 @@ fn failing_store(rt: HostRuntime) -> Result<(), Fail> {
     let read = (3, "bpgen: cannot read Android.bp\n");
     let write = (4, "bpgen: cannot write o\n");
     for words in BOTH {
-        assert!(rt; fails_at(&rt, rt.alloc(), words, 1, read)?, "{words}");
-        assert!(rt; fails_at(&rt, rt.alloc(), words, 2, write)?, "{words}");
-        assert!(rt; misses_file(&rt, rt.alloc(), words)?, "{words}");
+        assert_eq!(rt;
+            other_than_failed(&rt, rt.alloc(), words, 1, read)?,
+            None,
+            "{words}"
+        );
+        assert_eq!(rt;
+            other_than_failed(&rt, rt.alloc(), words, 2, write)?,
+            None,
+            "{words}"
+        );
+        assert_eq!(rt;
+            other_than_missing(&rt, rt.alloc(), words)?,
+            None,
+            "{words}"
+        );
     }
     Ok(())
 }

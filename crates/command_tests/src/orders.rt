@@ -52,27 +52,28 @@ fn tree_with(alloc: Global, text: &str, order: &[u8]) -> Result<Vec<(Text, Vec<u
     Ok(tree)
 }
 
-// Whether a replay over these files is refused with this line, and OUT isn't written.
-fn refuses_files<R: Threads + Sync>(
+// How a replay over these files ends, unless it is refused with this line, and OUT isn't written.
+fn other_than_refused<R: Threads + Sync>(
     rt: &R,
     alloc: Global,
     tree: Vec<(Text, Vec<u8>)>,
     line: &str,
-) -> Result<bool, OutOfMemory> {
+) -> Result<Option<String>, OutOfMemory> {
     let mut store = store_of(alloc, tree)?;
     let ended = end_of(rt, alloc, REPLAY, &mut store)?;
-    Ok(ended.tells(1, line) && store.held("build.ninja").is_none())
+    let is_unwritten = store.held("build.ninja").is_none();
+    ended.unless(alloc, ended.tells(1, line) && is_unwritten)
 }
 
-// Whether the order is refused with this line.
-fn refuses_order<R: Threads + Sync>(
+// How a replay along the order ends, unless it is refused with this line.
+fn other_than_order_refused<R: Threads + Sync>(
     rt: &R,
     alloc: Global,
     order: &str,
     line: &str,
-) -> Result<bool, OutOfMemory> {
+) -> Result<Option<String>, OutOfMemory> {
     let tree = tree_with(alloc, TREE, order.as_bytes())?;
-    refuses_files(rt, alloc, tree, line)
+    other_than_refused(rt, alloc, tree, line)
 }
 
 /// First lines that no order has, and how a fault shows them.
@@ -85,16 +86,16 @@ const BAD_LINES: &[(&str, &str)] = &[
     ("14 0\n", ": 14 0"),
 ];
 
-// The first line of these that isn't refused so.
+// The first line of these that isn't refused so, and what came.
 fn other_line<R: Threads + Sync>(
     rt: &R,
     alloc: Global,
     cases: &[(&'static str, &str)],
-) -> Result<Option<&'static str>, OutOfMemory> {
+) -> Result<Option<(&'static str, String)>, OutOfMemory> {
     for (order, shown) in cases {
         let told = format!(in alloc; "order.txt:1:1: error 35: not ready{shown}\n")?;
-        if !refuses_order(rt, alloc, order, told.as_str())? {
-            return Ok(Some(*order));
+        if let Some(came) = other_than_order_refused(rt, alloc, order, told.as_str())? {
+            return Ok(Some((*order, came)));
         }
     }
     Ok(None)
@@ -159,6 +160,47 @@ fn diamond(rt: HostRuntime) -> Result<(), Fail> {
     Ok(())
 }
 
+// So many binaries, each with a library of its own.
+fn many_modules(alloc: Global, pairs: u32) -> Result<String, OutOfMemory> {
+    let mut tree = String::from_str(alloc, "@Android.bp\n")?;
+    for n in 0..pairs {
+        writeln!(
+            tree,
+            "cc_binary {{ name: \"a{n}\", static_libs: [\"l{n}\"] }}"
+        )?;
+        writeln!(tree, "cc_library_static {{ name: \"l{n}\" }}")?;
+    }
+    Ok(tree)
+}
+
+// How many lines the journal of a build has, and whether a replay along it writes the same text.
+fn replay_of_journal<R: Threads + Sync>(
+    rt: &R,
+    alloc: Global,
+    tree: &str,
+) -> Result<(usize, bool), OutOfMemory> {
+    let mut store = store_of(alloc, tree_of(alloc, tree)?)?;
+    let words = "build -l list -o build.ninja -t android_arm64 -j 2 --journal order.txt";
+    let built = written(rt, alloc, words, &mut store)?;
+    let journal = store.held("order.txt").unwrap_or_default();
+    let lines = journal.iter().filter(|byte| **byte == b'\n').count();
+    let replay = "replay -l list -o again.ninja --order order.txt -t android_arm64";
+    let ended = end_of(rt, alloc, replay, &mut store)?;
+    let is_same = !built.is_empty() && store.held("again.ninja") == Some(built.as_slice());
+    Ok((lines, is_same && ended.tells(0, "")))
+}
+
+/// 13 lines a module, one for each pass.
+#[test]
+fn long_journal(rt: HostRuntime) -> Result<(), Fail> {
+    let tree = many_modules(rt.alloc(), 500)?;
+    assert_eq!(rt;
+        replay_of_journal(&rt, rt.alloc(), tree.as_str())?,
+        (13_000, true)
+    );
+    Ok(())
+}
+
 /// The last of the passes whose lines come first, the lines behind them, and the line of the fault.
 const ILLEGAL: &[(u32, &str, &str)] = &[
     (6, "7 0\n", "order.txt:25:1: error 35: not ready: 7 0\n"),
@@ -167,17 +209,17 @@ const ILLEGAL: &[(u32, &str, &str)] = &[
     (13, "13 0\n", "order.txt:53:1: error 35: not ready: 13 0\n"),
 ];
 
-// The first line of a fault of these that isn't told so.
+// The first line of a fault of these that isn't told so, and what came.
 fn untold<R: Threads + Sync>(
     rt: &R,
     alloc: Global,
     cases: &[(u32, &str, &'static str)],
-) -> Result<Option<&'static str>, OutOfMemory> {
+) -> Result<Option<(&'static str, String)>, OutOfMemory> {
     for (last, behind, told) in cases {
         let mut lines = order(alloc, FIRST, *last)?;
         lines.push_str(behind)?;
-        if !refuses_order(rt, alloc, lines.as_str(), told)? {
-            return Ok(Some(*told));
+        if let Some(came) = other_than_order_refused(rt, alloc, lines.as_str(), told)? {
+            return Ok(Some((*told, came)));
         }
     }
     Ok(None)
@@ -221,28 +263,26 @@ const FAULTS: &[(&str, Option<&str>, &str)] = &[
     ),
 ];
 
-// Whether a replay over a tree and its order file is refused with this line.
-fn refuses_replay<R: Threads + Sync>(
+// How a replay over a tree and its order file ends, unless it is refused with this line.
+fn other_than_replay_refused<R: Threads + Sync>(
     rt: &R,
     alloc: Global,
     text: &str,
     order: Option<&str>,
     line: &str,
-) -> Result<bool, OutOfMemory> {
+) -> Result<Option<String>, OutOfMemory> {
     let tree = match order {
         Some(order) => tree_with(alloc, text, order.as_bytes())?,
         None => tree_of(alloc, text)?,
     };
-    refuses_files(rt, alloc, tree, line)
+    other_than_refused(rt, alloc, tree, line)
 }
 
 #[test]
 fn faults_before_an_order(rt: HostRuntime) -> Result<(), Fail> {
     for (tree, order, line) in FAULTS {
-        assert!(rt;
-            refuses_replay(&rt, rt.alloc(), tree, *order, line)?,
-            "{line}"
-        );
+        let came = other_than_replay_refused(&rt, rt.alloc(), tree, *order, line)?;
+        assert_eq!(rt; came, None, "{line}");
     }
     Ok(())
 }
@@ -260,22 +300,26 @@ const LONG: &[(usize, &str)] = &[
     ),
 ];
 
-// Whether an order file of so many bytes is refused with this line.
-fn refuses_long<R: Threads + Sync>(
+// How a replay along an order file of so many bytes ends, unless it is refused with this line.
+fn other_than_long_refused<R: Threads + Sync>(
     rt: &R,
     alloc: Global,
     count: usize,
     line: &str,
-) -> Result<bool, OutOfMemory> {
+) -> Result<Option<String>, OutOfMemory> {
     let order = vec![in alloc; b'1'; count]?;
     let tree = tree_with(alloc, TREE, order.as_slice())?;
-    refuses_files(rt, alloc, tree, line)
+    other_than_refused(rt, alloc, tree, line)
 }
 
 #[test]
 fn order_files_at_the_limit_and_beyond(rt: HostRuntime) -> Result<(), Fail> {
     for (count, line) in LONG {
-        assert!(rt; refuses_long(&rt, rt.alloc(), *count, line)?, "{line}");
+        assert_eq!(rt;
+            other_than_long_refused(&rt, rt.alloc(), *count, line)?,
+            None,
+            "{line}"
+        );
     }
     Ok(())
 }
@@ -289,26 +333,31 @@ const FAILING: &[(u32, u8, &str)] = &[
     (4, 4, "bpgen: cannot write build.ninja\n"),
 ];
 
-// Whether a legal replay whose call of this number fails ends so, and OUT isn't written.
-fn fails_at<R: Threads + Sync>(
+// How a legal replay whose call of this number fails ends, unless so, and without OUT.
+fn other_than_failed<R: Threads + Sync>(
     rt: &R,
     alloc: Global,
     call: u32,
     status: u8,
     line: &str,
-) -> Result<bool, OutOfMemory> {
+) -> Result<Option<String>, OutOfMemory> {
     let lines = order(alloc, FIRST, 13)?;
     let tree = tree_with(alloc, TREE, lines.as_bytes())?;
     let mut store = store_that_fails(alloc, tree, call)?;
     let ended = end_of(rt, alloc, REPLAY, &mut store)?;
     let is_last = store.calls() == call;
-    Ok(is_last && ended.tells(status, line) && store.held("build.ninja").is_none())
+    let is_unwritten = store.held("build.ninja").is_none();
+    ended.unless(alloc, is_last && ended.tells(status, line) && is_unwritten)
 }
 
 #[test]
 fn failing_store(rt: HostRuntime) -> Result<(), Fail> {
     for (call, status, line) in FAILING {
-        assert!(rt; fails_at(&rt, rt.alloc(), *call, *status, line)?, "{line}");
+        assert_eq!(rt;
+            other_than_failed(&rt, rt.alloc(), *call, *status, line)?,
+            None,
+            "{line}"
+        );
     }
     Ok(())
 }

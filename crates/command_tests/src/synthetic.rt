@@ -63,29 +63,32 @@ const JOURNALS: &[(&str, &str)] = &[
     ),
 ];
 
-// Whether a tree is built with this journal.
-fn is_journal_of<R: Threads + Sync>(
+// How a build of a tree ends, with its journal, unless this is the journal.
+fn other_journal<R: Threads + Sync>(
     rt: &R,
     alloc: Global,
     tree: &str,
     journal: &str,
-) -> Result<bool, OutOfMemory> {
+) -> Result<Option<String>, OutOfMemory> {
     let mut store = store_of(alloc, tree_of(alloc, tree)?)?;
     let words = "build -l list -o build.ninja -t android_arm64 --journal j";
-    let status = end_of(rt, alloc, words, &mut store)?.status;
+    let mut ended = end_of(rt, alloc, words, &mut store)?;
     let is_written = store.held("build.ninja").is_some();
-    Ok(status == 0 && is_written && store.held("j") == Some(journal.as_bytes()))
+    let held = store.held("j");
+    let is_right = ended.status == 0 && is_written && held == Some(journal.as_bytes());
+    ended.out.extend_from_slice(held.unwrap_or_default())?;
+    ended.unless(alloc, is_right)
 }
 
-// The first tree that isn't built so.
+// The first tree that isn't built so, and what came.
 fn differing<R: Threads + Sync>(
     rt: &R,
     alloc: Global,
     cases: &[(&'static str, &str)],
-) -> Result<Option<&'static str>, OutOfMemory> {
+) -> Result<Option<(&'static str, String)>, OutOfMemory> {
     for (tree, journal) in cases {
-        if !is_journal_of(rt, alloc, tree, journal)? {
-            return Ok(Some(*tree));
+        if let Some(came) = other_journal(rt, alloc, tree, journal)? {
+            return Ok(Some((*tree, came)));
         }
     }
     Ok(None)

@@ -50,21 +50,25 @@ const ACCEPTED: &[&str] = &[
 /// What is told of words that give no configuration.
 const USAGE: &str = "usage: bpgen build|replay|graph|synth|fmt|edit OPTIONS\n";
 
-// Whether words give no configuration, and the store isn't called.
-fn are_refused<R: Threads + Sync>(rt: &R, alloc: Global, words: &str) -> Result<bool, OutOfMemory> {
+// How words end, unless they give no configuration, and the store isn't called.
+fn other_than_refused<R: Threads + Sync>(
+    rt: &R,
+    alloc: Global,
+    words: &str,
+) -> Result<Option<String>, OutOfMemory> {
     let mut store = store_of(alloc, tree_of(alloc, TREE)?)?;
     let ended = end_of(rt, alloc, words, &mut store)?;
-    Ok(ended.shows(2, "", USAGE) && store.calls() == 0)
+    ended.unless(alloc, ended.shows(2, "", USAGE) && store.calls() == 0)
 }
 
-// The first words that aren't refused.
+// The first words that aren't refused, and how they end.
 fn not_refused<R: Threads + Sync>(
     rt: &R,
     alloc: Global,
-) -> Result<Option<&'static str>, OutOfMemory> {
+) -> Result<Option<(&'static str, String)>, OutOfMemory> {
     for words in REFUSED {
-        if !are_refused(rt, alloc, words)? {
-            return Ok(Some(*words));
+        if let Some(came) = other_than_refused(rt, alloc, words)? {
+            return Ok(Some((*words, came)));
         }
     }
     Ok(None)
@@ -76,25 +80,25 @@ fn holds_build(store: &MemStore) -> bool {
     text.ends_with(b"/android_arm/bin/hello\ndefault out/all\n")
 }
 
-// Whether words build the tree, and nothing is told.
-fn are_accepted<R: Threads + Sync>(
+// How words end, unless they build the tree, and nothing is told.
+fn other_than_accepted<R: Threads + Sync>(
     rt: &R,
     alloc: Global,
     words: &str,
-) -> Result<bool, OutOfMemory> {
+) -> Result<Option<String>, OutOfMemory> {
     let mut store = store_of(alloc, tree_of(alloc, TREE)?)?;
     let ended = end_of(rt, alloc, words, &mut store)?;
-    Ok(ended.tells(0, "") && holds_build(&store))
+    ended.unless(alloc, ended.tells(0, "") && holds_build(&store))
 }
 
-// The first words that aren't accepted.
+// The first words that aren't accepted, and how they end.
 fn not_accepted<R: Threads + Sync>(
     rt: &R,
     alloc: Global,
-) -> Result<Option<&'static str>, OutOfMemory> {
+) -> Result<Option<(&'static str, String)>, OutOfMemory> {
     for words in ACCEPTED {
-        if !are_accepted(rt, alloc, words)? {
-            return Ok(Some(*words));
+        if let Some(came) = other_than_accepted(rt, alloc, words)? {
+            return Ok(Some((*words, came)));
         }
     }
     Ok(None)

@@ -1,6 +1,7 @@
 -- Words that ask for a text in place of a command.
 use Rattle.std.specs.Prelude.{ℕ, List, [], ◌∷◌, ◌||◌, Option, Some, None, codes, if◌then◌else◌}
 use Rattle.std.specs.Str.{bytes_eq}
+use Rattle.command_words.specs.declared.help.TheConstants.{HELP, VERSION}
 use Rattle.command_words.specs.declared.notices.Notice.{Notice}
 use Rattle.command_words.specs.declared.notices.Notice.TheVariants.{Help, Version}
 
@@ -15,3 +16,8 @@ notice_named word =
 abbrev pub notice_of : List (List ℕ) → Option Notice
 notice_of (word ∷ []) = notice_named word
 notice_of words = None
+
+-- The text of a notice.
+abbrev pub notice_text : Notice → List ℕ
+notice_text Help = HELP.now
+notice_text Version = VERSION.now

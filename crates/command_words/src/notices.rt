@@ -1,5 +1,5 @@
 ghost use Rattle.std.specs.Prelude.{◌≡◌};
-ghost use Rattle.command_words.specs.Notices.{notice_named, notice_of};
+ghost use Rattle.command_words.specs.Notices.{notice_named, notice_of, notice_text};
 
 use crate::help::{HELP, VERSION};
 use bp_faults::Text;
@@ -13,7 +13,9 @@ pub enum Notice {
 
 impl Notice {
     /// The text to print: `HELP` or `VERSION`.
-    pub fn text(self) -> &'static str {
+    pub fn text(self) -> &'static str
+        ensures { result.now ≡ notice_text self }
+    {
         match self {
             Notice::Help => HELP,
             Notice::Version => VERSION,

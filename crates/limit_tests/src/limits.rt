@@ -1,7 +1,7 @@
 //! Trees that are at a limit or beyond it.
 
 use bp_faults::{OutOfMemory, Text};
-use memory_runs::{builds, one_file, put, refuses, tree_of};
+use memory_runs::{one_file, other_than_built, other_than_fault, put, tree_of};
 use std::alloc::Global;
 use std::test::Fail;
 use std::thread::Threads;
@@ -82,49 +82,93 @@ const REPEATED: &[Repeated] = &[
     ),
 ];
 
-// Whether a tree with a text so many times is refused with the line.
-fn refuses_repeated<R: Threads + Sync>(
+// How a build of a tree with a text so many times ends, unless it is refused with the line.
+fn other_than_repeated<R: Threads + Sync>(
     rt: &R,
     alloc: Global,
     (first, text, count, last, line): &Repeated,
-) -> Result<bool, OutOfMemory> {
+) -> Result<Option<String>, OutOfMemory> {
     let tree = repeated(alloc, first, text, *count, last)?;
-    refuses(rt, alloc, tree_of(alloc, tree.as_str())?, line)
+    other_than_fault(rt, alloc, tree_of(alloc, tree.as_str())?, line)
 }
 
-// The line of the first fault that isn't told so.
+// The line of the first fault that isn't told so, and what came.
 fn differing<R: Threads + Sync>(
     rt: &R,
     alloc: Global,
-) -> Result<Option<&'static str>, OutOfMemory> {
+) -> Result<Option<(&'static str, String)>, OutOfMemory> {
     for case in REPEATED {
-        if !refuses_repeated(rt, alloc, case)? {
-            return Ok(Some(case.4));
+        if let Some(came) = other_than_repeated(rt, alloc, case)? {
+            return Ok(Some((case.4, came)));
         }
     }
     Ok(None)
 }
 
-// Whether a list of more than 4 MiB is refused.
-fn refuses_long_list<R: Threads + Sync>(rt: &R, alloc: Global) -> Result<bool, OutOfMemory> {
-    let list = repeated(alloc, "", SPACES, (1 << 16) + 1, "")?;
-    let tree = one_file(alloc, "list", list.as_bytes())?;
-    refuses(rt, alloc, tree, "list:1:1: error 32: file is too large\n")
+/// What a list ends with behind 4 MiB of spaces, and the line of the fault.
+const LONG_LISTS: &[(&str, &str)] = &[
+    (
+        "",
+        "list:1:1: error 33: bad path in list: \
+            \x20                                                                               \n",
+    ),
+    (" ", "list:1:1: error 32: file is too large\n"),
+];
+
+// The line of the first fault of these that isn't told so, and what came.
+fn other_list<R: Threads + Sync>(
+    rt: &R,
+    alloc: Global,
+) -> Result<Option<(&'static str, String)>, OutOfMemory> {
+    for (last, line) in LONG_LISTS {
+        let list = repeated(alloc, "", SPACES, 1 << 16, last)?;
+        let tree = one_file(alloc, "list", list.as_bytes())?;
+        if let Some(came) = other_than_fault(rt, alloc, tree, line)? {
+            return Ok(Some((*line, came)));
+        }
+    }
+    Ok(None)
 }
 
-// Whether maps at the limit of depth are built.
-fn builds_deep_maps<R: Threads + Sync>(rt: &R, alloc: Global) -> Result<bool, OutOfMemory> {
+// How a build of maps at the limit of depth ends, unless they are built.
+fn other_than_deep_maps<R: Threads + Sync>(
+    rt: &R,
+    alloc: Global,
+) -> Result<Option<String>, OutOfMemory> {
     let maps = repeated(alloc, "@Android.bp\nx = ", "{a:", 63, "{}")?;
     let tree = repeated(alloc, maps.as_str(), "}", 63, "")?;
     let end = "\nbuild out/all: phony\ndefault out/all\n";
-    builds(rt, alloc, tree_of(alloc, tree.as_str())?, end)
+    other_than_built(rt, alloc, tree_of(alloc, tree.as_str())?, end)
 }
 
 #[test]
 fn long_lists_strings_and_files(rt: HostRuntime) -> Result<(), Fail> {
     assert_eq!(rt; differing(&rt, rt.alloc())?, None);
-    assert!(rt; refuses_long_list(&rt, rt.alloc())?);
-    assert!(rt; builds_deep_maps(&rt, rt.alloc())?);
+    assert_eq!(rt; other_than_deep_maps(&rt, rt.alloc())?, None);
+    Ok(())
+}
+
+#[test]
+fn lists_at_the_limit_and_beyond(rt: HostRuntime) -> Result<(), Fail> {
+    assert_eq!(rt; other_list(&rt, rt.alloc())?, None);
+    Ok(())
+}
+
+/// How a module's name begins.
+const NAMED: &str = "@Android.bp\ncc_binary { name: \"";
+
+/// A name of 255 bytes is built, and one of 256 isn't.
+#[test]
+fn long_names(rt: HostRuntime) -> Result<(), Fail> {
+    let tree = repeated(rt.alloc(), NAMED, "abcdefghijklmno", 17, "\" }")?;
+    let tree = tree_of(rt.alloc(), tree.as_str())?;
+    let end = "abcdefghijklmnoabcdefghijklmno\ndefault out/all\n";
+    assert_eq!(rt; other_than_built(&rt, rt.alloc(), tree, end)?, None);
+    let tree = repeated(rt.alloc(), NAMED, "abcdefgh", 32, "\" }")?;
+    let tree = tree_of(rt.alloc(), tree.as_str())?;
+    let line = "Android.bp:1:19: error 19: bad module name: \
+        abcdefghabcdefghabcdefghabcdefghabcdefghabcdefghabcdefghabcdefghabcdefghabcdefgh\n";
+    assert_eq!(rt; other_than_fault(&rt, rt.alloc(), tree, line)?, None);
     Ok(())
 }
 
@@ -149,10 +193,10 @@ fn one_library(alloc: Global, count: usize) -> Result<Vec<(Text, Vec<u8>)>, OutO
 #[test]
 fn one_library_many_times(rt: HostRuntime) -> Result<(), Fail> {
     let tree = one_library(rt.alloc(), 65_536)?;
-    assert!(rt; builds(&rt, rt.alloc(), tree, ONE_LIBRARY)?);
+    assert_eq!(rt; other_than_built(&rt, rt.alloc(), tree, ONE_LIBRARY)?, None);
     let tree = one_library(rt.alloc(), 65_537)?;
     let line = "Android.bp:1:39: error 30: too many: list\n";
-    assert!(rt; refuses(&rt, rt.alloc(), tree, line)?);
+    assert_eq!(rt; other_than_fault(&rt, rt.alloc(), tree, line)?, None);
     Ok(())
 }
 
@@ -197,16 +241,16 @@ const MANY: &[(u32, u32, u32, &str)] = &[
     ),
 ];
 
-// The line of the first fault that isn't told so.
+// The line of the first fault that isn't told so, and what came.
 fn other_line<R: Threads + Sync>(
     rt: &R,
     alloc: Global,
     cases: &[(u32, u32, u32, &'static str)],
-) -> Result<Option<&'static str>, OutOfMemory> {
+) -> Result<Option<(&'static str, String)>, OutOfMemory> {
     for (files, modules, left, line) in cases {
         let tree = many_files(alloc, *files, *modules, *left)?;
-        if !refuses(rt, alloc, tree, line)? {
-            return Ok(Some(*line));
+        if let Some(came) = other_than_fault(rt, alloc, tree, line)? {
+            return Ok(Some((*line, came)));
         }
     }
     Ok(None)
@@ -215,7 +259,10 @@ fn other_line<R: Threads + Sync>(
 #[test]
 fn many_files_and_modules(rt: HostRuntime) -> Result<(), Fail> {
     let tree = many_files(rt.alloc(), 1000, 1, 1000)?;
-    assert!(rt; builds(&rt, rt.alloc(), tree, "/bin/m999_0\ndefault out/all\n")?);
+    assert_eq!(rt;
+        other_than_built(&rt, rt.alloc(), tree, "/bin/m999_0\ndefault out/all\n")?,
+        None
+    );
     assert_eq!(rt; other_line(&rt, rt.alloc(), MANY)?, None);
     Ok(())
 }
@@ -241,7 +288,7 @@ fn large_tree(alloc: Global) -> Result<Vec<(Text, Vec<u8>)>, OutOfMemory> {
 fn files_of_many_bytes_together(rt: HostRuntime) -> Result<(), Fail> {
     let line = "e/Android.bp:1:1: error 30: too many: bytes\n";
     let tree = large_tree(rt.alloc())?;
-    assert!(rt; refuses(&rt, rt.alloc(), tree, line)?);
+    assert_eq!(rt; other_than_fault(&rt, rt.alloc(), tree, line)?, None);
     Ok(())
 }
 
@@ -288,15 +335,15 @@ const LONG_LINKS: &[(&str, &str)] = &[
     ),
 ];
 
-// The line of the first fault of these that isn't told so.
+// The line of the first fault of these that isn't told so, and what came.
 fn other_link<R: Threads + Sync>(
     rt: &R,
     alloc: Global,
     cases: &[(&str, &'static str)],
-) -> Result<Option<&'static str>, OutOfMemory> {
+) -> Result<Option<(&'static str, String)>, OutOfMemory> {
     for (last, line) in cases {
-        if !refuses(rt, alloc, many_libraries(alloc, 1025, last)?, line)? {
-            return Ok(Some(*line));
+        if let Some(came) = other_than_fault(rt, alloc, many_libraries(alloc, 1025, last)?, line)? {
+            return Ok(Some((*line, came)));
         }
     }
     Ok(None)
@@ -305,7 +352,10 @@ fn other_link<R: Threads + Sync>(
 #[test]
 fn long_link_lines(rt: HostRuntime) -> Result<(), Fail> {
     let tree = many_libraries(rt.alloc(), 1024, "")?;
-    assert!(rt; builds(&rt, rt.alloc(), tree, "\ndefault out/all\n")?);
+    assert_eq!(rt;
+        other_than_built(&rt, rt.alloc(), tree, "\ndefault out/all\n")?,
+        None
+    );
     assert_eq!(rt; other_link(&rt, rt.alloc(), LONG_LINKS)?, None);
     Ok(())
 }
@@ -366,27 +416,27 @@ const MANY_SOURCES: &[ManySources] = &[
     ),
 ];
 
-// Whether a tree with many sources is refused with the line.
-fn refuses_sources<R: Threads + Sync>(
+// How a build of a tree with many sources ends, unless it is refused with the line.
+fn other_than_sources<R: Threads + Sync>(
     rt: &R,
     alloc: Global,
     (first, sources, behind, text, count, last, line): &ManySources,
-) -> Result<bool, OutOfMemory> {
+) -> Result<Option<String>, OutOfMemory> {
     let mut start = String::from_str(alloc, first)?;
     push_sources(&mut start, *sources)?;
     start.push_str(behind)?;
     let tree = repeated(alloc, start.as_str(), text, *count, last)?;
-    refuses(rt, alloc, tree_of(alloc, tree.as_str())?, line)
+    other_than_fault(rt, alloc, tree_of(alloc, tree.as_str())?, line)
 }
 
-// The line of the first fault of these that isn't told so.
+// The line of the first fault of these that isn't told so, and what came.
 fn other_sources<R: Threads + Sync>(
     rt: &R,
     alloc: Global,
-) -> Result<Option<&'static str>, OutOfMemory> {
+) -> Result<Option<(&'static str, String)>, OutOfMemory> {
     for case in MANY_SOURCES {
-        if !refuses_sources(rt, alloc, case)? {
-            return Ok(Some(case.6));
+        if let Some(came) = other_than_sources(rt, alloc, case)? {
+            return Ok(Some((case.6, came)));
         }
     }
     Ok(None)

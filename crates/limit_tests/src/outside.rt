@@ -32,29 +32,29 @@ fn is_left_by(store: &MemStore, call: u32) -> bool {
     store.calls() == call && is_kept && is_written && store.held("j").is_none()
 }
 
-// Whether a build whose call of this number fails ends so.
-fn ends_at<R: Threads + Sync>(
+// How a build whose call of this number fails ends, unless so.
+fn other_end<R: Threads + Sync>(
     rt: &R,
     alloc: Global,
     call: u32,
     status: u8,
     line: &str,
-) -> Result<bool, OutOfMemory> {
+) -> Result<Option<String>, OutOfMemory> {
     let words = "build -l list -o build.ninja -t android_arm64 --journal j";
     let mut store = store_that_fails(alloc, tree_of(alloc, TWO_FILES)?, call)?;
     let ended = end_of(rt, alloc, words, &mut store)?;
-    Ok(ended.tells(status, line) && is_left_by(&store, call))
+    ended.unless(alloc, ended.tells(status, line) && is_left_by(&store, call))
 }
 
-// The line of the first such build that ends otherwise.
+// The line of the first such build that ends otherwise, and how.
 fn differing<R: Threads + Sync>(
     rt: &R,
     alloc: Global,
     cases: &[(u32, u8, &'static str)],
-) -> Result<Option<&'static str>, OutOfMemory> {
+) -> Result<Option<(&'static str, String)>, OutOfMemory> {
     for (call, status, line) in cases {
-        if !ends_at(rt, alloc, *call, *status, line)? {
-            return Ok(Some(*line));
+        if let Some(came) = other_end(rt, alloc, *call, *status, line)? {
+            return Ok(Some((*line, came)));
         }
     }
     Ok(None)
@@ -179,16 +179,18 @@ fn prefixes_of_a_file(rt: HostRuntime) -> Result<(), Fail> {
     Ok(())
 }
 
-// Whether the call over a list of a file that isn't there tells the line, where the streams have so much room.
-fn misses_file<R: Threads + Sync>(
+// How the call over a list of a file that isn't there ends, where the streams have so much room, unless it tells the
+// line.
+fn other_than_missing<R: Threads + Sync>(
     rt: &R,
     alloc: Global,
     room: u32,
     line: &str,
-) -> Result<bool, OutOfMemory> {
+) -> Result<Option<String>, OutOfMemory> {
     let tree = one_file(alloc, "list", b"Android.bp\n")?;
     let mut store = store_of(alloc, tree)?;
-    Ok(end_within(rt, alloc, BUILD, &mut store, (room, room))?.tells(1, line))
+    let ended = end_within(rt, alloc, BUILD, &mut store, (room, room))?;
+    ended.unless(alloc, ended.tells(1, line))
 }
 
 /// A message without room is put in half, and the status stays.
@@ -198,7 +200,11 @@ fn files_that_are_not_there(rt: HostRuntime) -> Result<(), Fail> {
         (300, "Android.bp:1:1: error 31: no such file\n"),
         (20, "Android.bp:1:1: err"),
     ] {
-        assert!(rt; misses_file(&rt, rt.alloc(), room, line)?, "{line}");
+        assert_eq!(rt;
+            other_than_missing(&rt, rt.alloc(), room, line)?,
+            None,
+            "{line}"
+        );
     }
     let mut store = store_of(rt.alloc(), Vec::new(rt.alloc()))?;
     let ended = end_of(&rt, rt.alloc(), BUILD, &mut store)?;

@@ -1,3 +1,7 @@
+use bp_faults::OutOfMemory;
+use std::alloc::Global;
+use std::str;
+
 /// How a call ended: its status, and what was put on the output and on the stream for messages.
 #[derive(Drop)]
 pub struct Ended {
@@ -15,5 +19,15 @@ impl Ended {
     /// The same, where this text was put on the output too.
     pub fn shows(&self, status: u8, out: &str, said: &str) -> bool {
         self.tells(status, said) && self.out.as_slice() == out.as_bytes()
+    }
+
+    /// Nothing where a test found what it wants; else how the call ended, which the test prints.
+    pub fn unless(&self, alloc: Global, is_right: bool) -> Result<Option<String>, OutOfMemory> {
+        if is_right {
+            return Ok(None);
+        }
+        let out = str::from_utf8(self.out.as_slice()).unwrap_or("not UTF-8");
+        let said = str::from_utf8(self.said.as_slice()).unwrap_or("not UTF-8");
+        Ok(Some(format!(in alloc; "status {}, output {out:?}, said {said:?}", self.status)?))
     }
 }

@@ -59,29 +59,33 @@ pub fn end_of<R: Threads + Sync>(
     end_within(rt, alloc, words, store, (2000, 2000))
 }
 
-/// Whether a tree is refused with status 1 and this line, and OUT isn't written.
-pub fn refuses<R: Threads + Sync>(
+/// How a build of a tree ends, unless with status 1 and this line, and without OUT.
+pub fn other_than_fault<R: Threads + Sync>(
     rt: &R,
     alloc: Global,
     tree: Vec<(Text, Vec<u8>)>,
     line: &str,
-) -> Result<bool, OutOfMemory> {
+) -> Result<Option<String>, OutOfMemory> {
     let mut store = store_of(alloc, tree)?;
     let ended = end_of(rt, alloc, BUILD, &mut store)?;
-    Ok(ended.tells(1, line) && store.held("build.ninja").is_none())
+    let is_unwritten = store.held("build.ninja").is_none();
+    ended.unless(alloc, ended.tells(1, line) && is_unwritten)
 }
 
-/// Whether a tree is built without a message, and what is written ends with this text.
-pub fn builds<R: Threads + Sync>(
+/// How a build of a tree ends, unless without a message and with an OUT that ends with this text; else also what OUT
+/// holds, if it isn't long.
+pub fn other_than_built<R: Threads + Sync>(
     rt: &R,
     alloc: Global,
     tree: Vec<(Text, Vec<u8>)>,
     end: &str,
-) -> Result<bool, OutOfMemory> {
+) -> Result<Option<String>, OutOfMemory> {
     let mut store = store_of(alloc, tree)?;
-    let ended = end_of(rt, alloc, BUILD, &mut store)?;
-    let Some(text) = store.held("build.ninja") else {
-        return Ok(false);
-    };
-    Ok(ended.tells(0, "") && text.ends_with(end.as_bytes()))
+    let mut ended = end_of(rt, alloc, BUILD, &mut store)?;
+    let text = store.held("build.ninja").unwrap_or_default();
+    let is_right = ended.shows(0, "", "") && text.ends_with(end.as_bytes());
+    if text.len() < 9000 {
+        ended.out.extend_from_slice(text)?;
+    }
+    ended.unless(alloc, is_right)
 }

@@ -7,9 +7,7 @@ use bp_pipeline::laws::{
     faults_are_replayed, journal_texts_are_replayed, journals_are_replayed, one_graph, one_order,
     one_text,
 };
-use bp_pipeline::{
-    GenError, Generated, generate, graph_after, mutators_to, replay, replay_lines, show_graph,
-};
+use bp_pipeline::{GenError, Generated, generate, graph_after, replay, replay_lines, show_graph};
 use bp_ports::OpenGate;
 use bp_props::{Given, Module, ModuleKind, Props};
 use mutator_rules::Config;
@@ -20,33 +18,39 @@ use std::process::Abort;
 use std::test::Fail;
 use std::thread::Threads;
 
-/// A binary with the sanitizer is linked with a static library, and a library takes over defaults: the graph after each
-/// mutator.
-const GRAPHS: [(&str, &str); 6] = [
+/// A binary with the sanitizer is linked with a static library, and a library takes over defaults: the graph after so
+/// many mutators, of which the last has this name.
+const GRAPHS: [(u32, &str, &str); 6] = [
     (
+        1,
         "defaults_deps",
         "0 d -\n1 l -\n  defaults 0\n2 s -\n3 b -\n",
     ),
     (
+        3,
         "arch",
         "0 l android_arm64\n1 s android_arm64\n2 b android_arm64\n",
     ),
     (
+        5,
         "link",
         "0 l android_arm64_static\n1 l android_arm64_shared\n2 s android_arm64_static\n\
          3 b android_arm64\n",
     ),
     (
+        8,
         "per_src",
         "0 l android_arm64_static\n1 l android_arm64_shared\n2 s android_arm64_static\n\
          3 b android_arm64\n  static 2\n",
     ),
     (
+        9,
         "sanitize",
         "0 l android_arm64_static\n1 l android_arm64_shared\n2 s android_arm64_static\n\
          3 s android_arm64_static_asan\n4 b android_arm64_asan\n  static 3\n",
     ),
     (
+        11,
         "info",
         "0 l android_arm64_static\n1 l android_arm64_shared\n2 s android_arm64_static\n\
          3 s android_arm64_static_asan\n4 b android_arm64_asan\n  static 3\n",
@@ -115,36 +119,35 @@ fn one_target(alloc: Global) -> Result<Config, OutOfMemory>
     })
 }
 
-/// The text of the graph after the mutator of a name, on two workers.
+/// The text of the graph after so many mutators, on two workers.
 fn shown<R: Threads + Sync>(
     rt: &R,
     alloc: Global,
     mods: &[Module],
     config: &Config,
-    name: &str,
+    k: u32,
 ) -> Result<Vec<u8>, GenError>
     requires few { length mods.now ≤ 2 ^ 17 }
     requires targets { TargetsDiffer config.now }
+    requires built { k ≤ 11 }
 {
-    match mutators_to(name) {
-        Some(k) => {
-            let g = graph_after(rt, alloc, mods, config, k, 2, &OpenGate)?;
-            Ok(show_graph(alloc, mods, &g)?)
-        }
-        None => Ok(Vec::new(alloc)),
-    }
+    let g = graph_after(rt, alloc, mods, config, k, 2, &OpenGate)?;
+    Ok(show_graph(alloc, mods, &g)?)
 }
 
-/// Whether the graph of the small tree after the mutator of a name is as wanted.
+/// Whether the graph of the small tree after so many mutators is as wanted.
 fn is_shown<R: Threads + Sync>(
     rt: &R,
     alloc: Global,
-    name: &str,
+    k: u32,
     want: &str,
 ) -> Result<bool, OutOfMemory> {
+    if k > 11 {
+        return Ok(false);
+    }
     let mods = modules(alloc)?;
     let config = one_target(alloc)?;
-    match shown(rt, alloc, &mods, &config, name) {
+    match shown(rt, alloc, &mods, &config, k) {
         Ok(text) => Ok(text.as_slice() == want.as_bytes()),
         Err(_) => Ok(false),
     }
@@ -153,10 +156,10 @@ fn is_shown<R: Threads + Sync>(
 fn check_graphs<R: Threads + Sync + Abort>(
     rt: &R,
     alloc: Global,
-    graphs: &[(&str, &str)],
+    graphs: &[(u32, &str, &str)],
 ) -> Result<(), Fail> {
-    for (name, want) in graphs {
-        assert!(rt; is_shown(rt, alloc, name, want)?, "{name}");
+    for (k, name, want) in graphs {
+        assert!(rt; is_shown(rt, alloc, *k, want)?, "{name}");
     }
     Ok(())
 }

@@ -23,14 +23,14 @@ use Rattle.output_forms.specs.Laws.{GeneratedTextsAreReadBack}
 use Rattle.output_forms.proofs.Ways.{then_came}
 
 pub files_formed : FilesOfGraphsAreWellFormed → GeneratedFilesAreWellFormed
-files_formed formed files mods c file listed loaded targets means =
+files_formed formed mods c file forms targets means =
     then_came (ActionsMean mods c) (λ made outcome. Ok (file_of_actions made) ≡ outcome) IsWellFormed
     (λ made acts f is. let same : file_of_actions made ≡ f = cc in
     subst IsWellFormed same
     (then_came (GraphAfter mods c mutator_count)
     (λ (nodes : List (Node Props)). PassMeans (acts_at mods nodes) (plan_of BottomUp nodes))
     (λ (made : List Actions). IsWellFormed (file_of_actions made))
-    (λ nodes after made outs. formed files mods c mutator_count nodes made listed loaded targets after outs)
+    (λ nodes after made outs. formed mods c mutator_count nodes made forms targets after outs)
     made acts))
     file means
 
@@ -40,11 +40,11 @@ text_is true x y fault is = cc
 text_is false x y fault is = absurd (cc)
 
 pub texts_read : GeneratedFilesAreWellFormed → WrittenIsReadBack → GeneratedTextsAreReadBack
-texts_read formed back files mods c text answer listed loaded targets means =
+texts_read formed back mods c text answer forms targets means =
     then_came (FileMeans mods c) (λ file outcome. text_within_limit file ≡ outcome)
     (λ (text : List ℕ). IsUtf8 text → Reads answer (reading text) → ReadsGenerated mods c answer)
     (λ file made t is utf8 reads.
-    let whole = formed files mods c file listed loaded targets made in
+    let whole = formed mods c file forms targets made in
     let same = text_is (nat_le (length (text_of file)) LARGEST_OUTPUT) (text_of file) t _ is in
     (file, made, whole, back file t answer whole (record { same = same; utf8 = utf8 }) reads))
     text means

@@ -67,17 +67,22 @@ GraphsAreValid =
     (mods : List Module) (c : Config) (k : ℕ) (nodes : List (Node Props)) → length mods ≤ MOST_MODULES
     → TargetsDiffer c → GraphAfter mods c k (Ok nodes) → IsValid nodes × IsNumbered nodes
 
--- The file of what is done at the nodes of a graph on the way is well formed, whichever files that may be listed gave
--- the modules.
+-- The file of what is done at the nodes of a graph on the way is well formed, where the modules are formed.
 abbrev pub FilesOfGraphsAreWellFormed : Type 0
 FilesOfGraphsAreWellFormed =
-    (files : List Source) (mods : List Module) (c : Config) (k : ℕ) (nodes : List (Node Props)) (made : List Actions)
-    → MayBeListed files → LoadMeans files (Ok mods) → TargetsDiffer c → GraphAfter mods c k (Ok nodes)
+    (mods : List Module) (c : Config) (k : ℕ) (nodes : List (Node Props)) (made : List Actions)
+    → AreFormed mods → TargetsDiffer c → GraphAfter mods c k (Ok nodes)
     → PassOutcomeMeans (acts_at mods nodes) (plan_of BottomUp nodes) (Ok made) → IsWellFormed (file_of_actions made)
 
--- The file that is generated of modules is well formed, whichever files that may be listed gave the modules.
+-- The file that is generated of formed modules is well formed.
 abbrev pub GeneratedFilesAreWellFormed : Type 0
 GeneratedFilesAreWellFormed =
+    (mods : List Module) (c : Config) (file : NinjaFile)
+    → AreFormed mods → TargetsDiffer c → FileMeans mods c (Ok file) → IsWellFormed file
+
+-- So is that of modules which were loaded of files that may be listed.
+abbrev pub FilesOfTreesAreWellFormed : Type 0
+FilesOfTreesAreWellFormed =
     (files : List Source) (mods : List Module) (c : Config) (file : NinjaFile)
     → MayBeListed files → LoadMeans files (Ok mods) → TargetsDiffer c → FileMeans mods c (Ok file) → IsWellFormed file
 
@@ -86,9 +91,16 @@ abbrev pub ReadsGenerated : List Module → Config → Result NinjaFile NinjaErr
 ReadsGenerated mods c answer =
     (file : NinjaFile) × FileMeans mods c (Ok file) × IsWellFormed file × ReadBackMeans file answer
 
--- Whatever `read` answers of the text that is generated is that file, but for memory.
+-- Whatever `read` answers of the text that is generated of formed modules is that file, but for memory.
 abbrev pub GeneratedTextsAreReadBack : Type 0
 GeneratedTextsAreReadBack =
+    (mods : List Module) (c : Config) (text : List ℕ) (answer : Result NinjaFile NinjaError)
+    → AreFormed mods → TargetsDiffer c → TextMeans mods c (Ok text) → IsUtf8 text
+    → Reads answer (reading text) → ReadsGenerated mods c answer
+
+-- So it is of modules which were loaded of files that may be listed.
+abbrev pub TextsOfTreesAreReadBack : Type 0
+TextsOfTreesAreReadBack =
     (files : List Source) (mods : List Module) (c : Config) (text : List ℕ) (answer : Result NinjaFile NinjaError)
     → MayBeListed files → LoadMeans files (Ok mods) → TargetsDiffer c → TextMeans mods c (Ok text) → IsUtf8 text
     → Reads answer (reading text) → ReadsGenerated mods c answer

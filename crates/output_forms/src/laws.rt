@@ -2,8 +2,9 @@
 
 ghost use Rattle.output_forms.specs.Laws.{MergesKeepTexts, PassesKeepForms, GraphsHaveForms};
 ghost use Rattle.output_forms.specs.Laws.{ListedFilesMayBeListed, LoadedModulesAreFormed, GraphsAreValid};
-ghost use Rattle.output_forms.specs.Laws.{FilesOfGraphsAreWellFormed};
+ghost use Rattle.output_forms.specs.Laws.{FilesOfGraphsAreWellFormed, FilesOfTreesAreWellFormed};
 ghost use Rattle.output_forms.specs.Laws.{GeneratedFilesAreWellFormed, GeneratedTextsAreReadBack};
+ghost use Rattle.output_forms.specs.Laws.{TextsOfTreesAreReadBack};
 
 use bp_load::laws::lists_what_may_be;
 use bp_props::Props;
@@ -71,7 +72,7 @@ pub fn graphs_are_valid()
     source_variants_differ();
 }
 
-/// The file of a graph on the way is well formed.
+/// The file of a graph on the way from formed modules is well formed.
 pub fn files_of_graphs_are_well_formed()
     ensures { FilesOfGraphsAreWellFormed }
 {
@@ -82,17 +83,34 @@ pub fn files_of_graphs_are_well_formed()
     files_are_well_formed();
 }
 
-/// The file that is generated of modules is well formed.
+/// The file that is generated of formed modules is well formed.
 pub fn generated_files_are_well_formed()
     ensures { GeneratedFilesAreWellFormed }
 {
     files_of_graphs_are_well_formed();
 }
 
-/// Whatever `read` answers of the text that is generated is the file that was generated, but for memory.
+/// So is that of modules which were loaded of files that may be listed.
+pub fn files_of_trees_are_well_formed()
+    ensures { FilesOfTreesAreWellFormed }
+{
+    loaded_modules_are_formed();
+    generated_files_are_well_formed();
+}
+
+/// Whatever `read` answers of the text that is generated of formed modules is the file that was generated, but for
+/// memory.
 pub fn generated_texts_are_read_back()
     ensures { GeneratedTextsAreReadBack }
 {
     generated_files_are_well_formed();
     what_was_written_is_read_back();
+}
+
+/// So it is of modules which were loaded of files that may be listed.
+pub fn texts_of_trees_are_read_back()
+    ensures { TextsOfTreesAreReadBack }
+{
+    loaded_modules_are_formed();
+    generated_texts_are_read_back();
 }

@@ -102,3 +102,11 @@ fn summary_of_six_lines(rt: HostRuntime) -> Result<(), Fail> {
     );
     Ok(())
 }
+
+/// The most modules that a tree has, 64 in each file but the last.
+#[test]
+fn most_modules(rt: HostRuntime) -> Result<(), Fail> {
+    let files = synth_tree(rt.alloc(), 7, 100_000)?;
+    assert_eq!(rt; files.len(), 1563);
+    Ok(())
+}

@@ -1,7 +1,6 @@
 use bp_faults::{OutOfMemory, Text};
 use command_words::{
-    COMMANDS, Configuration, HELP, Notice, OptionName, VERSION, configure, notice_of, options,
-    usage_line,
+    COMMANDS, Configuration, HELP, OptionName, configure, notice_of, options, usage_line,
 };
 use std::alloc::{AllocError, Global};
 use std::test::Fail;
@@ -131,28 +130,31 @@ const REFUSED: &[&str] = &[
     "edit -i f -o f -m app -p 1st",
 ];
 
-// Whether both lines give one configuration, with these parts in how it is shown.
-fn both_give(
+// What two lines give in place of one configuration with these parts in how it is shown, if they do.
+fn other_than_one(
     alloc: Global,
     one: &str,
     other: &str,
     first: &str,
     second: &str,
-) -> Result<bool, OutOfMemory> {
+) -> Result<Option<String>, OutOfMemory> {
     let found = shown(alloc, one)?;
     let same = shown(alloc, other)?;
     let has_parts = found.as_str().contains(first) && found.as_str().contains(second);
-    Ok(found.as_str() == same.as_str() && has_parts)
+    if found.as_str() == same.as_str() && has_parts {
+        return Ok(None);
+    }
+    Ok(Some(format!(in alloc; "{found} and {same}")?))
 }
 
-// The first line that doesn't give what its row says.
+// The first line that doesn't give what its row says, and what came.
 fn wrongly_given(
     alloc: Global,
     rows: &[(&'static str, &str, &str, &str)],
-) -> Result<Option<&'static str>, OutOfMemory> {
+) -> Result<Option<(&'static str, String)>, OutOfMemory> {
     for (one, other, first, second) in rows {
-        if !both_give(alloc, one, other, first, second)? {
-            return Ok(Some(*one));
+        if let Some(came) = other_than_one(alloc, one, other, first, second)? {
+            return Ok(Some((*one, came)));
         }
     }
     Ok(None)
@@ -164,16 +166,20 @@ fn words_and_what_they_give(rt: HostRuntime) -> Result<(), Fail> {
     Ok(())
 }
 
-// Whether the words of a line give nothing.
-fn refuses(alloc: Global, line: &str) -> Result<bool, OutOfMemory> {
-    Ok(shown(alloc, line)?.as_str() == "None")
+// What the words of a line give, if they give something.
+fn given_by(alloc: Global, line: &str) -> Result<Option<String>, OutOfMemory> {
+    let came = shown(alloc, line)?;
+    Ok((came.as_str() != "None").then_some(came))
 }
 
-// The first line whose words give something.
-fn accepted(alloc: Global, lines: &[&'static str]) -> Result<Option<&'static str>, OutOfMemory> {
+// The first line whose words give something, and what.
+fn accepted(
+    alloc: Global,
+    lines: &[&'static str],
+) -> Result<Option<(&'static str, String)>, OutOfMemory> {
     for line in lines {
-        if !refuses(alloc, line)? {
-            return Ok(Some(*line));
+        if let Some(came) = given_by(alloc, line)? {
+            return Ok(Some((*line, came)));
         }
     }
     Ok(None)
@@ -250,7 +256,7 @@ fn usage_of_commands(alloc: Global) -> Result<String, AllocError> {
 fn refused_example<'a>(alloc: Global, help: &'a str) -> Result<Option<&'a str>, OutOfMemory> {
     for line in help.split('\n') {
         if let Some(example) = line.strip_prefix("  bpgen ") {
-            if refuses(alloc, example)? {
+            if given_by(alloc, example)?.is_none() {
                 return Ok(Some(example));
             }
         }
@@ -274,13 +280,80 @@ fn help_has_the_usage_line(rt: HostRuntime) -> Result<(), Fail> {
     Ok(())
 }
 
-// Whether the notice of a line has this text, where none is empty.
-fn gives_notice(alloc: Global, line: &str, text: &str) -> Result<bool, OutOfMemory> {
-    let words = words_of(alloc, line)?;
-    match notice_of(words.as_slice()) {
-        Some(notice) => Ok(notice.text() == text && text != ""),
-        None => Ok(text == ""),
+// The names that stand in the help text behind these words, up to the next full stop.
+fn names_behind(alloc: Global, words: &str) -> Result<Vec<&'static str>, OutOfMemory> {
+    let mut names = Vec::new(alloc);
+    if let Some((_, rest)) = HELP.split_once(words) {
+        if let Some((list, _)) = rest.split_once('.') {
+            for name in list.split(',') {
+                names.push(name.trim())?;
+            }
+        }
     }
+    Ok(names)
+}
+
+// The first of some names of mutators whose number isn't its place among them, from 1.
+fn misplaced(
+    alloc: Global,
+    names: &[&'static str],
+) -> Result<Option<(&'static str, String)>, OutOfMemory> {
+    for (index, name) in names.iter().enumerate() {
+        let line = format!(in alloc; "graph -l list -a {name}")?;
+        let came = shown(alloc, line.as_str())?;
+        let want = format!(in alloc; "after: {},", index + 1)?;
+        if !came.as_str().contains(want.as_str()) {
+            return Ok(Some((*name, came)));
+        }
+    }
+    Ok(None)
+}
+
+#[test]
+fn help_lists_the_mutators_in_order(rt: HostRuntime) -> Result<(), Fail> {
+    let names = names_behind(
+        rt.alloc(),
+        "MUTATOR is one of these, which run in this order:",
+    )?;
+    assert_eq!(rt; names.len(), 11);
+    assert_eq!(rt; misplaced(rt.alloc(), names.as_slice())?, None);
+    Ok(())
+}
+
+/// The targets in their order, as a tree is built for all of them.
+const TARGETS: &str = "\
+    build -l list -o o -t \
+    android_arm64,android_arm,android_x86_64,android_x86,linux_glibc_x86_64,linux_glibc_x86";
+
+#[test]
+fn help_lists_the_targets(rt: HostRuntime) -> Result<(), Fail> {
+    let names = names_behind(rt.alloc(), "joined by commas, none twice:")?;
+    let mut line = String::from_str(rt.alloc(), "build -l list -o o -t ")?;
+    for (index, name) in names.iter().enumerate() {
+        line.push_str(if index == 0 { "" } else { "," })?;
+        line.push_str(name)?;
+    }
+    assert_eq!(rt; line.as_str(), TARGETS);
+    assert!(rt; given_by(rt.alloc(), TARGETS)?.is_some());
+    Ok(())
+}
+
+/// What the help text says of each exit status.
+const STATUSES: &str = "
+Exit status: 0 done, 1 a fault of the input, 2 a wrong command line, 3 a file
+can't be read, 4 a file or standard output can't be written, 5 out of memory.
+";
+
+#[test]
+fn help_lists_the_statuses(rt: HostRuntime) -> Result<(), Fail> {
+    assert!(rt; HELP.contains(STATUSES));
+    Ok(())
+}
+
+// The text of the notice of a line, or an empty one where it gives none.
+fn notice_for(alloc: Global, line: &str) -> Result<&'static str, OutOfMemory> {
+    let words = words_of(alloc, line)?;
+    Ok(notice_of(words.as_slice()).map_or("", |notice| notice.text()))
 }
 
 // Lines, each with the text of its notice, or an empty one where the line gives none.
@@ -288,22 +361,23 @@ const NOTICES: &[(&str, &str)] = &[
     ("--help", HELP),
     ("-h", HELP),
     ("help", HELP),
-    ("--version", VERSION),
-    ("-V", VERSION),
+    ("--version", "bpgen 0.1.0\n"),
+    ("-V", "bpgen 0.1.0\n"),
     ("", ""),
     ("build --help", ""),
     ("--help build", ""),
     ("-v", ""),
 ];
 
-// The first line whose notice is another.
+// The first line whose notice is another, and that notice.
 fn wrongly_noticed(
     alloc: Global,
     rows: &[(&'static str, &str)],
-) -> Result<Option<&'static str>, OutOfMemory> {
+) -> Result<Option<(&'static str, &'static str)>, OutOfMemory> {
     for (line, text) in rows {
-        if !gives_notice(alloc, line, text)? {
-            return Ok(Some(*line));
+        let came = notice_for(alloc, line)?;
+        if came != *text {
+            return Ok(Some((*line, came)));
         }
     }
     Ok(None)

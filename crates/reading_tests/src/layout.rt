@@ -62,14 +62,15 @@ fn edited(
     edited_by(alloc, text, (&name, &property), items.as_slice())
 }
 
-// The first text that isn't laid out as it should be.
+// The first text that isn't laid out as it should be, and how it is.
 fn differing(
     alloc: Global,
     cases: &[(&'static str, &str)],
-) -> Result<Option<&'static str>, OutOfMemory> {
+) -> Result<Option<(&'static str, String)>, OutOfMemory> {
     for (text, want) in cases {
-        if laid(alloc, text)?.as_str() != *want {
-            return Ok(Some(*text));
+        let came = laid(alloc, text)?;
+        if came.as_str() != *want {
+            return Ok(Some((*text, came)));
         }
     }
     Ok(None)
@@ -312,24 +313,11 @@ const EDITS: &[(&str, &str, &str, &str)] = &[
     (ROW, "a", "1", ""),
 ];
 
-// Whether the text is as it should be when the property is set to one item.
-fn edits(
-    alloc: Global,
-    text: &str,
-    name: &str,
-    property: &str,
-    want: &str,
-) -> Result<bool, OutOfMemory> {
-    Ok(edited(alloc, text, name, property, &["z.c"])?.as_str() == want)
-}
-
 #[test]
 fn lists_are_set(rt: HostRuntime) -> Result<(), Fail> {
     for (text, name, property, want) in EDITS {
-        assert!(rt;
-            edits(rt.alloc(), text, name, property, want)?,
-            "{text} {property}"
-        );
+        let came = edited(rt.alloc(), text, name, property, &["z.c"])?;
+        assert_eq!(rt; came.as_str(), *want, "{text} {property}");
     }
     Ok(())
 }
@@ -344,15 +332,11 @@ const QUOTED: &[(&[&str], &str)] = &[
     ),
 ];
 
-// Whether the list of a text is set to the items so.
-fn quotes(alloc: Global, items: &[&str], want: &str) -> Result<bool, OutOfMemory> {
-    Ok(edited(alloc, "m{name:\"a\",srcs:[1]}", "a", "srcs", items)?.as_str() == want)
-}
-
 #[test]
 fn items_are_quoted(rt: HostRuntime) -> Result<(), Fail> {
     for (items, want) in QUOTED {
-        assert!(rt; quotes(rt.alloc(), items, want)?, "{want}");
+        let came = edited(rt.alloc(), "m{name:\"a\",srcs:[1]}", "a", "srcs", items)?;
+        assert_eq!(rt; came.as_str(), *want);
     }
     Ok(())
 }

@@ -31,14 +31,15 @@ fn shown(alloc: Global, text: &str) -> Result<String, OutOfMemory> {
     }
 }
 
-// The first text that isn't shown as it should be.
+// The first text that isn't shown as it should be, and how it is.
 fn differing(
     alloc: Global,
     cases: &[(&'static str, &str)],
-) -> Result<Option<&'static str>, OutOfMemory> {
+) -> Result<Option<(&'static str, String)>, OutOfMemory> {
     for (text, want) in cases {
-        if shown(alloc, text)?.as_str() != *want {
-            return Ok(Some(*text));
+        let came = shown(alloc, text)?;
+        if came.as_str() != *want {
+            return Ok(Some((*text, came)));
         }
     }
     Ok(None)
@@ -160,15 +161,12 @@ fn a_fault_behind_many_blanks_is_reported(rt: HostRuntime) -> Result<(), Fail> {
     Ok(())
 }
 
-// Whether the first token stands for the string.
-fn stands_for(alloc: Global, text: &str, want: &str) -> Result<bool, LexError> {
+// What the first token stands for; nothing where there is none, or the text is too long.
+fn first_string(alloc: Global, text: &str) -> Result<Option<Text>, LexError> {
     if text.len() > 1 << 20 {
-        return Ok(false);
+        return Ok(None);
     }
-    match first_value(alloc, text)? {
-        Some(value) => Ok(value.as_str() == want),
-        None => Ok(false),
-    }
+    first_value(alloc, text)
 }
 
 const VALUES: &[(&str, &str)] = &[
@@ -185,7 +183,8 @@ const VALUES: &[(&str, &str)] = &[
 #[test]
 fn strings_stand_for_their_characters(rt: HostRuntime) -> Result<(), Fail> {
     for (text, want) in VALUES {
-        assert!(rt; stands_for(rt.alloc(), text, want)?, "{text}");
+        let want = Some(Text::from_str(rt.alloc(), want)?);
+        assert_eq!(rt; first_string(rt.alloc(), text)?, want, "{text}");
     }
     Ok(())
 }

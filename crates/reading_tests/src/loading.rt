@@ -112,28 +112,18 @@ fn loaded_by<R: Threads + Sync>(
     }
 }
 
-// Whether files load so, by four workers.
-fn loads_as<R: Threads + Sync>(
-    rt: &R,
-    alloc: Global,
-    list: &str,
-    contents: &[&str],
-    want: &str,
-) -> Result<bool, OutOfMemory> {
-    Ok(loaded_by(rt, alloc, list, contents, 4)?.as_str() == want)
-}
-
-// The first number of workers by whom the files don't load so.
+// The first number of workers by whom the files don't load so, and what came.
 fn differing<R: Threads + Sync>(
     rt: &R,
     alloc: Global,
     (list, contents): (&str, &[&str]),
     numbers: &[u32],
     want: &str,
-) -> Result<Option<u32>, OutOfMemory> {
+) -> Result<Option<(u32, String)>, OutOfMemory> {
     for workers in numbers {
-        if loaded_by(rt, alloc, list, contents, *workers)?.as_str() != want {
-            return Ok(Some(*workers));
+        let came = loaded_by(rt, alloc, list, contents, *workers)?;
+        if came.as_str() != want {
+            return Ok(Some((*workers, came)));
         }
     }
     Ok(None)
@@ -222,15 +212,11 @@ const LISTS: &[(&str, &str)] = &[
     ),
 ];
 
-// Whether a list file is read so.
-fn lists_as(alloc: Global, bytes: &[u8], want: &str) -> Result<bool, OutOfMemory> {
-    Ok(listed(alloc, bytes)?.as_str() == want)
-}
-
 #[test]
 fn a_list_is_read_as_a_finder_writes_it(rt: HostRuntime) -> Result<(), Fail> {
     for (list, want) in LISTS {
-        assert!(rt; lists_as(rt.alloc(), list.as_bytes(), want)?, "of {list}");
+        let came = listed(rt.alloc(), list.as_bytes())?;
+        assert_eq!(rt; came.as_str(), *want, "of {list}");
     }
     Ok(())
 }
@@ -238,7 +224,8 @@ fn a_list_is_read_as_a_finder_writes_it(rt: HostRuntime) -> Result<(), Fail> {
 #[test]
 fn a_list_is_utf_8(rt: HostRuntime) -> Result<(), Fail> {
     let list = b"a/Android.bp\n\xc3\xa4\xff";
-    assert!(rt; lists_as(rt.alloc(), list, ":2:2: error 1: not UTF-8\n")?);
+    let came = listed(rt.alloc(), list)?;
+    assert_eq!(rt; came.as_str(), ":2:2: error 1: not UTF-8\n");
     Ok(())
 }
 
@@ -290,7 +277,8 @@ const SCOPES: &[(&str, &[&str], &str)] = &[
 #[test]
 fn a_file_inherits_the_scope_of_its_nearest_ancestor(rt: HostRuntime) -> Result<(), Fail> {
     for (list, contents, want) in SCOPES {
-        assert!(rt; loads_as(&rt, rt.alloc(), list, contents, want)?, "{want}");
+        let came = loaded_by(&rt, rt.alloc(), list, contents, 4)?;
+        assert_eq!(rt; came.as_str(), *want);
     }
     Ok(())
 }
@@ -327,7 +315,8 @@ const PHASES: &[(&[&str], &str)] = &[
 fn the_first_phase_that_has_a_fault_tells_it(rt: HostRuntime) -> Result<(), Fail> {
     let three = "Android.bp\na/Android.bp\nb/Android.bp";
     for (contents, want) in PHASES {
-        assert!(rt; loads_as(&rt, rt.alloc(), three, contents, want)?, "{want}");
+        let came = loaded_by(&rt, rt.alloc(), three, contents, 4)?;
+        assert_eq!(rt; came.as_str(), *want);
     }
     Ok(())
 }
@@ -385,7 +374,7 @@ fn compared<R: Threads + Sync>(
     alloc: Global,
     files: (&str, &[&str]),
     numbers: &[u32],
-) -> Result<(usize, Option<u32>), OutOfMemory> {
+) -> Result<(usize, Option<(u32, String)>), OutOfMemory> {
     let one = loaded_by(rt, alloc, files.0, files.1, 1)?;
     let other = differing(rt, alloc, files, numbers, one.as_str())?;
     Ok((one.as_str().lines().count(), other))

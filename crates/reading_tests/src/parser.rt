@@ -186,15 +186,10 @@ const TREES: &[(&str, &str)] = &[
     ),
 ];
 
-// Whether a text is shown so.
-fn shows_as(alloc: Global, text: &str, want: &str) -> Result<bool, OutOfMemory> {
-    Ok(shown(alloc, text)?.as_str() == want)
-}
-
 #[test]
 fn trees_are_told(rt: HostRuntime) -> Result<(), Fail> {
     for (text, want) in TREES {
-        assert!(rt; shows_as(rt.alloc(), text, want)?, "{text}");
+        assert_eq!(rt; shown(rt.alloc(), text)?.as_str(), *want, "{text}");
     }
     Ok(())
 }
@@ -232,16 +227,11 @@ const BAD: &[(&str, &str)] = &[
     ("x = {`a`: 1}", "1:6: error 7: unexpected token: `a`"),
 ];
 
-// Whether a text has the fault of this line.
-fn refuses(alloc: Global, text: &str, want: &str) -> Result<bool, OutOfMemory> {
-    let want = format!(in alloc; "Android.bp:{want}\n")?;
-    shows_as(alloc, text, want.as_str())
-}
-
 #[test]
 fn bad_texts(rt: HostRuntime) -> Result<(), Fail> {
     for (text, want) in BAD {
-        assert!(rt; refuses(rt.alloc(), text, want)?, "{text}");
+        let want = format!(in rt.alloc(); "Android.bp:{want}\n")?;
+        assert_eq!(rt; shown(rt.alloc(), text)?.as_str(), want.as_str(), "{text}");
     }
     Ok(())
 }
@@ -287,18 +277,18 @@ const NESTS: &[(Nest, &str)] = &[
     ),
 ];
 
-// Whether the text of these brackets is shown so.
-fn nest_shows_as(alloc: Global, nest: Nest, want: &str) -> Result<bool, OutOfMemory> {
+// How the text of these brackets is shown.
+fn shown_nest(alloc: Global, nest: Nest) -> Result<String, OutOfMemory> {
     let (head, open, count, middle, close, tail) = nest;
     let mut text = nested(alloc, head, open, count, middle, close)?;
     text.push_str(tail)?;
-    shows_as(alloc, text.as_str(), want)
+    shown(alloc, text.as_str())
 }
 
 #[test]
 fn brackets_are_counted(rt: HostRuntime) -> Result<(), Fail> {
     for (nest, want) in NESTS {
-        assert!(rt; nest_shows_as(rt.alloc(), *nest, want)?, "{want}");
+        assert_eq!(rt; shown_nest(rt.alloc(), *nest)?.as_str(), *want);
     }
     Ok(())
 }
@@ -306,7 +296,8 @@ fn brackets_are_counted(rt: HostRuntime) -> Result<(), Fail> {
 #[test]
 fn a_long_list_is_read(rt: HostRuntime) -> Result<(), Fail> {
     let nest = ("x = [", "1,", 65_536, "]", "", "");
-    assert!(rt; nest_shows_as(rt.alloc(), nest, "1; 1:1 x = 1:5 [65536]")?);
+    let came = shown_nest(rt.alloc(), nest)?;
+    assert_eq!(rt; came.as_str(), "1; 1:1 x = 1:5 [65536]");
     Ok(())
 }
 
@@ -335,6 +326,7 @@ fn long_map(alloc: Global, count: u32) -> Result<String, OutOfMemory> {
 #[test]
 fn a_long_map_is_read(rt: HostRuntime) -> Result<(), Fail> {
     let map = long_map(rt.alloc(), 10_000)?;
-    assert!(rt; shows_as(rt.alloc(), map.as_str(), "1; 1:1 x = 1:5 {10000}")?);
+    let came = shown(rt.alloc(), map.as_str())?;
+    assert_eq!(rt; came.as_str(), "1; 1:1 x = 1:5 {10000}");
     Ok(())
 }

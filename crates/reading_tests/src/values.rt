@@ -188,15 +188,16 @@ const WITHOUT_A_SUM: &[(&str, &str)] = &[
     ),
 ];
 
-// The first text whose first fault is another.
+// The first text whose first fault is another, and that fault.
 fn differing(
     alloc: Global,
     inherited: &Scope,
     cases: &[(&'static str, &str)],
-) -> Result<Option<&'static str>, OutOfMemory> {
+) -> Result<Option<(&'static str, String)>, OutOfMemory> {
     for (text, want) in cases {
-        if fault_in(alloc, text, inherited)?.as_str() != *want {
-            return Ok(Some(*text));
+        let came = fault_in(alloc, text, inherited)?;
+        if came.as_str() != *want {
+            return Ok(Some((*text, came)));
         }
     }
     Ok(None)
@@ -226,12 +227,12 @@ fn a_sum_can_be_too_large(rt: HostRuntime) -> Result<(), Fail> {
     Ok(())
 }
 
-// Whether that many maps, each in the one before, with more text behind them, have this fault.
-fn maps_fault_as(alloc: Global, count: usize, more: &str, want: &str) -> Result<bool, OutOfMemory> {
+// The fault of that many maps, each in the one before, with more text behind them.
+fn fault_of_maps(alloc: Global, count: usize, more: &str) -> Result<String, OutOfMemory> {
     let nothing = Scope::empty(alloc)?;
     let mut text = maps(alloc, count)?;
     text.push_str(more)?;
-    Ok(fault_in(alloc, text.as_str(), &nothing)?.as_str() == want)
+    fault_in(alloc, text.as_str(), &nothing)
 }
 
 const NESTS: &[(usize, &str, &str)] = &[
@@ -243,10 +244,8 @@ const NESTS: &[(usize, &str, &str)] = &[
 #[test]
 fn maps_nest_up_to_the_limit(rt: HostRuntime) -> Result<(), Fail> {
     for (count, more, want) in NESTS {
-        assert!(rt;
-            maps_fault_as(rt.alloc(), *count, more, want)?,
-            "{count} {more}"
-        );
+        let came = fault_of_maps(rt.alloc(), *count, more)?;
+        assert_eq!(rt; came.as_str(), *want, "{count} {more}");
     }
     Ok(())
 }

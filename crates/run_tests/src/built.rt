@@ -2,7 +2,7 @@
 
 use bp_faults::OutOfMemory;
 use bp_ports::{FreeSink, FreeStore};
-use memory_runs::{BUILD, builds, end_of, one_file, put, status_of, store_of, tree_of};
+use memory_runs::{BUILD, end_of, one_file, other_than_built, put, status_of, store_of, tree_of};
 use std::alloc::Global;
 use std::test::Fail;
 use std::thread::Threads;
@@ -158,15 +158,15 @@ const BUILT: &[(&str, &str)] = &[
     ),
 ];
 
-// The first tree that isn't built so.
+// The first tree that isn't built so, and what came.
 fn differing<R: Threads + Sync>(
     rt: &R,
     alloc: Global,
     cases: &[(&'static str, &str)],
-) -> Result<Option<&'static str>, OutOfMemory> {
+) -> Result<Option<(&'static str, String)>, OutOfMemory> {
     for (tree, end) in cases {
-        if !builds(rt, alloc, tree_of(alloc, tree)?, end)? {
-            return Ok(Some(*tree));
+        if let Some(came) = other_than_built(rt, alloc, tree_of(alloc, tree)?, end)? {
+            return Ok(Some((*tree, came)));
         }
     }
     Ok(None)

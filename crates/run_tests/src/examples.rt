@@ -490,26 +490,28 @@ fn is_given(ended: &Ended, written: Option<&[u8]>, words: &str, gives: &str) -> 
     }
 }
 
-// Whether a call over a tree comes to what an example says.
-fn comes_to<R: Threads + Sync>(
+// How a call over a tree ends, with what OUT holds, unless it comes to what an example says.
+fn other_end<R: Threads + Sync>(
     rt: &R,
     alloc: Global,
     (_, tree, words, status, gives): &Example,
-) -> Result<bool, OutOfMemory> {
+) -> Result<Option<String>, OutOfMemory> {
     let mut store = store_of(alloc, tree_of(alloc, tree)?)?;
-    let ended = end_of(rt, alloc, words, &mut store)?;
+    let mut ended = end_of(rt, alloc, words, &mut store)?;
     let written = store.held("build.ninja");
-    Ok(ended.status == *status && is_given(&ended, written, words, gives))
+    let is_right = ended.status == *status && is_given(&ended, written, words, gives);
+    ended.out.extend_from_slice(written.unwrap_or_default())?;
+    ended.unless(alloc, is_right)
 }
 
-// The name of the first example that comes to something else.
+// The name of the first example that comes to something else, and to what.
 fn differing<R: Threads + Sync>(
     rt: &R,
     alloc: Global,
-) -> Result<Option<&'static str>, OutOfMemory> {
+) -> Result<Option<(&'static str, String)>, OutOfMemory> {
     for example in EXAMPLES {
-        if !comes_to(rt, alloc, example)? {
-            return Ok(Some(example.0));
+        if let Some(came) = other_end(rt, alloc, example)? {
+            return Ok(Some((example.0, came)));
         }
     }
     Ok(None)

@@ -1,7 +1,7 @@
 //! Trees with faults, and the line that reports the first of them.
 
 use bp_faults::OutOfMemory;
-use memory_runs::{one_file, refuses, tree_of};
+use memory_runs::{one_file, other_than_fault, tree_of};
 use std::alloc::Global;
 use std::test::Fail;
 use std::thread::Threads;
@@ -167,15 +167,15 @@ const FAULTS: &[(&str, &str)] = &[
     ),
 ];
 
-// The first tree that isn't refused so.
+// The first tree that isn't refused so, and what came.
 fn differing<R: Threads + Sync>(
     rt: &R,
     alloc: Global,
     cases: &[(&'static str, &str)],
-) -> Result<Option<&'static str>, OutOfMemory> {
+) -> Result<Option<(&'static str, String)>, OutOfMemory> {
     for (tree, line) in cases {
-        if !refuses(rt, alloc, tree_of(alloc, tree)?, line)? {
-            return Ok(Some(*tree));
+        if let Some(came) = other_than_fault(rt, alloc, tree_of(alloc, tree)?, line)? {
+            return Ok(Some((*tree, came)));
         }
     }
     Ok(None)
@@ -185,6 +185,7 @@ fn differing<R: Threads + Sync>(
 fn the_first_fault_is_reported(rt: HostRuntime) -> Result<(), Fail> {
     assert_eq!(rt; differing(&rt, rt.alloc(), FAULTS)?, None);
     let tree = one_file(rt.alloc(), "list", b"\xff")?;
-    assert!(rt; refuses(&rt, rt.alloc(), tree, "list:1:1: error 1: not UTF-8\n")?);
+    let line = "list:1:1: error 1: not UTF-8\n";
+    assert_eq!(rt; other_than_fault(&rt, rt.alloc(), tree, line)?, None);
     Ok(())
 }

@@ -66,28 +66,28 @@ fn shown<R: Threads + Sync>(
     end_within(rt, alloc, words.as_str(), &mut store, (room, 300))
 }
 
-// Whether the graph of a tree after a mutator is this text, or the line of its fault is.
-fn gives<R: Threads + Sync>(
+// How `graph` ends over a tree, unless the graph after a mutator is this text, or the line of its fault is.
+fn other_graph<R: Threads + Sync>(
     rt: &R,
     alloc: Global,
     tree: &str,
     after: &str,
     text: &str,
-) -> Result<bool, OutOfMemory> {
+) -> Result<Option<String>, OutOfMemory> {
     let words = format!(in alloc; "-t android_arm64 -a {after}")?;
     let ended = shown(rt, alloc, tree, words.as_str(), 300)?;
-    Ok(ended.shows(0, text, "") || ended.shows(1, "", text))
+    ended.unless(alloc, ended.shows(0, text, "") || ended.shows(1, "", text))
 }
 
-// The first tree that doesn't give what it should.
+// The first tree that doesn't give what it should, and what came.
 fn differing<R: Threads + Sync>(
     rt: &R,
     alloc: Global,
     cases: &[(&'static str, &str, &str)],
-) -> Result<Option<&'static str>, OutOfMemory> {
+) -> Result<Option<(&'static str, String)>, OutOfMemory> {
     for (tree, after, text) in cases {
-        if !gives(rt, alloc, tree, after, text)? {
-            return Ok(Some(*tree));
+        if let Some(came) = other_graph(rt, alloc, tree, after, text)? {
+            return Ok(Some((*tree, came)));
         }
     }
     Ok(None)
@@ -99,28 +99,29 @@ fn graphs_are_shown(rt: HostRuntime) -> Result<(), Fail> {
     Ok(())
 }
 
-// Whether HOST_TOO is shown so for some words, or these are faulty and the text is empty.
-fn shows_for<R: Threads + Sync>(
+// How `graph` ends over HOST_TOO for some words, unless it is shown so, or they are faulty and the text is empty.
+fn other_for<R: Threads + Sync>(
     rt: &R,
     alloc: Global,
     words: &str,
     text: &str,
-) -> Result<bool, OutOfMemory> {
+) -> Result<Option<String>, OutOfMemory> {
     let ended = shown(rt, alloc, HOST_TOO, words, 300)?;
     let is_shown = ended.out.as_slice() == text.as_bytes();
     let status = if text.is_empty() { 2 } else { 0 };
-    Ok(is_shown && ended.status == status && ended.said.is_empty() == (status == 0))
+    let is_right = is_shown && ended.status == status && ended.said.is_empty() == (status == 0);
+    ended.unless(alloc, is_right)
 }
 
-// The first words for which it isn't shown so.
+// The first words for which it isn't shown so, and what came.
 fn other_words<R: Threads + Sync>(
     rt: &R,
     alloc: Global,
     cases: &[(&'static str, &str)],
-) -> Result<Option<&'static str>, OutOfMemory> {
+) -> Result<Option<(&'static str, String)>, OutOfMemory> {
     for (words, text) in cases {
-        if !shows_for(rt, alloc, words, text)? {
-            return Ok(Some(*words));
+        if let Some(came) = other_for(rt, alloc, words, text)? {
+            return Ok(Some((*words, came)));
         }
     }
     Ok(None)
@@ -138,6 +139,7 @@ fn output_without_room(rt: HostRuntime) -> Result<(), Fail> {
     let tree = "@Android.bp\ncc_binary { name: \"b\" }\n";
     let ended = shown(&rt, rt.alloc(), tree, "-a defaults", 3)?;
     let line = "bpgen: cannot write standard output\n";
-    assert!(rt; ended.shows(4, "0 b", line));
+    let is_right = ended.shows(4, "0 b", line);
+    assert_eq!(rt; ended.unless(rt.alloc(), is_right)?, None);
     Ok(())
 }

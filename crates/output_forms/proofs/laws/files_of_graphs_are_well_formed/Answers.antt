@@ -1,13 +1,11 @@
 use Rattle.bp_pipeline.specs.Mutators.{passes_of}
 use Rattle.module_graph.specs.declared.direction.Direction.TheVariants.{BottomUp}
 use Rattle.output_forms.proofs.Coursed.{course_kept}
-use Rattle.output_forms.proofs.Loaded.{loaded_formed}
 use Rattle.output_forms.proofs.Told.{told, writable}
 use Rattle.output_forms.proofs.laws.files_of_graphs_are_well_formed.Goals as goal
 
 pub returns : goal.returns
-returns c = λ files mods config k nodes made listed loaded targets after outs.
-    let formed = loaded_formed files mods listed loaded in
+returns c = λ mods config k nodes made formed targets after outs.
     let forms = course_kept mods config formed.sound (passes_of k) nodes after in
     let valid = c.graphs_are_valid.ensures mods config k nodes formed.few targets after in
     let plan = c.plans_of_graphs_are_plans.ensures nodes BottomUp valid.1 in
