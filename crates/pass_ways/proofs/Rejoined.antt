@@ -16,6 +16,8 @@ use Rattle.serial_pass.specs.declared.plan.Plan.{Plan}
 use Rattle.serial_pass.specs.Orders.{IsLegal, numbers}
 use Rattle.pass_core.specs.OrderOutcomes.{IsReadyAfter}
 use Rattle.serial_pass.specs.Plans.{predecessors}
+use Rattle.ready_counters.specs.Receipts.{ReceiptView}
+use Rattle.pass_ways.specs.Idle.{ShowsOrder}
 use Rattle.pass_ways.specs.Stretches.{stretch, joined_stretches, AreReady, IsLinked, IsPlanOfStretches}
 use Rattle.pass_ways.proofs.Parts.{ready_inside, ready_apart}
 use Rattle.pass_ways.proofs.Readied.{ready_append, ready_at, ready_from}
@@ -168,3 +170,10 @@ nodes_legal plan order legal size positive stretches made turns l nodes is =
     subst (λ ns. IsLegal plan (numbers ns)) (sym is)
     (subst (IsLegal plan) (sym (joined_stretches-map (λ (n : NodeId). n.0) size order turns)) (joined_legal plan
     (numbers order) legal size positive stretches made turns l))
+
+-- so an order that a receipt shows is legal, as the receipt's own is
+pub shown_legal : (workers : ℕ) (plan : Plan) (order : List NodeId) (receipt : ReceiptView)
+    → ShowsOrder workers plan order receipt → IsLegal receipt.plan (numbers receipt.order)
+    → IsLegal plan (numbers order)
+shown_legal workers plan order receipt s legal =
+    nodes_legal plan s.base s.legal s.size s.positive receipt.plan s.planned (numbers receipt.order) legal order s.joined

@@ -1,11 +1,16 @@
--- Orders cut in stretches of one size, and the plan of the stretches. No public contract speaks of it.
-use Rattle.std.specs.Prelude.{◌≡◌, ◌<◌, ◌≤◌, ◌*◌, ◌/◌, ◌++◌, ℕ, Bool, List, [], ◌∷◌, length, take, drop, slice_index}
+-- Orders cut in stretches of one size, and the plan of the stretches.
+use Rattle.std.specs.Prelude.{◌≡◌, ◌<◌, ◌≤◌, ◌+◌, ◌*◌, ◌/◌, ◌++◌, ℕ, Bool, List, [], ◌∷◌, length, take, drop}
+use Rattle.std.specs.Prelude.{slice_index}
 use Rattle.std.specs.List.{AllByRecursion, Contains}
 use Rattle.serial_pass.specs.declared.plan.Plan.{Plan}
 use Rattle.serial_pass.specs.declared.plan.PlanEdge.{PlanEdge}
 use Rattle.pass_core.specs.CoreStates.{IsMarked}
 use Rattle.pass_core.specs.OrderOutcomes.{IsReadyAfter}
 use Rattle.serial_pass.specs.Plans.{predecessors, sources, HasNoCycle, IsPlan, StandByTarget}
+
+-- How many nodes a stretch has at most, so that there are some sixteen stretches for each worker.
+abbrev pub most_in_stretch : ℕ → ℕ → ℕ
+most_in_stretch count workers = count / (16 * workers) + 1
 
 -- The entries of a stretch. Stretches are counted from 0, and the last may be shorter than the others.
 abbrev pub stretch : {X : Type 0} → ℕ → ℕ → List X → List X

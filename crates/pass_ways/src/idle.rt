@@ -5,13 +5,14 @@ ghost use Rattle.bp_faults.specs.declared.limits.TheConstants.{MOST_WORKERS};
 ghost use Rattle.serial_pass.specs.InEdges.{AreStarts};
 ghost use Rattle.serial_pass.specs.Orders.{IsLegal, numbers};
 ghost use Rattle.serial_pass.specs.Plans.{IsPlan, HasNoCycle};
-ghost use Rattle.pass_ways.specs.Idle.{AnswersIdle, AnswersIdleBy};
+ghost use Rattle.pass_ways.specs.Idle.{AnswersIdle, AnswersIdleOrder, IsShownFor};
 ghost use Rattle.pass_ways.specs.OrderFiles.{IsRefused, Say};
 ghost use Rattle.pass_ways.specs.Ways.{Follows, IsPassWay};
 
 use crate::along::{lines_from, nodes_of, refusal_at};
 use crate::deep::deep_order;
 use crate::error::WayError;
+use crate::idle_run::IdleRun;
 use crate::stretches::visit_stretches;
 use crate::way::{OrderLines, Way};
 use bp_faults::{NodeId, OutOfMemory, Seq};
@@ -107,28 +108,31 @@ fn enter_each<G: Gate>(gate: &G, pass: u32, order: &[NodeId]) {
 }
 
 /// Visits the nodes of a plan, each behind the gate: one worker does it on the caller's thread.
-fn order_on_workers<R: Threads + Sync, G: Gate + Sync>(
+fn visit_on_workers<'a, R: Threads + Sync, G: Gate + Sync>(
     rt: &R,
     alloc: Global,
-    gate: &G,
+    gate: &'a G,
     workers: u32,
     before: &[(u32, NodeId)],
     pass: u32,
     plan: &Plan,
-) -> Result<Seq<NodeId>, OutOfMemory>
+) -> Result<IdleRun<'a, G>, OutOfMemory>
     requires plan { IsPlan plan.now }
     requires free { HasNoCycle plan.now.edges }
     requires workers { (1 ≤ workers) × (workers ≤ MOST_WORKERS) }
-    ensures { IfOk result (λ order. IsLegal plan.now (numbers order)) }
+    ensures legal { IfOk result (λ run. IsLegal plan.now (numbers run.order)) }
+    ensures shown { IfOk result (λ run. IsShownFor workers plan.now run.order run.receipt) }
 {
     let starts = starts_of(alloc, plan)?;
     let order = legal_order(alloc, before, plan, &starts)?;
     if workers == 1 {
         enter_each(gate, pass, &order);
-        return Ok(Seq::new(order));
+        return Ok(IdleRun {
+            order: Seq::new(order),
+            receipt: None,
+        });
     }
-    let nodes = visit_stretches(rt, alloc, gate, workers, pass, plan, &starts, &order)?;
-    Ok(Seq::new(nodes))
+    visit_stretches(rt, alloc, gate, workers, pass, plan, &starts, order)
 }
 
 /// The order in which the lines behind the visits before a pass name its nodes.
@@ -142,7 +146,7 @@ fn order_along(
     requires plan { IsPlan plan.now }
     requires few { length lines.now.lines.now < 4294967295 }
     requires follows { Say lines.now.lines.now before.now }
-    ensures { AnswersIdleBy (Say lines.now.lines.now) (IsRefused lines.now.lines.now lines.now.file)
+    ensures { AnswersIdleOrder (Say lines.now.lines.now) (IsRefused lines.now.lines.now lines.now.file)
         plan.now pass before.now result }
 {
     let made = before.len();
@@ -161,15 +165,16 @@ fn order_along(
 /// visits.
 ///
 /// `before` holds the visits of the passes before this one: where the last of them went over the same graph, its order
-/// is taken again, or that order backwards. No way makes a box for a node.
-pub fn order_by_way<R: Threads + Sync, G: Gate + Sync>(
+/// is taken again, or that order backwards. No way makes a box for a node. Several workers visit stretches of nodes,
+/// over a board, whose receipt stands beside the order.
+pub fn order_by_way<'a, R: Threads + Sync, G: Gate + Sync>(
     rt: &R,
     alloc: Global,
-    way: &Way<'_, G>,
+    way: &Way<'a, G>,
     before: &[(u32, NodeId)],
     pass: u32,
     plan: &Plan,
-) -> Result<Seq<NodeId>, WayError>
+) -> Result<IdleRun<'a, G>, WayError>
     requires plan { IsPlan plan.now }
     requires free { HasNoCycle plan.now.edges }
     requires way { IsPassWay way.now }
@@ -178,8 +183,11 @@ pub fn order_by_way<R: Threads + Sync, G: Gate + Sync>(
 {
     match way {
         Way::Workers { workers, gate } => {
-            Ok(order_on_workers(rt, alloc, *gate, *workers, before, pass, plan)?)
+            Ok(visit_on_workers(rt, alloc, *gate, *workers, before, pass, plan)?)
         }
-        Way::Lines(lines) => order_along(alloc, lines, before, pass, plan),
+        Way::Lines(lines) => Ok(IdleRun {
+            order: order_along(alloc, lines, before, pass, plan)?,
+            receipt: None,
+        }),
     }
 }

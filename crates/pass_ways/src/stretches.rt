@@ -10,12 +10,15 @@ ghost use Rattle.pass_core.specs.CoreStates.{IsMarked};
 ghost use Rattle.serial_pass.specs.InEdges.{AreStarts};
 ghost use Rattle.serial_pass.specs.Orders.{IsLegal, numbers};
 ghost use Rattle.serial_pass.specs.Plans.{IsPlan, HasNoCycle, sources};
-ghost use Rattle.pass_ways.specs.Stretches.{stretch, joined_stretches, AddsEdges, IsPlanOfStretches, KeepsMarks};
-ghost use Rattle.pass_ways.specs.Stretches.{MarksSources, TellsStretches};
+ghost use Rattle.pass_ways.specs.Idle.{IsShownFor};
+ghost use Rattle.pass_ways.specs.Stretches.{most_in_stretch, stretch, joined_stretches, AddsEdges, IsPlanOfStretches};
+ghost use Rattle.pass_ways.specs.Stretches.{KeepsMarks, MarksSources, TellsStretches};
 
+use crate::idle_run::IdleRun;
 use bp_faults::{NodeId, OutOfMemory, Seq};
 use bp_ports::{Gate, OpenGate};
 use pass_core::{PassError, Plan, PlanEdge, Visit, VisitError, edges_into};
+use ready_counters::Receipt;
 use serial_pass::laws::results_meet_their_equation;
 use std::alloc::Global;
 use std::sync::Arc;
@@ -26,6 +29,7 @@ use visit_workers::visit_all;
 fn sizes(count: u32, workers: u32) -> (usize, u32)
     requires { (1 ≤ workers) × (workers ≤ MOST_WORKERS) }
     ensures positive { 0 < result.0 }
+    ensures fair { result.0 ≤ most_in_stretch count workers }
     ensures enough { count ≤ result.1 * result.0 }
     ensures few { result.1 ≤ 1024 }
 {
@@ -43,17 +47,17 @@ fn stretch_at(order: &[NodeId], size: usize, k: u32) -> &[NodeId]
 }
 
 /// Enters the gate for each node of a stretch, one after another, and makes nothing of them.
-struct StretchVisit<'a, 'b, G> {
-    order: &'a [NodeId],
+pub struct StretchVisit<'a, G> {
+    order: Vec<NodeId>,
     size: usize,
-    gate: &'b G,
+    gate: &'a G,
     pass: u32,
 }
 
-impl<'a, 'b, G> Drop for StretchVisit<'a, 'b, G> {
+impl<'a, G> Drop for StretchVisit<'a, G> {
     fn drop(self) {
         let Self {
-            order: _,
+            order: _order,
             size: _,
             gate: _,
             pass: _,
@@ -61,7 +65,7 @@ impl<'a, 'b, G> Drop for StretchVisit<'a, 'b, G> {
     }
 }
 
-impl<'a, 'b, G: Gate> Visit for StretchVisit<'a, 'b, G> {
+impl<'a, G: Gate> Visit for StretchVisit<'a, G> {
     type Out = ();
 
     ghost meaning = { λ _ _ _. Ok tt };
@@ -69,7 +73,7 @@ impl<'a, 'b, G: Gate> Visit for StretchVisit<'a, 'b, G> {
     ghost takes = { λ _ _ _. ⊤ };
 
     fn visit(&self, _alloc: Global, k: NodeId, _ins: &[Arc<()>]) -> Result<(), VisitError> {
-        for n in stretch_at(self.order, self.size, k.0) {
+        for n in stretch_at(&self.order, self.size, k.0) {
             self.gate.enter(self.pass, *n);
         }
         Ok(())
@@ -177,18 +181,19 @@ fn plan_of_stretches(
     })
 }
 
-/// The order in which workers visit the stretches.
-fn turns_on_workers<R: Threads + Sync, G: Gate + Sync>(
+/// Workers visit the stretches: the receipt of their board.
+fn visit_on_workers<'a, R: Threads + Sync, G: Gate + Sync>(
     rt: &R,
     alloc: Global,
     stretches: &Plan,
-    visitor: &StretchVisit<'_, '_, G>,
+    visitor: &StretchVisit<'a, G>,
     workers: u32,
-) -> Result<Vec<NodeId>, OutOfMemory>
+) -> Result<Receipt<StretchVisit<'a, G>>, OutOfMemory>
     requires plan { IsPlan stretches.now }
     requires free { HasNoCycle stretches.now.edges }
     requires workers { (1 ≤ workers) × (workers ≤ MOST_WORKERS) }
-    ensures { IfOk result (λ turns. IsLegal stretches.now (numbers turns.items)) }
+    ensures plan { IfOk result (λ receipt. receipt.plan ≡ stretches.now) }
+    ensures legal { IfOk result (λ receipt. IsLegal stretches.now (numbers receipt.order)) }
 {
     results_meet_their_equation::<()>();
     match visit_all(
@@ -200,10 +205,7 @@ fn turns_on_workers<R: Threads + Sync, G: Gate + Sync>(
         workers,
         &OpenGate,
     ) {
-        Ok(run) => {
-            let (_outs, turns) = run.into_parts();
-            Ok(turns)
-        }
+        Ok(run) => Ok(run.into_receipt()),
         Err(PassError::At(_, _)) => unreachable!(),
         Err(PassError::OutOfMemory) => Err(OutOfMemory),
     }
@@ -226,31 +228,36 @@ fn join_stretches(
 }
 
 /// Visits the nodes of a plan on workers, by the stretches of a legal order: for each the gate is entered, and nothing
-/// else is done. It comes to the order in which the stretches were visited.
-pub fn visit_stretches<R: Threads + Sync, G: Gate + Sync>(
+/// else is done. It comes to the order in which the stretches were visited, with the receipt for it.
+pub fn visit_stretches<'a, R: Threads + Sync, G: Gate + Sync>(
     rt: &R,
     alloc: Global,
-    gate: &G,
+    gate: &'a G,
     workers: u32,
     pass: u32,
     plan: &Plan,
     starts: &[u32],
-    order: &[NodeId],
-) -> Result<Vec<NodeId>, OutOfMemory>
+    order: Vec<NodeId>,
+) -> Result<IdleRun<'a, G>, OutOfMemory>
     requires plan { IsPlan plan.now }
     requires starts { AreStarts plan.now starts.now }
     requires workers { (1 ≤ workers) × (workers ≤ MOST_WORKERS) }
-    requires legal { IsLegal plan.now (numbers order.now) }
-    ensures { IfOk result (λ nodes. IsLegal plan.now (numbers nodes.items)) }
+    requires legal { IsLegal plan.now (numbers order.items) }
+    ensures legal { IfOk result (λ run. IsLegal plan.now (numbers run.order)) }
+    ensures shown { IfOk result (λ run. IsShownFor workers plan.now run.order run.receipt) }
 {
     let (size, many) = sizes(plan.count, workers);
-    let stretches = plan_of_stretches(alloc, plan, starts, order, size, many)?;
+    let stretches = plan_of_stretches(alloc, plan, starts, &order, size, many)?;
     let visitor = StretchVisit {
         order,
         size,
         gate,
         pass,
     };
-    let turns = turns_on_workers(rt, alloc, &stretches, &visitor, workers)?;
-    join_stretches(alloc, order, size, &turns)
+    let receipt = visit_on_workers(rt, alloc, &stretches, &visitor, workers)?;
+    let nodes = join_stretches(alloc, &visitor.order, size, receipt.order())?;
+    Ok(IdleRun {
+        order: Seq::new(nodes),
+        receipt: Some(receipt),
+    })
 }

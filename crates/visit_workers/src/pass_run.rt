@@ -46,6 +46,18 @@ impl<V: Visit> PassRun<V> {
         } = self;
         (outs, order)
     }
+
+    /// The receipt. The results and the order beside it are given up.
+    pub fn into_receipt(self) -> Receipt<V>
+        ensures { result ≡ self.receipt }
+    {
+        let Self {
+            outs: _outs,
+            order: _order,
+            receipt,
+        } = self;
+        receipt
+    }
 }
 
 impl<V: Visit> Drop for PassRun<V> {

@@ -1,6 +1,6 @@
 use Rattle.std.proofs.Common.{◌≤◌, ◌∙◌, arith, length, refl, subst, sym, Err}
 use Rattle.serial_pass.specs.Orders.{IsLegal, numbers}
-use Rattle.pass_ways.specs.Idle.{AnswersIdleBy}
+use Rattle.pass_ways.specs.Idle.{AnswersIdleOrder}
 use Rattle.pass_ways.specs.OrderFiles.{IsRefused, Say}
 use Rattle.pass_ways.proofs.Refusing.{by_refusal}
 use Rattle.pass_ways.proofs.Said.{say_few}
@@ -33,7 +33,7 @@ returns-in-Err-NotReady c =
     let lines = c.args.lines.now.lines.now in
     let taken = taken_is lines _ _ _ _ _ c.lines_from.ensures c.in_ok-order.ensures in
     let at = rw c.in-Err-NotReady.field-0-is at c.in-Err-NotReady.ensures in
-    by_refusal (λ e. AnswersIdleBy (Say lines) (IsRefused lines c.args.lines.now.file) c.args.plan.now c.args.pass
+    by_refusal (λ e. AnswersIdleOrder (Say lines) (IsRefused lines c.args.lines.now.file) c.args.plan.now c.args.pass
     c.args.before.now (Err e)) _ _ c.refusal_at.ensures
     (refused_at lines c.args.before.now c.requires.follows c.args.pass c.args.plan.now c.in_ok-order.order.items
     taken c.args.lines.now.file _ c.in-Err-NotReady.index (rw c.deref-2.ensures.value at at) refl) tt
@@ -53,7 +53,7 @@ returns-in-Err-Ends c =
     let lines = c.args.lines.now.lines.now in
     let taken = taken_is lines _ _ _ _ _ c.lines_from.ensures c.in_ok-order.ensures in
     let at = rw c.in-Err-Ends.field-0-is at c.in-Err-Ends.ensures in
-    by_refusal (λ e. AnswersIdleBy (Say lines) (IsRefused lines c.args.lines.now.file) c.args.plan.now c.args.pass
+    by_refusal (λ e. AnswersIdleOrder (Say lines) (IsRefused lines c.args.lines.now.file) c.args.plan.now c.args.pass
     c.args.before.now (Err e)) _ _ c.refusal_at-in-Err-Ends.ensures
     (refused_short lines c.args.before.now c.requires.follows c.args.pass c.args.plan.now c.in_ok-order.order.items
     taken c.args.lines.now.file _ c.in-Err-Ends.index (rw c.deref-2.ensures.value at at) refl) tt
