@@ -9,6 +9,7 @@ use Rattle.mutator_rules.specs.Outcomes.{KindOutcome}
 use Rattle.pass_ways.specs.declared.error.WayError.{WayError}
 use Rattle.pass_ways.specs.declared.error.WayError.TheVariants.{At as AtNode, Refused as RefusedPass}
 use Rattle.pass_ways.specs.declared.error.WayError.TheVariants.{OutOfMemory as Want}
+use Rattle.pass_ways.specs.declared.idle_run.IdleRun.{IdleRun}
 use Rattle.pass_ways.specs.declared.way.Way.{Way}
 use Rattle.pass_ways.specs.Idle.{AnswersIdle}
 use Rattle.pass_ways.specs.Ways.{Follows, RefusesPass, Runs}
@@ -26,7 +27,7 @@ module _ {T W : Type 0} (order_of : T → List NodeId) (way : Way W) (plan : Pla
     abbrev StepAnswers : Result T StepError → Type 0
     StepAnswers = AnswersStep view Means (RefusesPass way before pass plan)
 
-    abbrev unvisited : WayError → Result (List NodeId) WayError
+    abbrev unvisited : WayError → Result (IdleRun W) WayError
     unvisited error = Err error
 
     refused : (error : WayError) → AnswersIdle way plan pass before (unvisited error)

@@ -55,11 +55,11 @@ where
     idle_passes_make::<P, Split<P>>();
     splits_of_one_keep::<P, (Variation, P)>();
     let _rule = rule;
-    let order = visit_idle(rt, alloc, way, before, pass, &g, Direction::BottomUp)?;
+    let run = visit_idle(rt, alloc, way, before, pass, &g, Direction::BottomUp)?;
     check_limits(&g)?;
     Ok(PassGraph {
         graph: g,
-        order,
+        order: run.into_order(),
         asked: Seq::new(Vec::new(alloc)),
     })
 }

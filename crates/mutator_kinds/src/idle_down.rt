@@ -53,10 +53,10 @@ where
 {
     idle_passes_make::<P, P>();
     let _rule = rule;
-    let order = visit_idle(rt, alloc, way, before, pass, &g, Direction::TopDown)?;
+    let run = visit_idle(rt, alloc, way, before, pass, &g, Direction::TopDown)?;
     Ok(PassGraph {
         graph: g,
-        order,
+        order: run.into_order(),
         asked: Seq::new(Vec::new(alloc)),
     })
 }

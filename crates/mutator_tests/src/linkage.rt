@@ -341,8 +341,8 @@ fn said(alloc: Global, case: &Case) -> Result<String, OutOfMemory> {
 }
 
 fn check_cases(rt: &impl Abort, alloc: Global, cases: &[Case]) -> Result<(), Fail> {
-    for case in cases {
-        assert_eq!(rt; said(alloc, case)?.as_str(), case.4);
+    for (index, case) in cases.iter().enumerate() {
+        assert_eq!(rt; said(alloc, case)?.as_str(), case.4, "case {index}");
     }
     Ok(())
 }

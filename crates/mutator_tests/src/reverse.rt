@@ -262,9 +262,9 @@ fn told(
 
 fn check_cases(rt: &impl Abort, alloc: Global, cases: &[Case]) -> Result<(), Fail> {
     let mods = modules(alloc)?;
-    for (asks, want) in cases {
+    for (index, (asks, want)) in cases.iter().enumerate() {
         let asked = requests(alloc, asks)?;
-        assert_eq!(rt; told(alloc, &mods, &asked)?.as_str(), *want);
+        assert_eq!(rt; told(alloc, &mods, &asked)?.as_str(), *want, "case {index}");
     }
     Ok(())
 }

@@ -277,10 +277,11 @@ fn check_cases<R: Threads + Sync + Abort>(
     alloc: Global,
     cases: &[Case],
 ) -> Result<(), Fail> {
-    for case in cases {
+    for (index, case) in cases.iter().enumerate() {
         assert_eq!(rt;
             told_of(rt, alloc, case)?,
-            (true, case.0.len(), case.2.len())
+            (true, case.0.len(), case.2.len()),
+            "case {index}"
         );
     }
     Ok(())
@@ -325,7 +326,7 @@ fn a_chain_of_twenty(rt: HostRuntime) -> Result<(), Fail> {
 }
 
 #[test]
-fn laws_of_transitions() {
+fn laws_of_transitions_can_be_called() {
     laws::wants_meet_their_equation::<NodeId>();
     laws::wants_split::<NodeId>();
     laws::one_transition::<NodeId>();

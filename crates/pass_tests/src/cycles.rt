@@ -114,7 +114,7 @@ fn cases() -> &'static [Case] {
 fn which_cycle_is_reported(rt: HostRuntime) -> Result<(), Fail> {
     let alloc = rt.alloc();
     for (targets, line) in cases() {
-        assert_eq!(rt; said_of(alloc, targets)?.as_str(), *line);
+        assert_eq!(rt; said_of(alloc, targets)?.as_str(), *line, "{targets:?}");
     }
     Ok(())
 }
@@ -188,7 +188,11 @@ fn long_chains(rt: HostRuntime) -> Result<(), Fail> {
         (false, true, 200_001),
     ] {
         let g = chain(alloc, count, forward, closed)?;
-        assert_eq!(rt; labels_in_cycle(alloc, &g)?, labels);
+        assert_eq!(rt;
+            labels_in_cycle(alloc, &g)?,
+            labels,
+            "forward {forward}, closed {closed}"
+        );
     }
     let g = chain_over_one(alloc, count)?;
     assert_eq!(rt; labels_in_cycle(alloc, &g)?, 0);

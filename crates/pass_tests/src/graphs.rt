@@ -132,7 +132,7 @@ fn heights_of_the_diamond(rt: HostRuntime) -> Result<(), Fail> {
 }
 
 #[test]
-fn laws_at_a_type() {
+fn laws_of_graphs_can_be_called() {
     laws::none_returns_where_numbering_rises();
     laws::none_returns_where_plans_have_no_cycle::<bool>();
     laws::valid_plans_have_no_cycle::<bool>();
@@ -226,7 +226,7 @@ fn names_of_variants(rt: HostRuntime) -> Result<(), Fail> {
     let mut variations = Variations::empty(alloc);
     for (axis, variation, want) in names() {
         let (is_set, label) = set_and_label(alloc, &mut variations, *axis, *variation)?;
-        assert_eq!(rt; (is_set, label.as_str()), (true, *want));
+        assert_eq!(rt; (is_set, label.as_str()), (true, *want), "{axis:?}");
     }
     assert_eq!(rt;
         variant_name(alloc, &variations)?.as_str(),

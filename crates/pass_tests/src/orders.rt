@@ -63,7 +63,7 @@ fn cases() -> &'static [Case] {
 fn lines_of_order_files(rt: HostRuntime) -> Result<(), Fail> {
     let alloc = rt.alloc();
     for (bytes, want) in cases() {
-        assert_eq!(rt; shown(alloc, bytes)?.as_str(), *want);
+        assert_eq!(rt; shown(alloc, bytes)?.as_str(), *want, "{bytes:?}");
     }
     Ok(())
 }

@@ -170,7 +170,11 @@ fn check_runs(rt: &impl Abort, alloc: Global, count: u32, runs: &[Run]) -> Resul
             one: *one,
             other: *other,
         };
-        assert_eq!(rt; run_of(alloc, count, edges, refused, order)?, *want);
+        assert_eq!(rt;
+            run_of(alloc, count, edges, refused, order)?,
+            *want,
+            "{edges:?} along {order:?}, {one} and {other} refused"
+        );
     }
     Ok(())
 }
@@ -212,8 +216,12 @@ fn large_and_empty_plans(rt: HostRuntime) -> Result<(), Fail> {
     let alloc = rt.alloc();
     for (chain, wide, deep) in [(100_000, 1_000, 200), (0, 0, 0)] {
         let plan = large(alloc, chain, wide, deep)?;
-        assert!(rt; falls(&plan));
-        assert_eq!(rt; counted(alloc, &plan)?, plan.count as usize);
+        assert!(rt; falls(&plan), "a chain of {chain}");
+        assert_eq!(rt;
+            counted(alloc, &plan)?,
+            plan.count as usize,
+            "a chain of {chain}"
+        );
     }
     Ok(())
 }
@@ -316,7 +324,7 @@ fn an_order_visits_each_node_once(rt: HostRuntime) -> Result<(), Fail> {
 }
 
 #[test]
-fn laws_at_a_type() {
+fn laws_of_passes_can_be_called() {
     serial_laws::in_edges_are_together();
     serial_laws::edge_numbers_are_together();
     serial_laws::starts_of_edges_rise();

@@ -5,8 +5,9 @@ ghost use Rattle.pass_ways.specs.Visits.{visits};
 ghost use Rattle.pass_ways.specs.Ways.{Follows, IsPassWay};
 
 use crate::visits::{check_text, falls, fault, large};
+use crate::workers::{TURNS, before_first, one_and_chain, rises};
 use bp_faults::{Fault, FaultKind, NodeId, OutOfMemory, Place, Seq, Text};
-use bp_ports::{Gate, OpenGate};
+use bp_ports::{Gate, OpenGate, PairGate};
 use pass_core::{Plan, PlanEdge, Visit, VisitError};
 use pass_ways::laws::{
     legal_orders_are_whole, lines_say_one_order, one_refusal, parts_are_short,
@@ -129,7 +130,11 @@ fn check_cases<R: Threads + Sync + Abort>(
     cases: &[Case],
 ) -> Result<(), Fail> {
     for (entries, refused, want) in cases {
-        assert_eq!(rt; refused_along(rt, alloc, entries, *refused)?, *want);
+        assert_eq!(rt;
+            refused_along(rt, alloc, entries, *refused)?,
+            *want,
+            "{entries:?}, {refused} refused"
+        );
     }
     Ok(())
 }
@@ -150,15 +155,35 @@ fn visits_of(alloc: Global, pass: u32, order: &[NodeId]) -> Result<Vec<(u32, Nod
     Ok(made)
 }
 
-/// A gate that counts how often it is entered.
+/// A gate that counts how often it is entered in a first pass and in a second.
 #[derive(Drop)]
 struct CountingGate {
-    entered: AtomicU32,
+    first: AtomicU32,
+    second: AtomicU32,
+}
+
+impl CountingGate {
+    fn new() -> CountingGate {
+        CountingGate {
+            first: AtomicU32::new(0),
+            second: AtomicU32::new(0),
+        }
+    }
+
+    fn entered(&self) -> (u32, u32) {
+        let first = self.first.load(Ordering::SeqCst);
+        (first, self.second.load(Ordering::SeqCst))
+    }
 }
 
 impl Gate for CountingGate {
-    fn enter(&self, _pass: u32, _n: NodeId) {
-        self.entered.fetch_add(1, Ordering::SeqCst);
+    fn enter(&self, pass: u32, _n: NodeId) {
+        if pass == 1 {
+            self.first.fetch_add(1, Ordering::SeqCst);
+        }
+        if pass == 2 {
+            self.second.fetch_add(1, Ordering::SeqCst);
+        }
     }
 }
 
@@ -181,24 +206,25 @@ fn two_passes<R: Threads + Sync, G: Gate + Sync>(
     Ok((first.outs.len(), second.order.as_slice().len()))
 }
 
-/// Two passes of two nodes on workers, and how often they enter the gate.
+/// How many nodes two passes visit, and how often each enters the gate.
+type Visited = ((usize, usize), (u32, u32));
+
+/// Two passes of two nodes on workers.
 fn two_on_workers<R: Threads + Sync>(
     rt: &R,
     alloc: Global,
     workers: u32,
-) -> Result<(usize, usize, u32), WayError>
+) -> Result<Visited, WayError>
     requires { (1 ≤ workers) × (workers ≤ 64) }
 {
     let plan = two_nodes(alloc)?;
-    let gate = CountingGate {
-        entered: AtomicU32::new(0),
-    };
+    let gate = CountingGate::new();
     let way = Way::Workers {
         workers,
         gate: &gate,
     };
-    let (outs, order) = two_passes(rt, alloc, &plan, &way)?;
-    Ok((outs, order, gate.entered.load(Ordering::SeqCst)))
+    let visited = two_passes(rt, alloc, &plan, &way)?;
+    Ok((visited, gate.entered()))
 }
 
 /// Two passes of two nodes along fewer than 100 lines.
@@ -261,35 +287,133 @@ fn order_alone<R: Threads + Sync>(rt: &R, alloc: Global) -> Result<u64, WayError
     Ok(shown)
 }
 
-/// One worker visits a node as soon as its predecessors are visited, and these as late as may be.
-#[test]
-fn one_worker_in_depth(rt: HostRuntime) {
-    assert!(rt; matches!(order_alone(&rt, rt.alloc()), Ok(30124)));
+/// Each of 120 nodes behind one of 120 others.
+fn pairs(alloc: Global) -> Result<Plan, OutOfMemory> {
+    let mut edges = Vec::new(alloc);
+    for n in 0..120 {
+        edges.push(PlanEdge {
+            from: NodeId(n + 120),
+            to: NodeId(n),
+        })?;
+    }
+    Ok(Plan {
+        count: 240,
+        edges: Seq::new(edges),
+    })
 }
 
-/// How many nodes workers visit of a plan in each of two passes that make nothing, and how often they enter the gate.
+/// Whether an order has 240 nodes from the greatest to the least.
+fn is_falling(order: &[NodeId]) -> bool {
+    for (index, n) in order.iter().rev().enumerate() {
+        if n.0 as usize != index {
+            return false;
+        }
+    }
+    order.len() == 240
+}
+
+/// Whether one worker begins at the greatest node, where all edges lead to lesser ones.
+fn pairs_alone<R: Threads + Sync>(rt: &R, alloc: Global) -> Result<bool, WayError> {
+    let plan = pairs(alloc)?;
+    if !falls(&plan) {
+        return Ok(false);
+    }
+    let way = Way::Workers {
+        workers: 1,
+        gate: &OpenGate,
+    };
+    let v = NumberUnless { refused: NONE };
+    let run = run_by_way(rt, alloc, &way, &[], 1, &plan, &v)?;
+    Ok(is_falling(run.order.as_slice()))
+}
+
+/// One worker visits a node as soon as its predecessors are visited, and these as late as may be.
+#[test]
+fn one_worker_in_depth(rt: HostRuntime) -> Result<(), Fail> {
+    assert_eq!(rt; order_alone(&rt, rt.alloc())?, 30124);
+    assert!(rt; pairs_alone(&rt, rt.alloc())?);
+    Ok(())
+}
+
+/// The order of a pass on two workers, which makes numbers or nothing.
+fn order_behind<R: Threads + Sync, G: Gate + Sync>(
+    rt: &R,
+    alloc: Global,
+    gate: &G,
+    pass: u32,
+    plan: &Plan,
+    is_idle: bool,
+) -> Result<Seq<NodeId>, WayError>
+    requires plan { IsPlan plan.now }
+    requires free { HasNoCycle plan.now.edges }
+{
+    let way = Way::Workers { workers: 2, gate };
+    if is_idle {
+        return Ok(order_by_way(rt, alloc, &way, &[], pass, plan)?.into_order());
+    }
+    let v = NumberUnless { refused: NONE };
+    Ok(run_by_way(rt, alloc, &way, &[], pass, plan, &v)?.order)
+}
+
+/// Whether a pass holds node 0 until the end of a chain of three has entered, and its order has the others before it.
+fn is_held_by_way<R: Threads + Sync>(
+    rt: &R,
+    alloc: Global,
+    pass: u32,
+    is_idle: bool,
+) -> Result<bool, WayError> {
+    let chain = one_and_chain(alloc, 3, true)?;
+    if !rises(&chain) {
+        return Ok(false);
+    }
+    for _run in 0..64 {
+        let gate = PairGate::new((pass, NodeId(0)), (pass, NodeId(3)), TURNS);
+        let order = order_behind(rt, alloc, &gate, pass, &chain, is_idle)?;
+        if gate.met() {
+            return Ok(before_first(order.as_slice()) >= Some(2));
+        }
+    }
+    Ok(false)
+}
+
+fn check_held<R: Threads + Sync + Abort>(rt: &R, alloc: Global, is_idle: bool) -> Result<(), Fail> {
+    for pass in 1..14 {
+        assert!(rt; is_held_by_way(rt, alloc, pass, is_idle)?, "pass {pass}");
+    }
+    Ok(())
+}
+
+#[test]
+fn gates_of_ways(rt: HostRuntime) -> Result<(), Fail> {
+    check_held(&rt, rt.alloc(), false)
+}
+
+#[test]
+fn gates_of_idle_ways(rt: HostRuntime) -> Result<(), Fail> {
+    check_held(&rt, rt.alloc(), true)
+}
+
+/// Two passes of a plan on workers that make nothing.
 fn nothing_on_workers<R: Threads + Sync>(
     rt: &R,
     alloc: Global,
     plan: &Plan,
     workers: u32,
-) -> Result<(usize, usize, u32), WayError>
+) -> Result<Visited, WayError>
     requires plan { IsPlan plan.now }
     requires free { HasNoCycle plan.now.edges }
     requires workers { (1 ≤ workers) × (workers ≤ 64) }
 {
-    let gate = CountingGate {
-        entered: AtomicU32::new(0),
-    };
+    let gate = CountingGate::new();
     let way = Way::Workers {
         workers,
         gate: &gate,
     };
-    let first = order_by_way(rt, alloc, &way, &[], 1, plan)?;
+    let first = order_by_way(rt, alloc, &way, &[], 1, plan)?.into_order();
     let before = visits_of(alloc, 1, first.as_slice())?;
-    let second = order_by_way(rt, alloc, &way, &before, 2, plan)?;
-    let entered = gate.entered.load(Ordering::SeqCst);
-    Ok((first.as_slice().len(), second.as_slice().len(), entered))
+    let second = order_by_way(rt, alloc, &way, &before, 2, plan)?.into_order();
+    let visited = (first.as_slice().len(), second.as_slice().len());
+    Ok((visited, gate.entered()))
 }
 
 /// The same of five nodes, which stand in stretches of one node.
@@ -297,7 +421,7 @@ fn nothing_of_five<R: Threads + Sync>(
     rt: &R,
     alloc: Global,
     workers: u32,
-) -> Result<(usize, usize, u32), WayError>
+) -> Result<Visited, WayError>
     requires { (1 ≤ workers) × (workers ≤ 64) }
 {
     let plan = both_ways(alloc)?;
@@ -309,38 +433,48 @@ fn nothing_of_many<R: Threads + Sync>(
     rt: &R,
     alloc: Global,
     workers: u32,
-) -> Result<(usize, usize, u32), WayError>
+) -> Result<Visited, WayError>
     requires { (1 ≤ workers) × (workers ≤ 64) }
 {
     let plan = large(alloc, 100, 70, 70)?;
     if !falls(&plan) {
-        return Ok((0, 0, 0));
+        return Ok(((0, 0), (0, 0)));
     }
     nothing_on_workers(rt, alloc, &plan, workers)
 }
 
 #[test]
-fn nothing_of_five_nodes(rt: HostRuntime) {
-    assert!(rt; matches!(nothing_of_five(&rt, rt.alloc(), 1), Ok((5, 5, 10))));
-    assert!(rt; matches!(nothing_of_five(&rt, rt.alloc(), 2), Ok((5, 5, 10))));
+fn nothing_of_five_nodes(rt: HostRuntime) -> Result<(), Fail> {
+    assert_eq!(rt; nothing_of_five(&rt, rt.alloc(), 1)?, ((5, 5), (5, 5)));
+    assert_eq!(rt; nothing_of_five(&rt, rt.alloc(), 2)?, ((5, 5), (5, 5)));
+    Ok(())
 }
 
 #[test]
-fn nothing_of_many_nodes(rt: HostRuntime) {
-    assert!(rt; matches!(nothing_of_many(&rt, rt.alloc(), 1), Ok((240, 240, 480))));
-    assert!(rt; matches!(nothing_of_many(&rt, rt.alloc(), 4), Ok((240, 240, 480))));
+fn nothing_of_many_nodes(rt: HostRuntime) -> Result<(), Fail> {
+    assert_eq!(rt;
+        nothing_of_many(&rt, rt.alloc(), 1)?,
+        ((240, 240), (240, 240))
+    );
+    assert_eq!(rt;
+        nothing_of_many(&rt, rt.alloc(), 4)?,
+        ((240, 240), (240, 240))
+    );
+    Ok(())
 }
 
 #[test]
-fn two_passes_on_workers(rt: HostRuntime) {
-    assert!(rt; matches!(two_on_workers(&rt, rt.alloc(), 1), Ok((2, 2, 4))));
-    assert!(rt; matches!(two_on_workers(&rt, rt.alloc(), 2), Ok((2, 2, 4))));
+fn two_passes_on_workers(rt: HostRuntime) -> Result<(), Fail> {
+    assert_eq!(rt; two_on_workers(&rt, rt.alloc(), 1)?, ((2, 2), (2, 2)));
+    assert_eq!(rt; two_on_workers(&rt, rt.alloc(), 2)?, ((2, 2), (2, 2)));
+    Ok(())
 }
 
 #[test]
-fn two_passes_along_lines(rt: HostRuntime) {
+fn two_passes_along_lines(rt: HostRuntime) -> Result<(), Fail> {
     let entries = [(1, 0), (1, 1), (2, 0), (2, 1)];
-    assert!(rt; matches!(two_along(&rt, rt.alloc(), &entries), Ok((2, 2))));
+    assert_eq!(rt; two_along(&rt, rt.alloc(), &entries)?, (2, 2));
+    Ok(())
 }
 
 /// What each error of a pass in some way says of itself.
@@ -358,7 +492,7 @@ fn texts_of_way_errors(rt: HostRuntime) -> Result<(), Fail> {
 }
 
 #[test]
-fn laws_of_ways() {
+fn laws_of_ways_can_be_called() {
     parts_are_short();
     legal_orders_are_whole();
     lines_say_one_order();

@@ -2,13 +2,16 @@ ghost use Rattle.std.specs.Prelude.{◌≡◌, ◌≤◌, IsTrue, ⊤};
 ghost use Rattle.serial_pass.specs.Plans.{IsPlan, HasNoCycle};
 ghost use Rattle.pass_tests.specs.Workers.{number_but};
 
+use crate::visits::falls;
 use bp_faults::{Fault, FaultKind, NodeId, OutOfMemory, Place, Seq};
-use bp_ports::{OpenGate, PairGate};
+use bp_ports::{Gate, OpenGate, PairGate};
 use pass_core::{PassError, Plan, PlanEdge, Visit, VisitError};
 use std::alloc::Global;
 use std::process::Abort;
 use std::sync::Arc;
+use std::sync::atomic::{AtomicBool, AtomicU32, Ordering};
 use std::test::Fail;
+use std::thread;
 use std::thread::Threads;
 use visit_workers::{PassRun, visit_all};
 
@@ -44,10 +47,10 @@ const ALL: NumberBut = NumberBut {
     other: u32::MAX,
 };
 
-const TURNS: u32 = 1 << 28;
+pub const TURNS: u32 = 1 << 28;
 
 /// Whether the edges stand by target and each leads to a greater node.
-fn rises(plan: &Plan) -> bool
+pub fn rises(plan: &Plan) -> bool
     ensures plan { IsTrue result → IsPlan plan.now }
     ensures free { IsTrue result → HasNoCycle plan.now.edges }
 {
@@ -75,15 +78,16 @@ fn plan(alloc: Global, count: u32, pairs: &[(u32, u32)]) -> Result<Plan, OutOfMe
     })
 }
 
-/// Node 0, and a chain of the nodes from 1 on.
-fn one_and_chain(alloc: Global, last: u32) -> Result<Plan, OutOfMemory>
-    requires { last ≤ 1000 }
+/// Node 0, and a chain of the nodes from 1 on, whose edges lead to greater nodes or to lesser ones.
+pub fn one_and_chain(alloc: Global, last: u32, is_rising: bool) -> Result<Plan, OutOfMemory>
+    requires { last ≤ 3000 }
 {
     let mut edges = Vec::new(alloc);
     for n in 1..last {
+        let (from, to) = if is_rising { (n, n + 1) } else { (n + 1, n) };
         edges.push(PlanEdge {
-            from: NodeId(n),
-            to: NodeId(n + 1),
+            from: NodeId(from),
+            to: NodeId(to),
         })?;
     }
     Ok(Plan {
@@ -114,25 +118,27 @@ fn until_met<R: Threads + Sync>(
 }
 
 /// How many nodes an order has before node 0.
-fn before_first(order: &[NodeId]) -> Option<usize> {
+pub fn before_first(order: &[NodeId]) -> Option<usize> {
     order.iter().position(|n| *n == NodeId(0))
 }
 
-/// Whether node 0 is held until the last node of a chain has entered, so that the order has the others before it.
+/// Whether node 0 is held until the end of a chain has entered, so that the order has the others before it.
 fn is_held_over_chain<R: Threads + Sync>(
     rt: &R,
     alloc: Global,
-    last: u32,
+    many: u32,
+    is_rising: bool,
 ) -> Result<bool, PassError>
-    requires { last ≤ 1000 }
+    requires { many ≤ 3000 }
 {
-    let chain = one_and_chain(alloc, last)?;
-    if !rises(&chain) {
+    let chain = one_and_chain(alloc, many, is_rising)?;
+    if !rises(&chain) && !falls(&chain) {
         return Ok(false);
     }
-    match until_met(rt, alloc, &chain, 0, last)? {
+    let end = if is_rising { many } else { 1 };
+    match until_met(rt, alloc, &chain, 0, end)? {
         Some(run) => {
-            let least = (last as usize).saturating_sub(1);
+            let least = (many as usize).saturating_sub(1);
             let is_whole = run.receipt.order().len() == run.order.len();
             Ok(is_whole && before_first(&run.order) >= Some(least))
         }
@@ -168,11 +174,91 @@ fn gates(rt: HostRuntime) -> Result<(), Fail> {
     Ok(())
 }
 
+/// How many nodes a chain has, and whether its edges rise.
+const CHAINS: [(u32, bool); 4] = [(3, true), (1_000, true), (3_000, true), (3_000, false)];
+
 #[test]
 fn gates_over_chains(rt: HostRuntime) -> Result<(), Fail> {
-    let alloc = rt.alloc();
-    assert!(rt; is_held_over_chain(&rt, alloc, 3)?);
-    assert!(rt; is_held_over_chain(&rt, alloc, 1_000)?);
+    for (many, is_rising) in CHAINS {
+        let is_held = many <= 3_000 && is_held_over_chain(&rt, rt.alloc(), many, is_rising)?;
+        assert!(rt; is_held, "a chain of {many} with rising edges: {is_rising}");
+    }
+    Ok(())
+}
+
+/// A gate that holds each of some nodes of a pass until all of them are in it, for so many turns at most.
+#[derive(Drop)]
+pub struct MeetingGate {
+    pass: u32,
+    first: u32,
+    many: u32,
+    limit: u32,
+    inside: AtomicU32,
+    met: AtomicBool,
+}
+
+impl MeetingGate {
+    /// A gate for so many nodes from a first one on.
+    pub fn new(pass: u32, first: u32, many: u32, limit: u32) -> MeetingGate {
+        MeetingGate {
+            pass,
+            first,
+            many,
+            limit,
+            inside: AtomicU32::new(0),
+            met: AtomicBool::new(false),
+        }
+    }
+
+    /// Whether all nodes were in the gate at once.
+    pub fn met(&self) -> bool {
+        self.met.load(Ordering::SeqCst)
+    }
+
+    /// Waits for the others. A node that has waited long enough is in the gate no more.
+    fn wait(&self) {
+        for _turn in 0..self.limit {
+            if self.inside.load(Ordering::SeqCst) >= self.many {
+                self.met.store(true, Ordering::SeqCst);
+                return;
+            }
+            thread::yield_now();
+        }
+        self.inside.fetch_sub(1, Ordering::SeqCst);
+    }
+}
+
+impl Gate for MeetingGate {
+    fn enter(&self, pass: u32, n: NodeId) {
+        if pass == self.pass && n.0 >= self.first && n.0 - self.first < self.many {
+            self.inside.fetch_add(1, Ordering::SeqCst);
+            self.wait();
+        }
+    }
+}
+
+/// How many nodes without edges there are, the first of those that meet, and how many meet, by as many workers.
+type Meeting = (u32, u32, u32);
+
+const MEETINGS: [Meeting; 4] = [(2, 0, 2), (1_000, 998, 2), (3, 0, 3), (16, 0, 16)];
+
+/// Whether some nodes meet in a gate.
+fn meet<R: Threads + Sync>(rt: &R, alloc: Global, meeting: Meeting) -> Result<bool, PassError> {
+    let (count, first, many) = meeting;
+    let plan = plan(alloc, count, &[])?;
+    if !rises(&plan) || many < 1 || many > 64 {
+        return Ok(false);
+    }
+    let gate = MeetingGate::new(7, first, many, TURNS);
+    visit_all(rt, alloc, 7, &plan, &ALL, many, &gate)?;
+    Ok(gate.met())
+}
+
+#[test]
+fn gates_where_all_meet(rt: HostRuntime) -> Result<(), Fail> {
+    for meeting in MEETINGS {
+        assert!(rt; meet(&rt, rt.alloc(), meeting)?, "{meeting:?}");
+    }
     Ok(())
 }
 
@@ -234,7 +320,11 @@ fn check_faulty<R: Threads + Sync + Abort>(rt: &R, alloc: Global, workers: u32) 
     requires workers { (1 ≤ workers) × (workers ≤ 64) }
 {
     for (refused, want) in cases() {
-        assert_eq!(rt; faulty_node(rt, alloc, *refused, workers)?, *want);
+        assert_eq!(rt;
+            faulty_node(rt, alloc, *refused, workers)?,
+            *want,
+            "{refused:?} refused"
+        );
     }
     Ok(())
 }
@@ -281,7 +371,8 @@ fn check_visits<R: Threads + Sync + Abort>(
     for (count, workers) in cases {
         assert_eq!(rt;
             visited(rt, alloc, *count, *workers)?,
-            (*count as usize, true)
+            (*count as usize, true),
+            "{count} nodes, {workers} workers"
         );
     }
     Ok(())
@@ -290,4 +381,9 @@ fn check_visits<R: Threads + Sync + Abort>(
 #[test]
 fn few_nodes_and_many_workers(rt: HostRuntime) -> Result<(), Fail> {
     check_visits(&rt, rt.alloc(), &[(0, 1), (0, 64), (1, 64), (5, 3)])
+}
+
+#[test]
+fn many_nodes_and_two_workers(rt: HostRuntime) -> Result<(), Fail> {
+    check_visits(&rt, rt.alloc(), &[(200_000, 2)])
 }

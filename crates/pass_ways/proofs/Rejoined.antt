@@ -176,4 +176,5 @@ pub shown_legal : (workers : ℕ) (plan : Plan) (order : List NodeId) (receipt :
     → ShowsOrder workers plan order receipt → IsLegal receipt.plan (numbers receipt.order)
     → IsLegal plan (numbers order)
 shown_legal workers plan order receipt s legal =
-    nodes_legal plan s.base s.legal s.size s.positive receipt.plan s.planned (numbers receipt.order) legal order s.joined
+    nodes_legal plan s.base s.legal s.size s.positive receipt.plan s.planned
+    (numbers receipt.order) legal order s.joined

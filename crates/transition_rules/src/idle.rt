@@ -56,9 +56,12 @@ where
     idle_passes_make::<P, Seq<Variation>>();
     splits_of_one_keep::<P, Variation>();
     let _rule = rule;
-    let order = visit_idle(rt, alloc, way, before, pass, &g, Direction::TopDown)?;
+    let run = visit_idle(rt, alloc, way, before, pass, &g, Direction::TopDown)?;
     check_limits(&g)?;
-    Ok(WantedGraph { graph: g, order })
+    Ok(WantedGraph {
+        graph: g,
+        order: run.into_order(),
+    })
 }
 
 /// The second step of a transition that keeps the payloads: the nodes are visited, but the graph is kept.
@@ -93,6 +96,9 @@ where
 {
     idle_passes_make::<P, P>();
     let _rule = rule;
-    let order = visit_idle(rt, alloc, way, before, pass, &g, Direction::BottomUp)?;
-    Ok(MutatedGraph { graph: g, order })
+    let run = visit_idle(rt, alloc, way, before, pass, &g, Direction::BottomUp)?;
+    Ok(MutatedGraph {
+        graph: g,
+        order: run.into_order(),
+    })
 }

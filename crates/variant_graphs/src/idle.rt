@@ -3,26 +3,26 @@ ghost use Rattle.module_graph.specs.Planned.{plan_of};
 ghost use Rattle.pass_ways.specs.Idle.{AnswersIdle};
 ghost use Rattle.pass_ways.specs.Ways.{Follows, IsPassWay};
 
-use bp_faults::{NodeId, Seq};
+use bp_faults::NodeId;
 use bp_ports::Gate;
 use module_graph::laws::valid_plans_have_no_cycle;
 use module_graph::{Direction, Graph, plan};
-use pass_ways::{Way, WayError, order_by_way};
+use pass_ways::{IdleRun, Way, WayError, order_by_way};
 use std::alloc::Global;
 use std::thread::Threads;
 
-/// Visits each node in a direction, in some way, and makes nothing: the order of the visits.
+/// Visits each node in a direction, in some way, and makes nothing: the order of the visits, and what shows it.
 ///
 /// `before` holds the visits of the passes before this one.
-pub fn visit_idle<R, P, G>(
+pub fn visit_idle<'a, R, P, G>(
     rt: &R,
     alloc: Global,
-    way: &Way<'_, G>,
+    way: &Way<'a, G>,
     before: &[(u32, NodeId)],
     pass: u32,
     g: &Graph<P>,
     dir: Direction,
-) -> Result<Seq<NodeId>, WayError>
+) -> Result<IdleRun<'a, G>, WayError>
 where
     R: Threads + Sync,
     G: Gate + Sync,

@@ -12,22 +12,22 @@ use Rattle.mutator_kinds.proofs.IdleEnds.{limits_followed, way_ends}
 use Rattle.mutator_kinds.proofs.LeftAlone.{graph_kept, kept_alone, limits_end}
 use Rattle.mutator_kinds.proofs.idle.run_idle_by.Goals as goal
 
-pub returns-in_err-order-clause-means : goal.returns-in_err-order-clause-means
-returns-in_err-order-clause-means g c =
+pub returns-in_err-run-clause-means : goal.returns-in_err-run-clause-means
+returns-in_err-run-clause-means g c =
     let nodes = c.args.g.nodes in
     (way_ends {T = PassGraph _} (λ made. made.order) c.args.way.now (plan_of BottomUp nodes) c.args.pass
     c.args.before.now (λ made. (made.graph.nodes, made.asked))
     (BottomUpMeans (g.M.BottomUp.meaning c.args.rule.now) nodes (g.M.BottomUp.splits_along c.args.rule.now))
-    c.in_err-order.field-0.0 c.from_residual.result c.in_err-order.ensures c.from_residual.ensures.0
+    c.in_err-run.field-0.0 c.from_residual.result c.in_err-run.ensures c.from_residual.ensures.0
     c.from_residual.ensures.1).0
 
-pub returns-in_err-order-clause-followed : goal.returns-in_err-order-clause-followed
-returns-in_err-order-clause-followed g c =
+pub returns-in_err-run-clause-followed : goal.returns-in_err-run-clause-followed
+returns-in_err-run-clause-followed g c =
     let nodes = c.args.g.nodes in
     (way_ends {T = PassGraph _} (λ made. made.order) c.args.way.now (plan_of BottomUp nodes) c.args.pass
     c.args.before.now (λ made. (made.graph.nodes, made.asked))
     (BottomUpMeans (g.M.BottomUp.meaning c.args.rule.now) nodes (g.M.BottomUp.splits_along c.args.rule.now))
-    c.in_err-order.field-0.0 c.from_residual.result c.in_err-order.ensures c.from_residual.ensures.0
+    c.in_err-run.field-0.0 c.from_residual.result c.in_err-run.ensures c.from_residual.ensures.0
     c.from_residual.ensures.1).1
 
 pub returns-in_err-check_limits-clause-means : goal.returns-in_err-check_limits-clause-means
@@ -48,7 +48,7 @@ pub returns-in_err-check_limits-clause-followed : goal.returns-in_err-check_limi
 returns-in_err-check_limits-clause-followed g c =
     limits_followed {T = PassGraph _} (λ made. made.order) c.args.way.now (plan_of BottomUp c.args.g.nodes)
     c.args.pass c.args.before.now c.in_err-check_limits.field-0.0 c.from_residual-in_err-check_limits.result
-    c.in_ok-order.order c.in_ok-order.ensures c.from_residual-in_err-check_limits.ensures.0
+    c.in_ok-run.run.order c.in_ok-run.ensures.0 c.from_residual-in_err-check_limits.ensures.0
     c.from_residual-in_err-check_limits.ensures.1
 
 pub returns-clause-means : goal.returns-clause-means

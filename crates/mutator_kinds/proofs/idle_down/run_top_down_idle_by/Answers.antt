@@ -8,20 +8,20 @@ use Rattle.mutator_kinds.proofs.IdleEnds.{way_ends}
 use Rattle.mutator_kinds.proofs.LeftAlone.{with_own}
 use Rattle.mutator_kinds.proofs.idle_down.run_top_down_idle_by.Goals as goal
 
-pub returns-in_err-order-clause-means : goal.returns-in_err-order-clause-means
-returns-in_err-order-clause-means g c =
+pub returns-in_err-run-clause-means : goal.returns-in_err-run-clause-means
+returns-in_err-run-clause-means g c =
     let nodes = c.args.g.nodes in
     (way_ends {T = PassGraph _} (λ made. made.order) c.args.way.now (plan_of TopDown nodes) c.args.pass
     c.args.before.now (λ made. made.graph.nodes) (TopDownMeans (g.M.TopDown.meaning c.args.rule.now) nodes)
-    c.in_err-order.field-0.0 c.from_residual.result c.in_err-order.ensures c.from_residual.ensures.0
+    c.in_err-run.field-0.0 c.from_residual.result c.in_err-run.ensures c.from_residual.ensures.0
     c.from_residual.ensures.1).0
 
-pub returns-in_err-order-clause-followed : goal.returns-in_err-order-clause-followed
-returns-in_err-order-clause-followed g c =
+pub returns-in_err-run-clause-followed : goal.returns-in_err-run-clause-followed
+returns-in_err-run-clause-followed g c =
     let nodes = c.args.g.nodes in
     (way_ends {T = PassGraph _} (λ made. made.order) c.args.way.now (plan_of TopDown nodes) c.args.pass
     c.args.before.now (λ made. made.graph.nodes) (TopDownMeans (g.M.TopDown.meaning c.args.rule.now) nodes)
-    c.in_err-order.field-0.0 c.from_residual.result c.in_err-order.ensures c.from_residual.ensures.0
+    c.in_err-run.field-0.0 c.from_residual.result c.in_err-run.ensures c.from_residual.ensures.0
     c.from_residual.ensures.1).1
 
 pub returns-clause-means : goal.returns-clause-means
