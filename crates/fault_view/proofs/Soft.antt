@@ -28,6 +28,11 @@ pub softly_map : (told : Option Files) (a b : ℕ) (P Q : Files → Type 0)
 softly_map None a b P Q more p = tt
 softly_map (Some files) a b P Q more p = λ quiet. more files (p quiet)
 
+pub softly_later : (told : Option Files) (a b c : ℕ) (P : Files → Type 0) → b ≤ c → Softly told a b P
+    → Softly told a c P
+softly_later None a b c P bc p = tt
+softly_later (Some files) a b c P bc p = λ quiet. p (λ rose. quiet (rose_first a b c rose bc))
+
 pub softly_always : (told : Option Files) (a b : ℕ) (P : Files → Type 0) → ((files : Files) → P files)
     → Softly told a b P
 softly_always None a b P always = tt

@@ -1,8 +1,8 @@
 -- What the steps come to of reading a line, of looking for names, and of printing.
-use Rattle.std.specs.Prelude.{◌≡◌, ◌<◌, ◌^◌, ℕ, min, Bool, ◌&&◌, nat_lt, nat_le, List, [], ◌∷◌, ◌++◌, Option, Some}
+use Rattle.std.specs.Prelude.{◌≡◌, ◌<◌, ◌^◌, ◌⊎◌, ℕ, min, Bool, ◌&&◌, nat_lt, nat_le, List, [], ◌∷◌, ◌++◌, Option, Some}
 use Rattle.std.specs.Prelude.{None}
 use Rattle.std.specs.Fmt.{decimal}
-use Rattle.bp_ports.specs.Files.{Files, WhereTold}
+use Rattle.bp_ports.specs.Files.{Files, WhereTold, AppendsPart}
 use Rattle.fault_view.specs.declared.cut.Parts.{Parts}
 use Rattle.fault_view.specs.declared.fault_line.FaultLine.{FaultLine}
 use Rattle.fault_view.specs.Lines.{IsReadAs}
@@ -61,3 +61,14 @@ pub record PutsLine (list : Option (List ℕ)) (told : Option Files) (before now
   pub note : List ℕ
   pub put : WhereTold (λ before after. after ≡ before ++ (line ++ note)) old new
   pub exact : Softly told before now (λ files. IsBehind list files line note)
+
+-- A first part of a line was put, and of the note behind it, which is what stands there where no read failed.
+pub record PutsPart (list : Option (List ℕ)) (told : Option Files) (before now : ℕ) (line : List ℕ)
+    (old new : Option (List ℕ)) : Type 0 where
+  pub note : List ℕ
+  pub put : WhereTold (AppendsPart (line ++ note)) old new
+  pub exact : Softly told before now (λ files. IsBehind list files line note)
+
+-- Nothing was put, or such a part.
+abbrev pub PutsAtMost : Option (List ℕ) → Option Files → ℕ → ℕ → List ℕ → Option (List ℕ) → Option (List ℕ) → Type 0
+PutsAtMost list told before now line old new = (new ≡ old) ⊎ PutsPart list told before now line old new

@@ -5,6 +5,7 @@ pub mod Known
 pub mod Unknown
 pub mod ModuleNames
 pub mod View
+pub mod Input
 pub mod Inside
 pub mod Program
 pub mod Laws

@@ -1,6 +1,12 @@
--- The words of the command line, and the exit status.
-use Rattle.std.specs.Prelude.{ℕ, List, [], ◌∷◌, codes, if◌then◌else◌, Option, Some, None, Result, Ok, Err}
+-- The words of the command line, the exit status, and the line that reports an end.
+use Rattle.std.specs.Prelude.{◌≡◌, ◌⊎◌, ℕ, List, [], ◌∷◌, ◌++◌, codes, if◌then◌else◌, Option, Some, None, Result, Ok}
+use Rattle.std.specs.Prelude.{Err}
 use Rattle.std.specs.Str.{bytes_eq}
+use Rattle.std.specs.declared.io.ErrorKind.{ErrorKind}
+use Rattle.std.specs.declared.io.ErrorKind.TheVariants.{OutOfMemory as NoMemory}
+use Rattle.bp_ports.specs.declared.sink.Sink.{Ghosts as SinkGhosts}
+use Rattle.bp_ports.specs.Causes.{Rose}
+use Rattle.bp_ports.specs.Files.{WhereTold, AppendsPart}
 use Rattle.fault_view.specs.declared.view.End.{End}
 use Rattle.fault_view.specs.declared.view.End.TheVariants.{CannotRead, CannotWrite, OutOfMemory}
 
@@ -17,3 +23,36 @@ view_status (Ok done) = 0
 view_status (Err CannotRead) = 3
 view_status (Err CannotWrite) = 4
 view_status (Err OutOfMemory) = 5
+
+-- The line that reports an end, which the end of the input has not.
+abbrev pub view_report : Result Unit End → Option (List ℕ)
+view_report (Ok done) = None
+view_report (Err CannotRead) = Some (codes "fault_view: cannot read standard input\n")
+view_report (Err CannotWrite) = Some (codes "fault_view: cannot write standard output\n")
+view_report (Err OutOfMemory) = Some (codes "fault_view: out of memory\n")
+
+-- The line that reports wrong words.
+abbrev pub usage_line : List ℕ
+usage_line = codes "usage: fault_view [-l LIST]\n"
+
+-- The status where the words can't be read, by the kind of the system's error.
+abbrev pub status_without_words : ErrorKind → ℕ
+status_without_words NoMemory = 5
+status_without_words kind = 2
+
+-- The line that reports it.
+abbrev pub line_without_words : ErrorKind → List ℕ
+line_without_words NoMemory = codes "fault_view: out of memory\n"
+line_without_words kind = usage_line
+
+-- The text was put on a sink, or a first part of it where the sink's count of failures rose.
+abbrev pub Says : {D : Type 0} → SinkGhosts D → List ℕ → D → D → Type 0
+Says d text old new =
+    WhereTold
+    (λ before after. (after ≡ before ++ text) ⊎ (AppendsPart text before after × Rose (d.faults old) (d.faults new)))
+    (d.bytes old) (d.bytes new)
+
+-- The line was put on a sink, where there is one.
+abbrev pub IsLineReported : {D : Type 0} → SinkGhosts D → Option (List ℕ) → D → D → Type 0
+IsLineReported d None old new = d.bytes new ≡ d.bytes old
+IsLineReported d (Some line) old new = Says d line old new

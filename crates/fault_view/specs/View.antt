@@ -1,5 +1,5 @@
 -- The text that is printed: all lines that come in, and a note behind each fault line.
-use Rattle.std.specs.Prelude.{◌≡◌, ℕ, List, [], ◌∷◌, ◌++◌, length, nat_le, ◌==◌, if◌then◌else◌, codes, ⊤}
+use Rattle.std.specs.Prelude.{◌≡◌, ◌⊎◌, ℕ, List, [], ◌∷◌, ◌++◌, length, take, nat_le, ◌==◌, if◌then◌else◌, codes, ⊤}
 use Rattle.std.specs.Prelude.{Option, Some, None, IfSome}
 use Rattle.std.specs.FinMap.{get}
 use Rattle.std.specs.Option.{option_and_then}
@@ -113,6 +113,23 @@ IsPrintedView Behind (line ∷ lines) out =
 abbrev pub Shows : (List ℕ → List ℕ → Type 0) → List ℕ → List ℕ → List ℕ → Type 0
 Shows Behind input before after =
     (seen : List ℕ) × (after ≡ before ++ seen) × IsPrintedView Behind (ended_lines input) seen
+
+-- A first part of a line and of what stands behind it.
+abbrev pub IsLinePart : (List ℕ → List ℕ → Type 0) → List ℕ → List ℕ → Type 0
+IsLinePart Behind line out = (note : List ℕ) × Behind line note × ((k : ℕ) × (out ≡ take k (line ++ note)))
+
+-- A first part of what is printed: nothing, a part of the first line, or that line and a first part of the others.
+abbrev pub IsViewPart : (List ℕ → List ℕ → Type 0) → List (List ℕ) → List ℕ → Type 0
+IsViewPart Behind [] out = out ≡ []
+IsViewPart Behind (line ∷ lines) out =
+    (out ≡ []) ⊎ (IsLinePart Behind line out
+    ⊎ ((note : List ℕ) × (rest : List ℕ) × (out ≡ line ++ (note ++ rest)) × Behind line note
+    × IsViewPart Behind lines rest))
+
+-- The output gained a first part of a view of the input.
+abbrev pub ShowsPart : (List ℕ → List ℕ → Type 0) → List ℕ → List ℕ → List ℕ → Type 0
+ShowsPart Behind input before after =
+    (seen : List ℕ) × (after ≡ before ++ seen) × IsViewPart Behind (ended_lines input) seen
 
 -- Anything may stand behind a line.
 abbrev pub Anything : List ℕ → List ℕ → Type 0

@@ -10,6 +10,7 @@ mod cut;
 mod excerpt;
 mod fault_line;
 mod files;
+mod input;
 mod known;
 mod laws;
 mod module_names;

@@ -1,7 +1,9 @@
 ghost use Rattle.std.specs.Prelude.{◌≡◌, option_map};
 ghost use Rattle.std.specs.Option.{option_copied};
-ghost use Rattle.fault_view.specs.Program.{view_status, list_option};
+ghost use Rattle.fault_view.specs.Program.{list_option, view_status, view_report, usage_line};
+ghost use Rattle.fault_view.specs.Program.{status_without_words, line_without_words, Says, IsLineReported};
 
+use crate::input::Counted;
 use crate::view::{End, view};
 use bp_faults::Text;
 use bp_ports::{FsStore, Sink, StdSink};
@@ -41,28 +43,43 @@ fn status(end: Result<(), End>) -> u8
     }
 }
 
-fn message(end: End) -> &'static str {
+// The line that reports an end, if it has one.
+fn report(end: Result<(), End>) -> Option<&'static str>
+    ensures { option_copied result ≡ view_report end }
+{
     match end {
-        End::CannotRead => "fault_view: cannot read standard input\n",
-        End::CannotWrite => "fault_view: cannot write standard output\n",
-        End::OutOfMemory => "fault_view: out of memory\n",
+        Ok(()) => None,
+        Err(End::CannotRead) => Some("fault_view: cannot read standard input\n"),
+        Err(End::CannotWrite) => Some("fault_view: cannot write standard output\n"),
+        Err(End::OutOfMemory) => Some("fault_view: out of memory\n"),
     }
 }
 
-fn ended(end: Result<(), End>, diag: &mut impl Sink) -> ExitCode {
-    if let Err(end) = end {
-        let _ = diag.put(message(end).as_bytes());
+// Reports an end: the exit status.
+fn ended<D: Sink>(end: Result<(), End>, diag: &mut D) -> u8
+    ensures status { result ≡ view_status end }
+    ensures said { IsLineReported D.Sink (view_report end) diag.old diag.new }
+{
+    if let Some(line) = report(end) {
+        let _ = diag.put(line.as_bytes());
     }
-    ExitCode::from(status(end))
+    status(end)
 }
 
-fn usage(diag: &mut impl Sink) -> ExitCode {
+// Reports wrong words: the exit status.
+fn usage<D: Sink>(diag: &mut D) -> u8
+    ensures status { result ≡ 2 }
+    ensures said { Says D.Sink usage_line diag.old diag.new }
+{
     let _ = diag.put(b"usage: fault_view [-l LIST]\n");
-    ExitCode::from(2)
+    2
 }
 
-// The status where the words can't be read. A word that isn't UTF-8 is a wrong word.
-fn without_words(kind: ErrorKind, diag: &mut impl Sink) -> ExitCode {
+// Reports that the words can't be read: the exit status. A word that isn't UTF-8 is a wrong word.
+fn without_words<D: Sink>(kind: ErrorKind, diag: &mut D) -> u8
+    ensures status { result ≡ status_without_words kind }
+    ensures said { Says D.Sink (line_without_words kind) diag.old diag.new }
+{
     match kind {
         ErrorKind::OutOfMemory => ended(Err(End::OutOfMemory), diag),
         _ => usage(diag),
@@ -74,20 +91,20 @@ pub fn start(rt: HostRuntime) -> ExitCode {
     let mut diag = StdSink::err(rt);
     let words = match read_words(&rt) {
         Ok(words) => words,
-        Err(error) => return without_words(error.kind(), &mut diag),
+        Err(error) => return ExitCode::from(without_words(error.kind(), &mut diag)),
     };
     let Some(list) = list_of(&words) else {
-        return usage(&mut diag);
+        return ExitCode::from(usage(&mut diag));
     };
     let end = match BufReader::new(rt.alloc(), rt.reader()) {
-        Ok(mut input) => view(
+        Ok(reader) => view(
             rt.alloc(),
             list,
-            &mut input,
+            &mut Counted::new(reader),
             &mut FsStore::new(rt),
             &mut StdSink::out(rt),
         ),
         Err(_) => Err(End::OutOfMemory),
     };
-    ended(end, &mut diag)
+    ExitCode::from(ended(end, &mut diag))
 }

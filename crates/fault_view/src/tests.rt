@@ -1,3 +1,4 @@
+use crate::input::Counted;
 use crate::view::{End, view};
 use bp_faults::{OutOfMemory, Text};
 use bp_ports::{MemSink, MemStore};
@@ -78,6 +79,11 @@ fn store(alloc: Global, failing: Vec<u32>) -> Result<MemStore, OutOfMemory> {
     MemStore::new(alloc, files, 0, failing)
 }
 
+// The bytes of a sink as a text.
+fn told(sink: &MemSink) -> &str {
+    str::from_utf8(sink.bytes()).unwrap_or("no text")
+}
+
 #[test]
 fn views(rt: HostRuntime) -> Result<(), Fail> {
     let alloc = rt.alloc();
@@ -85,7 +91,7 @@ fn views(rt: HostRuntime) -> Result<(), Fail> {
         let list = Text::from_str(alloc, list)?;
         let list = (!list.as_str().is_empty()).then_some(&list);
         let mut out = MemSink::new(alloc, 1000, Vec::new(alloc))?;
-        let mut input = lines.as_bytes();
+        let mut input = Counted::new(lines.as_bytes());
         let end = view(
             alloc,
             list,
@@ -93,10 +99,8 @@ fn views(rt: HostRuntime) -> Result<(), Fail> {
             &mut store(alloc, Vec::new(alloc))?,
             &mut out,
         );
-        assert!(rt;
-            end.is_ok() && out.bytes() == printed.as_bytes(),
-            "{printed}"
-        );
+        let came = told(&out);
+        assert!(rt; end.is_ok() && came == printed, "{lines}: {end:?}: {came}");
     }
     Ok(())
 }
@@ -115,10 +119,14 @@ fn failing_reads(rt: HostRuntime) -> Result<(), Fail> {
     ] {
         let mut out = MemSink::new(alloc, 1000, Vec::new(alloc))?;
         let mut store = store(alloc, vec![in alloc; call]?)?;
-        let mut input = line.as_bytes();
+        let mut input = Counted::new(line.as_bytes());
         let end = view(alloc, None, &mut input, &mut store, &mut out);
         let printed = format!(in alloc; "{line}{note}")?;
-        assert!(rt; end.is_ok() && out.bytes() == printed.as_bytes());
+        let came = told(&out);
+        assert!(rt;
+            end.is_ok() && came == printed.as_str(),
+            "read {call}: {end:?}: {came}"
+        );
     }
     Ok(())
 }
@@ -127,7 +135,7 @@ fn failing_reads(rt: HostRuntime) -> Result<(), Fail> {
 fn failing_puts(rt: HostRuntime) -> Result<(), Fail> {
     let alloc = rt.alloc();
     let mut out = MemSink::new(alloc, 6, Vec::new(alloc))?;
-    let mut input = b"line 1\nline 2\n".as_slice();
+    let mut input = Counted::new(b"line 1\nline 2\n".as_slice());
     let end = view(
         alloc,
         None,
@@ -135,6 +143,10 @@ fn failing_puts(rt: HostRuntime) -> Result<(), Fail> {
         &mut store(alloc, Vec::new(alloc))?,
         &mut out,
     );
-    assert!(rt; end == Err(End::CannotWrite) && out.bytes() == b"lin".as_slice());
+    let came = told(&out);
+    assert!(rt;
+        end == Err(End::CannotWrite) && came == "lin",
+        "{end:?}: {came}"
+    );
     Ok(())
 }

@@ -1,18 +1,19 @@
-ghost use Rattle.std.specs.Prelude.{◌≡◌, ◌≤◌, IfOk, IfSome, OnOk, IsErrOf, MatchOption, string_bytes, Some};
+ghost use Rattle.std.specs.Prelude.{◌≡◌, ◌≤◌, IfOk, IfSome, OnOk, OnErr, IsErrOf, MatchOption, string_bytes, Some};
 ghost use Rattle.fault_view.specs.Lines.{IsNoFaultLine, IsReadAs};
 ghost use Rattle.std.specs.Option.{option_copied};
 ghost use Rattle.std.specs.Io.BufRead.{take_through, drop_through};
 ghost use Rattle.bp_ports.specs.Causes.{Rose};
 ghost use Rattle.bp_ports.specs.Files.{WhereTold};
-ghost use Rattle.fault_view.specs.View.{Softly, IsBehind, Anything, Shows};
-ghost use Rattle.fault_view.specs.Inside.{IsReadNote, PutsLine};
+ghost use Rattle.fault_view.specs.View.{Softly, IsBehind, Anything, Shows, ShowsPart};
+ghost use Rattle.fault_view.specs.Input.{IsUnread};
+ghost use Rattle.fault_view.specs.Inside.{IsReadNote, PutsLine, PutsAtMost};
 
 use crate::fault_line::{FaultLine, read_fault};
+use crate::input::{Input, Unread};
 use crate::note::note;
 use bp_faults::{OutOfMemory, Text};
 use bp_ports::{Failed, Sink, Store};
 use std::alloc::{AllocError, Global};
-use std::io::{BufRead, ErrorKind};
 
 /// Why a call ends before the end of its input.
 #[derive(Clone, Copy, Debug, PartialEq, Eq)]
@@ -114,7 +115,10 @@ fn put_line<S: Store, O: Sink>(
     ensures puts { O.faults out.old ≤ O.faults out.new }
     ensures put { OnOk result (PutsLine (option_copied list.entry) (S.files store.old) (S.read_faults store.old)
         (S.read_faults store.new) line.items (O.bytes out.old) (O.bytes out.new)) }
+    ensures part { OnErr result (PutsAtMost (option_copied list.entry) (S.files store.old) (S.read_faults store.old)
+        (S.read_faults store.new) line.items (O.bytes out.old) (O.bytes out.new)) }
     ensures unwritten { IsErrOf result End.CannotWrite → Rose (O.faults out.old) (O.faults out.new) }
+    ensures read { ¬ IsErrOf result End.CannotRead }
 {
     let note = line_note(alloc, store, list, &line)?;
     let mut text = line;
@@ -124,24 +128,23 @@ fn put_line<S: Store, O: Sink>(
 }
 
 // The next line with its end. At the end of the input it is empty.
-fn next_line<I: BufRead>(alloc: Global, input: &mut I) -> Result<Vec<u8>, End>
+fn next_line<I: Input>(alloc: Global, input: &mut I) -> Result<Vec<u8>, End>
     ensures line { IfOk result (λ line. IfSome (I.remaining input.old) (λ text. line.items ≡ take_through 10 text)) }
     ensures rest { IfOk result
         (λ line. IfSome (I.remaining input.old) (λ text. I.remaining input.new ≡ Some (drop_through 10 text))) }
+    ensures later { I.faults input.old ≤ I.faults input.new }
+    ensures unread { IsErrOf result End.CannotRead → Rose (I.faults input.old) (I.faults input.new) }
     ensures read { ¬ IsErrOf result End.CannotWrite }
 {
-    let mut line = Vec::new(alloc);
-    match input.read_until(b'\n', &mut line) {
-        Ok(_) => Ok(line),
-        Err(error) => match error.kind() {
-            ErrorKind::OutOfMemory => Err(End::OutOfMemory),
-            _ => Err(End::CannotRead),
-        },
+    match input.next_line(alloc) {
+        Ok(line) => Ok(line),
+        Err(Unread::Failed) => Err(End::CannotRead),
+        Err(Unread::OutOfMemory) => Err(End::OutOfMemory),
     }
 }
 
 /// Passes on all lines of the input, and puts a note behind each fault line.
-pub fn view<I: BufRead, S: Store, O: Sink>(
+pub fn view<I: Input, S: Store, O: Sink>(
     alloc: Global,
     list: Option<&Text>,
     input: &mut I,
@@ -158,6 +161,16 @@ pub fn view<I: BufRead, S: Store, O: Sink>(
         (λ files. IfSome (I.remaining input.old)
         (λ text. WhereTold (Shows (IsBehind (option_copied list.entry) files) text)
         (O.bytes out.old) (O.bytes out.new)))) }
+
+    // Where the call ends early, that was printed up to some place.
+    ensures begun { OnErr result (IfSome (I.remaining input.old)
+        (λ text. WhereTold (ShowsPart Anything text) (O.bytes out.old) (O.bytes out.new))) }
+    ensures part { OnErr result (Softly (S.files store.old) (S.read_faults store.old) (S.read_faults store.new)
+        (λ files. IfSome (I.remaining input.old)
+        (λ text. WhereTold (ShowsPart (IsBehind (option_copied list.entry) files) text)
+        (O.bytes out.old) (O.bytes out.new)))) }
+    ensures unread { IsErrOf result End.CannotRead
+        → IsUnread (I.remaining input.old) (I.faults input.old) (I.faults input.new) }
     ensures unwritten { IsErrOf result End.CannotWrite → Rose (O.faults out.old) (O.faults out.new) }
 {
     for turn in 0..u64::MAX {

@@ -14,3 +14,5 @@ pub mod Drawings
 pub mod Once
 pub mod OneReading
 pub mod Printed
+mod Inputs
+mod Runs

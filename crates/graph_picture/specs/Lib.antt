@@ -9,3 +9,7 @@ pub mod Picture
 pub mod Printed
 pub mod Laws
 pub mod Inside
+pub mod Input
+pub mod Streams
+pub mod End
+pub mod Run

@@ -1,8 +1,9 @@
 //! Small graphs, drawn whole and near a module, and texts that are refused.
 
-use crate::answer;
 use crate::end::End;
+use crate::input::Counted;
 use crate::laws::{each_edge_is_shown_once, each_module_has_one_cluster, each_variant_stands_once};
+use crate::program::run;
 use crate::style::{HEAD, LEGEND};
 use bp_faults::{OutOfMemory, Text};
 use bp_ports::MemSink;
@@ -28,6 +29,23 @@ const WHOLE: &str = "  subgraph cluster_0 {
 
 /// A chain of three modules.
 const CHAIN: &str = "0 app -\n  whole 1\n1 mid -\n  data 2\n2 low -\n";
+
+/// What stands there where CHAIN is drawn whole, or near a module to any depth.
+const ALL_OF_CHAIN: &str = "  subgraph cluster_0 {
+    graph [label=\"app\", style=filled, fillcolor=\"#f0f0f0\", color=gray70];
+    n0 [label=\"-\"];
+  }
+  subgraph cluster_1 {
+    graph [label=\"mid\", style=filled, fillcolor=\"#f0f0f0\", color=gray70];
+    n1 [label=\"-\"];
+  }
+  subgraph cluster_2 {
+    graph [label=\"low\", style=filled, fillcolor=\"#f0f0f0\", color=gray70];
+    n2 [label=\"-\"];
+  }
+  n0 -> n1 [label=\"whole\", color=\"#1b7837\", style=bold];
+  n1 -> n2 [label=\"data\", color=\"#b2182b\"];
+";
 
 /// What stands there where CHAIN is drawn near its last module, to one edge.
 const NEAR_LOW: &str = "  subgraph cluster_0 {
@@ -62,31 +80,37 @@ fn ends(alloc: Global, words: &str, text: &str) -> Result<(End, MemSink), OutOfM
         }
     }
     let mut out = MemSink::new(alloc, 65_536, Vec::new(alloc))?;
-    let end = answer(alloc, &asked, text.as_bytes(), &mut out);
+    let end = run(alloc, &asked, &mut Counted::new(text.as_bytes()), &mut out);
     Ok((end, out))
+}
+
+/// The bytes of a sink as a text.
+fn told(sink: &MemSink) -> &str {
+    str::from_utf8(sink.bytes()).unwrap_or("no text")
 }
 
 #[test]
 fn small_graphs(rt: HostRuntime) -> Result<(), Fail> {
     let alloc = rt.alloc();
-    let cases = [("", "", ""), ("", GRAPH, WHOLE), ("low 1", CHAIN, NEAR_LOW)];
+    let cases = [
+        ("", "", ""),
+        ("", GRAPH, WHOLE),
+        ("low 1", CHAIN, NEAR_LOW),
+        ("low", CHAIN, ALL_OF_CHAIN),
+    ];
     for (words, text, want) in cases {
         let (end, out) = ends(alloc, words, text)?;
         let picture = format!(in alloc; "{HEAD}{want}{LEGEND}")?;
-        assert!(rt; end.status() == 0, "{text}");
-        assert!(rt; out.bytes() == picture.as_bytes(), "{text}");
+        let (came, status) = (told(&out), end.status());
+        assert!(rt;
+            status == 0 && came == picture.as_str(),
+            "{words}: {text}: {status}: {came}"
+        );
     }
     each_variant_stands_once();
     each_module_has_one_cluster();
     each_edge_is_shown_once();
     Ok(())
-}
-
-/// The line that reports an end.
-fn reported(alloc: Global, end: &End) -> Result<MemSink, OutOfMemory> {
-    let mut diag = MemSink::new(alloc, 65_536, Vec::new(alloc))?;
-    end.report(&mut diag);
-    Ok(diag)
 }
 
 #[test]
@@ -95,11 +119,14 @@ fn refused(rt: HostRuntime) -> Result<(), Fail> {
     for (text, line) in REFUSED {
         let (end, out) = ends(alloc, "", text)?;
         let want = format!(in alloc; "graph_picture: bad line {line}\n")?;
-        assert!(rt; end.status() == 1 && out.bytes().is_empty(), "{text}");
-        assert!(rt; reported(alloc, &end)?.bytes() == want.as_bytes(), "{text}");
+        let mut diag = MemSink::new(alloc, 65_536, Vec::new(alloc))?;
+        let status = end.report(&mut diag);
+        let came = told(&diag);
+        let drew = told(&out);
+        assert!(rt;
+            status == 1 && drew.is_empty() && came == want.as_str(),
+            "{text}: {status}: {came}: {drew}"
+        );
     }
-    let (end, out) = ends(alloc, "high", CHAIN)?;
-    assert!(rt; end.status() == 1 && out.bytes().is_empty());
-    assert!(rt; reported(alloc, &end)?.bytes() == b"graph_picture: no module high\n".as_slice());
     Ok(())
 }

@@ -9,6 +9,8 @@ invariant-loop-turn g l =
     (g.S.Store.files l.store ≡ g.S.Store.files l.fn.store)
     × (g.S.Store.read_faults l.fn.store ≤ g.S.Store.read_faults l.store)
     × (g.O.Sink.faults l.fn.out ≤ g.O.Sink.faults l.out)
-    × IfSome (g.I.Read.remaining l.fn.input) (λ all.
+    × (g.I.Input.faults l.fn.input ≤ g.I.Input.faults l.input)
+    × IfSome (g.I.Input.remaining l.fn.input) (λ all.
     Stands (option_copied l.fn.list) (g.S.Store.files l.fn.store) (g.S.Store.read_faults l.fn.store)
-    (g.S.Store.read_faults l.store) all (g.I.Read.remaining l.input) (g.O.Sink.bytes l.fn.out) (g.O.Sink.bytes l.out))
+    (g.S.Store.read_faults l.store) all l.turn (g.I.Input.remaining l.input) (g.O.Sink.bytes l.fn.out)
+    (g.O.Sink.bytes l.out))
