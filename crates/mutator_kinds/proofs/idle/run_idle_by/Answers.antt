@@ -48,7 +48,7 @@ pub returns-in_err-check_limits-clause-followed : goal.returns-in_err-check_limi
 returns-in_err-check_limits-clause-followed g c =
     limits_followed {T = PassGraph _} (λ made. made.order) c.args.way.now (plan_of BottomUp c.args.g.nodes)
     c.args.pass c.args.before.now c.in_err-check_limits.field-0.0 c.from_residual-in_err-check_limits.result
-    c.in_ok-run.run.order c.in_ok-run.ensures.0 c.from_residual-in_err-check_limits.ensures.0
+    c.in_ok-run.run'.order c.in_ok-run.ensures.0 c.from_residual-in_err-check_limits.ensures.0
     c.from_residual-in_err-check_limits.ensures.1
 
 pub returns-clause-means : goal.returns-clause-means
