@@ -66,7 +66,12 @@ fn edge(kind: EdgeKind, to: u32) -> Edge
     }
 }
 
-fn node(alloc: Global, module: u32, payload: Record<'static>, edges: Vec<Edge>) -> Node<Record<'static>>
+fn node(
+    alloc: Global,
+    module: u32,
+    payload: Record<'static>,
+    edges: Vec<Edge>,
+) -> Node<Record<'static>>
     ensures module { result.«module».0 ≡ «module» }
     ensures edges { result.edges ≡ edges.items }
 {
@@ -318,11 +323,7 @@ fn with_long_lists(
 
 /// A static library with such lists: the app's own are as long, since their nodes from 0 on have the app's libraries
 /// among them.
-fn long_lists_in(
-    alloc: Global,
-    world: &World,
-    lengths: Lengths,
-) -> Result<String, OutOfMemory>
+fn long_lists_in(alloc: Global, world: &World, lengths: Lengths) -> Result<String, OutOfMemory>
     requires { length world.now.mods.items ≡ 3 }
 {
     let mut ins: Vec<Arc<Split<Record<'static>>>> = Vec::new(alloc);
@@ -422,15 +423,15 @@ fn four_sanitized(alloc: Global, asan: [bool; 4]) -> Result<Vec<Arc<Record<'stat
 }
 
 /// How many flags the app is compiled and linked with, where the results of its four dependencies have that field.
-fn flags_in(
-    alloc: Global,
-    world: &World,
-    asan: [bool; 4],
-) -> Result<(usize, usize), OutOfMemory>
+fn flags_in(alloc: Global, world: &World, asan: [bool; 4]) -> Result<(usize, usize), OutOfMemory>
     requires { length world.now.mods.items ≡ 3 }
 {
     let ins: Vec<Arc<Record<'static>>> = four_sanitized(alloc, asan)?;
-    let graph: Graph<Record<'static>> = small_graph(alloc, Props::empty(alloc), Props::empty(alloc))?;
+    let graph: Graph<Record<'static>> = small_graph(
+        alloc,
+        Props::empty(alloc),
+        Props::empty(alloc),
+    )?;
     let rule = Sanitize::new(&world.mods, &world.config);
     match rule.mutate(alloc, &graph, NodeId(0), &ins) {
         Ok(record) => {

@@ -314,7 +314,11 @@ fn by_targets(alloc: Global, case: &ArchCase) -> Result<(bool, String), OutOfMem
 fn check_targets(rt: &impl Abort, alloc: Global, cases: &[ArchCase]) -> Result<(), Fail> {
     for (index, case) in cases.iter().enumerate() {
         let (is_by_target, made) = by_targets(alloc, case)?;
-        assert_eq!(rt; (is_by_target, made.as_str()), (true, case.3), "case {index}");
+        assert_eq!(rt;
+            (is_by_target, made.as_str()),
+            (true, case.3),
+            "case {index}"
+        );
     }
     Ok(())
 }
@@ -390,7 +394,11 @@ fn by_images(alloc: Global, case: &ImageCase) -> Result<(bool, String), OutOfMem
 fn check_images(rt: &impl Abort, alloc: Global, cases: &[ImageCase]) -> Result<(), Fail> {
     for (index, case) in cases.iter().enumerate() {
         let (is_by_image, made) = by_images(alloc, case)?;
-        assert_eq!(rt; (is_by_image, made.as_str()), (true, case.2), "case {index}");
+        assert_eq!(rt;
+            (is_by_image, made.as_str()),
+            (true, case.2),
+            "case {index}"
+        );
     }
     Ok(())
 }
