@@ -15,3 +15,4 @@ pub mod SomeRewrite
 pub mod Heads
 pub mod SomeJob
 pub mod Rewritten
+pub mod Starting

@@ -38,8 +38,28 @@ fn print<O: Sink, D: Sink>(text: &str, out: &mut O, diag: &mut D) -> u8
     }
 }
 
-// What the program does for the words that the system gives, or for its error where it gives none: the exit status. A
-// word that isn't UTF-8 is such an error, and is answered as a faulty word is.
+// What the program does where the system gives no words, by the kind of its error: the exit status. A word that isn't
+// UTF-8 is such an error, and is answered as a faulty word is.
+fn answer_error<R: Threads + Sync, S: Store, O: Sink, D: Sink, G: Gate + Sync>(
+    rt: &R,
+    alloc: Global,
+    kind: ErrorKind,
+    store: &mut S,
+    out: &mut O,
+    diag: &mut D,
+    gate: &G,
+) -> u8
+    ensures { AnswersNoWords kind
+        (world S.Store O.Sink store.old out.old) (world S.Store O.Sink store.new out.new)
+        (stream D.Sink diag.old) (stream D.Sink diag.new) result }
+{
+    match kind {
+        ErrorKind::OutOfMemory => 5,
+        _ => run(rt, alloc, &[], store, out, diag, gate),
+    }
+}
+
+// What the program does for the words that the system gives, or for its error where it gives none: the exit status.
 fn answer<R: Threads + Sync, S: Store, O: Sink, D: Sink, G: Gate + Sync>(
     rt: &R,
     alloc: Global,
@@ -61,8 +81,7 @@ fn answer<R: Threads + Sync, S: Store, O: Sink, D: Sink, G: Gate + Sync>(
             Some(notice) => print(notice.text(), out, diag),
             None => run(rt, alloc, &words, store, out, diag, gate),
         },
-        Err(ErrorKind::OutOfMemory) => 5,
-        Err(_) => run(rt, alloc, &[], store, out, diag, gate),
+        Err(kind) => answer_error(rt, alloc, kind, store, out, diag, gate),
     }
 }
 
