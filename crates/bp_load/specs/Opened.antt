@@ -1,13 +1,18 @@
 -- No public contract speaks of it: how files are evaluated, while the directories above the last file stay open.
-use Rattle.std.specs.Prelude.{◌≡◌, ◌≤◌, ℕ, List, [], ◌∷◌, ◌++◌, map, reverse, Option, Some, None, Result, Ok}
+use Rattle.std.specs.Prelude.{◌≡◌, ◌≤◌, ℕ, List, [], ◌∷◌, ◌++◌, map, reverse, Option, Some, None, Result, Ok, Err}
 use Rattle.std.specs.Prelude.{if◌then◌else◌}
+use Rattle.std.specs.declared.vec.Vec.{Vec}
+use Rattle.std.specs.declared.alloc.Global.{Global}
 use Rattle.bp_faults.specs.declared.fault.Fault.{Fault}
+use Rattle.bp_faults.specs.declared.refusal.Refusal.{Refusal}
 use Rattle.bp_faults.specs.Answers.{then_do}
 use Rattle.bp_values.specs.Scopes.{Pairs, count_of, outer_pairs}
 use Rattle.bp_values.specs.Meaning.{Raw, file_evaluation}
+use Rattle.bp_values.specs.declared.file.RawModule.{RawModule}
 use Rattle.bp_values.specs.declared.scope.Scope.{Scope}
 use Rattle.bp_load.specs.declared.opened.Open.{Open}
 use Rattle.bp_load.specs.declared.opened.Evaluation.{Evaluation}
+use Rattle.bp_load.specs.declared.opened.Evaluated.{Evaluated}
 use Rattle.bp_load.specs.Directories.{is_above}
 use Rattle.bp_load.specs.Trees.{Placed}
 use Rattle.bp_load.specs.Inherited.{Finished, nearest_file, in_directory, placed_raw}
@@ -88,3 +93,12 @@ all_turned base turn (file ∷ files) = then_do (next_turn base turn file) (λ n
 -- No directory is open yet, and there are no modules.
 abbrev pub no_turn : Turn
 no_turn = record { opened = []; modules = [] }
+
+-- The modules that files are evaluated to, with their values.
+abbrev pub values_of : Evaluated → List (List ℕ × Raw)
+values_of evaluated = map placed_raw evaluated.modules.items
+
+-- The modules of an answer alone.
+abbrev pub modules_alone : Result Evaluated Refusal → Result (Vec (List ℕ × RawModule) Global) Refusal
+modules_alone (Ok evaluated) = Ok evaluated.modules
+modules_alone (Err refusal) = Err refusal

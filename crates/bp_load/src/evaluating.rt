@@ -5,16 +5,15 @@ ghost use Rattle.bp_faults.specs.Answers.{Answers};
 ghost use Rattle.bp_values.specs.Scopes.{pairs_of};
 ghost use Rattle.bp_load.specs.Directories.{directory_cmp};
 ghost use Rattle.bp_load.specs.Trees.{placed_of};
-ghost use Rattle.bp_load.specs.Inherited.{placed_raw, all_evaluated};
-ghost use Rattle.bp_load.specs.Opened.{evaluated_in};
+ghost use Rattle.bp_load.specs.Inherited.{all_evaluated};
+ghost use Rattle.bp_load.specs.Opened.{evaluated_in, values_of};
 ghost use Rattle.bp_load.specs.Branches.{directories_of, IsTrunk, IsBranch};
 
 use crate::LoadError;
-use crate::halves::joined;
-use crate::opened::{evaluate_files, evaluate_in, finish};
+use crate::opened::{Evaluated, evaluate_files, evaluate_in, finish, join_evaluated};
 use crate::parsed::{Parsed, count_modules};
-use bp_faults::{OutOfMemory, Path};
-use bp_values::{RawModule, Scope, Seed};
+use bp_faults::OutOfMemory;
+use bp_values::{Scope, Seed};
 use std::alloc::Global;
 use std::hash::{DefaultHasher, Hasher};
 use std::thread::{Threads, join};
@@ -115,9 +114,9 @@ fn evaluate_below<R: Threads + Sync>(
     base: Scope,
     files: Vec<Parsed>,
     workers: u32,
-) -> Result<Vec<(Path, RawModule)>, LoadError>
+) -> Result<Evaluated, LoadError>
     requires { IsStrictlySortedBy directory_cmp (directories_of files.items) }
-    ensures { Answers (λ modules. map placed_raw modules.items) result
+    ensures { Answers values_of result
         (evaluated_in (pairs_of base) [] (map placed_of files.items)) }
 {
     if workers < 2 || size(files.as_slice()) < FEW_BYTES {
@@ -128,7 +127,11 @@ fn evaluate_below<R: Threads + Sync>(
     let evaluation = evaluate_files(alloc, base, trunk)?;
     let (below, modules) = finish(evaluation);
     let back = evaluate_branches(rt, alloc, below, branches, workers);
-    joined(Ok(modules), back)
+    let front = Evaluated {
+        modules,
+        scopes: Vec::new(alloc),
+    };
+    join_evaluated(Ok(front), back)
 }
 
 /// Files evaluated by so many workers, as `evaluate_in` does it. They are cut in two where a branch begins, so that no
@@ -141,10 +144,10 @@ fn evaluate_branches<R: Threads + Sync>(
     base: Scope,
     files: Vec<Parsed>,
     workers: u32,
-) -> Result<Vec<(Path, RawModule)>, LoadError>
+) -> Result<Evaluated, LoadError>
     requires order { IsStrictlySortedBy directory_cmp (directories_of files.items) }
     requires several { 1 < workers }
-    ensures { Answers (λ modules. map placed_raw modules.items) result
+    ensures { Answers values_of result
         (evaluated_in (pairs_of base) [] (map placed_of files.items)) }
 {
     let bytes = size(files.as_slice());
@@ -156,18 +159,18 @@ fn evaluate_branches<R: Threads + Sync>(
     let some = workers_for(size(front.as_slice()), bytes, workers);
     let others = workers - some;
     let copy = base.copy(alloc)?;
-    let evaluate_front = move || -> Result<Vec<(Path, RawModule)>, LoadError>
+    let evaluate_front = move || -> Result<Evaluated, LoadError>
         requires { IsSync R.row × IsStrictlySortedBy directory_cmp (directories_of front.items) }
-        ensures { Answers (λ modules. map placed_raw modules.items) result
+        ensures { Answers values_of result
             (evaluated_in (pairs_of base) [] (map placed_of front.items)) }
     { evaluate_below(rt, alloc, base, front, some) };
-    let evaluate_back = move || -> Result<Vec<(Path, RawModule)>, LoadError>
+    let evaluate_back = move || -> Result<Evaluated, LoadError>
         requires { IsSync R.row × IsStrictlySortedBy directory_cmp (directories_of back.items) }
-        ensures { Answers (λ modules. map placed_raw modules.items) result
+        ensures { Answers values_of result
             (evaluated_in (pairs_of copy) [] (map placed_of back.items)) }
     { evaluate_below(rt, alloc, copy, back, others) };
     let (front, back) = join(rt, evaluate_front, evaluate_back);
-    joined(front, back)
+    join_evaluated(front, back)
 }
 
 /// The seed by which names are found: it is made of the text of all files that set a name.
@@ -199,9 +202,9 @@ pub fn evaluate_by<R: Threads + Sync>(
     alloc: Global,
     files: Vec<Parsed>,
     workers: u32,
-) -> Result<Vec<(Path, RawModule)>, LoadError>
+) -> Result<Evaluated, LoadError>
     requires { IsStrictlySortedBy directory_cmp (directories_of files.items) }
-    ensures { Answers (λ modules. map placed_raw modules.items) result (all_evaluated [] (map placed_of files.items)) }
+    ensures { Answers values_of result (all_evaluated [] (map placed_of files.items)) }
 {
     let seed = seed_of(files.as_slice());
     let none = Scope::seeded(alloc, seed, count_setting(files.as_slice()))?;

@@ -22,4 +22,4 @@ mod typing;
 pub use bp_faults::Refusal as LoadError;
 pub use list_file::file_list;
 pub use raw::raw_modules;
-pub use tree::load;
+pub use tree::{LoadRest, Loaded, load, load_with_rest};

@@ -7,15 +7,16 @@ ghost use Rattle.bp_load.specs.Directories.{directory_cmp};
 ghost use Rattle.bp_load.specs.Trees.{placed_of};
 ghost use Rattle.bp_load.specs.Inherited.{in_directory, placed_raw, all_evaluated};
 ghost use Rattle.bp_load.specs.Opened.{turn_of, no_turn, stay_open, names_in, IsBelow, innermost, scope_in, next_turn};
-ghost use Rattle.bp_load.specs.Opened.{all_turned, evaluated_in};
+ghost use Rattle.bp_load.specs.Opened.{all_turned, evaluated_in, modules_alone, values_of};
+ghost use Rattle.bp_load.specs.Halves.{JoinMeans};
 
 use crate::LoadError;
 use crate::directory::Directory;
+use crate::halves::joined;
 use crate::parsed::{Parsed, count_modules};
 use bp_faults::{OutOfMemory, Path};
 use bp_values::{RawModule, Scope, evaluate_from};
 use std::alloc::Global;
-use std::mem;
 
 /// A directory that is above the last file, or the file's own, and how many names the final scope of its file has.
 #[derive(Drop)]
@@ -35,6 +36,15 @@ pub struct Evaluation {
     base: usize,
     // The modules so far.
     modules: Vec<(Path, RawModule)>,
+}
+
+/// What files are evaluated to.
+#[derive(Drop)]
+pub struct Evaluated {
+    /// The modules of all files, in order.
+    pub modules: Vec<(Path, RawModule)>,
+    /// The last scope of each part of the files that was evaluated by itself.
+    pub scopes: Vec<Scope>,
 }
 
 /// Closes directories until one is above the other.
@@ -153,21 +163,31 @@ pub fn evaluate_files(
 }
 
 /// The modules of files, which stand in file order, where those that have no ancestor inherit the base.
-pub fn evaluate_in(
-    alloc: Global,
-    base: Scope,
-    files: Vec<Parsed>,
-) -> Result<Vec<(Path, RawModule)>, LoadError>
+pub fn evaluate_in(alloc: Global, base: Scope, files: Vec<Parsed>) -> Result<Evaluated, LoadError>
     requires { IsStrictlySortedBy directory_cmp (map (λ f. f.directory) (map placed_of files.items)) }
-    ensures { Answers (λ modules. map placed_raw modules.items) result
-        (evaluated_in (pairs_of base) [] (map placed_of files.items)) }
+    ensures { Answers values_of result (evaluated_in (pairs_of base) [] (map placed_of files.items)) }
 {
     let evaluation = evaluate_files(alloc, base, files)?;
     let Evaluation { scope, modules, .. } = evaluation;
-    // The scope has two texts for each variable. To free millions of them one by one takes a third of all
-    // the time of such a tree, so they are left to the end of the process.
-    mem::forget(scope);
-    Ok(modules)
+    let scopes = vec![in alloc; scope]?;
+    Ok(Evaluated { modules, scopes })
+}
+
+/// What two parts of the files were evaluated to, in order, or the first of their refusals.
+pub fn join_evaluated(
+    front: Result<Evaluated, LoadError>,
+    back: Result<Evaluated, LoadError>,
+) -> Result<Evaluated, LoadError>
+    ensures { JoinMeans (modules_alone front) (modules_alone back) (modules_alone result) }
+{
+    let mut front = front?;
+    let mut back = back?;
+    front.scopes.append(&mut back.scopes)?;
+    let modules = joined(Ok(front.modules), Ok(back.modules))?;
+    Ok(Evaluated {
+        modules,
+        scopes: front.scopes,
+    })
 }
 
 /// The modules of all files, which stand in file order.
@@ -176,5 +196,8 @@ pub fn evaluate_all(alloc: Global, files: Vec<Parsed>) -> Result<Vec<(Path, RawM
     ensures { Answers (λ modules. map placed_raw modules.items) result (all_evaluated [] (map placed_of files.items)) }
 {
     let none = Scope::empty(alloc)?;
-    evaluate_in(alloc, none, files)
+    match evaluate_in(alloc, none, files) {
+        Ok(evaluated) => Ok(evaluated.modules),
+        Err(refusal) => Err(refusal),
+    }
 }

@@ -1,21 +1,16 @@
-use Rattle.std.proofs.Common.{◌≡◌, Vec, Global, [], List, ℕ, map, refl, sym, subst, ◌∙◌}
+use Rattle.std.proofs.Common.{◌≡◌, [], map, sym, subst, ◌∙◌}
 use Rattle.std.specs.Prelude.{Ok, Err}
 use Rattle.std.proofs.lemmas.Result.{err_from_is_err_and}
 use Rattle.bp_faults.specs.Answers.{Answers}
 use Rattle.bp_faults.proofs.Refusals.{answered}
-use Rattle.bp_values.specs.declared.file.RawModule.{RawModule}
-use Rattle.bp_values.specs.Meaning.{Raw}
 use Rattle.bp_values.specs.Scopes.{pairs_of}
 use Rattle.bp_load.specs.Trees.{placed_of}
 use Rattle.bp_load.specs.Inherited.{placed_raw}
-use Rattle.bp_load.specs.Opened.{turn_of, scope_in, innermost, all_turned, evaluated_in, no_turn}
+use Rattle.bp_load.specs.Opened.{turn_of, scope_in, innermost, all_turned, evaluated_in, no_turn, values_of}
 use Rattle.bp_load.specs.Branches.{directories_of, IsTrunk, IsBranch}
-use Rattle.bp_load.proofs.Joined.{and_then, both_answered}
-use Rattle.bp_load.proofs.Evaluated.{raws_joined, evaluated_halves, evaluated_branches}
+use Rattle.bp_load.proofs.Joined.{and_then}
+use Rattle.bp_load.proofs.Evaluated.{evaluated_behind, evaluated_joined, evaluated_halves, evaluated_branches}
 use Rattle.bp_load.proofs.evaluating.+evaluating.Goals as goal
-
-abbrev show : Vec (List ℕ × RawModule) Global → List (List ℕ × Raw)
-show modules = map placed_raw modules.items
 
 pub evaluate_below-returns-in_err-evaluation : goal.evaluate_below-returns-in_err-evaluation
 evaluate_below-returns-in_err-evaluation g t c =
@@ -28,7 +23,7 @@ evaluate_below-returns-in_err-evaluation g t c =
     let refused =
     err_from_is_err_and c.from_residual-in_err-evaluation.result c.from_residual-in_err-evaluation.ensures.1 in
     rw (refused.1, refused.2)
-    (answered show c.in_err-evaluation.field-0.0 (all_turned base no_turn (map placed_of trunk))
+    (answered values_of c.in_err-evaluation.field-0.0 (all_turned base no_turn (map placed_of trunk))
     (evaluated_in base [] (map placed_of files)) c.in_err-evaluation.ensures.turn
     (λ fault is. evaluated_branches files trunk branches c.trunk-count.result c.in_ok-trunk.ensures.front
     c.in_ok-trunk.ensures.back base c.requires above (Err fault) is))
@@ -49,12 +44,12 @@ evaluate_below-returns g t c =
     evaluated_branches files trunk branches c.trunk-count.result c.in_ok-trunk.ensures.front c.in_ok-trunk.ensures.back
     base c.requires above (Ok (turn_of evaluation)) c.in_ok-evaluation.ensures.turn in
     let scope : below ≡ scope_in base last = c.finish-below.ensures.scope base c.in_ok-evaluation.ensures.below in
-    let modules : show c.finish-below.result.1 ≡ (turn_of evaluation).modules = c.finish-below.ensures.modules in
-    subst (Answers show c.joined.result)
+    let modules : map placed_raw c.finish-below.result.1.items ≡ (turn_of evaluation).modules =
+    c.finish-below.ensures.modules in
+    subst (Answers values_of c.join_evaluated.result)
     (sym (parts ∙ (λ i. and_then (Ok (sym modules i)) (evaluated_in (sym scope i) [] (map placed_of branches)))))
-    (both_answered show raws_joined (Ok (show c.finish-below.result.1)) (evaluated_in below [] (map placed_of branches))
-    (Ok c.finish-below.result.1) c.evaluate_branches-back.result c.joined.result
-    refl c.evaluate_branches-back.ensures c.joined.ensures)
+    (evaluated_behind c.finish-below.result.1 (evaluated_in below [] (map placed_of branches))
+    c.evaluate_branches-back.result c.join_evaluated.result c.evaluate_branches-back.ensures c.join_evaluated.ensures)
 
 pub evaluate_branches-returns : goal.evaluate_branches-returns
 evaluate_branches-returns g t c =
@@ -63,10 +58,11 @@ evaluate_branches-returns g t c =
     let back = c.in_ok-front.back.items in
     let begins : IsBranch (directories_of c.args.files.items) c.cut-at.result =
     subst (λ fs. IsBranch (directories_of fs) c.cut-at.result) c.as_slice-2.ensures.value c.cut-at.ensures.branch in
-    subst (Answers show c.joined.result)
+    subst (Answers values_of c.join_evaluated.result)
     (sym (evaluated_halves c.args.files.items front back c.cut-at.result c.in_ok-front.ensures.front
     c.in_ok-front.ensures.back base c.requires.order begins))
-    (both_answered show raws_joined (evaluated_in base [] (map placed_of front))
-    (evaluated_in base [] (map placed_of back)) c.join-front.result.0 c.join-front.result.1 c.joined.result
-    c.join-front.ensures.first (subst (λ b. Answers show c.join-front.result.1 (evaluated_in b [] (map placed_of back)))
-    c.in_ok-copy.ensures c.join-front.ensures.second) c.joined.ensures)
+    (evaluated_joined (evaluated_in base [] (map placed_of front))
+    (evaluated_in base [] (map placed_of back)) c.join-front.result.0 c.join-front.result.1 c.join_evaluated.result
+    c.join-front.ensures.first
+    (subst (λ b. Answers values_of c.join-front.result.1 (evaluated_in b [] (map placed_of back)))
+    c.in_ok-copy.ensures c.join-front.ensures.second) c.join_evaluated.ensures)

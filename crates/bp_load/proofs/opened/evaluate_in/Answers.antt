@@ -1,11 +1,9 @@
-use Rattle.std.proofs.Common.{Vec, Global, [], List, ℕ, map, ap, sym, ◌∙◌}
+use Rattle.std.proofs.Common.{[], map, ap, sym, ◌∙◌}
 use Rattle.std.proofs.lemmas.Result.{err_from_is_err_and}
 use Rattle.bp_faults.proofs.Refusals.{answered}
-use Rattle.bp_values.specs.declared.file.RawModule.{RawModule}
 use Rattle.bp_values.specs.Scopes.{pairs_of}
 use Rattle.bp_load.specs.Trees.{placed_of}
-use Rattle.bp_load.specs.Inherited.{placed_raw}
-use Rattle.bp_load.specs.Opened.{all_turned, evaluated_in, no_turn}
+use Rattle.bp_load.specs.Opened.{all_turned, evaluated_in, no_turn, values_of}
 use Rattle.bp_load.proofs.Turns.{modules_of, turned_first}
 use Rattle.bp_load.proofs.opened.evaluate_in.Goals as goal
 
@@ -15,7 +13,7 @@ returns-in_err-evaluation c =
     let base = pairs_of c.args.base in
     let refused = err_from_is_err_and c.from_residual.result c.from_residual.ensures.1 in
     rw (refused.1, refused.2)
-    (answered (λ (modules : Vec (List ℕ × RawModule) Global). map placed_raw modules.items)
+    (answered values_of
     c.in_err-evaluation.field-0.0 (all_turned base no_turn files)
     (evaluated_in base [] files) c.in_err-evaluation.ensures.turn
     (λ fault is. sym (turned_first base files c.requires) ∙ ap modules_of is))
