@@ -13,7 +13,6 @@ use crate::course::run_mutators;
 use crate::journal::note;
 use crate::passes::ACTIONS;
 use crate::ran::Ran;
-use crate::records::leave_records;
 use crate::workshop::Workshop;
 use bp_faults::{NodeId, Refusal};
 use bp_ports::Gate;
@@ -30,7 +29,7 @@ use std::thread::Threads;
 fn act<R: Threads + Sync, G: Gate + Sync>(
     rt: &R,
     alloc: Global,
-    shop: &Workshop<'_, G>,
+    shop: &Workshop<'_, '_, G>,
     before: &[(u32, NodeId)],
     graph: &Graph<Record<'_>>,
 ) -> Result<WayRun<Actions>, WayError>
@@ -49,7 +48,7 @@ fn act<R: Threads + Sync, G: Gate + Sync>(
 fn run_actions<R: Threads + Sync, G: Gate + Sync>(
     rt: &R,
     alloc: Global,
-    shop: &Workshop<'_, G>,
+    shop: &Workshop<'_, '_, G>,
     journal: &mut Vec<(u32, NodeId)>,
     graph: &Graph<Record<'_>>,
 ) -> Result<Vec<Arc<Actions>>, Refusal>
@@ -70,11 +69,11 @@ fn run_actions<R: Threads + Sync, G: Gate + Sync>(
 }
 
 /// Runs all passes.
-pub fn run_all<R: Threads + Sync, G: Gate + Sync>(
+pub fn run_all<'m, R: Threads + Sync, G: Gate + Sync>(
     rt: &R,
     alloc: Global,
-    shop: &Workshop<'_, G>,
-) -> Result<Ran, Refusal>
+    shop: &Workshop<'m, '_, G>,
+) -> Result<Ran<'m>, Refusal>
     requires may { MayStart shop.now }
     ensures run { AnswersAll shop.now.mods.now shop.now.config.now shop.now.way result }
     ensures visits { IfOk result (λ ran. All IsVisit ran.journal.items) }
@@ -84,10 +83,10 @@ pub fn run_all<R: Threads + Sync, G: Gate + Sync>(
     let mut sizes = Vec::new(alloc);
     let graph = run_mutators(rt, alloc, shop, &mut journal, &mut sizes)?;
     let made = run_actions(rt, alloc, shop, &mut journal, &graph)?;
-    leave_records(graph);
     Ok(Ran {
         made,
         journal,
         sizes,
+        graph,
     })
 }

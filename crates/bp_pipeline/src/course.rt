@@ -31,7 +31,7 @@ use std::thread::Threads;
 fn run_passes<'m, R: Threads + Sync, G: Gate + Sync>(
     rt: &R,
     alloc: Global,
-    shop: &Workshop<'m, G>,
+    shop: &Workshop<'m, '_, G>,
     journal: &mut Vec<(u32, NodeId)>,
     from: u32,
     to: u32,
@@ -59,7 +59,7 @@ fn run_passes<'m, R: Threads + Sync, G: Gate + Sync>(
 pub fn run_mutators<'m, R: Threads + Sync, G: Gate + Sync>(
     rt: &R,
     alloc: Global,
-    shop: &Workshop<'m, G>,
+    shop: &Workshop<'m, '_, G>,
     journal: &mut Vec<(u32, NodeId)>,
     sizes: &mut Vec<Sizes>,
 ) -> Result<Graph<Record<'m>>, Refusal>

@@ -6,6 +6,7 @@ ghost use Rattle.bp_pipeline.specs.Replays.{OrderMeans, ReplayMeans, end_of};
 
 use crate::GenError;
 use crate::actions::run_all;
+use crate::rest::PassRest;
 use crate::text::text_of;
 use crate::workshop::Workshop;
 use bp_faults::{Fault, FaultKind, Place, Refusal, Seq};
@@ -16,7 +17,6 @@ use mutator_rules::Config;
 use order_text::order_lines;
 use pass_ways::{OrderLine, OrderLines, Way};
 use std::alloc::Global;
-use std::mem;
 use std::thread::Threads;
 
 /// Refuses a line behind those of all passes.
@@ -38,6 +38,48 @@ fn check_end(alloc: Global, lines: &OrderLines<'_>, made: usize) -> Result<(), R
     }
 }
 
+/// What is replayed, and what is left.
+#[derive(Drop)]
+pub struct Replayed<'m> {
+    /// The text of the file for Ninja.
+    pub ninja: Seq<u8>,
+    /// What nobody needs any more.
+    pub rest: PassRest<'m>,
+}
+
+/// As `replay_lines`, with what is left.
+fn replay_lines_with_rest<'m, R: Threads + Sync>(
+    rt: &R,
+    alloc: Global,
+    mods: &'m [Module],
+    c: &'m Config,
+    lines: &[OrderLine],
+    file: u32,
+) -> Result<Replayed<'m>, GenError>
+    requires few { length mods.now ≤ MOST_MODULES }
+    requires targets { TargetsDiffer c.now }
+    requires lines { length lines.now < 4294967295 }
+    ensures { Tells (λ replayed. replayed.ninja) (ReplayMeans mods.now c.now lines.now file) result }
+{
+    let along = OrderLines { lines, file };
+    let shop: Workshop<'_, '_, OpenGate> = Workshop {
+        mods,
+        config: c,
+        way: Way::Lines(along),
+    };
+    let ran = run_all(rt, alloc, &shop)?;
+    check_end(alloc, &along, ran.journal.len())?;
+    let ninja = build_file(alloc, ran.made)?;
+    let text = text_of(rt, alloc, &ninja, 1)?;
+    Ok(Replayed {
+        ninja: Seq::new(text),
+        rest: PassRest {
+            graph: ran.graph,
+            file: ninja,
+        },
+    })
+}
+
 /// The text of the file for Ninja, where each pass visits the nodes in the order in which the lines of an order file
 /// name them.
 ///
@@ -56,19 +98,28 @@ pub fn replay_lines<R: Threads + Sync>(
     requires lines { length lines.now < 4294967295 }
     ensures { Tells (λ text. text) (ReplayMeans mods.now c.now lines.now file) result }
 {
-    let along = OrderLines { lines, file };
-    let shop: Workshop<'_, OpenGate> = Workshop {
-        mods,
-        config: c,
-        way: Way::Lines(along),
-    };
-    let ran = run_all(rt, alloc, &shop)?;
-    check_end(alloc, &along, ran.journal.len())?;
-    let ninja = build_file(alloc, ran.made)?;
-    let text = text_of(rt, alloc, &ninja, 1)?;
-    // As in `generate`.
-    mem::forget(ninja);
-    Ok(Seq::new(text))
+    match replay_lines_with_rest(rt, alloc, mods, c, lines, file) {
+        Ok(replayed) => Ok(replayed.ninja),
+        Err(refusal) => Err(refusal),
+    }
+}
+
+/// As `replay`, which frees what is left: here it is handed out beside the text.
+pub fn replay_with_rest<'m, R: Threads + Sync>(
+    rt: &R,
+    alloc: Global,
+    mods: &'m [Module],
+    c: &'m Config,
+    order: &[u8],
+    file: u32,
+) -> Result<Replayed<'m>, GenError>
+    requires few { length mods.now ≤ MOST_MODULES }
+    requires targets { TargetsDiffer c.now }
+    requires order { length order.now ≤ LARGEST_ORDER_FILE }
+    ensures { Tells (λ replayed. replayed.ninja) (OrderMeans mods.now c.now order.now file) result }
+{
+    let lines = order_lines(alloc, order)?;
+    replay_lines_with_rest(rt, alloc, mods, c, lines.as_slice(), file)
 }
 
 /// The same by the bytes of an order file.
@@ -85,6 +136,8 @@ pub fn replay<R: Threads + Sync>(
     requires order { length order.now ≤ LARGEST_ORDER_FILE }
     ensures { Tells (λ text. text) (OrderMeans mods.now c.now order.now file) result }
 {
-    let lines = order_lines(alloc, order)?;
-    replay_lines(rt, alloc, mods, c, lines.as_slice(), file)
+    match replay_with_rest(rt, alloc, mods, c, order, file) {
+        Ok(replayed) => Ok(replayed.ninja),
+        Err(refusal) => Err(refusal),
+    }
 }

@@ -46,7 +46,7 @@ use target_mutators::{ArchSplit, ImageSplit};
 fn run_rule<R, P, M, G>(
     rt: &R,
     alloc: Global,
-    shop: &Workshop<'_, G>,
+    shop: &Workshop<'_, '_, G>,
     journal: &mut Vec<(u32, NodeId)>,
     pass: u32,
     graph: Graph<P>,
@@ -91,7 +91,7 @@ where
 fn ask<R, P, M, G>(
     rt: &R,
     alloc: Global,
-    shop: &Workshop<'_, G>,
+    shop: &Workshop<'_, '_, G>,
     journal: &mut Vec<(u32, NodeId)>,
     pass: u32,
     graph: Graph<P>,
@@ -123,7 +123,7 @@ where
 fn make<R, P, M, G>(
     rt: &R,
     alloc: Global,
-    shop: &Workshop<'_, G>,
+    shop: &Workshop<'_, '_, G>,
     journal: &mut Vec<(u32, NodeId)>,
     pass: u32,
     graph: Graph<P>,
@@ -153,7 +153,7 @@ where
 fn ask_defaults<'m, R: Threads + Sync, G: Gate + Sync>(
     rt: &R,
     alloc: Global,
-    shop: &Workshop<'m, G>,
+    shop: &Workshop<'m, '_, G>,
     journal: &mut Vec<(u32, NodeId)>,
     pass: u32,
     graph: Graph<Record<'m>>,
@@ -171,7 +171,7 @@ fn ask_defaults<'m, R: Threads + Sync, G: Gate + Sync>(
 fn merge_defaults<'m, R: Threads + Sync, G: Gate + Sync>(
     rt: &R,
     alloc: Global,
-    shop: &Workshop<'m, G>,
+    shop: &Workshop<'m, '_, G>,
     journal: &mut Vec<(u32, NodeId)>,
     pass: u32,
     graph: Graph<Record<'m>>,
@@ -195,7 +195,7 @@ fn has_plugins(mods: &[Module]) -> bool {
 fn ask_plugins<'m, R: Threads + Sync, G: Gate + Sync>(
     rt: &R,
     alloc: Global,
-    shop: &Workshop<'m, G>,
+    shop: &Workshop<'m, '_, G>,
     journal: &mut Vec<(u32, NodeId)>,
     pass: u32,
     graph: Graph<Record<'m>>,
@@ -218,7 +218,7 @@ fn ask_plugins<'m, R: Threads + Sync, G: Gate + Sync>(
 fn split_targets<'m, R: Threads + Sync, G: Gate + Sync>(
     rt: &R,
     alloc: Global,
-    shop: &Workshop<'m, G>,
+    shop: &Workshop<'m, '_, G>,
     journal: &mut Vec<(u32, NodeId)>,
     pass: u32,
     graph: Graph<Record<'m>>,
@@ -237,7 +237,7 @@ fn split_targets<'m, R: Threads + Sync, G: Gate + Sync>(
 fn split_images<'m, R: Threads + Sync, G: Gate + Sync>(
     rt: &R,
     alloc: Global,
-    shop: &Workshop<'m, G>,
+    shop: &Workshop<'m, '_, G>,
     journal: &mut Vec<(u32, NodeId)>,
     pass: u32,
     graph: Graph<Record<'m>>,
@@ -257,7 +257,7 @@ fn split_images<'m, R: Threads + Sync, G: Gate + Sync>(
 fn split_links<'m, R: Threads + Sync, G: Gate + Sync>(
     rt: &R,
     alloc: Global,
-    shop: &Workshop<'m, G>,
+    shop: &Workshop<'m, '_, G>,
     journal: &mut Vec<(u32, NodeId)>,
     pass: u32,
     graph: Graph<Record<'m>>,
@@ -276,7 +276,7 @@ fn split_links<'m, R: Threads + Sync, G: Gate + Sync>(
 fn split_sources<'m, R: Threads + Sync, G: Gate + Sync>(
     rt: &R,
     alloc: Global,
-    shop: &Workshop<'m, G>,
+    shop: &Workshop<'m, '_, G>,
     journal: &mut Vec<(u32, NodeId)>,
     pass: u32,
     graph: Graph<Record<'m>>,
@@ -297,7 +297,7 @@ fn split_sources<'m, R: Threads + Sync, G: Gate + Sync>(
 fn split_sanitized<'m, R: Threads + Sync, G: Gate + Sync>(
     rt: &R,
     alloc: Global,
-    shop: &Workshop<'m, G>,
+    shop: &Workshop<'m, '_, G>,
     journal: &mut Vec<(u32, NodeId)>,
     pass: u32,
     graph: Graph<Record<'m>>,
@@ -334,7 +334,7 @@ fn split_sanitized<'m, R: Threads + Sync, G: Gate + Sync>(
 fn mark_sanitized<'m, R: Threads + Sync, G: Gate + Sync>(
     rt: &R,
     alloc: Global,
-    shop: &Workshop<'m, G>,
+    shop: &Workshop<'m, '_, G>,
     journal: &mut Vec<(u32, NodeId)>,
     pass: u32,
     graph: Graph<Record<'m>>,
@@ -367,7 +367,7 @@ fn mark_sanitized<'m, R: Threads + Sync, G: Gate + Sync>(
 fn hand_levels<'m, R: Threads + Sync, G: Gate + Sync>(
     rt: &R,
     alloc: Global,
-    shop: &Workshop<'m, G>,
+    shop: &Workshop<'m, '_, G>,
     journal: &mut Vec<(u32, NodeId)>,
     pass: u32,
     graph: Graph<Record<'m>>,
@@ -401,7 +401,7 @@ fn hand_levels<'m, R: Threads + Sync, G: Gate + Sync>(
 pub fn step<'m, R: Threads + Sync, G: Gate + Sync>(
     rt: &R,
     alloc: Global,
-    shop: &Workshop<'m, G>,
+    shop: &Workshop<'m, '_, G>,
     journal: &mut Vec<(u32, NodeId)>,
     number: u32,
     graph: Graph<Record<'m>>,

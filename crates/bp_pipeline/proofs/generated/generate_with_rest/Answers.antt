@@ -3,17 +3,17 @@ use Rattle.std.specs.Arc.{arc_value}
 use Rattle.std.specs.Global.{Global}
 use Rattle.bp_faults.proofs.Refusals.{refused}
 use Rattle.pass_ways.specs.declared.way.Way.TheVariants.{Workers}
-use Rattle.bp_pipeline.specs.declared.generated.Generated.{Generated}
+use Rattle.bp_pipeline.specs.declared.generated.GeneratedWithRest.{GeneratedWithRest}
 use Rattle.bp_pipeline.specs.Generated.{AreSizes, TextMeans, text_within_limit}
 use Rattle.bp_pipeline.specs.Journals.{IsLegalJournal}
 use Rattle.bp_pipeline.proofs.Whole.{all_refused, file_means, legal_journal, text_means}
-use Rattle.bp_pipeline.proofs.generated.generate.Goals as goal
+use Rattle.bp_pipeline.proofs.generated.generate_with_rest.Goals as goal
 
 pub returns-in_err-ran-clause-text : goal.returns-in_err-ran-clause-text
 returns-in_err-ran-clause-text g c =
     all_refused c.args.mods.now c.args.c.now (Workers c.args.workers c.args.gate)
-    (λ earlier pass plan fault refuses. refuses) {T = Generated}
-    (λ made. made.ninja) c.in_err-ran.field-0.0 c.from_residual.result c.from_residual.ensures.1
+    (λ earlier pass plan fault refuses. refuses) {T = GeneratedWithRest}
+    (λ made. made.generated.ninja) c.in_err-ran.field-0.0 c.from_residual.result c.from_residual.ensures.1
     c.in_err-ran.ensures.run
 
 pub returns-in_err-text-clause-text : goal.returns-in_err-text-clause-text
@@ -22,7 +22,7 @@ returns-in_err-text-clause-text g c =
     let mods = c.args.mods.now in
     let config = c.args.c.now in
     let file = c.in_ok-file.file in
-    refused {T = Vec ℕ Global} {U = Generated} (λ text. text.items) (λ made. made.ninja)
+    refused {T = Vec ℕ Global} {U = GeneratedWithRest} (λ text. text.items) (λ made. made.generated.ninja)
     (λ outcome. text_within_limit file ≡ outcome)
     (TextMeans mods config)
     (λ fault is. text_means mods config (Workers c.args.workers c.args.gate) ran.journal.items
