@@ -30,7 +30,7 @@ pub struct Loaded {
 
 /// What is left of a load: the variables of the tree, with their values. It is freed where it is dropped.
 ///
-/// A tree can have millions of variables, and to free them one by one takes a third of all the time of such a tree.
+/// A tree can have millions of variables, and to free them one by one takes time, which whoever ends soon can spare.
 #[derive(Drop)]
 pub struct LoadRest {
     scopes: Vec<Scope>,
