@@ -13,17 +13,17 @@ ghost use Rattle.bp_run.specs.Words.{config_of, IsSoundForCommand};
 ghost use Rattle.bp_run.specs.declared.words.Configuration.TheVariants.{Build as BuildCommand, Graph as GraphCommand};
 ghost use Rattle.bp_run.specs.declared.words.Configuration.TheVariants.{Synth as SynthCommand};
 
+use crate::leave::leave;
 use crate::load::{load_files, load_listed};
 use crate::{Configuration, Journal, Made, Stop};
 use bp_faults::{NodeId, OutOfMemory, Path, Seq, Target};
-use bp_pipeline::{Generated, generate, shared_graph_after, show_graph};
+use bp_pipeline::{Generated, generate_with_rest, shared_graph_after, show_graph};
 use bp_ports::{Gate, Store};
 use bp_props::Module;
 use command_words::{Build, Graph, Synth};
 use mutator_rules::Config;
 use order_text::journal_text;
 use std::alloc::Global;
-use std::mem;
 use std::thread::Threads;
 use synthetic_tree::{Summary, summary_text};
 
@@ -68,7 +68,9 @@ fn make_build<R: Threads + Sync, G: Gate + Sync>(
     ensures asked { IfOk result (λ made. journal_path made.journal ≡ journal_of (BuildCommand words.now)) }
 {
     let config = config_of(alloc, &words.targets)?;
-    let made = generate(rt, alloc, typed, &config, words.workers, gate)?;
+    let whole = generate_with_rest(rt, alloc, typed, &config, words.workers, gate)?;
+    leave(whole.rest);
+    let made = whole.generated;
     let journal = make_journal(alloc, words, &made.journal)?;
     Ok(Made {
         text: made.ninja,
@@ -92,8 +94,7 @@ fn make_graph<R: Threads + Sync, G: Gate + Sync>(
     let config = config_of(alloc, &words.targets)?;
     let graph = shared_graph_after(rt, alloc, typed, &config, words.after, words.workers, gate)?;
     let text = show_graph(alloc, typed, &graph)?;
-    // The process ends soon, and frees all records at once.
-    mem::forget(graph);
+    leave(graph);
     Ok(Made {
         text: Seq::new(text),
         journal: None,
@@ -148,7 +149,9 @@ fn make_synth<R: Threads + Sync, G: Gate + Sync>(
     ensures asked { IfOk result (λ made. journal_path made.journal ≡ journal_of (SynthCommand words.now)) }
 {
     let config = synth_config(alloc)?;
-    let made = generate(rt, alloc, typed, &config, words.workers, gate)?;
+    let whole = generate_with_rest(rt, alloc, typed, &config, words.workers, gate)?;
+    leave(whole.rest);
+    let made = whole.generated;
     Ok(Made {
         text: summary_lines(alloc, summary_of(words, &made))?,
         journal: None,
@@ -205,8 +208,7 @@ pub fn do_job<R: Threads + Sync, S: Store, G: Gate + Sync>(
 {
     let typed = load_listed(rt, alloc, paths, store, workers_of(configuration))?;
     let made = make(rt, alloc, configuration, &typed, gate);
-    // The process ends soon, and frees all modules at once.
-    mem::forget(typed);
+    leave(typed);
     made
 }
 
@@ -226,5 +228,7 @@ pub fn do_job_over<R: Threads + Sync, G: Gate + Sync>(
     ensures asked { IfOk result (λ made. journal_path made.journal ≡ journal_of configuration.now) }
 {
     let typed = load_files(rt, alloc, files, workers_of(configuration))?;
-    make(rt, alloc, configuration, &typed, gate)
+    let made = make(rt, alloc, configuration, &typed, gate);
+    leave(typed);
+    made
 }

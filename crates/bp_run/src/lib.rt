@@ -10,6 +10,7 @@ mod deliver;
 mod end;
 mod job;
 pub mod laws;
+mod leave;
 mod load;
 mod made;
 mod program;

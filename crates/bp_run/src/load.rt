@@ -8,9 +8,10 @@ ghost use Rattle.bp_run.specs.Steps.{GivesOrStops, GivesOrRunsOut, ReadCause, Ca
 ghost use Rattle.bp_run.specs.Tree.{ListedFilesLoad};
 
 use crate::Stop;
+use crate::leave::leave;
 use crate::read::read_files;
 use bp_faults::Path;
-use bp_load::load;
+use bp_load::load_with_rest;
 use bp_ports::Store;
 use bp_props::Module;
 use std::alloc::Global;
@@ -29,8 +30,9 @@ pub fn load_files<R: Threads + Sync>(
     ensures gives { GivesOrRunsOut (λ typed. typed.items) (LoadMeans (sources_given files.now)) result }
     ensures few { IfOk result (λ typed. length typed.items ≤ MOST_MODULES) }
 {
-    let typed = load(rt, alloc, files, workers)?;
-    Ok(typed)
+    let loaded = load_with_rest(rt, alloc, files, workers)?;
+    leave(loaded.rest);
+    Ok(loaded.modules)
 }
 
 /// The modules of the files that a list names, loaded by so many workers. Their bytes are dropped.

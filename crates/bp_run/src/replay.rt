@@ -1,22 +1,28 @@
 ghost use Rattle.std.specs.Prelude.{◌≡◌, ◌≤◌, ◌+◌, None, IfOk, IfSome, length, map};
 ghost use Rattle.std.specs.List.{All};
-ghost use Rattle.bp_faults.specs.declared.limits.TheConstants.{LARGEST_FILE, MOST_FILES};
+ghost use Rattle.bp_faults.specs.Answers.{Tells};
+ghost use Rattle.bp_faults.specs.declared.limits.TheConstants.{LARGEST_FILE, MOST_FILES, MOST_MODULES};
 ghost use Rattle.bp_load.specs.Directories.{AreInFileOrder};
 ghost use Rattle.bp_load.specs.Trees.{sources_given};
+ghost use Rattle.bp_pipeline.specs.Replays.{OrderMeans};
 ghost use Rattle.command_words.specs.Sound.{IsSoundReplay};
+ghost use Rattle.mutator_rules.specs.Configs.{TargetsDiffer};
 ghost use Rattle.bp_run.specs.Job.{SourcesReplay, ListedFilesReplay};
 ghost use Rattle.bp_run.specs.Steps.{GivesOrStops, GivesOrRunsOut, Exactly, ReadCause, CannotReadAlong};
 ghost use Rattle.bp_run.specs.Tree.{sources_and_order};
 
 use crate::job::config_of;
+use crate::leave::leave;
 use crate::load::load_files;
 use crate::read::{read_file, read_files};
 use crate::{Made, Stop};
-use bp_faults::Path;
 use bp_faults::limits::LARGEST_ORDER_FILE;
-use bp_pipeline::replay;
+use bp_faults::{Path, Refusal, Seq};
+use bp_pipeline::replay_with_rest;
 use bp_ports::Store;
+use bp_props::Module;
 use command_words::Replay;
+use mutator_rules::Config;
 use std::alloc::Global;
 use std::thread::Threads;
 
@@ -61,6 +67,25 @@ fn read_inputs<S: Store>(
     Ok(Inputs { files, order })
 }
 
+// The text of the file for Ninja, along the bytes of an order file. What is left is left to the end of the process.
+fn replay_order<R: Threads + Sync>(
+    rt: &R,
+    alloc: Global,
+    typed: &[Module],
+    c: &Config,
+    order: &[u8],
+    number: u32,
+) -> Result<Seq<u8>, Refusal>
+    requires few { length typed.now ≤ MOST_MODULES }
+    requires targets { TargetsDiffer c.now }
+    requires order { length order.now ≤ LARGEST_ORDER_FILE }
+    ensures { Tells (λ text. text) (OrderMeans typed.now c.now order.now number) result }
+{
+    let replayed = replay_with_rest(rt, alloc, typed, c, order, number)?;
+    leave(replayed.rest);
+    Ok(replayed.ninja)
+}
+
 // The text of the file for Ninja, along the order file of a number.
 fn replay_inputs<R: Threads + Sync>(
     rt: &R,
@@ -80,7 +105,8 @@ fn replay_inputs<R: Threads + Sync>(
 {
     let typed = load_files(rt, alloc, &inputs.files, 1)?;
     let config = config_of(alloc, &words.targets)?;
-    let text = replay(rt, alloc, &typed, &config, &inputs.order, number)?;
+    let text = replay_order(rt, alloc, &typed, &config, &inputs.order, number)?;
+    leave(typed);
     Ok(Made {
         text,
         journal: None,
