@@ -47,7 +47,11 @@ const ALL: NumberBut = NumberBut {
     other: u32::MAX,
 };
 
-pub const TURNS: u32 = 1 << 28;
+/// How many turns a gate holds a node, so that a run which never brings both together ends soon. It is one of 64.
+pub const TURNS: u32 = 1 << 18;
+
+/// The same where there is one run alone.
+const MANY_TURNS: u32 = 1 << 22;
 
 /// Whether the edges stand by target and each leads to a greater node.
 pub fn rises(plan: &Plan) -> bool
@@ -249,7 +253,7 @@ fn meet<R: Threads + Sync>(rt: &R, alloc: Global, meeting: Meeting) -> Result<bo
     if !rises(&plan) || many < 1 || many > 64 {
         return Ok(false);
     }
-    let gate = MeetingGate::new(7, first, many, TURNS);
+    let gate = MeetingGate::new(7, first, many, MANY_TURNS);
     visit_all(rt, alloc, 7, &plan, &ALL, many, &gate)?;
     Ok(gate.met())
 }

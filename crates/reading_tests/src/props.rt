@@ -159,6 +159,6 @@ fn many_records_follow(rt: HostRuntime) -> Result<(), Fail> {
     let items = props
         .group(GroupId::ArchArm)
         .map(|group| group.cflags.items.as_slice().len());
-    assert!(rt; items == Some(1_000));
+    assert_eq!(rt; items, Some(1_000));
     Ok(())
 }

@@ -1,4 +1,4 @@
-use bp_faults::{Fault, FaultKind, Item, OutOfMemory, Path, Place, Text};
+use bp_faults::{FaultKind, Item, OutOfMemory, Path, Payload, Place, Text};
 use bp_props::{GroupId, Module};
 use bp_values::{Entry, RawModule, Value};
 use property_tables::{LoadError, typed};
@@ -6,7 +6,7 @@ use std::alloc::Global;
 use std::test::Fail;
 
 /// The value of an entry: a truth, a string, or a list of the words between spaces.
-#[derive(Clone, Copy)]
+#[derive(Clone, Copy, Debug)]
 enum Given {
     Truth,
     Word(&'static str),
@@ -275,43 +275,37 @@ const ROWS: &[(&str, &str, &str, Given, Option<(FaultKind, &str)>)] = &[
     ),
 ];
 
-/// The fault that a module is refused for, if it is.
-fn fault_of(typed: Result<Option<Module>, LoadError>) -> Result<Option<Fault>, OutOfMemory> {
-    match typed {
+/// The kind and the subject of a fault, if there is one.
+type Refused<T> = Option<(FaultKind, T)>;
+
+/// What a module of one property is refused for, if it is.
+fn refused(
+    alloc: Global,
+    (kind, name, path): (&str, &str, &str),
+    given: Given,
+) -> Result<Refused<Text>, OutOfMemory> {
+    match typed_in(alloc, kind, name, path, given) {
         Ok(_) => Ok(None),
-        Err(LoadError::Bad(fault)) => Ok(Some(fault)),
+        Err(LoadError::Bad(fault)) => Ok(Some((fault.kind, fault.subject.copy(alloc)?))),
         Err(LoadError::OutOfMemory) => Err(OutOfMemory),
     }
 }
 
-/// Whether the fault is the one that is wanted, if any.
-fn is_wanted(want: Option<(FaultKind, &str)>, fault: Option<&Fault>) -> bool {
+/// The same with a text of its own.
+fn owned(alloc: Global, want: Refused<&str>) -> Result<Refused<Text>, OutOfMemory> {
     match want {
-        Some((kind, subject)) => match fault {
-            Some(fault) => kind == fault.kind && subject == fault.subject.as_str(),
-            None => false,
-        },
-        None => fault.is_none(),
+        Some((kind, subject)) => Ok(Some((kind, Text::from_str(alloc, subject)?))),
+        None => Ok(None),
     }
-}
-
-/// Whether a module of one property is refused for the fault, or typed where there is none.
-fn types_as(
-    alloc: Global,
-    (kind, name, path): (&str, &str, &str),
-    given: Given,
-    want: Option<(FaultKind, &str)>,
-) -> Result<bool, OutOfMemory> {
-    let fault = fault_of(typed_in(alloc, kind, name, path, given))?;
-    Ok(is_wanted(want, fault.as_ref()))
 }
 
 #[test]
 fn modules_are_typed_or_refused(rt: HostRuntime) -> Result<(), Fail> {
     for (kind, name, path, given, want) in ROWS {
-        assert!(rt;
-            types_as(rt.alloc(), (*kind, *name, *path), *given, *want)?,
-            "{kind} {path}"
+        assert_eq!(rt;
+            refused(rt.alloc(), (*kind, *name, *path), *given)?,
+            owned(rt.alloc(), *want)?,
+            "{kind} {name} {path} {given:?}"
         );
     }
     Ok(())

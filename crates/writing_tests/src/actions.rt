@@ -77,13 +77,13 @@ fn said(
     }
 }
 
-/// What is made at a node, put behind what is made already. Its text is as wanted, where it is compared.
+/// What is made at the node of a row, put behind what is made already. Its text is as wanted, where it is compared.
 fn make(
     rt: &impl Abort,
     alloc: Global,
     modules: &[Module],
     graph: &Graph<Record<'_>>,
-    wanted: Option<&str>,
+    row: &Row,
     made: &mut Vec<Arc<Actions>>,
 ) -> Result<(), OutOfMemory> {
     let index = made.len();
@@ -92,7 +92,7 @@ fn make(
     };
     let ins = below(alloc, node, made)?;
     let (actions, text) = said(alloc, modules, graph, n, &ins)?;
-    check_text(rt, text.as_str(), wanted);
+    check_text(rt, row, text.as_str());
     made.push(Arc::new(alloc, actions)?)?;
     Ok(())
 }
@@ -103,14 +103,14 @@ fn made_of(rt: &impl Abort, alloc: Global, rows: &[Row]) -> Result<Vec<Arc<Actio
     let graph = graph_of(alloc, rows)?;
     let mut made = Vec::new(alloc);
     for row in rows {
-        make(rt, alloc, &modules, &graph, row.5, &mut made)?;
+        make(rt, alloc, &modules, &graph, row, &mut made)?;
     }
     Ok(made)
 }
 
-fn check_text(rt: &impl Abort, text: &str, wanted: Option<&str>) {
-    if let Some(want) = wanted {
-        assert_eq!(rt; text, want);
+fn check_text(rt: &impl Abort, row: &Row, text: &str) {
+    if let Some(want) = row.5 {
+        assert_eq!(rt; text, want, "{} of {:?}", row.0, row.2);
     }
 }
 
@@ -129,7 +129,8 @@ fn last_statement(alloc: Global, file: &NinjaFile) -> Result<String, OutOfMemory
 fn check_rows(rt: &impl Abort, alloc: Global, rows: &[Row], last: &str) -> Result<(), Fail> {
     let file = file_of(rt, alloc, rows)?;
     assert!(rt; is_well_formed(alloc, &file)?);
-    assert!(rt; last_statement(alloc, &file)?.as_str().starts_with(last));
+    let statement = last_statement(alloc, &file)?;
+    assert!(rt; statement.as_str().starts_with(last), "{statement}");
     assert_eq!(rt; file.rules.as_slice().len(), 6);
     Ok(())
 }
