@@ -15,39 +15,34 @@ type Case = (&'static [u8], Result<&'static str, u32>);
 
 const HEAD: usize = b"# build.ninja written by bpgen\n".len();
 
-/// What `write` makes of a file, behind its first line.
-fn written(alloc: Global, file: &NinjaFile) -> Result<String, Fail> {
+fn same(alloc: Global, file: &NinjaFile, wanted: &str) -> Result<bool, Fail> {
     let text = write(alloc, file)?;
-    let behind = match text.as_slice().split_at_checked(HEAD) {
-        Some((_, rest)) => str::from_utf8(rest).unwrap_or("no UTF-8"),
-        None => "no head",
-    };
-    Ok(String::from_str(alloc, behind)?)
+    let behind = text.as_slice().split_at_checked(HEAD);
+    Ok(behind.is_some_and(|(_, rest)| rest == wanted.as_bytes()))
 }
 
-/// What `write` makes of the file of a short text, or the line that is refused.
-fn came_of(alloc: Global, text: &[u8]) -> Result<Result<String, u32>, Fail> {
-    if text.len() > 1000 {
-        return Err(Fail::new("over 1,000 bytes"));
+fn holds(alloc: Global, case: &Case) -> Result<bool, Fail> {
+    if case.0.len() > 1000 {
+        return Ok(false);
     }
-    match read(alloc, text) {
-        Ok(file) => Ok(Ok(written(alloc, &file)?)),
-        Err(NinjaError::BadLine(line)) => Ok(Err(line)),
-        Err(NinjaError::OutOfMemory) => Err(Fail::from(OutOfMemory)),
+    match (read(alloc, case.0), case.1) {
+        (Ok(file), Ok(wanted)) => same(alloc, &file, wanted),
+        (Err(NinjaError::BadLine(line)), Err(wanted)) => Ok(line == wanted),
+        _ => Ok(false),
     }
 }
 
-/// What comes back of the file of a short text, where the file is well formed.
-fn come_back(alloc: Global, text: &[u8]) -> Result<Option<String>, Fail> {
+// Whether the file of a text is well formed; such a file comes back.
+fn comes_back(alloc: Global, text: &[u8], wanted: &str) -> Result<bool, Fail> {
     if text.len() > 1000 {
-        return Err(Fail::new("over 1,000 bytes"));
+        return Ok(false);
     }
     let file = read(alloc, text)?;
     if !is_well_formed(alloc, &file)? {
-        return Ok(None);
+        return Ok(false);
     }
     let back = written_and_read(alloc, &file)??;
-    Ok(Some(written(alloc, &back)?))
+    same(alloc, &back, wanted)
 }
 
 // Texts that are read, in the spirit of Ninja's own tests of its manifest parser and lexer.
@@ -242,17 +237,9 @@ const ENDS: [Case; 12] = [
     (b"default $a\nbogus\n", Err(1)),
 ];
 
-fn check_case(rt: &impl Abort, alloc: Global, (text, want): &Case) -> Result<(), Fail> {
-    match came_of(alloc, text)? {
-        Ok(came) => assert_eq!(rt; Ok(came.as_str()), *want, "{text:?}"),
-        Err(line) => assert_eq!(rt; Err(line), *want, "{text:?}"),
-    }
-    Ok(())
-}
-
 fn check_cases(rt: &impl Abort, alloc: Global, cases: &[Case]) -> Result<(), Fail> {
     for case in cases {
-        check_case(rt, alloc, case)?;
+        assert!(rt; holds(alloc, case)?, "{:?}", case.0);
     }
     Ok(())
 }
@@ -274,25 +261,22 @@ fn ends_that_are_refused(rt: HostRuntime) -> Result<(), Fail> {
 
 const SHORT: &[u8] = b"rule r\n command = $ x$y$$\nbuild a$ b:r c || d\n k = :\ndefault a$ b";
 
-/// A text, and what `write` makes of the file that comes back; nothing where its file isn't well formed.
-type Formed = (&'static [u8], Option<&'static str>);
-
 // A file that is read is well formed but for empty values and control characters in values.
-const FORMED: [Formed; 5] = [
-    (b"", Some("")),
+const FORMED: [(&[u8], &str, bool); 5] = [
+    (b"", "", true),
     (
         SHORT,
-        Some("rule r\n  command = $ x${y}$$\nbuild a$ b: r c || d\n  k = :\ndefault a$ b\n"),
+        "rule r\n  command = $ x${y}$$\nbuild a$ b: r c || d\n  k = :\ndefault a$ b\n",
+        true,
     ),
-    (b"rule r\n  command =\n", None),
-    (b"build a: phony\n  k =\n", None),
-    (b"build a: phony\n  k = \t\n", None),
+    (b"rule r\n  command =\n", "", false),
+    (b"build a: phony\n  k =\n", "", false),
+    (b"build a: phony\n  k = \t\n", "", false),
 ];
 
-fn check_formed(rt: &impl Abort, alloc: Global, cases: &[Formed]) -> Result<(), Fail> {
-    for (text, want) in cases {
-        let came = come_back(alloc, text)?;
-        assert_eq!(rt; came.as_ref().map(|text| text.as_str()), *want, "{text:?}");
+fn check_formed(rt: &impl Abort, alloc: Global, cases: &[(&[u8], &str, bool)]) -> Result<(), Fail> {
+    for (text, wanted, formed) in cases {
+        assert_eq!(rt; comes_back(alloc, text, wanted)?, *formed, "{:?}", text);
     }
     Ok(())
 }
@@ -373,12 +357,9 @@ fn printed_alike<R: Threads + Sync>(rt: &R, alloc: Global, file: &NinjaFile) -> 
 fn parallel_printing(rt: HostRuntime) -> Result<(), Fail> {
     let alloc = rt.alloc();
     let file = long_file(alloc)?;
-    for workers in [1, 2, 64] {
-        assert!(rt;
-            printed_by(&rt, alloc, &file, workers)?,
-            "{workers} workers"
-        );
-    }
+    assert!(rt; printed_by(&rt, alloc, &file, 1)?);
+    assert!(rt; printed_by(&rt, alloc, &file, 2)?);
+    assert!(rt; printed_by(&rt, alloc, &file, 64)?);
     assert!(rt; printed_alike(&rt, alloc, &file)?);
     Ok(())
 }
