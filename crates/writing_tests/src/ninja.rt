@@ -15,34 +15,42 @@ type Case = (&'static [u8], Result<&'static str, u32>);
 
 const HEAD: usize = b"# build.ninja written by bpgen\n".len();
 
-fn same(alloc: Global, file: &NinjaFile, wanted: &str) -> Result<bool, Fail> {
+/// What stands behind the first line of a text.
+fn behind_head(text: &[u8]) -> Option<&str> {
+    let (_, rest) = text.split_at_checked(HEAD)?;
+    str::from_utf8(rest).ok()
+}
+
+/// What `write` makes of a file, behind its first line.
+fn written(alloc: Global, file: &NinjaFile) -> Result<String, Fail> {
     let text = write(alloc, file)?;
-    let behind = text.as_slice().split_at_checked(HEAD);
-    Ok(behind.is_some_and(|(_, rest)| rest == wanted.as_bytes()))
+    let rest = behind_head(text.as_slice());
+    Ok(String::from_str(alloc, rest.unwrap_or("no head"))?)
 }
 
-fn holds(alloc: Global, case: &Case) -> Result<bool, Fail> {
-    if case.0.len() > 1000 {
-        return Ok(false);
-    }
-    match (read(alloc, case.0), case.1) {
-        (Ok(file), Ok(wanted)) => same(alloc, &file, wanted),
-        (Err(NinjaError::BadLine(line)), Err(wanted)) => Ok(line == wanted),
-        _ => Ok(false),
-    }
-}
-
-// Whether the file of a text is well formed; such a file comes back.
-fn comes_back(alloc: Global, text: &[u8], wanted: &str) -> Result<bool, Fail> {
+/// What `write` makes of the file of a short text, or the line that is refused.
+fn came_of(alloc: Global, text: &[u8]) -> Result<Result<String, u32>, Fail> {
     if text.len() > 1000 {
-        return Ok(false);
+        return Err(Fail::new("over 1,000 bytes"));
+    }
+    match read(alloc, text) {
+        Ok(file) => Ok(Ok(written(alloc, &file)?)),
+        Err(NinjaError::BadLine(line)) => Ok(Err(line)),
+        Err(NinjaError::OutOfMemory) => Err(Fail::from(OutOfMemory)),
+    }
+}
+
+/// What comes back of the file of a short text, where the file is well formed.
+fn come_back(alloc: Global, text: &[u8]) -> Result<Option<String>, Fail> {
+    if text.len() > 1000 {
+        return Err(Fail::new("over 1,000 bytes"));
     }
     let file = read(alloc, text)?;
     if !is_well_formed(alloc, &file)? {
-        return Ok(false);
+        return Ok(None);
     }
     let back = written_and_read(alloc, &file)??;
-    same(alloc, &back, wanted)
+    Ok(Some(written(alloc, &back)?))
 }
 
 // Texts that are read, in the spirit of Ninja's own tests of its manifest parser and lexer.
@@ -237,9 +245,17 @@ const ENDS: [Case; 12] = [
     (b"default $a\nbogus\n", Err(1)),
 ];
 
+fn check_case(rt: &impl Abort, alloc: Global, (text, want): &Case) -> Result<(), Fail> {
+    match came_of(alloc, text)? {
+        Ok(came) => assert_eq!(rt; Ok(came.as_str()), *want, "{text:?}"),
+        Err(line) => assert_eq!(rt; Err(line), *want, "{text:?}"),
+    }
+    Ok(())
+}
+
 fn check_cases(rt: &impl Abort, alloc: Global, cases: &[Case]) -> Result<(), Fail> {
     for case in cases {
-        assert!(rt; holds(alloc, case)?, "{:?}", case.0);
+        check_case(rt, alloc, case)?;
     }
     Ok(())
 }
@@ -261,22 +277,25 @@ fn ends_that_are_refused(rt: HostRuntime) -> Result<(), Fail> {
 
 const SHORT: &[u8] = b"rule r\n command = $ x$y$$\nbuild a$ b:r c || d\n k = :\ndefault a$ b";
 
+/// A text, and what `write` makes of the file that comes back; nothing where its file isn't well formed.
+type Formed = (&'static [u8], Option<&'static str>);
+
 // A file that is read is well formed but for empty values and control characters in values.
-const FORMED: [(&[u8], &str, bool); 5] = [
-    (b"", "", true),
+const FORMED: [Formed; 5] = [
+    (b"", Some("")),
     (
         SHORT,
-        "rule r\n  command = $ x${y}$$\nbuild a$ b: r c || d\n  k = :\ndefault a$ b\n",
-        true,
+        Some("rule r\n  command = $ x${y}$$\nbuild a$ b: r c || d\n  k = :\ndefault a$ b\n"),
     ),
-    (b"rule r\n  command =\n", "", false),
-    (b"build a: phony\n  k =\n", "", false),
-    (b"build a: phony\n  k = \t\n", "", false),
+    (b"rule r\n  command =\n", None),
+    (b"build a: phony\n  k =\n", None),
+    (b"build a: phony\n  k = \t\n", None),
 ];
 
-fn check_formed(rt: &impl Abort, alloc: Global, cases: &[(&[u8], &str, bool)]) -> Result<(), Fail> {
-    for (text, wanted, formed) in cases {
-        assert_eq!(rt; comes_back(alloc, text, wanted)?, *formed, "{:?}", text);
+fn check_formed(rt: &impl Abort, alloc: Global, cases: &[Formed]) -> Result<(), Fail> {
+    for (text, want) in cases {
+        let came = come_back(alloc, text)?;
+        assert_eq!(rt; came.as_ref().map(|text| text.as_str()), *want, "{text:?}");
     }
     Ok(())
 }
@@ -357,9 +376,12 @@ fn printed_alike<R: Threads + Sync>(rt: &R, alloc: Global, file: &NinjaFile) -> 
 fn parallel_printing(rt: HostRuntime) -> Result<(), Fail> {
     let alloc = rt.alloc();
     let file = long_file(alloc)?;
-    assert!(rt; printed_by(&rt, alloc, &file, 1)?);
-    assert!(rt; printed_by(&rt, alloc, &file, 2)?);
-    assert!(rt; printed_by(&rt, alloc, &file, 64)?);
+    for workers in [1, 2, 64] {
+        assert!(rt;
+            printed_by(&rt, alloc, &file, workers)?,
+            "{workers} workers"
+        );
+    }
     assert!(rt; printed_alike(&rt, alloc, &file)?);
     Ok(())
 }
