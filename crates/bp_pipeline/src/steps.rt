@@ -189,7 +189,7 @@ fn merge_defaults<'m, R: Threads + Sync, G: Gate + Sync>(
 /// Whether a module is a plugin of others, so that a table of all names is worth its time.
 fn has_plugins(mods: &[Module]) -> bool {
     mods.iter()
-        .any(|item| !item.props.plugin_of.items.as_slice().is_empty())
+        .any(|item| !item.props.plugin_of.items().is_empty())
 }
 
 fn ask_plugins<'m, R: Threads + Sync, G: Gate + Sync>(

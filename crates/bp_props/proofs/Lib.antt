@@ -1,3 +1,4 @@
 pub mod Each
 pub mod Ids
 pub mod Indices
+pub mod Uncut

@@ -1,5 +1,5 @@
 -- What merging makes of a scalar and of a list. Every field of a record is merged by one of these two rules.
-use Rattle.std.specs.Prelude.{Bool, true, false, Option, Some, None, [], ◌++◌}
+use Rattle.std.specs.Prelude.{Bool, true, false, Option, Some, None, List, [], ◌++◌}
 use Rattle.bp_props.specs.declared.given.Given.{Given}
 use Rattle.bp_props.specs.declared.listed.Listed.{Listed}
 use Rattle.bp_props.specs.declared.merge.Winner.{Winner}
@@ -22,6 +22,10 @@ list_merged a b = record { items = a.items ++ b.items; at = first_set a.at b.at 
 -- A list that isn't set has no items and no place.
 abbrev pub list_empty : {A : Type 0} → Listed A
 list_empty = record { items = []; at = None }
+
+-- A list has other items at its place.
+abbrev pub with_items : {A : Type 0} → List A → Listed A → Listed A
+with_items items list = record list { items = items }
 
 -- Restriction leaves a scalar that the kind has, and unsets any other.
 abbrev pub kept_scalar : {A : Type 0} → Bool → Option (Given A) → Option (Given A)

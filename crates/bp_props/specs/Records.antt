@@ -1,5 +1,6 @@
 -- The record of a module: what sets nothing, what the three merging calls make of two, and what restriction leaves.
 use Rattle.std.specs.Prelude.{None, [], false, filter}
+use Rattle.bp_props.specs.RecordFields.{props_by}
 use Rattle.bp_props.specs.Meaning.{scalar_merged, list_merged, list_empty, kept_scalar, kept_list}
 use Rattle.bp_props.specs.Group.{group_empty, group_merged, group_restricted}
 use Rattle.bp_props.specs.Groups.{groups_merged, EachMerged}
@@ -42,23 +43,13 @@ props_empty = record {
 -- Two records are merged field by field: each scalar, each list, and the groups. `name`, `defaults` and what the
 -- mutators compute are the receiver's.
 abbrev pub props_merged : Winner → Props → Props → Props
-props_merged winner a b = record a {
-  base = group_merged winner a.base b.base;
-  compile_multilib = scalar_merged winner a.compile_multilib b.compile_multilib;
-  host_supported = scalar_merged winner a.host_supported b.host_supported;
-  device_supported = scalar_merged winner a.device_supported b.device_supported;
-  vendor = scalar_merged winner a.vendor b.vendor;
-  vendor_available = scalar_merged winner a.vendor_available b.vendor_available;
-  recovery = scalar_merged winner a.recovery b.recovery;
-  recovery_available = scalar_merged winner a.recovery_available b.recovery_available;
-  min_sdk_version = scalar_merged winner a.min_sdk_version b.min_sdk_version;
-  address = scalar_merged winner a.address b.address;
-  never = scalar_merged winner a.never b.never;
-  test_per_src = scalar_merged winner a.test_per_src b.test_per_src;
-  plugin_of = list_merged a.plugin_of b.plugin_of;
-  data_bins = list_merged a.data_bins b.data_bins;
-  groups = groups_merged winner a.groups b.groups;
-}
+props_merged winner a b =
+    record (props_by (λ A field of. scalar_merged winner (of a) (of b)) (λ A field of. list_merged (of a) (of b)) a) {
+      base = group_merged winner a.base b.base;
+      name = a.name;
+      defaults = a.defaults;
+      groups = groups_merged winner a.groups b.groups;
+    }
 
 -- `append` merges a group into the fields that a group may hold, and its scalars win.
 abbrev pub props_appended : Props → GroupProps → Props
@@ -82,22 +73,8 @@ GroupsOver a b new = EachMerged Argument a.groups b.groups new.groups
 
 -- What the kind's table has stays in a record, and the rest isn't set. What the mutators compute stays.
 abbrev pub props_restricted : ModuleKind → Props → Props
-props_restricted kind p = record p {
-  base = group_restricted kind p.base;
-  name = kept_scalar (has_field kind F.Name) p.name;
-  defaults = kept_list (has_field kind F.Defaults) p.defaults;
-  compile_multilib = kept_scalar (has_field kind F.CompileMultilib) p.compile_multilib;
-  host_supported = kept_scalar (has_field kind F.HostSupported) p.host_supported;
-  device_supported = kept_scalar (has_field kind F.DeviceSupported) p.device_supported;
-  vendor = kept_scalar (has_field kind F.Vendor) p.vendor;
-  vendor_available = kept_scalar (has_field kind F.VendorAvailable) p.vendor_available;
-  recovery = kept_scalar (has_field kind F.Recovery) p.recovery;
-  recovery_available = kept_scalar (has_field kind F.RecoveryAvailable) p.recovery_available;
-  min_sdk_version = kept_scalar (has_field kind F.MinSdkVersion) p.min_sdk_version;
-  address = kept_scalar (has_field kind F.Address) p.address;
-  never = kept_scalar (has_field kind F.Never) p.never;
-  test_per_src = kept_scalar (has_field kind F.TestPerSrc) p.test_per_src;
-  plugin_of = kept_list (has_field kind F.PluginOf) p.plugin_of;
-  data_bins = kept_list (has_field kind F.DataBins) p.data_bins;
-  groups = filter (λ e. has_field kind (F.Group e.0)) p.groups;
-}
+props_restricted kind p = record (props_by (λ A field of. kept_scalar (has_field kind field) (of p))
+    (λ A field of. kept_list (has_field kind field) (of p)) p) {
+      base = group_restricted kind p.base;
+      groups = filter (λ e. has_field kind (F.Group e.0)) p.groups;
+    }

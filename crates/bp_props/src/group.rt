@@ -1,6 +1,6 @@
 ghost use Rattle.std.specs.Prelude.{◌≡◌, OnOk, OnErr};
 ghost use Rattle.bp_props.specs.Group.{lists_merged, group_merged, group_empty, group_restricted};
-ghost use Rattle.bp_props.specs.Undo.{GroupBegins, group_mark, group_cut};
+ghost use Rattle.bp_props.specs.Undo.{GroupBegins, IsMarkOf, group_cut};
 
 use crate::given::keep_scalar;
 use crate::mark::GroupMark;
@@ -17,7 +17,7 @@ use bp_faults::{Item, OutOfMemory, Path, Payload, Text};
 use std::alloc::Global;
 
 /// The properties that every group but `sanitize` may hold, and that a module has of its own.
-#[derive(Debug, PartialEq)]
+#[derive(Debug)]
 pub struct GroupProps {
     pub enabled: Option<Given<bool>>,
     pub srcs: Listed<Source>,
@@ -97,7 +97,7 @@ macro_rules! empty_group {
     ($alloc:expr, [$(($set:ident $a:ident))*] [$(($list:ident $b:ident))*]) => {
         GroupProps {
             $($set: None,)*
-            $($list: Listed::empty($alloc),)*
+            $($list: Listed::empty(),)*
         }
     };
 }
@@ -122,7 +122,7 @@ impl GroupProps {
 
     /// What the group is now, to come back to.
     pub(crate) fn mark(&self) -> GroupMark
-        ensures { result ≡ group_mark self.now }
+        ensures { IsMarkOf result self.now }
     {
         let mark = group_sources!(all_fields mark_group self);
         mark

@@ -20,6 +20,7 @@ mod module;
 mod multi;
 mod pairs;
 mod props;
+mod same;
 mod source;
 mod table;
 

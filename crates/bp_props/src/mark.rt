@@ -1,11 +1,10 @@
 use crate::Given;
-use bp_faults::Place;
 
-/// What a list was before items were put behind: how many it had, and its place.
+/// What a list was before items were put behind: how many it had, and whether it had a place.
 #[derive(Clone, Copy, Debug)]
 pub(crate) struct Mark {
     pub(crate) count: usize,
-    pub(crate) at: Option<Place>,
+    pub(crate) is_placed: bool,
 }
 
 /// What a group was before another was merged into it.

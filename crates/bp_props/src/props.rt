@@ -86,11 +86,11 @@ macro_rules! with_names {
         Props {
             base: GroupProps::empty($alloc),
             name: None,
-            defaults: Listed::empty($alloc),
+            defaults: Listed::empty(),
             compile_multilib: None,
             $($truth: None,)*
             min_sdk_version: None,
-            $($name: Listed::empty($alloc),)*
+            $($name: Listed::empty(),)*
             groups: Groups::empty($alloc),
             asan: false,
             level: NO_LEVEL,

@@ -1,3 +1,6 @@
+ghost use Rattle.std.specs.Prelude.{◌≡◌};
+ghost use Rattle.bp_props.specs.Source.{names_module};
+
 use bp_faults::{Item, OutOfMemory, Payload};
 use std::alloc::Global;
 
@@ -8,10 +11,19 @@ pub struct Source {
     pub item: Item,
 }
 
+impl Source {
+    /// Whether it is the name of a module. Else it is a path.
+    pub fn names_module(&self) -> bool
+        ensures { result ≡ names_module self.now }
+    {
+        self.named
+    }
+}
+
 impl Payload for Source {
     fn copy(&self, alloc: Global) -> Result<Self, OutOfMemory> {
         Ok(Source {
-            named: self.named,
+            named: self.names_module(),
             item: self.item.copy(alloc)?,
         })
     }

@@ -22,6 +22,7 @@ use Rattle.serial_pass.specs.Plans.{IsPlan, HasNoCycle}
 use Rattle.bp_props.specs.declared.module.Module.{Module}
 use Rattle.bp_props.specs.declared.props.Props.{Props}
 use Rattle.bp_props.specs.declared.source.Source.{Source}
+use Rattle.bp_props.specs.Source.{names_module}
 use Rattle.ninja_file.specs.Names.{is_path}
 use Rattle.ninja_file.specs.Meaning.{IsStatement}
 use Rattle.build_parts.specs.declared.path.Role.{Role}
@@ -42,7 +43,7 @@ use Rattle.build_actions.specs.Products.{is_whole, is_data, outputs_at, data_out
 use Rattle.build_actions.specs.Products.{product_step}
 use Rattle.build_actions.specs.Acts.{files_alone, objects_of, made_of, acts_by, acts, acts_at}
 use Rattle.build_actions.specs.Laws.{made_below, AreMade}
-use Rattle.build_actions.specs.Writable.{has_shown_bytes, flag_words, AreWritable}
+use Rattle.build_actions.specs.Writable.{has_shown_bytes, flag_words, IsWritable, AreWritable}
 use Rattle.build_actions.proofs.Differing.{all_flat}
 use Rattle.build_actions.proofs.Outputs.{then_ok}
 use Rattle.build_actions.proofs.Shown.{IsPath, Shown, Clear, shown_of, clear_if, clear_append, path_clear, path_of}
@@ -84,12 +85,12 @@ rest_good [] h = tt
 rest_good (made ∷ given) h = h.1
 
 over_good : (sources : List Source) (given : List Actions)
-    → AllByRecursion (λ (s : Source). s.named ≡ false → IsTrue (is_path s.item.text)) sources
+    → AllByRecursion IsWritable sources
     → AllByRecursion IsGood given → AllByRecursion IsFile (files_over sources given)
 over_good [] given h k = tt
-over_good (s ∷ sources) given h k = by s.named refl (λ left good. over_good sources left h.1 good)
+over_good (s ∷ sources) given h k = by (names_module s) refl (λ left good. over_good sources left h.1 good)
   where
-    by : (b : Bool) → s.named ≡ b
+    by : (b : Bool) → names_module s ≡ b
         → ((left : List Actions) → AllByRecursion IsGood left → AllByRecursion IsFile (files_over sources left))
         → AllByRecursion IsFile
         (cond b (first_files given) (s.item ∷ []) ++ files_over sources (cond b (drop 1 given) given))
@@ -290,17 +291,15 @@ module _ (plain : VariantNamesArePlain) where
         }
 
     record IsFine (x : Node Props) : Type 0 where
-      sources : AllByRecursion (λ (s : Source). s.named ≡ false → IsTrue (is_path s.item.text))
-          x.payload.base.srcs.items
+      sources : AllByRecursion IsWritable x.payload.base.srcs.items
       words : AreWords x.payload
 
     fine_at : (n : ℕ) (x : Node Props) → slice_get nodes n ≡ Some x → IsFine x
     fine_at n x is = record {
       sources =
-          subst (λ (y : Node Props). AllByRecursion (λ (s : Source). s.named ≡ false → IsTrue (is_path s.item.text))
-          y.payload.base.srcs.items) (get_or_from_slice_get nodes n x x is)
-          (All-from_recursion (λ (y : Node Props).
-          AllByRecursion (λ (s : Source). s.named ≡ false → IsTrue (is_path s.item.text)) y.payload.base.srcs.items)
+          subst (λ (y : Node Props). AllByRecursion IsWritable y.payload.base.srcs.items)
+          (get_or_from_slice_get nodes n x x is)
+          (All-from_recursion (λ (y : Node Props). AllByRecursion IsWritable y.payload.base.srcs.items)
           nodes write.sources n x (slice_get_within nodes n x is));
       words =
           words_are x.payload (subst (λ (y : Node Props). AllByRecursion (λ w. IsTrue (has_shown_bytes w))

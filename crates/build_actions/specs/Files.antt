@@ -15,6 +15,7 @@ use Rattle.graph_nodes.specs.declared.variation.Variation.TheVariants as V
 use Rattle.bp_props.specs.declared.module.Module.{Module}
 use Rattle.bp_props.specs.declared.props.Props.{Props}
 use Rattle.bp_props.specs.declared.source.Source.{Source}
+use Rattle.bp_props.specs.Source.{names_module}
 use Rattle.build_actions.specs.declared.actions.Actions.{Actions}
 
 -- What was made at the targets of the wanted edges, in edge order.
@@ -61,11 +62,11 @@ first_files (made ∷ given) = made.files
 
 -- A source that is a path is a file. One that asks a file group gets the files of the first that is left.
 abbrev pub source_files : Source → List Actions → List Item
-source_files s given = if s.named then first_files given else s.item ∷ []
+source_files s given = if names_module s then first_files given else s.item ∷ []
 
 -- The file groups that are left for the sources behind.
 abbrev pub groups_behind : Source → List Actions → List Actions
-groups_behind s given = if s.named then drop 1 given else given
+groups_behind s given = if names_module s then drop 1 given else given
 
 -- A path is a file. The k-th source that asks a file group gets the files of the k-th one.
 abbrev pub files_over : List Source → List Actions → List Item

@@ -53,7 +53,7 @@ fn is_kept(
 ) -> bool
     ensures { result ≡ is_kept modules.now graph.now.nodes node.now n.0 }
 {
-    match node.payload.given().base.srcs.items.as_slice().first() {
+    match node.payload.given().base.srcs.items().first() {
         Some(source) => is_named(modules, graph, n, &source.item.text),
         None => false,
     }
@@ -120,7 +120,7 @@ fn add_source(
 ) -> Result<(), OutOfMemory>
     ensures { OnOk result (files.new.items ≡ files.old.items ++ source_files source.now (map arc_value given.now)) }
 {
-    if source.named {
+    if source.names_module() {
         return add_first(alloc, files, given);
     }
     files.push(source.item.copy(alloc)?)?;
@@ -131,7 +131,7 @@ fn add_source(
 fn behind<'a>(source: &Source, given: &'a [Arc<Actions>]) -> &'a [Arc<Actions>]
     ensures { map arc_value result.now ≡ groups_behind source.now (map arc_value given.now) }
 {
-    if !source.named {
+    if !source.names_module() {
         return given;
     }
     match given.split_first() {
@@ -170,7 +170,7 @@ pub fn files_of(
     let given = given(alloc, modules, graph, node, node.edges.as_slice(), ins)?;
     files_over(
         alloc,
-        node.payload.given().base.srcs.items.as_slice(),
+        node.payload.given().base.srcs.items(),
         given.as_slice(),
     )
 }

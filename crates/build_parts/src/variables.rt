@@ -86,13 +86,13 @@ fn add_flags<'a>(
     match language {
         Language::C => {
             add_cflags(words, own)?;
-            add_texts(words, base.conlyflags.items.as_slice())
+            add_texts(words, base.conlyflags.items())
         }
         Language::Cxx => {
             add_cflags(words, own)?;
-            add_texts(words, base.cppflags.items.as_slice())
+            add_texts(words, base.cppflags.items())
         }
-        Language::Assembler => add_texts(words, base.asflags.items.as_slice()),
+        Language::Assembler => add_texts(words, base.asflags.items()),
     }
 }
 
@@ -223,7 +223,7 @@ pub fn link_variables(
     ensures { IfOk result (λ variables. variables ≡ link_variables node.now) }
 {
     let target = Text::from_str(alloc, target_of(node))?;
-    let ldflags = join_texts(alloc, node.payload.given().base.ldflags.items.as_slice())?;
+    let ldflags = join_texts(alloc, node.payload.given().base.ldflags.items())?;
     let count = count_filled(&[target.as_str(), ldflags.as_str()]);
     let mut variables = Seq::new(Vec::with_capacity(alloc, count)?);
     bind(alloc, &mut variables, "target", target)?;

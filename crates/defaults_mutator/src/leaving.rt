@@ -8,7 +8,7 @@ use module_rules::Record;
 fn names_no_defaults(node: &Node<Record<'_>>) -> bool
     ensures { result ≡ names_no_defaults node.now }
 {
-    node.payload.given().defaults.items.as_slice().is_empty()
+    node.payload.given().defaults.items().is_empty()
 }
 
 fn has_no_edges(node: &Node<Record<'_>>) -> bool

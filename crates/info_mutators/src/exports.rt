@@ -39,9 +39,9 @@ fn export_names<'a>(alloc: Global, own: &'a Record<'_>) -> Result<ExportNames<'a
 {
     let base = &own.given().base;
     Ok(ExportNames {
-        statics: names_of(alloc, base.export_static_lib_headers.items.as_slice())?,
-        shareds: names_of(alloc, base.export_shared_lib_headers.items.as_slice())?,
-        headers: names_of(alloc, base.export_header_lib_headers.items.as_slice())?,
+        statics: names_of(alloc, base.export_static_lib_headers.items())?,
+        shareds: names_of(alloc, base.export_shared_lib_headers.items())?,
+        headers: names_of(alloc, base.export_header_lib_headers.items())?,
     })
 }
 
@@ -109,10 +109,7 @@ pub fn exports_of(
 {
     let names = export_names(alloc, own)?;
     let mut seen = IndexSet::new(alloc);
-    note_all(
-        &mut seen,
-        own.given().base.export_include_dirs.items.as_slice(),
-    )?;
+    note_all(&mut seen, own.given().base.export_include_dirs.items())?;
     note_all_handed_on(&mut seen, &names, dependencies)?;
     Ok(copies(alloc, seen.as_slice())?)
 }

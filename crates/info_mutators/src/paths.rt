@@ -71,9 +71,9 @@ fn note_own<'a>(seen: &mut IndexSet<&'a Path>, own: &'a Record<'_>) -> Result<()
     ensures { OnOk result (NotesPaths seen.old.keys (own_includes own.now) seen.new.keys) }
 {
     let base = &own.given().base;
-    note_all(seen, base.local_include_dirs.items.as_slice())?;
-    note_all(seen, base.export_include_dirs.items.as_slice())?;
-    note_all(seen, base.include_dirs.items.as_slice())?;
+    note_all(seen, base.local_include_dirs.items())?;
+    note_all(seen, base.export_include_dirs.items())?;
+    note_all(seen, base.include_dirs.items())?;
     Ok(())
 }
 

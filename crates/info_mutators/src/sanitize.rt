@@ -30,7 +30,7 @@ fn add_flag_if(alloc: Global, list: &mut Listed<Text>, needed: bool) -> Result<(
     ensures { OnOk result (list.new ≡ with_flag_if needed list.old) }
 {
     if needed {
-        list.items.push(Text::from_str(alloc, FLAG)?)?;
+        list.push(alloc, Text::from_str(alloc, FLAG)?)?;
     }
     Ok(())
 }

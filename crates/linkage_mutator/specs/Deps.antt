@@ -6,6 +6,7 @@ use Rattle.bp_props.specs.declared.kind.ModuleKind.TheVariants.{Filegroup}
 use Rattle.bp_props.specs.declared.module.Module.{Module}
 use Rattle.bp_props.specs.declared.props.Props.{Props}
 use Rattle.bp_props.specs.declared.source.Source.{Source}
+use Rattle.bp_props.specs.Source.{names_module}
 use Rattle.graph_nodes.specs.declared.graph.EdgeKind.TheVariants.{Whole, Static, Shared, Header, DataBin, Sources}
 use Rattle.graph_nodes.specs.declared.graph.Node.{Node}
 use Rattle.graph_nodes.specs.declared.variation.Variation.{Variation}
@@ -16,7 +17,7 @@ use Rattle.linkage_mutator.specs.Wanting.{own_with}
 
 -- The items of some sources that name modules.
 abbrev pub named_items : List Source → List Item
-named_items sources = map (λ (s : Source). s.item) (filter (λ (s : Source). s.named) sources)
+named_items sources = map (λ (s : Source). s.item) (filter names_module sources)
 
 -- A node asks for the libraries and binaries of its own target and image, kind by kind.
 abbrev pub libraries_asked : List Variation → Props → List Request

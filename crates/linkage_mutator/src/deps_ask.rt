@@ -78,7 +78,7 @@ fn ask_named(
     ensures { OnOk result (asked.new ≡ asked.old ++ requests kind want (named_items sources.now)) }
 {
     for source in sources {
-        if source.named {
+        if source.names_module() {
             asked.push(request(alloc, kind, want, &source.item)?)?;
         }
     }
@@ -97,7 +97,7 @@ fn deps_of(
         ModuleKind::Filegroup => Seq::new(Vec::new(alloc)),
         _ => libraries_asked(alloc, vars, own)?,
     };
-    let sources = own.given().base.srcs.items.as_slice();
+    let sources = own.given().base.srcs.items();
     ask_named(alloc, &mut asked, EdgeKind::Sources, COMMON, sources)?;
     Ok(asked)
 }

@@ -8,7 +8,7 @@ use module_rules::{Record, is_true_or};
 fn is_no_plugin(node: &Node<Record<'_>>) -> bool
     ensures { result ≡ is_no_plugin node.now }
 {
-    node.payload.given().plugin_of.items.as_slice().is_empty()
+    node.payload.given().plugin_of.items().is_empty()
 }
 
 fn is_built_once(node: &Node<Record<'_>>) -> bool

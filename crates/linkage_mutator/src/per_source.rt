@@ -66,7 +66,7 @@ fn with_source<'m>(alloc: Global, bare: &Props, source: &Source) -> Result<Recor
     let mut made = bare.copy(alloc)?;
     let mut items = Seq::new(Vec::with_capacity(alloc, 1)?);
     items.push(source.copy(alloc)?)?;
-    made.base.srcs.items = items;
+    made.base.srcs.put_items(alloc, items)?;
     Record::new(alloc, made)
 }
 
@@ -78,7 +78,7 @@ fn by_source<'m>(
     ensures { IfOk result (λ variants. variants ≡ by_number (variant_of_source own.now) 1 sources.now) }
 {
     let mut bare = own.to_props(alloc)?;
-    bare.base.srcs.items = Seq::new(Vec::new(alloc));
+    bare.base.srcs.put_items(alloc, Seq::new(Vec::new(alloc)))?;
     let mut variants = Seq::new(Vec::with_capacity(alloc, sources.len())?);
     for (index, source) in sources.iter().enumerate() {
         let variation = Variation::PerSource(index as u64 + 1);
@@ -121,7 +121,7 @@ fn source_variants<'m>(
 {
     let own = node.payload.given();
     let split = is_split(item.kind, &own.test_per_src);
-    each_source(alloc, split, &node.payload, own.base.srcs.items.as_slice())
+    each_source(alloc, split, &node.payload, own.base.srcs.items())
 }
 
 impl<'a, 'm> BottomUp<Record<'m>> for PerSource<'a> {

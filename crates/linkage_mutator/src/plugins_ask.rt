@@ -178,7 +178,7 @@ impl<'a, 't> PluginsAsk<'a, 't> {
         ensures { IfOk result (λ asked. asked ≡ plugins_asked self.now item.now node.now) }
     {
         if is_shared(node.vars.get(Axis::Link)) {
-            let items = node.payload.given().plugin_of.items.as_slice();
+            let items = node.payload.given().plugin_of.items();
             self.plugin_requests(alloc, &node.vars, items)
         } else {
             Ok(Seq::new(Vec::new(alloc)))

@@ -49,7 +49,7 @@ pub fn ask(
 ) -> Result<(), OutOfMemory>
     ensures { OnOk result (asked.new ≡ asked.old ++ requests kind want list.now.items) }
 {
-    for item in list.items.as_slice() {
+    for item in list.items() {
         asked.push(request(alloc, kind, want, item)?)?;
     }
     Ok(())

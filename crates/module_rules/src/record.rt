@@ -78,8 +78,7 @@ fn add_pic(alloc: Global, props: &mut Props) -> Result<(), OutOfMemory>
     props
         .base
         .cflags
-        .items
-        .push(Text::from_str(alloc, "-fPIC")?)?;
+        .push(alloc, Text::from_str(alloc, "-fPIC")?)?;
     Ok(())
 }
 
@@ -159,7 +158,7 @@ impl<'m> Record<'m> {
     pub fn cflags(&self) -> (&[Text], bool)
         ensures { result.0.now ++ pic_if result.1 ≡ self.now.base.cflags.items }
     {
-        (self.given.props().base.cflags.items.as_slice(), self.pic)
+        (self.given.props().base.cflags.items(), self.pic)
     }
 
     pub fn level(&self) -> u32

@@ -151,13 +151,16 @@ fn done(alloc: Global, props: Props) -> Result<Arc<Split<Record<'static>>>, OutO
 fn app(alloc: Global) -> Result<Props, OutOfMemory> {
     let mut own = Props::empty(alloc);
     let base = &mut own.base;
-    base.local_include_dirs.items.push(path(alloc, "local")?)?;
-    base.export_include_dirs.items.push(path(alloc, "own")?)?;
-    base.include_dirs.items.push(path(alloc, "other")?)?;
-    base.export_static_lib_headers.items.push(Item {
-        text: Text::from_str(alloc, "b")?,
-        at: PLACE,
-    })?;
+    base.local_include_dirs.push(alloc, path(alloc, "local")?)?;
+    base.export_include_dirs.push(alloc, path(alloc, "own")?)?;
+    base.include_dirs.push(alloc, path(alloc, "other")?)?;
+    base.export_static_lib_headers.push(
+        alloc,
+        Item {
+            text: Text::from_str(alloc, "b")?,
+            at: PLACE,
+        },
+    )?;
     Ok(own)
 }
 
@@ -437,8 +440,8 @@ fn flags_in(alloc: Global, world: &World, asan: [bool; 4]) -> Result<(usize, usi
         Ok(record) => {
             let props = record.to_props(alloc)?;
             Ok((
-                props.base.cflags.items.as_slice().len(),
-                props.base.ldflags.items.as_slice().len(),
+                props.base.cflags.items().len(),
+                props.base.ldflags.items().len(),
             ))
         }
         Err(_) => Err(OutOfMemory),

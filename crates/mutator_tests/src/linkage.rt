@@ -151,7 +151,7 @@ fn given(value: bool) -> Option<Given<bool>> {
 
 fn flags(alloc: Global, flag: &str) -> Result<GroupProps, OutOfMemory> {
     let mut group = GroupProps::empty(alloc);
-    group.cflags.items.push(Text::from_str(alloc, flag)?)?;
+    group.cflags.push(alloc, Text::from_str(alloc, flag)?)?;
     Ok(group)
 }
 
@@ -162,15 +162,15 @@ fn sample(alloc: Global, enabled: bool) -> Result<Props, OutOfMemory> {
     let base = &mut own.base;
     for (named, text) in [(false, "x.c"), (true, "files")] {
         let item = item(alloc, text)?;
-        base.srcs.items.push(Source { named, item })?;
+        base.srcs.push(alloc, Source { named, item })?;
     }
-    base.whole_static_libs.items.push(item(alloc, "w")?)?;
-    base.static_libs.items.push(item(alloc, "s")?)?;
-    base.shared_libs.items.push(item(alloc, "h")?)?;
-    base.header_libs.items.push(item(alloc, "d")?)?;
-    own.data_bins.items.push(item(alloc, "b")?)?;
+    base.whole_static_libs.push(alloc, item(alloc, "w")?)?;
+    base.static_libs.push(alloc, item(alloc, "s")?)?;
+    base.shared_libs.push(alloc, item(alloc, "h")?)?;
+    base.header_libs.push(alloc, item(alloc, "d")?)?;
+    own.data_bins.push(alloc, item(alloc, "b")?)?;
     for host in ["app", "host", "test", "no"] {
-        own.plugin_of.items.push(item(alloc, host)?)?;
+        own.plugin_of.push(alloc, item(alloc, host)?)?;
     }
     own.test_per_src = given(true);
     let mut shared = flags(alloc, "-h")?;
@@ -233,10 +233,10 @@ fn spelled(alloc: Global, variation: Variation) -> Result<String, OutOfMemory> {
 
 /// The flags of a record together, and its sources.
 fn add_record(alloc: Global, out: &mut String, own: &Props) -> Result<(), OutOfMemory> {
-    for flag in own.base.cflags.items.as_slice() {
+    for flag in own.base.cflags.items() {
         out.push_str(flag.as_str())?;
     }
-    for source in own.base.srcs.items.as_slice() {
+    for source in own.base.srcs.items() {
         let text = source.item.text.as_str();
         out.push_str(format!(in alloc; " {text}")?.as_str())?;
     }

@@ -83,14 +83,14 @@ fn named(alloc: Global, name: &str, kind: ModuleKind, props: Props) -> Result<Mo
 /// A library that takes over the defaults.
 fn library(alloc: Global) -> Result<Module, OutOfMemory> {
     let mut library = Props::empty(alloc);
-    library.defaults.items.push(item(alloc, "d")?)?;
+    library.defaults.push(alloc, item(alloc, "d")?)?;
     named(alloc, "l", ModuleKind::Library, library)
 }
 
 /// A binary with the sanitizer, linked with the static library.
 fn binary(alloc: Global) -> Result<Module, OutOfMemory> {
     let mut binary = Props::empty(alloc);
-    binary.base.static_libs.items.push(item(alloc, "s")?)?;
+    binary.base.static_libs.push(alloc, item(alloc, "s")?)?;
     binary.address = Some(Given {
         value: true,
         at: PLACE,

@@ -12,7 +12,7 @@ use std::test::Fail;
 fn sample(alloc: Global) -> Result<Props, OutOfMemory> {
     let mut props = Props::empty(alloc);
     let flag = Text::from_str(alloc, "-Wall")?;
-    props.base.cflags.items.push(flag)?;
+    props.base.cflags.push(alloc, flag)?;
     props.level = 29;
     props.line.push(NodeId(3))?;
     Ok(props)

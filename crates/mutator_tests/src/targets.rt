@@ -58,7 +58,7 @@ fn given<T>(value: T) -> Option<Given<T>> {
 }
 
 fn add_flag(alloc: Global, group: &mut GroupProps, flag: &str) -> Result<(), OutOfMemory> {
-    group.cflags.items.push(Text::from_str(alloc, flag)?)
+    group.cflags.push(alloc, Text::from_str(alloc, flag)?)
 }
 
 /// A group as the record has it, or an empty one.
@@ -163,10 +163,7 @@ fn shown(alloc: Global, made: &Split<Record<'_>>) -> Result<String, OutOfMemory>
     for (variation, record) in made.variants.as_slice() {
         out.push_str(variation_name(alloc, *variation)?.as_str())?;
         out.push_str(":")?;
-        add_flags(
-            &mut out,
-            record.to_props(alloc)?.base.cflags.items.as_slice(),
-        )?;
+        add_flags(&mut out, record.to_props(alloc)?.base.cflags.items())?;
         out.push_str("; ")?;
     }
     Ok(out)

@@ -20,7 +20,8 @@ use Rattle.bp_props.specs.declared.group_id.GroupId.{GroupId}
 use Rattle.bp_props.specs.declared.kind.ModuleKind.{ModuleKind}
 use Rattle.bp_props.specs.declared.listed.Listed.{Listed}
 use Rattle.bp_props.specs.declared.props.Props.{Props}
-use Rattle.output_forms.specs.Texts.{IsShown, IsWritable, HasTexts, HaveTexts, HasSoundTexts}
+use Rattle.build_actions.specs.Writable.{IsWritable}
+use Rattle.output_forms.specs.Texts.{IsShown, HasTexts, HaveTexts, HasSoundTexts}
 use Rattle.output_forms.proofs.Each.{IfThere, all_filtered}
 
 pub empty_texts : HasTexts group_empty

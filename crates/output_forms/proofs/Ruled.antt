@@ -47,7 +47,8 @@ use Rattle.target_mutators.specs.Targets.{groups_of}
 use Rattle.linkage_mutator.specs.Links.{links_of, has_link, pic_if_linked, link_variants}
 use Rattle.linkage_mutator.specs.Sources.{with_sources, variant_of_source, each_source, is_split, source_variants}
 use Rattle.build_actions.specs.Variants.{stands_on}
-use Rattle.output_forms.specs.Texts.{IsShown, IsWritable, HasTexts, HasSoundTexts}
+use Rattle.build_actions.specs.Writable.{IsWritable}
+use Rattle.output_forms.specs.Texts.{IsShown, HasTexts, HasSoundTexts}
 use Rattle.output_forms.specs.Forms.{HasForm}
 use Rattle.output_forms.proofs.Each.{IfThere, if_cond}
 use Rattle.output_forms.proofs.Records.{appended, followed, over, restricted, group_texts}

@@ -12,7 +12,8 @@ use Rattle.bp_props.specs.declared.props.Props.{Props}
 use Rattle.bp_props.specs.declared.source.Source.{Source}
 use Rattle.property_values.specs.Records.{group_truth, group_flags, group_names, group_sources, group_dirs}
 use Rattle.property_values.specs.Records.{props_truth, props_names, props_word, props_multi, props_level}
-use Rattle.output_forms.specs.Texts.{IsShown, AreShown, IsWritable, HasTexts, HaveTexts, HasSoundTexts}
+use Rattle.build_actions.specs.Writable.{IsWritable}
+use Rattle.output_forms.specs.Texts.{IsShown, AreShown, HasTexts, HaveTexts, HasSoundTexts}
 
 -- a group whose texts can be written, part by part
 with_texts : {g : GroupProps} → AllByRecursion IsWritable g.srcs.items → AreShown g.cflags.items

@@ -5,12 +5,10 @@ use Rattle.std.specs.List.{AllByRecursion}
 use Rattle.bp_faults.proofs.Lists.{all_append}
 use Rattle.bp_props.specs.declared.module.Module.{Module}
 use Rattle.bp_props.specs.declared.props.Props.{Props}
-use Rattle.bp_props.specs.declared.source.Source.{Source}
 use Rattle.build_actions.specs.Laws.{AreDistinct, AreTold}
 use Rattle.build_actions.specs.Variants.{AreOnAxes}
-use Rattle.build_actions.specs.Writable.{AreWritable, has_shown_bytes, flag_words}
+use Rattle.build_actions.specs.Writable.{AreWritable, IsWritable, has_shown_bytes, flag_words}
 use Rattle.graph_nodes.specs.declared.graph.Node.{Node}
-use Rattle.ninja_file.specs.Names.{is_path}
 use Rattle.output_forms.specs.Texts.{IsShown, HasSoundTexts}
 use Rattle.output_forms.specs.Forms.{HaveForms}
 use Rattle.output_forms.specs.Modules.{AreFormed}
@@ -21,9 +19,7 @@ axes [] h = tt
 axes (x ∷ xs) h = (h.0.axes, axes xs h.1)
 
 sources : (nodes : List (Node Props)) → HaveForms nodes
-    → AllByRecursion
-    (λ (x : Node Props).
-    AllByRecursion (λ (s : Source). s.named ≡ false → IsTrue (is_path s.item.text)) x.payload.base.srcs.items) nodes
+    → AllByRecursion (λ (x : Node Props). AllByRecursion IsWritable x.payload.base.srcs.items) nodes
 sources [] h = tt
 sources (x ∷ xs) h = (h.0.texts.base.srcs, sources xs h.1)
 

@@ -43,7 +43,8 @@ use Rattle.property_values.specs.Fits.{source_by}
 use Rattle.property_values.specs.Fits.{source_in, multi_in, is_number, in_levels, level_or, base_of, fit_of}
 use Rattle.property_values.specs.Paths.{is_refused, components, path_below}
 use Rattle.property_values.specs.Records.{given_scalar, listed_items, group_set, props_set}
-use Rattle.output_forms.specs.Texts.{IsShown, AreShown, IsWritable, HasTexts, HaveTexts, HasSoundTexts}
+use Rattle.build_actions.specs.Writable.{IsWritable}
+use Rattle.output_forms.specs.Texts.{IsShown, AreShown, HasTexts, HaveTexts, HasSoundTexts}
 use Rattle.output_forms.proofs.Bytes.{IsClear, none_of, bytes_shown, clear_shown, placed_clear, placed_path, item_clear}
 use Rattle.output_forms.proofs.Each.{IfThere, if_cond}
 use Rattle.output_forms.proofs.Outs.{IfResult}

@@ -1,12 +1,12 @@
 -- The texts of a record, as a file for Ninja can hold them (Ninja manual, "Ninja file reference": a path or a value
 -- ends with its line).
-use Rattle.std.specs.Prelude.{◌≡◌, ℕ, false, List, IsTrue}
+use Rattle.std.specs.Prelude.{ℕ, List, IsTrue}
 use Rattle.std.specs.List.{AllByRecursion, list_all}
 use Rattle.bp_props.specs.declared.group.GroupProps.{GroupProps}
 use Rattle.bp_props.specs.declared.group_id.GroupId.{GroupId}
 use Rattle.bp_props.specs.declared.props.Props.{Props}
-use Rattle.bp_props.specs.declared.source.Source.{Source}
-use Rattle.ninja_file.specs.Names.{is_shown, is_path}
+use Rattle.build_actions.specs.Writable.{IsWritable}
+use Rattle.ninja_file.specs.Names.{is_shown}
 
 -- A text has no control character.
 abbrev pub IsShown : List ℕ → Type 0
@@ -15,10 +15,6 @@ IsShown text = IsTrue (list_all is_shown text)
 -- Each of some flags or directories is such a text.
 abbrev pub AreShown : List (List ℕ) → Type 0
 AreShown texts = AllByRecursion IsShown texts
-
--- A source that is a path can be a path of Ninja. One that names a module isn't written.
-abbrev pub IsWritable : Source → Type 0
-IsWritable s = s.named ≡ false → IsTrue (is_path s.item.text)
 
 -- The sources, flags and directories of a group can be written.
 pub record HasTexts (g : GroupProps) : Type 0 where

@@ -14,11 +14,18 @@ use bp_values::Entry;
 use property_values::{Fit, entries, fitted, set_group};
 use std::alloc::Global;
 
-fn put_group(props: &mut GroupProps, effect: Option<Field>, at: Place, fit: Fit)
-    ensures { props.new ≡ group_with_fit effect at fit props.old }
+fn put_group(
+    alloc: Global,
+    props: &mut GroupProps,
+    effect: Option<Field>,
+    at: Place,
+    fit: Fit,
+) -> Result<(), OutOfMemory>
+    ensures { OnOk result (props.new ≡ group_with_fit effect at fit props.old) }
 {
-    if let Some(field) = effect {
-        set_group(props, field, at, fit);
+    match effect {
+        Some(field) => set_group(alloc, props, field, at, fit),
+        None => Ok(()),
     }
 }
 
@@ -34,7 +41,7 @@ fn group_entry(
 {
     let row = row_of(alloc, &group(), prefix, entry)?;
     let fit = fitted(alloc, dir, prefix, row, entry)?;
-    put_group(props, row.effect, entry.at, fit);
+    put_group(alloc, props, row.effect, entry.at, fit)?;
     Ok(())
 }
 

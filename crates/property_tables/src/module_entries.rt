@@ -1,4 +1,4 @@
-ghost use Rattle.std.specs.Prelude.{◌≡◌, map, Some};
+ghost use Rattle.std.specs.Prelude.{◌≡◌, map, OnOk, Some};
 ghost use Rattle.bp_props.specs.declared.field.Field.TheVariants.{Group};
 ghost use Rattle.property_values.specs.declared.row.PropKind.TheVariants as K;
 ghost use Rattle.bp_faults.specs.Answers.{Answers, Leaves};
@@ -12,17 +12,24 @@ use crate::group_entries::{add_groups, group_of};
 use crate::lookup::{module_row_of, row_of, within};
 use crate::tables::{arch, multilib, sanitize, target};
 use crate::{LoadError, PropKind, PropTable, Row};
-use bp_faults::{Path, Place};
+use bp_faults::{OutOfMemory, Path, Place};
 use bp_props::{Field, GroupId, ModuleKind, Props};
 use bp_values::Entry;
 use property_values::{Fit, entries, fitted, set_props};
 use std::alloc::Global;
 
-fn put_props(props: &mut Props, effect: Option<Field>, at: Place, fit: Fit)
-    ensures { props.new ≡ props_with_fit effect at fit props.old }
+fn put_props(
+    alloc: Global,
+    props: &mut Props,
+    effect: Option<Field>,
+    at: Place,
+    fit: Fit,
+) -> Result<(), OutOfMemory>
+    ensures { OnOk result (props.new ≡ props_with_fit effect at fit props.old) }
 {
-    if let Some(field) = effect {
-        set_props(props, field, at, fit);
+    match effect {
+        Some(field) => set_props(alloc, props, field, at, fit),
+        None => Ok(()),
     }
 }
 
@@ -38,7 +45,7 @@ fn sanitize_entry(
 {
     let row = row_of(alloc, &sanitize(), prefix, entry)?;
     let fit = fitted(alloc, dir, prefix, row, entry)?;
-    put_props(props, row.effect, entry.at, fit);
+    put_props(alloc, props, row.effect, entry.at, fit)?;
     Ok(())
 }
 
@@ -140,7 +147,7 @@ fn add_entry(
         PropKind::Group => add_map(alloc, dir, row.effect, props, entry),
         _ => {
             let fit = fitted(alloc, dir, "", row, entry)?;
-            put_props(props, row.effect, entry.at, fit);
+            put_props(alloc, props, row.effect, entry.at, fit)?;
             Ok(())
         }
     }

@@ -1,16 +1,17 @@
 //! The fields of a group and of a record are set here, each under its own name.
-ghost use Rattle.std.specs.Prelude.{◌≡◌};
+ghost use Rattle.std.specs.Prelude.{◌≡◌, IfOk, OnOk};
 ghost use Rattle.property_values.specs.Records.{group_truth, group_flags, group_names, group_sources, group_dirs};
 ghost use Rattle.property_values.specs.Records.{group_set, given_scalar as given_at, listed_items as listed_at};
 ghost use Rattle.property_values.specs.Records.{props_truth, props_names, props_word, props_multi, props_level};
 ghost use Rattle.property_values.specs.Records.{props_set};
 
 use crate::fit::Fit;
-use bp_faults::{Item, Path, Place, Seq, Text};
+use bp_faults::{Item, OutOfMemory, Path, Place, Seq, Text};
 use bp_props::{
     Field, Given, GroupProps, Listed, Multi, Props, Source, group_dirs, group_flags, group_names,
     group_sources, group_truths, module_names, module_truths,
 };
+use std::alloc::Global;
 
 /// Sets the field that is meant, or does what is left to do where it isn't in the table.
 macro_rules! set {
@@ -30,13 +31,10 @@ fn given<T>(at: Place, value: T) -> Option<Given<T>>
 }
 
 /// A list that is set at an entry.
-fn listed<T>(at: Place, items: Seq<T>) -> Listed<T>
-    ensures { result ≡ listed_at at items }
+fn listed<T: Drop>(alloc: Global, at: Place, items: Seq<T>) -> Result<Listed<T>, OutOfMemory>
+    ensures { IfOk result (λ list. list ≡ listed_at at items) }
 {
-    Listed {
-        items,
-        at: Some(at),
-    }
+    Listed::new(alloc, items, Some(at))
 }
 
 fn set_truth(group: &mut GroupProps, field: Field, truth: Option<Given<bool>>)
@@ -45,41 +43,82 @@ fn set_truth(group: &mut GroupProps, field: Field, truth: Option<Given<bool>>)
     group_truths!(set group, field, truth, {})
 }
 
-fn set_names(group: &mut GroupProps, field: Field, names: Listed<Item>)
-    ensures { group.new ≡ group_names field names group.old }
+fn set_names(
+    alloc: Global,
+    group: &mut GroupProps,
+    field: Field,
+    at: Place,
+    names: Seq<Item>,
+) -> Result<(), OutOfMemory>
+    ensures { OnOk result (group.new ≡ group_names field (listed_at at names) group.old) }
 {
-    group_names!(set group, field, names, {})
+    let names = listed(alloc, at, names)?;
+    group_names!(set group, field, names, {});
+    Ok(())
 }
 
-fn set_flags(group: &mut GroupProps, field: Field, flags: Listed<Text>)
-    ensures { group.new ≡ group_flags field flags group.old }
+fn set_flags(
+    alloc: Global,
+    group: &mut GroupProps,
+    field: Field,
+    at: Place,
+    flags: Seq<Text>,
+) -> Result<(), OutOfMemory>
+    ensures { OnOk result (group.new ≡ group_flags field (listed_at at flags) group.old) }
 {
-    group_flags!(set group, field, flags, {})
+    let flags = listed(alloc, at, flags)?;
+    group_flags!(set group, field, flags, {});
+    Ok(())
 }
 
-fn set_sources(group: &mut GroupProps, field: Field, sources: Listed<Source>)
-    ensures { group.new ≡ group_sources field sources group.old }
+fn set_sources(
+    alloc: Global,
+    group: &mut GroupProps,
+    field: Field,
+    at: Place,
+    sources: Seq<Source>,
+) -> Result<(), OutOfMemory>
+    ensures { OnOk result (group.new ≡ group_sources field (listed_at at sources) group.old) }
 {
-    group_sources!(set group, field, sources, {})
+    let sources = listed(alloc, at, sources)?;
+    group_sources!(set group, field, sources, {});
+    Ok(())
 }
 
-fn set_dirs(group: &mut GroupProps, field: Field, dirs: Listed<Path>)
-    ensures { group.new ≡ group_dirs field dirs group.old }
+fn set_dirs(
+    alloc: Global,
+    group: &mut GroupProps,
+    field: Field,
+    at: Place,
+    dirs: Seq<Path>,
+) -> Result<(), OutOfMemory>
+    ensures { OnOk result (group.new ≡ group_dirs field (listed_at at dirs) group.old) }
 {
-    group_dirs!(set group, field, dirs, {})
+    let dirs = listed(alloc, at, dirs)?;
+    group_dirs!(set group, field, dirs, {});
+    Ok(())
 }
 
 /// Sets a field of a group.
-pub fn set_group(group: &mut GroupProps, field: Field, at: Place, fit: Fit)
-    ensures { group.new ≡ group_set field at fit group.old }
+pub fn set_group(
+    alloc: Global,
+    group: &mut GroupProps,
+    field: Field,
+    at: Place,
+    fit: Fit,
+) -> Result<(), OutOfMemory>
+    ensures { OnOk result (group.new ≡ group_set field at fit group.old) }
 {
     match fit {
-        Fit::Truth(truth) => set_truth(group, field, given(at, truth)),
-        Fit::Flags(flags) => set_flags(group, field, listed(at, flags)),
-        Fit::Names(names) => set_names(group, field, listed(at, names)),
-        Fit::Sources(sources) => set_sources(group, field, listed(at, sources)),
-        Fit::Dirs(dirs) => set_dirs(group, field, listed(at, dirs)),
-        Fit::Word(_) | Fit::Multi(_) | Fit::Level(_) | Fit::Unset => {}
+        Fit::Truth(truth) => {
+            set_truth(group, field, given(at, truth));
+            Ok(())
+        }
+        Fit::Flags(flags) => set_flags(alloc, group, field, at, flags),
+        Fit::Names(names) => set_names(alloc, group, field, at, names),
+        Fit::Sources(sources) => set_sources(alloc, group, field, at, sources),
+        Fit::Dirs(dirs) => set_dirs(alloc, group, field, at, dirs),
+        Fit::Word(_) | Fit::Multi(_) | Fit::Level(_) | Fit::Unset => Ok(()),
     }
 }
 
@@ -89,14 +128,26 @@ fn set_props_truth(props: &mut Props, field: Field, truth: Option<Given<bool>>)
     module_truths!(set props, field, truth, set_truth(&mut props.base, field, truth))
 }
 
-fn set_props_names(props: &mut Props, field: Field, names: Listed<Item>)
-    ensures { props.new ≡ props_names field names props.old }
+fn set_props_names(
+    alloc: Global,
+    props: &mut Props,
+    field: Field,
+    at: Place,
+    names: Seq<Item>,
+) -> Result<(), OutOfMemory>
+    ensures { OnOk result (props.new ≡ props_names field (listed_at at names) props.old) }
 {
     if field == Field::Defaults {
-        props.defaults = names;
+        props.defaults = listed(alloc, at, names)?;
     } else {
-        module_names!(set props, field, names, set_names(&mut props.base, field, names))
+        module_names!(
+            set props,
+            field,
+            listed(alloc, at, names)?,
+            set_names(alloc, &mut props.base, field, at, names)?
+        )
     }
+    Ok(())
 }
 
 fn set_props_word(props: &mut Props, field: Field, word: Option<Given<Text>>)
@@ -124,15 +175,22 @@ fn set_props_level(props: &mut Props, field: Field, level: Option<Given<u32>>)
 }
 
 /// Sets a field of a record.
-pub fn set_props(props: &mut Props, field: Field, at: Place, fit: Fit)
-    ensures { props.new ≡ props_set field at fit props.old }
+pub fn set_props(
+    alloc: Global,
+    props: &mut Props,
+    field: Field,
+    at: Place,
+    fit: Fit,
+) -> Result<(), OutOfMemory>
+    ensures { OnOk result (props.new ≡ props_set field at fit props.old) }
 {
     match fit {
         Fit::Truth(truth) => set_props_truth(props, field, given(at, truth)),
         Fit::Word(word) => set_props_word(props, field, given(at, word)),
-        Fit::Names(names) => set_props_names(props, field, listed(at, names)),
+        Fit::Names(names) => set_props_names(alloc, props, field, at, names)?,
         Fit::Multi(multi) => set_props_multi(props, field, given(at, multi)),
         Fit::Level(level) => set_props_level(props, field, given(at, level)),
-        other => set_group(&mut props.base, field, at, other),
+        other => set_group(alloc, &mut props.base, field, at, other)?,
     }
+    Ok(())
 }

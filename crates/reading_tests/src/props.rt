@@ -1,5 +1,5 @@
-use bp_faults::{OutOfMemory, Payload, Place, Text};
-use bp_props::{Given, GroupId, GroupProps, Listed, ModuleKind, Props};
+use bp_faults::{NodeId, OutOfMemory, Path, Payload, Place, Same, Seq, Text};
+use bp_props::{Given, GroupId, GroupProps, Listed, Module, ModuleKind, Props};
 use std::alloc::{AllocError, Global};
 use std::test::Fail;
 
@@ -12,10 +12,9 @@ fn place(line: u32) -> Place {
 }
 
 fn flags(alloc: Global, word: &str, line: u32) -> Result<Listed<Text>, OutOfMemory> {
-    let mut flags = Listed::empty(alloc);
-    flags.items.push(Text::from_str(alloc, word)?)?;
-    flags.at = Some(place(line));
-    Ok(flags)
+    let mut flags = Seq::new(Vec::new(alloc));
+    flags.push(Text::from_str(alloc, word)?)?;
+    Listed::new(alloc, flags, Some(place(line)))
 }
 
 fn group(alloc: Global, word: &str, line: u32) -> Result<GroupProps, OutOfMemory> {
@@ -49,7 +48,7 @@ fn record(alloc: Global, word: &str, line: u32, id: GroupId) -> Result<Props, Ou
 
 /// The flags of a group, and the line that says whether it is enabled.
 fn show_group(out: &mut String, group: &GroupProps, alloc: Global) -> Result<(), AllocError> {
-    for flag in group.cflags.items.as_slice() {
+    for flag in group.cflags.items() {
         out.push_str(flag.as_str())?;
         out.push_str(" ")?;
     }
@@ -158,7 +157,31 @@ fn many_records_follow(rt: HostRuntime) -> Result<(), Fail> {
     }
     let items = props
         .group(GroupId::ArchArm)
-        .map(|group| group.cflags.items.as_slice().len());
+        .map(|group| group.cflags.items().len());
     assert_eq!(rt; items, Some(1_000));
+    Ok(())
+}
+
+fn module(alloc: Global, props: &Props) -> Result<Module, OutOfMemory> {
+    Ok(Module {
+        name: Text::from_str(alloc, "a")?,
+        kind: ModuleKind::Library,
+        dir: Path::root(alloc),
+        at: place(1),
+        props: props.copy(alloc)?,
+    })
+}
+
+/// A copy is the same, and one more library is a difference.
+#[test]
+fn records_are_compared(rt: HostRuntime) -> Result<(), Fail> {
+    let alloc = rt.alloc();
+    let record = first(alloc)?;
+    let mut other = record.copy(alloc)?;
+    let same = module(alloc, &record)?.same(&module(alloc, &other)?);
+    assert!(rt; same);
+    other.slibs.push(NodeId(3))?;
+    let same = module(alloc, &record)?.same(&module(alloc, &other)?);
+    assert!(rt; !same);
     Ok(())
 }

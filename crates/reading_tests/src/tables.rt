@@ -315,7 +315,7 @@ fn modules_are_typed_or_refused(rt: HostRuntime) -> Result<(), Fail> {
 fn shown(alloc: Global, module: &Module, group: GroupId) -> Result<String, OutOfMemory> {
     let mut shown = String::from_str(alloc, module.name.as_str())?;
     if let Some(group) = module.props.group(group) {
-        for source in group.srcs.items.as_slice() {
+        for source in group.srcs.items() {
             shown.push_str(" ")?;
             shown.push_str(source.item.text.as_str())?;
         }

@@ -1,7 +1,7 @@
 //! The modules and the graph of rows.
 use crate::rows::{Flags, Has, Row};
 use bp_faults::{Item, ModuleId, NodeId, OutOfMemory, Path, Place, Seq, Target, Text};
-use bp_props::{GroupProps, Module, Props, Source};
+use bp_props::{GroupProps, Listed, Module, Props, Source};
 use module_graph::{Axis, Edge, EdgeKind, Graph, Node, Variation, Variations};
 use module_rules::{Record, with_records};
 use std::alloc::Global;
@@ -32,18 +32,18 @@ fn add_sources(alloc: Global, props: &mut Props, words: &[&str]) -> Result<(), O
     let mut line = 0u32;
     for word in words {
         line = line.wrapping_add(1);
-        props.base.srcs.items.push(source(alloc, word, line)?)?;
+        props.base.srcs.push(alloc, source(alloc, word, line)?)?;
     }
     Ok(())
 }
 
-fn list(base: &mut GroupProps, flags: Flags) -> &mut Seq<Text> {
+fn list(base: &mut GroupProps, flags: Flags) -> &mut Listed<Text> {
     match flags {
-        Flags::Every => &mut base.cflags.items,
-        Flags::C => &mut base.conlyflags.items,
-        Flags::Cpp => &mut base.cppflags.items,
-        Flags::Asm => &mut base.asflags.items,
-        Flags::Link => &mut base.ldflags.items,
+        Flags::Every => &mut base.cflags,
+        Flags::C => &mut base.conlyflags,
+        Flags::Cpp => &mut base.cppflags,
+        Flags::Asm => &mut base.asflags,
+        Flags::Link => &mut base.ldflags,
     }
 }
 
@@ -58,7 +58,7 @@ fn give(alloc: Global, node: &mut Node<Props>, has: Has) -> Result<(), OutOfMemo
     match has {
         Has::Variation(axis, variation) => node.vars.set(axis, variation),
         Has::Flag(flags, flag) => {
-            list(&mut node.payload.base, flags).push(Text::from_str(alloc, flag)?)?;
+            list(&mut node.payload.base, flags).push(alloc, Text::from_str(alloc, flag)?)?;
         }
         Has::Include(directory) => add_include(alloc, &mut node.payload, directory)?,
         Has::Level(level) => node.payload.level = level,

@@ -1,6 +1,6 @@
 use Rattle.bp_props.specs.Group.{group_merged}
 use Rattle.bp_props.specs.Undo.{group_cut}
-use Rattle.std.proofs.Common.{ap, ◌∙◌}
+use Rattle.std.proofs.Common.{◌∙◌}
 use Rattle.bp_props.proofs.Indices.{set_changed, changed_back}
 use Rattle.bp_props.proofs.pairs.merge_at.Goals as goal
 
@@ -12,4 +12,4 @@ returns-clause-ok c =
 pub returns-clause-back : goal.returns-clause-back
 returns-clause-back c =
     changed_back _ _ _ _ (group_cut c.mark-mark.result) c.requires c.index_mut.ensures.value
-    (ap (λ mark. group_cut mark c.merge.new.self) c.mark-mark.ensures ∙ c.in_ok-merge.ensures.begins)
+    (c.mark-mark.ensures c.merge.new.self ∙ c.in_ok-merge.ensures.begins)

@@ -18,11 +18,11 @@ returns c =
     (base.export_include_dirs.items ++ base.include_dirs.items)
     (c.in_ok-note_all.ensures
     ∙ ap (λ (xs : List (List ℕ)). if_short (insert_all bytes_eq first xs))
-    (c.as_slice.ensures ∙ ap (λ (p : Props). p.base.local_include_dirs.items) c.given.ensures))
+    (c.items.ensures ∙ ap (λ (p : Props). p.base.local_include_dirs.items) c.given.ensures))
     (short_behind bytes_eq second third last base.export_include_dirs.items base.include_dirs.items
     (c.in_ok-note_all-2.ensures
     ∙ ap (λ (xs : List (List ℕ)). if_short (insert_all bytes_eq second xs))
-    (c.as_slice-2.ensures ∙ ap (λ (p : Props). p.base.export_include_dirs.items) c.given.ensures))
+    (c.items-2.ensures ∙ ap (λ (p : Props). p.base.export_include_dirs.items) c.given.ensures))
     (c.in_ok-note_all-3.ensures
     ∙ ap (λ (xs : List (List ℕ)). if_short (insert_all bytes_eq third xs))
-    (c.as_slice-3.ensures ∙ ap (λ (p : Props). p.base.include_dirs.items) c.given.ensures)))
+    (c.items-3.ensures ∙ ap (λ (p : Props). p.base.include_dirs.items) c.given.ensures)))
