@@ -13,6 +13,7 @@ use crate::course::run_mutators;
 use crate::journal::note;
 use crate::passes::ACTIONS;
 use crate::ran::Ran;
+use crate::rest::records_of;
 use crate::workshop::Workshop;
 use bp_faults::{NodeId, Refusal};
 use bp_ports::Gate;
@@ -83,10 +84,11 @@ pub fn run_all<'m, R: Threads + Sync, G: Gate + Sync>(
     let mut sizes = Vec::new(alloc);
     let graph = run_mutators(rt, alloc, shop, &mut journal, &mut sizes)?;
     let made = run_actions(rt, alloc, shop, &mut journal, &graph)?;
+    let records = records_of(alloc, graph)?;
     Ok(Ran {
         made,
         journal,
         sizes,
-        graph,
+        records,
     })
 }

@@ -78,7 +78,7 @@ pub fn generate_with_rest<'m, R: Threads + Sync, G: Gate + Sync>(
             sizes: Seq::new(ran.sizes),
         },
         rest: PassRest {
-            graph: ran.graph,
+            records: ran.records,
             file,
         },
     })

@@ -74,7 +74,7 @@ fn replay_lines_with_rest<'m, R: Threads + Sync>(
     Ok(Replayed {
         ninja: Seq::new(text),
         rest: PassRest {
-            graph: ran.graph,
+            records: ran.records,
             file: ninja,
         },
     })
