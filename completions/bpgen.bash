@@ -4,7 +4,11 @@ _bpgen() {
     local command=${COMP_WORDS[1]} current=${COMP_WORDS[COMP_CWORD]} before=${COMP_WORDS[COMP_CWORD-1]}
     COMPREPLY=()
     if [ "$COMP_CWORD" -eq 1 ]; then
-        COMPREPLY=($(compgen -W "build replay graph synth fmt edit --help --version" -- "$current"))
+        COMPREPLY=($(compgen -W "build replay graph synth fmt edit help --help --version" -- "$current"))
+        return
+    fi
+    if [ "$COMP_CWORD" -eq 2 ] && [ "$command" = help ]; then
+        COMPREPLY=($(compgen -W "build replay graph synth fmt edit" -- "$current"))
         return
     fi
     # Readline takes `--out=x` for three words.

@@ -1,11 +1,14 @@
 #!/usr/bin/env python3
-"""Writes the manual page and the completions of bpgen from its help text. It is no part of the gate.
+"""Writes the manual pages and the completions of bpgen, fault_view and graph_picture from their help texts. It is no
+part of the gate.
 
     tools/words.py [--check]
 
-The help text is the constant HELP of crates/command_words/src/help.rt, which a test of that crate holds against the table
-of options. The files are docs/bpgen.1, and bpgen.bash, _bpgen (zsh) and bpgen.fish under completions/. With --check
-nothing is written: it prints the files that aren't as they would be written, and ends with status 1 where there is one.
+The help text of bpgen is the constant HELP of crates/command_words/src/help.rt, whose parts stand there one after
+another; a test holds it against the table of options. Those of the other two are in their crates. For bpgen the files are
+docs/bpgen.1, and bpgen.bash, _bpgen (zsh) and bpgen.fish under completions/, and for the others those of their names.
+With --check nothing is written: it prints the files that aren't as they would be written, and ends with status 1 where
+there is one.
 """
 import os
 import re
@@ -14,10 +17,13 @@ import sys
 TOP = os.path.dirname(os.path.dirname(os.path.abspath(__file__)))
 SOURCE = "crates/command_words/src/help.rt"
 PURPOSE = "write build.ninja from the Android.bp files of a source tree"
+BESIDE = {"fault_view": "show the faults of bpgen where they are",
+          "graph_picture": "draw a graph of modules for Graphviz"}
 LIST, FILE, NAMES, OTHER = range(4)
 KINDS = {"TARGETS": LIST, "MUTATOR": NAMES, "LIST": FILE, "OUT": FILE, "PATH": FILE, "FILE": FILE}
 OPTION = re.compile(r" ([ \[])(?:-(\w), |    )--([a-z]+) ([A-Z]+)\]? +(.*)")
 COMMAND = re.compile(r"([a-z]+): (.*)")
+WORD = re.compile(r" \[(?:-(\w) )?([A-Z]+)\] +(.*)")
 
 
 class Option:
@@ -51,7 +57,7 @@ class Help:
             else:
                 paragraphs.append(" ".join(lines))
         self.about, self.usage = paragraphs[0], paragraphs[1]
-        self.rules, self.statuses = paragraphs[3], paragraphs[6]
+        self.rules, self.statuses, self.asking = paragraphs[3], paragraphs[6], paragraphs[7]
         self.names = {"TARGETS": names_of(paragraphs[4]), "MUTATOR": names_of(paragraphs[5])}
         self.lists = paragraphs[4:6]
 
@@ -71,14 +77,34 @@ def names_of(paragraph):
     return [name.strip(" .") for name in paragraph.split(":", 1)[1].split(",")]
 
 
+class Program:
+    """The help text of a program that has no commands: its words in order, each with its option, if it has one."""
+
+    def __init__(self, name, text):
+        self.name = name
+        self.about, self.usage, words, self.rule, statuses, _ = [block.split("\n") for block in text.strip().split("\n\n")]
+        self.words = [WORD.fullmatch(line).groups() for line in words[:-1]]
+        self.example = words[-1].strip()
+        self.statuses = " ".join(statuses)
+
+
+def source_text(path):
+    with open(os.path.join(TOP, path), encoding="utf-8") as source:
+        return source.read()
+
+
 def help_text():
-    with open(os.path.join(TOP, SOURCE), encoding="utf-8") as source:
-        return re.search(r'HELP: &str = "\\\n(.*?)";', source.read(), re.S).group(1)
+    """The parts of the help text of bpgen, with a blank line between them."""
+    parts = source_text(SOURCE).split("macro_rules! joined", 1)[0]
+    return "\n".join(re.findall(r'"\\\n(.*?)"', parts, re.S))
 
 
-def version():
-    with open(os.path.join(TOP, SOURCE), encoding="utf-8") as source:
-        return re.search(r'VERSION: &str = "(.*)\\n";', source.read()).group(1)
+def help_beside(name):
+    return re.search(r'HELP: &str = "\\\n(.*?)";', source_text(f"crates/{name}/src/help.rt"), re.S).group(1)
+
+
+def version(source=SOURCE):
+    return re.search(r'VERSION: &str = "(.*)\\n";', source_text(source)).group(1)
 
 
 # ---- the manual page
@@ -104,8 +130,9 @@ def manual(text):
     out += [".SH SYNOPSIS"]
     for command in text.commands:
         out += [synopsis(command), ".br"]
+    out += ["\\fBbpgen help\\fR [\\fICOMMAND\\fR | \\fIWORDS\\fR]", ".br"]
     out += ["\\fBbpgen\\fR \\fB\\-\\-help\\fR | \\fB\\-\\-version\\fR", ".SH DESCRIPTION", roff(text.about), ".PP"]
-    out += [roff(text.rules), ".SH COMMANDS"]
+    out += [roff(text.rules), ".PP", roff(text.asking.split(". ", 1)[1]), ".SH COMMANDS"]
     for command in text.commands:
         out += [f".SS {command.name}", roff(command.text[0].upper() + command.text[1:]) + "."]
         for option in command.options:
@@ -114,11 +141,35 @@ def manual(text):
     out += [".SH VALUES"]
     for paragraph in text.lists:
         out += [roff(paragraph), ".PP"]
-    out[-1:] = [".SH EXIT STATUS"]
-    for status in text.statuses.split(": ", 1)[1].rstrip(".").split(", "):
+    out[-1:] = exit_statuses(text.statuses)
+    out += [".SH SEE ALSO", "\\fBninja\\fR(1), \\fBfault_view\\fR(1), \\fBgraph_picture\\fR(1)"]
+    return "\n".join(out) + "\n"
+
+
+def exit_statuses(statuses):
+    out = [".SH EXIT STATUS"]
+    for status in statuses.split(": ", 1)[1].rstrip(".").split(", "):
         number, meaning = status.split(" ", 1)
         out += [".TP", f"\\fB{number}\\fR", roff(meaning[0].upper() + meaning[1:]) + "."]
-    out += [".SH SEE ALSO", "\\fBninja\\fR(1)"]
+    return out
+
+
+def word_tag(short, value):
+    return (f"\\fB\\-{short}\\fR " if short else "") + f"\\fI{value}\\fR"
+
+
+def manual_beside(program):
+    name = roff(program.name)
+    out = [f'.TH {program.name.upper()} 1 "" "{version(f"crates/{program.name}/src/help.rt")}" "User Commands"', ".SH NAME"]
+    out += [f"{name} \\- {BESIDE[program.name]}", ".SH SYNOPSIS"]
+    out += [f"\\fB{name}\\fR {roff(program.usage[0].split(' ', 2)[2])}", ".br"]
+    out += [f"\\fB{name}\\fR \\fB\\-\\-help\\fR | \\fB\\-\\-version\\fR", ".SH DESCRIPTION"]
+    out += [roff(" ".join(program.about)), ".PP", roff(" ".join(program.rule)), ".SH WORDS"]
+    for short, value, text in program.words:
+        out += [".TP", word_tag(short, value), roff(text[0].upper() + text[1:]) + "."]
+    out += [".SH EXAMPLE", ".EX", "    " + roff(program.example), ".EE"]
+    out += exit_statuses(program.statuses)
+    out += [".SH SEE ALSO", "\\fBbpgen\\fR(1)"]
     return "\n".join(out) + "\n"
 
 
@@ -130,8 +181,10 @@ NOTE = "# Made by tools/words.py from the help text of bpgen. Change it there."
 def bash(text):
     lines = [NOTE, "", "_bpgen() {", '    local command=${COMP_WORDS[1]} current=${COMP_WORDS[COMP_CWORD]} before=${COMP_WORDS[COMP_CWORD-1]}']
     lines += ["    COMPREPLY=()", "    if [ \"$COMP_CWORD\" -eq 1 ]; then"]
-    names = " ".join([command.name for command in text.commands] + ["--help", "--version"])
-    lines += [f'        COMPREPLY=($(compgen -W "{names}" -- "$current"))', "        return", "    fi"]
+    commands = " ".join(command.name for command in text.commands)
+    lines += [f'        COMPREPLY=($(compgen -W "{commands} help --help --version" -- "$current"))', "        return", "    fi"]
+    lines += ['    if [ "$COMP_CWORD" -eq 2 ] && [ "$command" = help ]; then',
+              f'        COMPREPLY=($(compgen -W "{commands}" -- "$current"))', "        return", "    fi"]
     lines += ["    # Readline takes `--out=x` for three words.", '    if [ "$current" = = ]; then', "        current=",
               '    elif [ "$before" = = ]; then', "        before=${COMP_WORDS[COMP_CWORD-2]}", "    fi"]
     lines += ['    case "$command $before" in']
@@ -166,7 +219,8 @@ def zsh_value(option, text):
 
 def zsh(text):
     lines = ["#compdef bpgen", NOTE, "", "_bpgen() {", "    local context state line", "    local -a commands", "    commands=("]
-    lines += [f"        '{command.name}:{command.text}'" for command in text.commands] + ["    )"]
+    lines += [f"        '{command.name}:{command.text}'" for command in text.commands]
+    lines += ["        'help:print the part of a command, or what is wrong with words'", "    )"]
     lines += ["    _arguments -C '(- *)--help[print a help text]' '(- *)--version[print the version]' \\",
               "        '1:command:->command' '*::option:->option'", "    case $state in",
               "    command) _describe command commands ;;", "    option)", "        case $line[1] in"]
@@ -178,7 +232,7 @@ def zsh(text):
             what = f"[{option.text}]:{zsh_value(option, text)}"
             both = f"'({' '.join(words)})'" + "{" + f"-{option.short}+,--{option.name}=" + "}" if option.short else f"--{option.name}="
             lines.append(f"                {both}'{what}'" + (" ;;" if index == last else " \\"))
-    lines += ["        esac ;;", "    esac", "}", "", '_bpgen "$@"']
+    lines += ["        help) _describe command commands ;;", "        esac ;;", "    esac", "}", "", '_bpgen "$@"']
     return "\n".join(lines) + "\n"
 
 
@@ -187,7 +241,9 @@ def fish(text):
              "complete -c bpgen -n __fish_use_subcommand -l help -d 'print a help text'",
              "complete -c bpgen -n __fish_use_subcommand -l version -d 'print the version'"]
     for command in text.commands:
-        lines.append(f"complete -c bpgen -n __fish_use_subcommand -a {command.name} -d '{command.text}'")
+        for place in ["__fish_use_subcommand", "'__fish_seen_subcommand_from help'"]:
+            lines.append(f"complete -c bpgen -n {place} -a {command.name} -d '{command.text}'")
+    lines.append("complete -c bpgen -n __fish_use_subcommand -a help -d 'print the part of a command, or what is wrong with words'")
     for command in text.commands:
         for option in command.options:
             short = f" -s {option.short}" if option.short else ""
@@ -198,12 +254,64 @@ def fish(text):
     return "\n".join(lines) + "\n"
 
 
+def note_beside(program):
+    return f"# Made by tools/words.py from the help text of {program.name}. Change it there."
+
+
+def first_words(program):
+    """The words that may stand first: options, and the two that ask for a text."""
+    return ["-" + short for short, _, _ in program.words if short] + ["--help", "--version"]
+
+
+def bash_beside(program):
+    lines = [note_beside(program), "", f"_{program.name}() {{", '    local current=${COMP_WORDS[COMP_CWORD]} before=${COMP_WORDS[COMP_CWORD-1]}']
+    lines += ["    COMPREPLY=()"]
+    for short, value, _ in program.words:
+        if short and KINDS.get(value) == FILE:
+            lines += [f'    if [ "$before" = -{short} ]; then', '        COMPREPLY=($(compgen -f -- "$current"))',
+                      "        compopt -o filenames", "        return", "    fi"]
+    lines += ['    if [ "$COMP_CWORD" -eq 1 ]; then',
+              f'        COMPREPLY=($(compgen -W "{" ".join(first_words(program))}" -- "$current"))', "    fi", "}", ""]
+    lines += [f"complete -F _{program.name} {program.name}"]
+    return "\n".join(lines) + "\n"
+
+
+def zsh_beside(program):
+    lines = [f"#compdef {program.name}", note_beside(program), "", f"_{program.name}() {{",
+             "    _arguments '(- *)--help[print a help text]' '(- *)--version[print the version]' \\"]
+    for index, (short, value, text) in enumerate(program.words):
+        action = "_files" if KINDS.get(value) == FILE else " "
+        what = f"-{short}[{text}]:{value}:{action}" if short else f"{index + 1}:{value}: "
+        lines.append(f"        '{what}'" + ("" if index == len(program.words) - 1 else " \\"))
+    lines += ["}", "", f'_{program.name} "$@"']
+    return "\n".join(lines) + "\n"
+
+
+def fish_beside(program):
+    lines = [note_beside(program), "", f"complete -c {program.name} -f",
+             f"complete -c {program.name} -l help -d 'print a help text'",
+             f"complete -c {program.name} -l version -d 'print the version'"]
+    for short, value, text in program.words:
+        if short:
+            what = text.replace("'", "\\'")
+            lines.append(f"complete -c {program.name} -s {short} {'-r -F' if KINDS.get(value) == FILE else '-x'} -d '{what}'")
+    return "\n".join(lines) + "\n"
+
+
+def made_beside(name):
+    program = Program(name, help_beside(name))
+    return {f"docs/{name}.1": manual_beside(program), f"completions/{name}.bash": bash_beside(program),
+            f"completions/_{name}": zsh_beside(program), f"completions/{name}.fish": fish_beside(program)}
+
+
 def main(words):
     if words not in ([], ["--check"]):
         sys.exit(__doc__)
     text = Help(help_text())
     made = {"docs/bpgen.1": manual(text), "completions/bpgen.bash": bash(text), "completions/_bpgen": zsh(text),
             "completions/bpgen.fish": fish(text)}
+    for name in BESIDE:
+        made.update(made_beside(name))
     stale = []
     for name, content in made.items():
         path = os.path.join(TOP, name)

@@ -1,13 +1,14 @@
 ghost use Rattle.std.specs.Prelude.{◌≡◌, IfOk, IfErr};
-ghost use Rattle.command_words.specs.Notices.{notice_of};
-ghost use Rattle.bp_run.specs.Start.{AnswersWords, AnswersNoWords, PrintMeans};
+ghost use Rattle.command_words.specs.Explanations.{explanation_of};
+ghost use Rattle.command_words.specs.Notices.{notice_of, question_of};
+ghost use Rattle.bp_run.specs.Start.{AnswersWords, AnswersQuestion, AnswersNoWords, ExplainMeans, PrintMeans};
 ghost use Rattle.bp_run.specs.Words.{command_of};
 ghost use Rattle.bp_run.specs.World.{world, stream};
 
 use crate::run;
-use bp_faults::Text;
+use bp_faults::{OutOfMemory, Text};
 use bp_ports::{FsStore, Gate, OpenGate, Sink, StdSink, Store};
-use command_words::notice_of;
+use command_words::{explanation, notice_of, question_of};
 use std::alloc::Global;
 use std::io::ErrorKind;
 use std::process::ExitCode;
@@ -35,6 +36,40 @@ fn print<O: Sink, D: Sink>(text: &str, out: &mut O, diag: &mut D) -> u8
             let _ = diag.put(b"bpgen: cannot write standard output\n");
             4
         }
+    }
+}
+
+// Prints what is wrong with the words, in one line: the exit status.
+fn explain<O: Sink, D: Sink>(alloc: Global, words: &[Text], out: &mut O, diag: &mut D) -> u8
+    ensures { ExplainMeans (explanation_of words.now) (stream O.Sink out.old) (stream O.Sink out.new)
+        (stream D.Sink diag.old) (stream D.Sink diag.new) result }
+{
+    match explanation(alloc, words) {
+        Ok(line) => print(line.as_str(), out, diag),
+        Err(OutOfMemory) => {
+            let _ = diag.put(b"bpgen: out of memory\n");
+            5
+        }
+    }
+}
+
+// What the program does for words that ask for no notice: the exit status.
+fn answer_question<R: Threads + Sync, S: Store, O: Sink, D: Sink, G: Gate + Sync>(
+    rt: &R,
+    alloc: Global,
+    words: &[Text],
+    store: &mut S,
+    out: &mut O,
+    diag: &mut D,
+    gate: &G,
+) -> u8
+    ensures { AnswersQuestion (question_of words.now) (command_of words.now)
+        (world S.Store O.Sink store.old out.old) (world S.Store O.Sink store.new out.new)
+        (stream D.Sink diag.old) (stream D.Sink diag.new) result }
+{
+    match question_of(words) {
+        Some(asked) => explain(alloc, asked, out, diag),
+        None => run(rt, alloc, words, store, out, diag, gate),
     }
 }
 
@@ -69,7 +104,8 @@ fn answer<R: Threads + Sync, S: Store, O: Sink, D: Sink, G: Gate + Sync>(
     diag: &mut D,
     gate: &G,
 ) -> u8
-    ensures words { IfOk given (λ words. AnswersWords (notice_of words.items) (command_of words.items)
+    ensures words { IfOk given (λ words. AnswersWords (notice_of words.items) (question_of words.items)
+        (command_of words.items)
         (world S.Store O.Sink store.old out.old) (world S.Store O.Sink store.new out.new)
         (stream D.Sink diag.old) (stream D.Sink diag.new) result) }
     ensures none { IfErr given (λ kind. AnswersNoWords kind
@@ -79,7 +115,7 @@ fn answer<R: Threads + Sync, S: Store, O: Sink, D: Sink, G: Gate + Sync>(
     match given {
         Ok(words) => match notice_of(&words) {
             Some(notice) => print(notice.text(), out, diag),
-            None => run(rt, alloc, &words, store, out, diag, gate),
+            None => answer_question(rt, alloc, &words, store, out, diag, gate),
         },
         Err(kind) => answer_error(rt, alloc, kind, store, out, diag, gate),
     }

@@ -6,3 +6,7 @@ mod Reading
 mod Configuring
 mod Sound
 mod NoCommand
+mod HelpParts
+mod Finding
+mod Refusing
+mod Holding

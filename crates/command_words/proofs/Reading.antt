@@ -163,7 +163,7 @@ first_of_two c word value rest ps (Some o) (Some more) named behind e = record {
   are = cc;
 }
 
-first_pair : (c : CommandName) (word value : Text) (rest : List Text) (ps : List Pair)
+pub first_pair : (c : CommandName) (word value : Text) (rest : List Text) (ps : List Pair)
     → option_pairs c (word ∷ value ∷ rest) ≡ Some ps → First c word value rest ps
 first_pair c word value rest ps e =
     first_of_two c word value rest ps (option_of c word) (option_pairs c rest) refl refl e

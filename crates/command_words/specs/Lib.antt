@@ -4,9 +4,14 @@ pub mod Plain
 pub mod Options
 pub mod Values
 pub mod Words
+pub mod Forms
+pub mod Places
+pub mod Causes
+pub mod Holds
 pub mod Sound
 pub mod Rules
 pub mod Found
 pub mod Usage
 pub mod Notices
+pub mod Explanations
 pub mod Laws

@@ -1,30 +1,10 @@
 -- The commands and their options.
-use Rattle.std.specs.Prelude.{ℕ, List, [], ◌∷◌, Bool, true, false, ◌||◌, Option, Some, None, if◌then◌else◌, codes}
+use Rattle.std.specs.Prelude.{ℕ, List, [], ◌∷◌, Bool, true, false, ◌||◌, Option, Some, None, find, codes}
 use Rattle.std.specs.Str.{bytes_eq}
 use Rattle.command_words.specs.declared.command.CommandName.{CommandName}
 use Rattle.command_words.specs.declared.command.CommandName.TheVariants.{Build, Replay, Graph, Synth, Format, Edit}
 use Rattle.command_words.specs.declared.option.OptionName.{OptionName}
 use Rattle.command_words.specs.declared.option.OptionName.TheVariants as option
-
--- A command's name.
-abbrev pub command_name : CommandName → List ℕ
-command_name Build = codes "build"
-command_name Replay = codes "replay"
-command_name Graph = codes "graph"
-command_name Synth = codes "synth"
-command_name Format = codes "fmt"
-command_name Edit = codes "edit"
-
--- The command of a name.
-abbrev pub command_named : List ℕ → Option CommandName
-command_named word =
-    if bytes_eq word (codes "build") then Some Build
-    else if bytes_eq word (codes "replay") then Some Replay
-    else if bytes_eq word (codes "graph") then Some Graph
-    else if bytes_eq word (codes "synth") then Some Synth
-    else if bytes_eq word (codes "fmt") then Some Format
-    else if bytes_eq word (codes "edit") then Some Edit
-    else None
 
 -- An option's long name.
 abbrev pub option_name : OptionName → List ℕ
@@ -63,14 +43,67 @@ is_short_spelling (Some c) word = bytes_eq word (45 ∷ c ∷ [])
 abbrev pub is_spelling : OptionName → List ℕ → Bool
 is_spelling o word = bytes_eq word (45 ∷ 45 ∷ option_name o) || is_short_spelling (short_name o) word
 
--- The options of each command. Those that must be given stand first.
+-- A row of the table of commands: the word that names the command; its options, of which those that must be given stand
+-- first; those of them from whose paths OUT differs; and the place of its part among the parts of the help.
+pub record Row : Type 0 where
+  pub name : List ℕ
+  pub options : List OptionName
+  pub apart : List OptionName
+  pub part : ℕ
+
+-- The table of commands.
+abbrev pub command_row : CommandName → Row
+command_row Build = record {
+  name = codes "build";
+  options = option.List ∷ option.Out ∷ option.Jobs ∷ option.Targets ∷ option.Journal ∷ [];
+  apart = option.List ∷ option.Journal ∷ [];
+  part = 1;
+}
+command_row Replay = record {
+  name = codes "replay";
+  options = option.List ∷ option.Out ∷ option.Order ∷ option.Targets ∷ [];
+  apart = option.List ∷ option.Order ∷ [];
+  part = 2;
+}
+command_row Graph = record {
+  name = codes "graph";
+  options = option.List ∷ option.After ∷ option.Jobs ∷ option.Targets ∷ [];
+  apart = [];
+  part = 3;
+}
+command_row Synth = record {
+  name = codes "synth";
+  options = option.Seed ∷ option.Modules ∷ option.Jobs ∷ [];
+  apart = [];
+  part = 4;
+}
+command_row Format = record { name = codes "fmt"; options = option.In ∷ option.Out ∷ []; apart = []; part = 5 }
+command_row Edit = record {
+  name = codes "edit";
+  options = option.In ∷ option.Out ∷ option.Module ∷ option.Property ∷ option.Items ∷ [];
+  apart = [];
+  part = 6;
+}
+
+-- A command's name.
+abbrev pub command_name : CommandName → List ℕ
+command_name c = (command_row c).name
+
+-- The options of a command.
 abbrev pub options_of : CommandName → List OptionName
-options_of Build = option.List ∷ option.Out ∷ option.Jobs ∷ option.Targets ∷ option.Journal ∷ []
-options_of Replay = option.List ∷ option.Out ∷ option.Order ∷ option.Targets ∷ []
-options_of Graph = option.List ∷ option.After ∷ option.Jobs ∷ option.Targets ∷ []
-options_of Synth = option.Seed ∷ option.Modules ∷ option.Jobs ∷ []
-options_of Format = option.In ∷ option.Out ∷ []
-options_of Edit = option.In ∷ option.Out ∷ option.Module ∷ option.Property ∷ option.Items ∷ []
+options_of c = (command_row c).options
+
+-- The options of a command from whose paths OUT differs.
+abbrev pub apart_of : CommandName → List OptionName
+apart_of c = (command_row c).apart
+
+-- The commands, in the order in which the help names them.
+abbrev pub commands : List CommandName
+commands = Build ∷ Replay ∷ Graph ∷ Synth ∷ Format ∷ Edit ∷ []
+
+-- The command of a name.
+abbrev pub command_named : List ℕ → Option CommandName
+command_named word = find (λ c. bytes_eq word (command_name c)) commands
 
 -- Where a command has the option, the option must be given.
 abbrev pub is_required : OptionName → Bool

@@ -1,6 +1,6 @@
 -- The values of options.
 use Rattle.std.specs.Prelude.{ℕ, List, [], ◌∷◌, Bool, false, ◌&&◌, ◌||◌, ◌==◌, not, nat_le, nat_lt, length}
-use Rattle.std.specs.Prelude.{Option, Some, None, option_and_then, if◌then◌else◌, codes}
+use Rattle.std.specs.Prelude.{Option, Some, None, option_and_then, if◌then◌else◌, codes, map}
 use Rattle.std.specs.Char.{is_ascii_alphabetic, is_ascii_alphanumeric}
 use Rattle.std.specs.List.{list_all, slice_split}
 use Rattle.std.specs.Str.{bytes_eq}
@@ -9,6 +9,8 @@ use Rattle.bp_faults.specs.Targets.{target_name}
 use Rattle.bp_faults.specs.declared.target.Target.{Target}
 use Rattle.bp_faults.specs.declared.target.Target.TheVariants.{AndroidArm64, AndroidArm, AndroidX86_64, AndroidX86}
 use Rattle.bp_faults.specs.declared.target.Target.TheVariants.{LinuxGlibcX86_64, LinuxGlibcX86}
+use Rattle.command_words.specs.declared.mutators.TheConstants.{MUTATORS}
+use Rattle.command_words.specs.declared.targets.TheConstants.{TARGETS}
 use Rattle.command_words.specs.Once.{has_none_twice}
 
 -- A value isn't empty and doesn't begin with `-`.
@@ -67,6 +69,14 @@ targets_once targets = if has_none_twice is_same_target [] targets then Some tar
 -- The targets of a value: names joined by `,`, none of them twice.
 abbrev pub targets_of : List ℕ → Option (List Target)
 targets_of text = option_and_then targets_once (targets_named (names_in text))
+
+-- The names of the targets, in their order.
+abbrev pub target_names : List (List ℕ)
+target_names = map (λ name. name.now) TARGETS
+
+-- The names of the mutators, in the order in which they run.
+abbrev pub mutator_names : List (List ℕ)
+mutator_names = map (λ name. name.now) MUTATORS
 
 -- The number of the mutator of a name: so many mutators have run after it.
 abbrev pub mutator_number : List ℕ → Option ℕ

@@ -42,13 +42,8 @@ impl CommandName {
 pub fn command_named(word: &str) -> Option<CommandName>
     ensures { result ≡ command_named word.now }
 {
-    match word {
-        "build" => Some(CommandName::Build),
-        "replay" => Some(CommandName::Replay),
-        "graph" => Some(CommandName::Graph),
-        "synth" => Some(CommandName::Synth),
-        "fmt" => Some(CommandName::Format),
-        "edit" => Some(CommandName::Edit),
-        _ => None,
-    }
+    COMMANDS
+        .iter()
+        .copied()
+        .find(|command| word == command.name())
 }

@@ -46,7 +46,8 @@ fn has_bytes(text: &str) -> bool
     text.len() > 0
 }
 
-fn has_items(text: &str) -> bool
+/// Whether none of the texts that a value joins by `,` is empty.
+pub fn has_items(text: &str) -> bool
     ensures { result ≡ list_all has_bytes (names_in text.now) }
 {
     text.split(',').all(|item| has_bytes(item))

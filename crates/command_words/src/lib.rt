@@ -5,8 +5,12 @@
 //! each option. What a configuration keeps is `specs/Sound.antt`.
 #![tactic(auto)]
 
+mod cause;
+mod causes;
 mod command;
 mod configuration;
+mod explain;
+mod form;
 mod help;
 mod items;
 pub mod laws;
@@ -21,10 +25,14 @@ mod targets;
 mod usage;
 mod words;
 
+pub use cause::Cause;
+pub use causes::why;
 pub use command::{COMMANDS, CommandName};
 pub use configuration::{Build, Configuration, Edit, Format, Graph, Replay, Synth};
-pub use help::{HELP, VERSION};
-pub use notices::{Notice, notice_of};
+pub use explain::explanation;
+pub use form::Form;
+pub use help::{HELP, HELP_PARTS, VERSION};
+pub use notices::{Notice, notice_of, question_of};
 pub use option::{OptionName, options};
 pub use usage::usage_line;
 pub use words::configure;

@@ -1,7 +1,10 @@
 ghost use Rattle.std.specs.Prelude.{◌≡◌};
-ghost use Rattle.command_words.specs.Notices.{notice_named, notice_of, notice_text};
+ghost use Rattle.std.specs.Option.{option_copied};
+ghost use Rattle.command_words.specs.Notices.{notice_named, part_asked, notice_of, part_of, notice_text, question_of};
 
-use crate::help::{HELP, VERSION};
+use crate::CommandName;
+use crate::command::command_named;
+use crate::help::{HELP, HELP_PARTS, VERSION};
 use bp_faults::Text;
 
 /// A text that words ask for in place of a command.
@@ -9,16 +12,32 @@ use bp_faults::Text;
 pub enum Notice {
     Help,
     Version,
+    /// A command's part of the help.
+    Part(CommandName),
+}
+
+fn part_of(command: CommandName) -> &'static str
+    ensures { result.now ≡ part_of command }
+{
+    match command {
+        CommandName::Build => HELP_PARTS[1],
+        CommandName::Replay => HELP_PARTS[2],
+        CommandName::Graph => HELP_PARTS[3],
+        CommandName::Synth => HELP_PARTS[4],
+        CommandName::Format => HELP_PARTS[5],
+        CommandName::Edit => HELP_PARTS[6],
+    }
 }
 
 impl Notice {
-    /// The text to print: `HELP` or `VERSION`.
+    /// The text to print: `HELP`, one of its parts, or `VERSION`.
     pub fn text(self) -> &'static str
         ensures { result.now ≡ notice_text self }
     {
         match self {
             Notice::Help => HELP,
             Notice::Version => VERSION,
+            Notice::Part(command) => part_of(command),
         }
     }
 }
@@ -33,13 +52,40 @@ fn notice_named(word: &str) -> Option<Notice>
     }
 }
 
-/// What exactly one word asks for. Such words give no configuration, which is the law `notices_are_no_commands`, so
-/// whoever prints notices asks here first.
+fn part_asked(first: &str, second: &str) -> Option<CommandName>
+    ensures { result ≡ part_asked first.now second.now }
+{
+    if first == "help" {
+        command_named(second)
+    } else if second == "--help" {
+        command_named(first)
+    } else {
+        None
+    }
+}
+
+/// What exactly one word or exactly two ask for. Such words give no configuration, which is the law
+/// `notices_are_no_commands`, so whoever prints notices asks here first.
 pub fn notice_of(words: &[Text]) -> Option<Notice>
     ensures { result ≡ notice_of words.now }
 {
     match words {
         [word] => notice_named(word.as_str()),
+        [first, second] => match part_asked(first.as_str(), second.as_str()) {
+            Some(command) => Some(Notice::Part(command)),
+            None => None,
+        },
+        _ => None,
+    }
+}
+
+/// The words of which others ask what is wrong with them: those behind `help`. The others give no configuration, which
+/// is the law `questions_are_no_commands`.
+pub fn question_of(words: &[Text]) -> Option<&[Text]>
+    ensures { option_copied result ≡ question_of words.now }
+{
+    match words {
+        [first, _, ..] if first.as_str() == "help" => Some(&words[1..]),
         _ => None,
     }
 }

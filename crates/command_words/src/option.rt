@@ -1,5 +1,6 @@
 ghost use Rattle.std.specs.Prelude.{◌≡◌};
-ghost use Rattle.command_words.specs.Options.{option_name, short_name, options_of, is_required, is_spelling, is_same};
+ghost use Rattle.command_words.specs.Options.{option_name, short_name, options_of, apart_of, is_required};
+ghost use Rattle.command_words.specs.Options.{is_spelling, is_same};
 ghost use Rattle.command_words.specs.Words.{option_of};
 
 use crate::CommandName;
@@ -133,6 +134,17 @@ pub fn options(command: CommandName) -> &'static [OptionName]
             OptionName::Property,
             OptionName::Items,
         ],
+    }
+}
+
+/// The options of a command from whose paths OUT differs.
+pub fn options_apart(command: CommandName) -> &'static [OptionName]
+    ensures { result.now ≡ apart_of command }
+{
+    match command {
+        CommandName::Build => &[OptionName::List, OptionName::Journal],
+        CommandName::Replay => &[OptionName::List, OptionName::Order],
+        _ => &[],
     }
 }
 

@@ -17,7 +17,8 @@ pub struct Pair {
     pub value: Text,
 }
 
-fn is_value_text(value: &str) -> bool
+/// Whether a text may be a value: it isn't empty and doesn't begin with `-`.
+pub fn is_value_text(value: &str) -> bool
     ensures { result ≡ is_option_value value.now }
 {
     match value.as_bytes() {
@@ -26,7 +27,8 @@ fn is_value_text(value: &str) -> bool
     }
 }
 
-fn paired(alloc: Global, option: OptionName, value: &str) -> Result<Pair, OutOfMemory>
+/// An option and a copy of its value.
+pub fn paired(alloc: Global, option: OptionName, value: &str) -> Result<Pair, OutOfMemory>
     ensures { IfOk result (λ pair. pair ≡ record { option = option; value = value.now }) }
 {
     Ok(Pair {
@@ -60,7 +62,8 @@ pub fn pairs(
     }
 }
 
-fn has_option(pairs: &[Pair], option: OptionName) -> bool
+/// Whether some pair is of the option.
+pub fn has_option(pairs: &[Pair], option: OptionName) -> bool
     ensures { result ≡ list_any (λ pair. is_same pair.option option) pairs.now }
 {
     pairs.iter().any(|pair| pair.option.is(option))

@@ -6,6 +6,16 @@ ghost use Rattle.command_words.specs.Values.{target_of, is_same_target, targets_
 use bp_faults::{OutOfMemory, Seq, Target};
 use std::alloc::{AllocError, Global};
 
+/// The names of the targets, in their order.
+pub const TARGETS: [&str; 6] = [
+    "android_arm64",
+    "android_arm",
+    "android_x86_64",
+    "android_x86",
+    "linux_glibc_x86_64",
+    "linux_glibc_x86",
+];
+
 fn target_of(name: &str) -> Option<Target>
     ensures { result ≡ target_of name.now }
 {

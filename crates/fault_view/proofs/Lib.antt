@@ -2,8 +2,6 @@ mod Numbers
 mod Prefixes
 mod Cuts
 mod Said
-mod Edits
-mod Least
 mod Names
 mod Texts
 mod Soft

@@ -1,12 +1,10 @@
--- What the steps come to of reading a line, of looking for names, and of printing.
-use Rattle.std.specs.Prelude.{◌≡◌, ◌<◌, ◌^◌, ◌⊎◌, ℕ, min, Bool, ◌&&◌, nat_lt, nat_le, List, [], ◌∷◌, ◌++◌, Option, Some}
-use Rattle.std.specs.Prelude.{None}
+-- What the steps come to of reading a line and of printing.
+use Rattle.std.specs.Prelude.{◌≡◌, ◌<◌, ◌^◌, ◌⊎◌, ℕ, List, [], ◌∷◌, ◌++◌, Option, Some, None}
 use Rattle.std.specs.Fmt.{decimal}
 use Rattle.bp_ports.specs.Files.{Files, WhereTold, AppendsPart}
 use Rattle.fault_view.specs.declared.cut.Parts.{Parts}
 use Rattle.fault_view.specs.declared.fault_line.FaultLine.{FaultLine}
 use Rattle.fault_view.specs.Lines.{IsReadAs}
-use Rattle.fault_view.specs.Nearest.{reach}
 use Rattle.fault_view.specs.View.{Softly, IsBehind, IsNote}
 
 -- The number below 2^32 of which a text is the decimal, or none.
@@ -40,15 +38,6 @@ line_of_parts p = record {
 -- The text is the line of these parts.
 abbrev pub CutsLine : List ℕ → Parts → Type 0
 CutsLine text p = IsReadAs text (line_of_parts p)
-
--- The least reach of some names, and 4 where there is none.
-abbrev pub least_reach : List ℕ → List (List ℕ) → ℕ
-least_reach word [] = 4
-least_reach word (name ∷ names) = min (reach word name) (least_reach word names)
-
--- A name is near, and no farther than this.
-abbrev pub is_within : List ℕ → ℕ → List ℕ → Bool
-is_within word least name = nat_lt (reach word name) 4 && nat_le (reach word name) least
 
 -- The note of what was read: that of a fault, and nothing where no fault was read.
 abbrev pub IsReadNote : Option (List ℕ) → Files → Option FaultLine → List ℕ → Type 0

@@ -1,6 +1,5 @@
 pub mod Lines
 pub mod Excerpts
-pub mod Nearest
 pub mod Known
 pub mod Unknown
 pub mod ModuleNames

@@ -7,6 +7,7 @@ use Rattle.std.specs.declared.io.ErrorKind.TheVariants.{OutOfMemory as NoMemory}
 use Rattle.bp_ports.specs.declared.sink.Sink.{Ghosts as SinkGhosts}
 use Rattle.bp_ports.specs.Causes.{Rose}
 use Rattle.bp_ports.specs.Files.{WhereTold, AppendsPart}
+use Rattle.fault_view.specs.declared.help.TheConstants.{HELP, VERSION}
 use Rattle.fault_view.specs.declared.view.End.{End}
 use Rattle.fault_view.specs.declared.view.End.TheVariants.{CannotRead, CannotWrite, OutOfMemory}
 
@@ -16,6 +17,18 @@ list_option [] = Some None
 list_option (word ∷ []) = None
 list_option (word ∷ list ∷ []) = if bytes_eq word (codes "-l") then Some (Some list) else None
 list_option (word ∷ list ∷ more ∷ words) = None
+
+-- The text that a word asks for.
+abbrev pub view_notice_named : List ℕ → Option (List ℕ)
+view_notice_named word =
+    if bytes_eq word (codes "--help") then Some HELP.now
+    else if bytes_eq word (codes "--version") then Some VERSION.now
+    else None
+
+-- The text that exactly one word asks for in place of a view.
+abbrev pub view_notice : List (List ℕ) → Option (List ℕ)
+view_notice (word ∷ []) = view_notice_named word
+view_notice words = None
 
 -- Each end has a status. Wrong words have the status 2.
 abbrev pub view_status : Result Unit End → ℕ
@@ -51,6 +64,14 @@ Says d text old new =
     WhereTold
     (λ before after. (after ≡ before ++ text) ⊎ (AppendsPart text before after × Rose (d.faults old) (d.faults new)))
     (d.bytes old) (d.bytes new)
+
+-- What showing a text on a sink comes to: the sink gained the text, or a first part of it where a put failed.
+abbrev pub ViewNoticeMeans : {O : Type 0} → SinkGhosts O → List ℕ → O → O → Result Unit End → Type 0
+ViewNoticeMeans o text old new (Ok done) =
+    WhereTold (λ before after. after ≡ before ++ text) (o.bytes old) (o.bytes new)
+ViewNoticeMeans o text old new (Err CannotWrite) =
+    Rose (o.faults old) (o.faults new) × WhereTold (AppendsPart text) (o.bytes old) (o.bytes new)
+ViewNoticeMeans o text old new (Err end) = ⊥
 
 -- The line was put on a sink, where there is one.
 abbrev pub IsLineReported : {D : Type 0} → SinkGhosts D → Option (List ℕ) → D → D → Type 0

@@ -7,12 +7,13 @@ use Rattle.std.specs.Str.Lines.{lines}
 use Rattle.bp_faults.specs.declared.limits.TheConstants.{LARGEST_FILE, LARGEST_LIST_FILE, LARGEST_ORDER_FILE}
 use Rattle.bp_ports.specs.Causes.{Rose}
 use Rattle.bp_ports.specs.Files.{Files}
+use Rattle.near_names.specs.Joined.{comma_list}
+use Rattle.near_names.specs.Nearest.{nearest_names}
 use Rattle.fault_view.specs.declared.fault_line.FaultLine.{FaultLine}
 use Rattle.fault_view.specs.declared.unknown.Unknown.{Unknown}
 use Rattle.fault_view.specs.declared.unknown.Unknown.TheVariants.{ModuleType, Property, Module}
 use Rattle.fault_view.specs.Lines.{IsLineOf, IsNoFaultLine}
 use Rattle.fault_view.specs.Excerpts.{as_text, excerpt_of}
-use Rattle.fault_view.specs.Nearest.{nearest_names}
 use Rattle.fault_view.specs.Known.{type_names, table_names}
 use Rattle.fault_view.specs.Unknown.{unknown_of, last_parts}
 use Rattle.fault_view.specs.ModuleNames.{AreNames}
@@ -61,15 +62,10 @@ AreNearest list files path (Some (Property, property)) names =
 AreNearest list files path (Some (Module, word)) names =
     (known : List (List ℕ)) × AreModules list files path known × (names ≡ nearest_names known word)
 
--- Each name follows a comma.
-abbrev pub after_commas : List (List ℕ) → List ℕ
-after_commas [] = []
-after_commas (name ∷ names) = codes ", " ++ (name ++ after_commas names)
-
 -- The line of some names. No names are no line.
 abbrev pub names_line : List (List ℕ) → List ℕ
 names_line [] = []
-names_line (name ∷ names) = codes "nearest: " ++ (name ++ (after_commas names ++ codes "\n"))
+names_line (name ∷ names) = codes "nearest: " ++ (comma_list (name ∷ names) ++ codes "\n")
 
 -- What is shown of the file that a line names.
 abbrev pub shown_of : Option (List ℕ) → FaultLine → Option (List ℕ)

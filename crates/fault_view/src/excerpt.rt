@@ -5,6 +5,7 @@ ghost use Rattle.fault_view.specs.Excerpts.{shown_here, width, under, caret_line
 ghost use Rattle.fault_view.specs.Excerpts.{has_column, quoted_line, excerpt_of};
 
 use bp_faults::{OutOfMemory, is_control};
+use near_names::char_count;
 use std::alloc::{AllocError, Global};
 use unicode_width::UnicodeWidthChar;
 
@@ -106,13 +107,6 @@ fn line_at(bytes: &[u8], number: u32) -> Option<&str>
         Some(line) => as_text(line),
         None => None,
     }
-}
-
-/// How many characters a text has.
-pub fn char_count(text: &str) -> usize
-    ensures { result ≡ length (chars text.now) }
-{
-    text.chars().count()
 }
 
 // Whether a line has a column. The place behind the line's last character is one.

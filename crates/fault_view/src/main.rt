@@ -3,18 +3,18 @@
 //!
 //! Lines flow in, and the same lines flow out with notes behind them. It is measured by `specs/View.antt`, the text
 //! that is printed, over `specs/Lines.antt`, what is a fault line, `specs/Excerpts.antt`, the quoted line with its
-//! caret, and `specs/Nearest.antt`, the nearest names.
+//! caret, and `specs/Nearest.antt` of `near_names`, the nearest names.
 #![tactic(auto)]
 
 mod cut;
 mod excerpt;
 mod fault_line;
 mod files;
+mod help;
 mod input;
 mod known;
 mod laws;
 mod module_names;
-mod nearest;
 mod note;
 mod number;
 mod program;

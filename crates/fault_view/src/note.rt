@@ -1,9 +1,9 @@
 ghost use Rattle.std.specs.Prelude.{◌≡◌, ◌≤◌, IfOk, Some, string_bytes, option_map};
 ghost use Rattle.std.specs.FinMap.{get};
+ghost use Rattle.near_names.specs.Nearest.{nearest_names};
 ghost use Rattle.std.specs.Option.{option_copied};
 ghost use Rattle.fault_view.specs.declared.unknown.Unknown.TheVariants.{Module};
 ghost use Rattle.fault_view.specs.Known.{table_names, type_names};
-ghost use Rattle.fault_view.specs.Nearest.{nearest_names};
 ghost use Rattle.fault_view.specs.Unknown.{unknown_of, last_parts};
 ghost use Rattle.fault_view.specs.View.{Softly, bytes_within, AreNearest, names_line, shown_of, IsNote};
 
@@ -11,11 +11,11 @@ use crate::excerpt::excerpt;
 use crate::fault_line::FaultLine;
 use crate::files::{module_names, source};
 use crate::known::{property_names, type_names};
-use crate::nearest::nearest;
 use crate::unknown::{Unknown, last_parts, unknown_of};
 use bp_faults::limits::LARGEST_ORDER_FILE;
 use bp_faults::{OutOfMemory, Text};
 use bp_ports::Store;
+use near_names::{joined, nearest};
 use std::alloc::Global;
 
 // The properties that are nearest to a property.
@@ -99,17 +99,11 @@ fn names<S: Store>(
 fn names_line(alloc: Global, names: &[Text]) -> Result<String, OutOfMemory>
     ensures { IfOk result (λ line. string_bytes line ≡ names_line names.now) }
 {
-    let mut text = String::new(alloc);
-    if let [first, rest @ ..] = names {
-        text.push_str("nearest: ")?;
-        text.push_str(first.as_str())?;
-        for name in rest {
-            text.push_str(", ")?;
-            text.push_str(name.as_str())?;
-        }
-        text.push_str("\n")?;
+    if names.is_empty() {
+        return Ok(String::new(alloc));
     }
-    Ok(text)
+    let names = joined(alloc, names)?;
+    Ok(format!(in alloc; "nearest: {names}\n")?)
 }
 
 // The excerpt of the file that a line names.

@@ -1,8 +1,10 @@
 ghost use Rattle.std.specs.Prelude.{◌≡◌, option_map};
 ghost use Rattle.std.specs.Option.{option_copied};
 ghost use Rattle.fault_view.specs.Program.{list_option, view_status, view_report, usage_line};
-ghost use Rattle.fault_view.specs.Program.{status_without_words, line_without_words, Says, IsLineReported};
+ghost use Rattle.fault_view.specs.Program.{view_notice_named, view_notice, status_without_words, line_without_words};
+ghost use Rattle.fault_view.specs.Program.{Says, ViewNoticeMeans, IsLineReported};
 
+use crate::help::{HELP, VERSION};
 use crate::input::Counted;
 use crate::view::{End, view};
 use bp_faults::Text;
@@ -19,6 +21,37 @@ fn read_words(rt: &(impl Env + AllocGlobal)) -> io::Result<Vec<Text>> {
         words.push(Text::new(word))?;
     }
     Ok(words)
+}
+
+// The text that a word asks for.
+fn view_notice_named(word: &str) -> Option<&'static str>
+    ensures { option_copied result ≡ view_notice_named word.now }
+{
+    match word {
+        "--help" => Some(HELP),
+        "--version" => Some(VERSION),
+        _ => None,
+    }
+}
+
+// The text that exactly one word asks for in place of a view.
+fn view_notice(words: &[Text]) -> Option<&'static str>
+    ensures { option_copied result ≡ view_notice words.now }
+{
+    match words {
+        [word] => view_notice_named(word.as_str()),
+        _ => None,
+    }
+}
+
+// Shows such a text.
+fn shown<O: Sink>(text: &str, out: &mut O) -> Result<(), End>
+    ensures { ViewNoticeMeans O.Sink text.now out.old out.new result }
+{
+    match out.put(text.as_bytes()) {
+        Ok(()) => Ok(()),
+        Err(_) => Err(End::CannotWrite),
+    }
 }
 
 // The list that the words name. There is none where there are no words.
@@ -93,6 +126,10 @@ pub fn start(rt: HostRuntime) -> ExitCode {
         Ok(words) => words,
         Err(error) => return ExitCode::from(without_words(error.kind(), &mut diag)),
     };
+    if let Some(text) = view_notice(&words) {
+        let end = shown(text, &mut StdSink::out(rt));
+        return ExitCode::from(ended(end, &mut diag));
+    }
     let Some(list) = list_of(&words) else {
         return ExitCode::from(usage(&mut diag));
     };

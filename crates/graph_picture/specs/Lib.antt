@@ -13,3 +13,4 @@ pub mod Input
 pub mod Streams
 pub mod End
 pub mod Run
+pub mod Notices

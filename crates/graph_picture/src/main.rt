@@ -9,11 +9,13 @@ mod clusters;
 mod draw;
 mod end;
 mod focus;
+mod help;
 mod input;
 mod kind;
 pub mod laws;
 mod line;
 mod lists;
+mod notices;
 mod number;
 mod picture;
 mod program;
@@ -28,6 +30,7 @@ use bp_ports::StdSink;
 use end::end_without_words;
 pub use focus::Focus;
 use input::Counted;
+use notices::{picture_notice, shown};
 pub use picture::{PictureError, picture};
 use program::run;
 pub use read::{ReadError, read_graph};
@@ -50,12 +53,15 @@ fn read_words(rt: &(impl Env + AllocGlobal)) -> io::Result<Vec<Text>> {
 
 fn main(rt: HostRuntime) -> ExitCode {
     let end = match read_words(&rt) {
-        Ok(words) => run(
-            rt.alloc(),
-            &words,
-            &mut Counted::new(rt.reader()),
-            &mut StdSink::out(rt),
-        ),
+        Ok(words) => match picture_notice(&words) {
+            Some(text) => shown(text, &mut StdSink::out(rt)),
+            None => run(
+                rt.alloc(),
+                &words,
+                &mut Counted::new(rt.reader()),
+                &mut StdSink::out(rt),
+            ),
+        },
         Err(error) => end_without_words(error.kind()),
     };
     ExitCode::from(end.report(&mut StdSink::err(rt)))

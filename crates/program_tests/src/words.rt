@@ -1,6 +1,7 @@
 use bp_faults::{OutOfMemory, Text};
 use command_words::{
-    COMMANDS, Configuration, HELP, OptionName, configure, notice_of, options, usage_line,
+    COMMANDS, Configuration, HELP, HELP_PARTS, OptionName, configure, explanation, notice_of,
+    options, question_of, usage_line, why,
 };
 use std::alloc::{AllocError, Global};
 use std::test::Fail;
@@ -364,8 +365,11 @@ const NOTICES: &[(&str, &str)] = &[
     ("--version", "bpgen 0.1.0\n"),
     ("-V", "bpgen 0.1.0\n"),
     ("", ""),
-    ("build --help", ""),
+    ("build -h", ""),
     ("--help build", ""),
+    ("help help", ""),
+    ("help --help", ""),
+    ("build build --help", ""),
     ("-v", ""),
 ];
 
@@ -386,5 +390,226 @@ fn wrongly_noticed(
 #[test]
 fn notices(rt: HostRuntime) -> Result<(), Fail> {
     assert_eq!(rt; wrongly_noticed(rt.alloc(), NOTICES)?, None);
+    Ok(())
+}
+
+// Both ways to ask for a command's part of the help give the part that begins with its name, in the commands' order.
+#[test]
+fn each_command_has_its_part_of_the_help(rt: HostRuntime) -> Result<(), Fail> {
+    for (i, command) in COMMANDS.iter().enumerate() {
+        let name = command.name();
+        let head = format!(in rt.alloc(); "{name}: ")?;
+        let one = format!(in rt.alloc(); "help {name}")?;
+        let other = format!(in rt.alloc(); "{name} --help")?;
+        let part = notice_for(rt.alloc(), one.as_str())?;
+        assert!(rt; part.starts_with(head.as_str()), "{name}: {part}");
+        assert_eq!(rt; (part, HELP.contains(part)), (HELP_PARTS[i + 1], true));
+        assert_eq!(rt; notice_for(rt.alloc(), other.as_str())?, part);
+    }
+    Ok(())
+}
+
+// Lines, and what is said of their words: each cause, the first where there are several, and no cause.
+const EXPLAINED: &[(&str, &str)] = &[
+    ("", "no command"),
+    ("bulid -l list", "unknown command: bulid; nearest: build"),
+    (
+        "Build -l list -o o",
+        "unknown command: Build; nearest: build",
+    ),
+    ("frobnicate", "unknown command: frobnicate"),
+    ("help help", "unknown command: help"),
+    ("--help build", "unknown command: --help"),
+    (
+        "build --lits list -o o",
+        "unknown option of build: --lits; nearest: --list",
+    ),
+    ("build foo -l list -o o", "unknown option of build: foo"),
+    ("build --help -l", "unknown option of build: --help"),
+    ("graph --moduls x -o o", "unknown option of graph: --moduls"),
+    (
+        "synth --seed 1 --moduls 2",
+        "unknown option of synth: --moduls; nearest: --modules",
+    ),
+    ("build -l list -o o -llist", "option given twice: -l"),
+    (
+        "build -l list -o o --list=list",
+        "option given twice: --list",
+    ),
+    ("build -l list -o", "option without a value: -o"),
+    (
+        "build -l list -o o --journal",
+        "option without a value: --journal",
+    ),
+    (
+        "build -l list -o -o",
+        "value out of form: -o; --out takes a text that isn't empty and doesn't begin with -",
+    ),
+    (
+        "build -l list --out=",
+        "value out of form: ; --out takes a text that isn't empty and doesn't begin with -",
+    ),
+    (
+        "build -l list -o o -j 65",
+        "value out of form: 65; --jobs takes a number from 1 to 64, of 1 to 10 digits",
+    ),
+    (
+        "synth --seed=4294967296 --modules 1",
+        "value out of form: 4294967296; --seed takes a number from 0 to 4294967295, of 1 to 10 digits",
+    ),
+    (
+        "synth --seed 7 --modules 0",
+        "value out of form: 0; --modules takes a number from 1 to 100000, of 1 to 10 digits",
+    ),
+    (
+        "build -l list -o o -t android_arm46",
+        "value out of form: android_arm46; --targets takes names of targets, joined by commas, none twice; \
+         nearest: android_arm64, android_arm",
+    ),
+    (
+        "build -l list -o o -t android_arm,android_arm",
+        "value out of form: android_arm,android_arm; --targets takes names of targets, joined by commas, none twice",
+    ),
+    (
+        "graph -l list -a lnik",
+        "value out of form: lnik; --after takes the name of a mutator",
+    ),
+    (
+        "graph -l list -a inf",
+        "value out of form: inf; --after takes the name of a mutator; nearest: info",
+    ),
+    (
+        "edit -i f -o f -m app -p 1st",
+        "value out of form: 1st; --property takes an identifier: a letter or _, and then letters, digits and _",
+    ),
+    (
+        "edit -i f -o f -m app -p srcs --items a.c,,b.c",
+        "value out of form: a.c,,b.c; --items takes texts joined by commas, none of them empty; \
+         the first doesn't begin with -",
+    ),
+    ("build", "missing option: --list"),
+    ("build -l list -j 4", "missing option: --out"),
+    ("replay -l list -o o", "missing option: --order"),
+    ("edit -o o -m a -p b", "missing option: --in"),
+    (
+        "build -l list -o list --journal list",
+        "equal paths of --out and --list: list",
+    ),
+    (
+        "build -l list -o x --journal x",
+        "equal paths of --out and --journal: x",
+    ),
+    (
+        "replay -l list -o o --order o",
+        "equal paths of --out and --order: o",
+    ),
+    // The first by the word that it speaks of.
+    (
+        "build -j 65 foo bar -l list",
+        "value out of form: 65; --jobs takes a number from 1 to 64, of 1 to 10 digits",
+    ),
+    ("build foo bar -j 65", "unknown option of build: foo"),
+    ("build -l x -o x -l", "option given twice: -l"),
+    (
+        "build -o x -j 0 -l x",
+        "value out of form: 0; --jobs takes a number from 1 to 64, of 1 to 10 digits",
+    ),
+    // Missing options before equal paths.
+    ("replay -l x -o x", "missing option: --order"),
+    ("build -l list -o o", "these words are accepted"),
+    ("graph -l x -a info", "these words are accepted"),
+    ("synth --seed 7 --modules 2", "these words are accepted"),
+    ("fmt -i f -o f", "these words are accepted"),
+    ("edit -i f -o f -m app -p srcs", "these words are accepted"),
+    ("replay -l list -o o --order p", "these words are accepted"),
+];
+
+// The first line of which something else is said, and what.
+fn wrongly_explained(
+    alloc: Global,
+    rows: &[(&'static str, &str)],
+) -> Result<Option<(&'static str, String)>, OutOfMemory> {
+    for (line, text) in rows {
+        let came = explanation(alloc, words_of(alloc, line)?.as_slice())?;
+        let want = format!(in alloc; "{text}\n")?;
+        if came.as_str() != want.as_str() {
+            return Ok(Some((*line, came)));
+        }
+    }
+    Ok(None)
+}
+
+#[test]
+fn words_and_their_first_cause(rt: HostRuntime) -> Result<(), Fail> {
+    assert_eq!(rt; wrongly_explained(rt.alloc(), EXPLAINED)?, None);
+    Ok(())
+}
+
+// Control characters are shown as question marks, and 80 characters of a word are shown.
+#[test]
+fn a_cause_takes_one_line(rt: HostRuntime) -> Result<(), Fail> {
+    let alloc = rt.alloc();
+    let words = vec![in alloc; Text::from_str(alloc, "a\nb\u{1b}[1m")?]?;
+    assert_eq!(rt;
+        explanation(alloc, words.as_slice())?.as_str(),
+        "unknown command: a?b?[1m\n"
+    );
+    let mut long = String::new(alloc);
+    for _ in 0..100 {
+        long.push('x')?;
+    }
+    let words = vec![in alloc; Text::new(long)]?;
+    let came = explanation(alloc, words.as_slice())?;
+    assert_eq!(rt; came.len(), "unknown command: \n".len() + 80);
+    Ok(())
+}
+
+// The first line of which a cause is told though its words give something, or none though they give nothing.
+fn wrongly_refused(
+    alloc: Global,
+    lines: &[&'static str],
+) -> Result<Option<&'static str>, OutOfMemory> {
+    for line in lines {
+        let words = words_of(alloc, line)?;
+        if why(alloc, words.as_slice())?.is_some() == given_by(alloc, line)?.is_some() {
+            return Ok(Some(*line));
+        }
+    }
+    Ok(None)
+}
+
+#[test]
+fn refused_words_have_a_cause(rt: HostRuntime) -> Result<(), Fail> {
+    let alloc = rt.alloc();
+    assert_eq!(rt; wrongly_refused(alloc, REFUSED)?, None);
+    let mut given = Vec::new(alloc);
+    for (one, other, _, _) in GIVEN {
+        given.push(*one)?;
+        given.push(*other)?;
+    }
+    assert_eq!(rt; wrongly_refused(alloc, given.as_slice())?, None);
+    Ok(())
+}
+
+// Lines, and how many words they ask about.
+const QUESTIONS: &[(&str, usize)] = &[
+    ("", 0),
+    ("help", 0),
+    ("build -l list -o o", 0),
+    ("--help build -l", 0),
+    ("help build -l", 2),
+    ("help help", 1),
+    ("help --help", 1),
+    ("help build", 1),
+];
+
+#[test]
+fn words_that_are_asked_about(rt: HostRuntime) -> Result<(), Fail> {
+    let alloc = rt.alloc();
+    for (line, count) in QUESTIONS {
+        let words = words_of(alloc, line)?;
+        let asked = question_of(words.as_slice()).map_or(0, |asked| asked.len());
+        assert!(rt; asked == *count, "{line}: {asked}");
+    }
     Ok(())
 }

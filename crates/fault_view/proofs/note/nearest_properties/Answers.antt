@@ -1,6 +1,6 @@
 use Rattle.std.proofs.Common.{ap, ◌∙◌, ℕ, List}
 use Rattle.fault_view.specs.Known.{table_names}
-use Rattle.fault_view.specs.Nearest.{nearest_names}
+use Rattle.near_names.specs.Nearest.{nearest_names}
 use Rattle.fault_view.proofs.note.nearest_properties.Goals as goal
 
 pub returns : goal.returns

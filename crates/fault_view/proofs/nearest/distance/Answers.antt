@@ -1,8 +1,0 @@
-use Rattle.std.proofs.Common.{◌∙◌}
-use Rattle.std.specs.Str.{chars}
-use Rattle.fault_view.proofs.Edits.{table_is_edits}
-use Rattle.fault_view.proofs.nearest.distance.Goals as goal
-
-pub returns : goal.returns
-returns c =
-    c.in_ok-edits.ensures.value ∙ table_is_edits (chars c.args.word.now) (chars c.args.other.now)

@@ -1,7 +1,0 @@
-use Rattle.std.proofs.Common.{◌≡◌, take}
-use Rattle.std.specs.List.{filter}
-use Rattle.fault_view.specs.Inside.{is_within}
-use Rattle.fault_view.proofs.nearest.within_reach.Given as goal
-
-abbrev pub invariant-loop-name : goal.invariant-loop-name
-invariant-loop-name l = l.names.items ≡ filter (is_within l.word l.least) (take l.name-index l.known)
