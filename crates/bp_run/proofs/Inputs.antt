@@ -12,12 +12,11 @@ use Rattle.bp_faults.specs.Phases.{GoesOn}
 use Rattle.bp_ports.specs.Files.{Files}
 use Rattle.bp_load.specs.Trees.{Source, sources_given}
 use Rattle.command_words.specs.declared.configuration.Replay.{Replay as ReplayWords}
-use Rattle.bp_run.specs.declared.made.Made.{Made}
-use Rattle.bp_run.specs.declared.replay.Inputs.{Inputs}
+use Rattle.bp_run.specs.declared.command.replay.Inputs.{Inputs}
 use Rattle.bp_run.specs.declared.stop.Stop.{Stop}
 use Rattle.bp_run.specs.Job.{ListedFilesReplay, SourcesReplay}
-use Rattle.bp_run.specs.Steps.{GivesOrStops, Exactly, CannotReadOf, CannotReadAlong}
-use Rattle.bp_run.specs.Tree.{order_of, read_of, sources_of, sources_and_order}
+use Rattle.bp_run.specs.Steps.{GivesOrStops, Exactly}
+use Rattle.bp_run.specs.Tree.{CannotReadOf, CannotReadAlong, order_of, read_of, sources_of, sources_and_order}
 use Rattle.bp_run.proofs.Meeting.{Never, meets, stops}
 use Rattle.bp_run.proofs.Progress.{Held}
 
@@ -96,31 +95,31 @@ module _ (paths : List (List ℕ)) (order : List ℕ) where
 
 -- What is made of what was read.
 module _ (words : ReplayWords) (paths : List (List ℕ)) where
-  abbrev Makes : Files → Result Made Stop → Type 0
+  abbrev Makes : Files → Result (List ℕ) Stop → Type 0
   Makes files r =
-      GivesOrStops {T = Made} {V = List ℕ} (λ made. made.text) (ListedFilesReplay words files paths)
+      GivesOrStops {T = List ℕ} {V = List ℕ} (λ text. text) (ListedFilesReplay words files paths)
       (CannotReadAlong files paths words.order) r
 
-  pub reading_failed : (old : Option Files) (e : Stop) (r : Result Made Stop) → IsErrAnd r (λ x. x ≡ e)
+  pub reading_failed : (old : Option Files) (e : Stop) (r : Result (List ℕ) Stop) → IsErrAnd r (λ x. x ≡ e)
       → IfSome old (λ files. GivesOrStops {T = Inputs} {V = List Source × List ℕ} contents
       (Exactly (sources_and_order files paths words.order)) (CannotReadAlong files paths words.order) (Err e))
       → IfSome old (λ files. Makes files r)
   reading_failed None e r same h = tt
   reading_failed (Some files) e r same h =
-      stops {T = Inputs} {U = Made} contents (λ made. made.text) (Exactly (sources_and_order files paths words.order))
+      stops {T = Inputs} {U = List ℕ} contents (λ text. text) (Exactly (sources_and_order files paths words.order))
       (ListedFilesReplay words files paths) (CannotReadAlong files paths words.order)
       (CannotReadAlong files paths words.order)
       (λ fault means. subst (λ s. GoesOn s (SourcesReplay words (length paths + 1)) (Err fault)) (sym means) refl)
       (λ path cannot. cannot) e r same h
 
   pub read_then_made : (old : Option Files) (number : ℕ) → number ≡ length paths + 1 → (inputs : Inputs)
-      → (r : Result Made Stop)
+      → (r : Result (List ℕ) Stop)
       → IfSome old (λ files. sources_and_order files paths words.order ≡ Ok (contents inputs))
-      → GivesOrStops {T = Made} {V = List ℕ} (λ made. made.text) (SourcesReplay words number (contents inputs)) Never r
+      → GivesOrStops {T = List ℕ} {V = List ℕ} (λ text. text) (SourcesReplay words number (contents inputs)) Never r
       → IfSome old (λ files. Makes files r)
   read_then_made None number next inputs r got h = tt
   read_then_made (Some files) number next inputs r got h =
-      meets {T = Made} (λ made. made.text) (SourcesReplay words number (contents inputs))
+      meets {T = List ℕ} (λ text. text) (SourcesReplay words number (contents inputs))
       (ListedFilesReplay words files paths) Never (CannotReadAlong files paths words.order)
       (λ outcome makes. subst (λ s. GoesOn s (SourcesReplay words (length paths + 1)) outcome) (sym got)
       (subst (λ n. SourcesReplay words n (contents inputs) outcome) next makes))

@@ -1,4 +1,4 @@
--- What files give, step by step.
+-- What files give, step by step: a step, and then the next.
 use Rattle.std.proofs.Common.{◌≡◌, ℕ, List, Vec, sym, refl, subst, Option, Some, None, Result, Ok, Err}
 use Rattle.std.specs.Prelude.{IfSome}
 use Rattle.std.specs.Result.{IsErrAnd}
@@ -12,11 +12,10 @@ use Rattle.bp_ports.specs.Files.{Files}
 use Rattle.bp_props.specs.declared.module.Module.{Module}
 use Rattle.bp_load.specs.Loaded.{LoadMeans}
 use Rattle.bp_load.specs.Trees.{Source}
+use Rattle.bp_run.specs.declared.put.Put.{Put}
 use Rattle.bp_run.specs.declared.stop.Stop.{Stop}
-use Rattle.bp_run.specs.declared.words.Configuration.{Configuration}
-use Rattle.bp_run.specs.declared.made.Made.{Made}
-use Rattle.bp_run.specs.Steps.{GivesOrStops, CannotReadOf, stop_of, ModulesMake, ListedFilesMake}
-use Rattle.bp_run.specs.Tree.{ListedFilesLoad, sources_of}
+use Rattle.bp_run.specs.Steps.{GivesOrStops, MakesPuts, MakesOrStops, stop_of}
+use Rattle.bp_run.specs.Tree.{ListedFilesLoad, CannotReadOf, sources_of}
 use Rattle.bp_run.proofs.Meeting.{Never, meets, stops}
 
 -- a layer that refuses, and the whole with it
@@ -33,6 +32,49 @@ pub told : {T U V W : Type 0} (view : T → V) (whole_view : U → W) (Part : Re
 told view whole_view Part Whole on e (Ok x) same h = absurd same
 told view whole_view Part Whole on e (Err x) same h =
     subst (λ s. GivesOrStops whole_view Whole Never (Err s)) (sym same) (tells_here view whole_view Part Whole on e h)
+
+-- a layer that refuses, where texts with their places are made
+pub refused_puts : {T V : Type 0} (view : T → V) (Part : Result V Fault → Type 0)
+    (Whole : Result (List ℕ) Fault → Type 0) (Goes : List ℕ → List Put → Type 0)
+    → ((fault : Fault) → Part (Err fault) → Whole (Err fault)) → (e : Refusal)
+    (r : Result (Vec Put Global) Refusal) → IsErrAnd r (λ x. x ≡ e) → Tells view Part (Err e) → MakesPuts Whole Goes r
+refused_puts view Part Whole Goes on e (Ok puts) same h = absurd same
+refused_puts view Part Whole Goes on e (Err x) same h =
+    subst (λ x. MakesPuts Whole Goes (Err x)) (sym same) (by e h)
+  where
+    by : (e : Refusal) → Tells view Part (Err e) → MakesPuts Whole Goes (Err e)
+    by (Bad fault) h = on fault h
+    by NoMemory h = tt
+
+-- Two steps, of which the second makes texts with their places.
+module _ {T A : Type 0} (view : T → A) (First : Result A Fault → Type 0)
+    (Next : A → Result (List ℕ) Fault → Type 0) (Goes : List ℕ → List Put → Type 0) where
+  -- the first stops, and the whole with it
+  pub puts_stopped : (e : Stop) (r : Result (Vec Put Global) Stop) → IsErrAnd r (λ x. x ≡ e)
+      → GivesOrStops view First Never (Err e) → MakesOrStops (Then First Next) Goes r
+  puts_stopped e (Ok puts) same h = absurd same
+  puts_stopped e (Err x) same h = subst (λ x. MakesOrStops (Then First Next) Goes (Err x)) (sym same) (by e h)
+    where
+      by : (e : Stop) → GivesOrStops view First Never (Err e) → MakesOrStops (Then First Next) Goes (Err e)
+      by (Stop.Fault fault) h = (Err fault, h, refl)
+      by (Stop.Read path) h = absurd h
+      by Stop.OutOfMemory h = tt
+
+  -- the second refuses
+  pub puts_refused : (value : A) → First (Ok value) → (e : Refusal) (r : Result (Vec Put Global) Stop)
+      → IsErrAnd r (λ x. x ≡ stop_of e) → MakesPuts (Next value) Goes (Err e) → MakesOrStops (Then First Next) Goes r
+  puts_refused value first e (Ok puts) same h = absurd same
+  puts_refused value first e (Err x) same h =
+      subst (λ x. MakesOrStops (Then First Next) Goes (Err x)) (sym same) (by e h)
+    where
+      by : (e : Refusal) → MakesPuts (Next value) Goes (Err e) → MakesOrStops (Then First Next) Goes (Err (stop_of e))
+      by (Bad fault) h = (Ok value, first, h)
+      by NoMemory h = tt
+
+  -- the second makes them
+  pub puts_made : (value : A) → First (Ok value) → (puts : Vec Put Global) → MakesPuts (Next value) Goes (Ok puts)
+      → MakesOrStops (Then First Next) Goes (Ok puts)
+  puts_made value first puts (text, gives, goes) = (text, (Ok value, first, gives), goes)
 
 -- Two steps, one after the other.
 module _ {T U A B : Type 0} (view : T → A) (whole_view : U → B) (First : Result A Fault → Type 0)
@@ -51,20 +93,12 @@ module _ {T U A B : Type 0} (view : T → A) (whole_view : U → B) (First : Res
       meets whole_view (Next value) (Then First Next) Never Never (λ outcome next. (Ok value, first, next))
       (λ path never. absurd never) r h
 
--- What was made of modules, and what they make.
-abbrev pub MakesOf : Configuration → List Module → Result Made Stop → Type 0
-MakesOf c typed r = GivesOrStops {T = Made} {V = Made} (λ made. made) (ModulesMake c typed) Never r
-
 module _ (paths : List (List ℕ)) where
   -- what the files of the list load as, and what is made of them
   abbrev Loads : Files → Result (Vec Module Global) Stop → Type 0
   Loads files r =
       GivesOrStops {T = Vec Module Global} {V = List Module} (λ typed. typed.items) (ListedFilesLoad files paths)
       (CannotReadOf files paths) r
-
-  abbrev Makes : Configuration → Files → Result Made Stop → Type 0
-  Makes c files r =
-      GivesOrStops {T = Made} {V = Made} (λ made. made) (ListedFilesMake c files paths) (CannotReadOf files paths) r
 
   -- the files were read, and loaded
   loaded_here : (files : Files) (sources : List Source) (r : Result (Vec Module Global) Stop)
@@ -82,21 +116,3 @@ module _ (paths : List (List ℕ)) where
       → IfSome old (λ files. Loads files r)
   tree_loaded None sources r read h = tt
   tree_loaded (Some files) sources r read h = loaded_here files sources r read h
-
-  -- the files don't load, so nothing is made
-  pub job_stopped : (c : Configuration) (old : Option Files) (e : Stop) (r : Result Made Stop)
-      → IsErrAnd r (λ x. x ≡ e) → IfSome old (λ files. Loads files (Err e)) → IfSome old (λ files. Makes c files r)
-  job_stopped c None e r same h = tt
-  job_stopped c (Some files) e r same h =
-      stops {T = Vec Module Global} {U = Made} (λ typed. typed.items) (λ made. made) (ListedFilesLoad files paths)
-      (ListedFilesMake c files paths) (CannotReadOf files paths) (CannotReadOf files paths)
-      (λ fault means. (Err fault, means, refl)) (λ path cannot. cannot) e r same h
-
-  -- the files load, and what is made of their modules is made
-  pub job_made : (c : Configuration) (old : Option Files) (typed : List Module) (r : Result Made Stop)
-      → IfSome old (λ files. ListedFilesLoad files paths (Ok typed)) → MakesOf c typed r
-      → IfSome old (λ files. Makes c files r)
-  job_made c None typed r loaded h = tt
-  job_made c (Some files) typed r loaded h =
-      meets {T = Made} (λ made. made) (ModulesMake c typed) (ListedFilesMake c files paths) Never
-      (CannotReadOf files paths) (λ outcome makes. (Ok typed, loaded, makes)) (λ path never. absurd never) r h

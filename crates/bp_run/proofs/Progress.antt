@@ -11,8 +11,8 @@ use Rattle.bp_faults.specs.declared.limits.TheConstants.{LARGEST_FILE, LARGEST_T
 use Rattle.bp_ports.specs.Files.{Files}
 use Rattle.bp_load.specs.Trees.{Source, sources_given}
 use Rattle.bp_run.specs.declared.stop.Stop.{Stop}
-use Rattle.bp_run.specs.Tree.{file_bytes, sources_of}
-use Rattle.bp_run.specs.Steps.{GivesOrStops, Exactly, CannotReadOf}
+use Rattle.bp_run.specs.Tree.{CannotReadOf, file_bytes, sources_of}
+use Rattle.bp_run.specs.Steps.{GivesOrStops, Exactly}
 use Rattle.bp_run.proofs.Reading.{size_of, size_more, read_more, read_fault, read_stop}
 
 -- a file as it is held in memory

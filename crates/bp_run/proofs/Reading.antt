@@ -8,8 +8,7 @@ use Rattle.bp_faults.specs.declared.fault.Fault.{Fault}
 use Rattle.bp_faults.specs.Answers.{then_do}
 use Rattle.bp_ports.specs.Files.{Files}
 use Rattle.bp_load.specs.Trees.{Source}
-use Rattle.bp_run.specs.Tree.{file_bytes, sources_from, sources_of}
-use Rattle.bp_run.specs.Steps.{CannotReadOf}
+use Rattle.bp_run.specs.Tree.{CannotReadOf, file_bytes, sources_from, sources_of}
 
 -- how many bytes files have together
 abbrev pub size_of : List Source → ℕ

@@ -1,12 +1,12 @@
--- The job: what a configuration stands for over files, a text or the first fault.
+-- Jobs: what modules and files are made into, a text or the first fault.
 use Rattle.std.specs.Prelude.{◌≡◌, ℕ, ◌+◌, List, length, Result, Ok}
 use Rattle.std.specs.FinMap.{get}
 use Rattle.bp_faults.specs.declared.fault.Fault.{Fault}
 use Rattle.bp_faults.specs.declared.ids.NodeId.{NodeId}
 use Rattle.bp_faults.specs.declared.limits.TheConstants.{LARGEST_FILE}
+use Rattle.bp_faults.specs.declared.target.Target.{Target}
 use Rattle.bp_faults.specs.Phases.{GoesOn, Then}
-use Rattle.bp_format.specs.Editing.{Wanted, EditMeans}
-use Rattle.bp_format.specs.Meaning.{FormatMeans}
+use Rattle.bp_format.specs.Editing.{Wanted}
 use Rattle.bp_ports.specs.Files.{Files}
 use Rattle.bp_props.specs.declared.module.Module.{Module}
 use Rattle.bp_props.specs.declared.props.Props.{Props}
@@ -30,12 +30,15 @@ use Rattle.command_words.specs.Words.{default_targets}
 use Rattle.order_text.specs.Texts.{journal_text}
 use Rattle.synthetic_tree.specs.declared.summary.Summary.{Summary}
 use Rattle.synthetic_tree.specs.Summary.{summary_text}
-use Rattle.bp_run.specs.declared.words.Configuration.{Configuration}
-use Rattle.bp_run.specs.declared.words.Configuration.TheVariants.{Build, Graph, Synth}
-use Rattle.bp_run.specs.declared.words.Rewriting.{Rewriting}
-use Rattle.bp_run.specs.declared.words.Rewriting.TheVariants.{Format, Edit}
-use Rattle.bp_run.specs.Words.{config_of, file_path}
-use Rattle.bp_run.specs.Tree.{ListFileMeans, ListLoads, SynthLoads, TreeMeans, read_of, sources_and_order}
+use Rattle.bp_run.specs.Tree.{ListFileMeans, ListLoads, read_of, sources_and_order}
+
+-- Modules are built for these targets.
+abbrev pub config_of : List Target → Config
+config_of targets = record { targets = targets }
+
+-- What `build` gives of modules: the text of the file for Ninja, for its targets.
+abbrev pub BuildGives : BuildWords → List Module → Result (List ℕ) Fault → Type 0
+BuildGives words typed = TextMeans typed (config_of words.targets)
 
 -- What `graph` gives of modules: the text of the graph after the first mutators, for its targets.
 abbrev pub GraphGives : GraphWords → List Module → Result (List ℕ) Fault → Type 0
@@ -73,19 +76,9 @@ SummaryGives words typed outcome =
     (λ text outcome. (summary : Summary) × IsSummary words typed text summary × (Ok (summary_text summary) ≡ outcome))
     outcome
 
--- What modules give, by the command: for `build` the text of the file for Ninja, for its targets.
-abbrev pub ModulesGive : Configuration → List Module → Result (List ℕ) Fault → Type 0
-ModulesGive (Build words) typed = TextMeans typed (config_of words.targets)
-ModulesGive (Graph words) typed = GraphGives words typed
-ModulesGive (Synth words) typed = SummaryGives words typed
-
--- The job of a configuration over files: first the modules of its tree, and then what they give.
-abbrev pub JobMeans : Configuration → Files → Result (List ℕ) Fault → Type 0
-JobMeans c files outcome = Then (TreeMeans c files) (ModulesGive c) outcome
-
--- The job of `synth`, which is the same over all files.
-abbrev pub SynthMeans : SynthWords → Result (List ℕ) Fault → Type 0
-SynthMeans words outcome = Then (SynthLoads words) (SummaryGives words) outcome
+-- What `synth` gives of files in memory.
+abbrev pub SourcesSummarize : SynthWords → List Source → Result (List ℕ) Fault → Type 0
+SourcesSummarize words sources outcome = Then (LoadMeans sources) (SummaryGives words) outcome
 
 -- What files in memory are replayed to, along an order file of a number.
 abbrev pub SourcesReplay : ReplayWords → ℕ → List Source × List ℕ → Result (List ℕ) Fault → Type 0
@@ -105,18 +98,11 @@ ReplayJobMeans words files outcome = Then (ListFileMeans words.list files) (List
 abbrev pub wanted_of : EditWords → Wanted
 wanted_of words = record { name = words.name; property = words.property; items = words.items }
 
--- What a text gives, by the command: for `fmt` its layout, and for `edit` the text with a list set. FILE is file 0.
-abbrev pub TextGives : Rewriting → List ℕ → Result (List ℕ) Fault → Type 0
-TextGives (Format words) text = FormatMeans 0 text
-TextGives (Edit words) text = EditMeans 0 text (wanted_of words)
-
--- What the bytes of FILE give: they must be UTF-8.
-abbrev pub BytesGive : Rewriting → List ℕ → Result (List ℕ) Fault → Type 0
-BytesGive r bytes = AsText 0 bytes (TextGives r bytes)
-
--- The job of `fmt` and of `edit` over files: first FILE is read, which is no larger than a file may be.
-abbrev pub RewriteMeans : Rewriting → Files → Result (List ℕ) Fault → Type 0
-RewriteMeans r files outcome = GoesOn (read_of 0 LARGEST_FILE (get files (file_path r))) (BytesGive r) outcome
+-- What a file is made into, whose text gives that: it is no larger than a file may be, and its bytes must be UTF-8. It
+-- is file 0.
+abbrev pub RewriteMeans : List ℕ → (List ℕ → Result (List ℕ) Fault → Type 0) → Files → Result (List ℕ) Fault → Type 0
+RewriteMeans file TextGives files outcome =
+    GoesOn (read_of 0 LARGEST_FILE (get files file)) (λ bytes. AsText 0 bytes (TextGives bytes)) outcome
 
 -- Some lines are the text of a legal journal of modules.
 abbrev pub AreJournalLines : List Module → Config → List ℕ → Type 0

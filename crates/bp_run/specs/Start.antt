@@ -6,11 +6,12 @@ use Rattle.bp_ports.specs.Causes.{Rose}
 use Rattle.bp_ports.specs.Files.{WhereTold, AppendsPart}
 use Rattle.command_words.specs.Explanations.{explanation_of}
 use Rattle.command_words.specs.Notices.{notice_text}
+use Rattle.command_words.specs.Words.{configuration_of}
+use Rattle.command_words.specs.declared.configuration.Configuration.{Configuration}
 use Rattle.command_words.specs.declared.notices.Notice.{Notice}
-use Rattle.bp_run.specs.declared.words.Command.{Command}
+use Rattle.bp_run.specs.Commands.{description_of}
 use Rattle.bp_run.specs.Lines.{memory_line, output_line}
 use Rattle.bp_run.specs.Run.{RunMeans}
-use Rattle.bp_run.specs.Words.{command_of}
 use Rattle.bp_run.specs.World.{World, Stream, Says, SaysNothing, IsSpared, Untouched}
 
 -- The output as a stream.
@@ -48,14 +49,14 @@ ExplainMeans text old new before after status =
 -- What the program does for words that ask for no notice: it prints what is wrong with the words of which they ask,
 -- without a file, or it does their command.
 abbrev pub AnswersQuestion :
-    Option (List (List ℕ)) → Option Command → World → World → Stream → Stream → ℕ → Type 0
+    Option (List (List ℕ)) → Option Configuration → World → World → Stream → Stream → ℕ → Type 0
 AnswersQuestion (Some asked) conf old new before after status =
     IsSpared old new × ExplainMeans (explanation_of asked) (out_stream old) (out_stream new) before after status
-AnswersQuestion None conf old new before after status = RunMeans conf old new before after status
+AnswersQuestion None conf old new before after status = RunMeans description_of conf old new before after status
 
 -- What the program does for words: it prints the notice that they ask for, without a file, or answers them otherwise.
 abbrev pub AnswersWords :
-    Option Notice → Option (List (List ℕ)) → Option Command → World → World → Stream → Stream → ℕ → Type 0
+    Option Notice → Option (List (List ℕ)) → Option Configuration → World → World → Stream → Stream → ℕ → Type 0
 AnswersWords (Some notice) asked conf old new before after status =
     IsSpared old new × PrintMeans (notice_text notice) (out_stream old) (out_stream new) before after status
 AnswersWords None asked conf old new before after status = AnswersQuestion asked conf old new before after status
@@ -65,4 +66,5 @@ AnswersWords None asked conf old new before after status = AnswersQuestion asked
 abbrev pub AnswersNoWords : ErrorKind → World → World → Stream → Stream → ℕ → Type 0
 AnswersNoWords NoMemory old new before after status =
     (status ≡ 5) × Untouched old new × SaysNothing before after
-AnswersNoWords kind old new before after status = RunMeans (command_of []) old new before after status
+AnswersNoWords kind old new before after status =
+    RunMeans description_of (configuration_of []) old new before after status

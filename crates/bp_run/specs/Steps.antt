@@ -1,29 +1,26 @@
--- What a step of the job answers, for what its definition gives.
-use Rattle.std.specs.Prelude.{◌≡◌, ◌⊎◌, ℕ, ◌≤◌, List, ◌∷◌, ◌++◌, Option, None, Result, Ok, Err, ⊤}
-use Rattle.std.specs.Prelude.{IfSome, option_map}
-use Rattle.std.specs.Result.{IsOk}
-use Rattle.bp_ports.specs.Causes.{Rose}
-use Rattle.bp_ports.specs.Files.{Files}
+-- What a step of a command answers, for what its definition gives. Only the contracts of steps speak of it.
+use Rattle.std.specs.Prelude.{◌≡◌, ℕ, ◌≤◌, List, [], ◌∷◌, Vec, Option, Result, Ok, Err, IfSome, ⊤}
+use Rattle.std.specs.declared.alloc.Global.{Global}
 use Rattle.bp_faults.specs.declared.fault.Fault.{Fault}
 use Rattle.bp_faults.specs.declared.refusal.Refusal.{Refusal}
 use Rattle.bp_faults.specs.declared.refusal.Refusal.TheVariants.{Bad, OutOfMemory as NoMemory}
-use Rattle.bp_run.specs.declared.stop.Stop.{Stop}
-use Rattle.bp_faults.specs.Phases.{Then}
+use Rattle.bp_faults.specs.Line.{line_of}
+use Rattle.bp_ports.specs.Causes.{Rose}
+use Rattle.bp_ports.specs.Files.{Files}
 use Rattle.bp_props.specs.declared.module.Module.{Module}
-use Rattle.bp_load.specs.Loaded.{LoadMeans}
-use Rattle.bp_load.specs.Trees.{Source}
-use Rattle.bp_run.specs.declared.made.Journal.{Journal}
-use Rattle.bp_run.specs.declared.made.Made.{Made}
-use Rattle.bp_run.specs.declared.words.Configuration.{Configuration}
-use Rattle.bp_run.specs.declared.words.Configuration.TheVariants.{Build, Graph, Synth}
 use Rattle.bp_pipeline.specs.declared.generated.Generated.{Generated}
 use Rattle.bp_pipeline.specs.Generated.{AreSizes, IsStatementCount}
-use Rattle.command_words.specs.declared.configuration.Replay.{Replay as ReplayWords}
 use Rattle.command_words.specs.declared.configuration.Synth.{Synth as SynthWords}
 use Rattle.synthetic_tree.specs.declared.summary.Summary.{Summary}
-use Rattle.bp_run.specs.Job.{ModulesGive, AreJournalLines, IsSummary, synth_config}
-use Rattle.bp_run.specs.Tree.{ListFileMeans, ListedFilesLoad, sources_of}
-use Rattle.bp_run.specs.Words.{config_of}
+use Rattle.bp_run.specs.declared.end.End.{End}
+use Rattle.bp_run.specs.declared.put.Put.{Put}
+use Rattle.bp_run.specs.declared.put.Put.TheVariants.{Write}
+use Rattle.bp_run.specs.declared.stop.Stop.{Stop}
+use Rattle.bp_run.specs.declared.tree.Tree.{Tree}
+use Rattle.bp_run.specs.Description.{Description}
+use Rattle.bp_run.specs.Job.{IsSummary, synth_config}
+use Rattle.bp_run.specs.Lines.{read_line}
+use Rattle.bp_run.specs.Tree.{ListFileMeans, ListedFilesLoad, ListLoads, AreListNames, CannotRead}
 
 -- A layer's refusal, as the job hands it on.
 abbrev pub stop_of : Refusal → Stop
@@ -58,61 +55,73 @@ pub record ReadCause {T : Type 0} (before now : ℕ) (result : Result T Stop) : 
   pub later : before ≤ now
   pub rose : OnRead result (Rose before now)
 
--- A path of the list that can't be read: those before it have no fault.
-abbrev pub CannotReadOf : Files → List (List ℕ) → List ℕ → Type 0
-CannotReadOf files paths path =
-    (before after : List (List ℕ)) × (paths ≡ before ++ path ∷ after) × IsOk (sources_of files before)
-
--- The path that can't be read is the list's, or one that the list names, where it has no fault.
-abbrev pub CannotRead : List ℕ → Files → List ℕ → Type 0
-CannotRead list files path =
-    (path ≡ list) ⊎ ((paths : List (List ℕ)) × ListFileMeans list files (Ok paths) × CannotReadOf files paths path)
-
--- A path that can't be read is of a file of the list, or the order's, where no file of the list has a fault.
-abbrev pub CannotReadAlong : Files → List (List ℕ) → List ℕ → List ℕ → Type 0
-CannotReadAlong files paths order path =
-    CannotReadOf files paths path ⊎ ((path ≡ order) × IsOk (sources_of files paths))
-
--- The path that a replay can't read: the list's, one that the list names, or the order's, where nothing before it has
--- a fault.
-abbrev pub CannotReplay : ReplayWords → Files → List ℕ → Type 0
-CannotReplay words files path =
-    (path ≡ words.list)
-    ⊎ ((paths : List (List ℕ)) × ListFileMeans words.list files (Ok paths)
-    × CannotReadAlong files paths words.order path)
-
 -- The numbers are those of modules of which this was generated.
 abbrev pub Summarizes : SynthWords → Generated → Summary → Type 0
 Summarizes words made summary =
     (typed : List Module) → AreSizes typed synth_config made.sizes
     → IsStatementCount typed synth_config made.statements → IsSummary words typed made.ninja summary
 
--- The path of a journal, where there is one.
-abbrev pub journal_path : Option Journal → Option (List ℕ)
-journal_path journal = option_map (λ (made : Journal). made.path) journal
+-- The texts with their places are what is meant: a text that is given goes so.
+abbrev pub MakesPuts :
+    (Result (List ℕ) Fault → Type 0) → (List ℕ → List Put → Type 0) → Result (Vec Put Global) Refusal → Type 0
+MakesPuts TextGives Goes (Ok puts) = (text : List ℕ) × TextGives (Ok text) × Goes text puts.items
+MakesPuts TextGives Goes (Err (Bad fault)) = TextGives (Err fault)
+MakesPuts TextGives Goes (Err NoMemory) = ⊤
 
--- The path of the journal that is asked for.
-abbrev pub journal_of : Configuration → Option (List ℕ)
-journal_of (Build words) = words.journal
-journal_of (Graph words) = None
-journal_of (Synth words) = None
+-- The same where a step before may stop, but not by a path that can't be read.
+abbrev pub MakesOrStops :
+    (Result (List ℕ) Fault → Type 0) → (List ℕ → List Put → Type 0) → Result (Vec Put Global) Stop → Type 0
+MakesOrStops TextGives Goes (Ok puts) = (text : List ℕ) × TextGives (Ok text) × Goes text puts.items
+MakesOrStops TextGives Goes (Err (Stop.Fault fault)) = TextGives (Err fault)
+MakesOrStops TextGives Goes (Err (Stop.Read path)) = ⊥
+MakesOrStops TextGives Goes (Err Stop.OutOfMemory) = ⊤
 
--- The lines of a journal are legal.
-abbrev pub HasJournal : Configuration → List Module → Option Journal → Type 0
-HasJournal (Build words) typed journal =
-    IfSome journal (λ made. AreJournalLines typed (config_of words.targets) made.lines)
-HasJournal (Graph words) typed journal = ⊤
-HasJournal (Synth words) typed journal = ⊤
+-- The text goes to the file of the path, or memory ran out.
+abbrev pub WritesOrRunsOut : List ℕ → List ℕ → Result (Vec Put Global) End → Type 0
+WritesOrRunsOut path text (Ok puts) = puts.items ≡ Write path text ∷ []
+WritesOrRunsOut path text (Err End.OutOfMemory) = ⊤
+WritesOrRunsOut path text (Err end) = ⊥
 
--- What is made of modules: the text that they give, and the journal beside it.
-abbrev pub ModulesMake : Configuration → List Module → Result Made Fault → Type 0
-ModulesMake c typed (Ok made) = ModulesGive c typed (Ok made.text) × HasJournal c typed made.journal
-ModulesMake c typed (Err fault) = ModulesGive c typed (Err fault)
+-- How a job's stop is reported, by the paths of the files.
+abbrev pub Stopped : List (List ℕ) → Stop → End → Type 0
+Stopped paths (Stop.Fault fault) (End.Fault line) = line ≡ line_of fault paths
+Stopped paths (Stop.Read path) (End.Read line) = line ≡ read_line path
+Stopped paths stop End.OutOfMemory = ⊤
+Stopped paths stop end = ⊥
 
--- What is made of the files of a list.
-abbrev pub ListedFilesMake : Configuration → Files → List (List ℕ) → Result Made Fault → Type 0
-ListedFilesMake c files paths outcome = Then (ListedFilesLoad files paths) (ModulesMake c) outcome
+-- How a command ends before anything is put, over files that may be told: by a fault and its names, by a path that
+-- couldn't be read, or since memory ran out.
+abbrev pub StopsBy : Option Files → (Files → Fault → Type 0) → (Fault → List (List ℕ) → Type 0)
+    → (Files → List ℕ → Type 0) → End → Type 0
+StopsBy told Faults AreNames Unread (End.Fault line) =
+    (fault : Fault) × IfSome told (λ files. Faults files fault)
+    × (names : List (List ℕ)) × AreNames fault names × (line ≡ line_of fault names)
+StopsBy told Faults AreNames Unread (End.Read line) =
+    (path : List ℕ) × (line ≡ read_line path) × IfSome told (λ files. Unread files path)
+StopsBy told Faults AreNames Unread End.OutOfMemory = ⊤
+StopsBy told Faults AreNames Unread end = ⊥
 
--- What is made of files in memory.
-abbrev pub SourcesMake : Configuration → List Source → Result Made Fault → Type 0
-SourcesMake c sources outcome = Then (LoadMeans sources) (ModulesMake c) outcome
+-- What a command answers before anything is put, over files that may be told.
+abbrev pub Prepares : Description → Option Files → Result (Vec Put Global) End → Type 0
+Prepares d told (Ok puts) =
+    (text : List ℕ) × IfSome told (λ files. d.gives files (Ok text)) × d.goes told text puts.items
+Prepares d told (Err end) = StopsBy told (λ files fault. d.gives files (Err fault)) (d.names told) d.unread end
+
+-- What loading the tree of a list answers, over files that may be told.
+abbrev pub LoadsTree : List ℕ → Option Files → Result Tree End → Type 0
+LoadsTree list told (Ok tree) =
+    IfSome told (λ files. ListFileMeans list files (Ok tree.paths.items)
+    × ListedFilesLoad files tree.paths.items (Ok tree.typed.items))
+LoadsTree list told (Err end) =
+    StopsBy told (λ files fault. ListLoads list files (Err fault)) (λ fault. AreListNames list told)
+    (CannotRead list) end
+
+-- An end by a path that couldn't be read comes only where the count of failed reads rose, which never falls.
+abbrev pub OnReadEnd : {T : Type 0} → Result T End → Type 0 → Type 0
+OnReadEnd (Err (End.Read line)) P = P
+OnReadEnd result P = ⊤
+
+-- The cause of an end by a path that couldn't be read.
+pub record ReadEnds {T : Type 0} (before now : ℕ) (result : Result T End) : Type 0 where
+  pub later : before ≤ now
+  pub rose : OnReadEnd result (Rose before now)

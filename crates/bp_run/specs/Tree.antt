@@ -1,6 +1,7 @@
--- The tree of a configuration: which files are read, and which modules they load as.
-use Rattle.std.specs.Prelude.{◌≡◌, ℕ, ◌+◌, List, [], ◌∷◌, ◌++◌, nat_le, length, codes}
-use Rattle.std.specs.Prelude.{Option, Some, None, Result, Ok, Err, if◌then◌else◌}
+-- Trees: which files are read, and which modules they load as.
+use Rattle.std.specs.Prelude.{◌≡◌, ◌⊎◌, ℕ, ◌+◌, List, [], ◌∷◌, ◌++◌, map, nat_le, length, codes}
+use Rattle.std.specs.Prelude.{Option, Some, None, Result, Ok, Err, IfSome, if◌then◌else◌}
+use Rattle.std.specs.Result.{IsOk}
 use Rattle.std.specs.FinMap.{get}
 use Rattle.bp_faults.specs.declared.fault.Fault.{Fault}
 use Rattle.bp_faults.specs.declared.kind.FaultKind.TheVariants.{NoFile, FileTooLarge, TooMany}
@@ -16,8 +17,7 @@ use Rattle.bp_load.specs.Loaded.{LoadMeans}
 use Rattle.bp_load.specs.Trees.{Source}
 use Rattle.command_words.specs.declared.configuration.Synth.{Synth as SynthWords}
 use Rattle.synthetic_tree.specs.Blocks.{AreTree}
-use Rattle.bp_run.specs.declared.words.Configuration.{Configuration}
-use Rattle.bp_run.specs.declared.words.Configuration.TheVariants.{Build, Graph, Synth}
+use Rattle.bp_run.specs.Lines.{synth_name}
 
 -- What is read of a file, by its number: it is there, and no larger than the limit.
 abbrev pub read_of : ℕ → ℕ → Option (List ℕ) → Result (List ℕ) Fault
@@ -73,12 +73,6 @@ abbrev pub SynthLoads : SynthWords → Result (List Module) Fault → Type 0
 SynthLoads words outcome =
     (files : List Source) × AreTree words.seed words.modules files × LoadMeans files outcome
 
--- The modules of a configuration's tree: of the files that a list names, or a synthetic one.
-abbrev pub TreeMeans : Configuration → Files → Result (List Module) Fault → Type 0
-TreeMeans (Build words) files = ListLoads words.list files
-TreeMeans (Graph words) files = ListLoads words.list files
-TreeMeans (Synth words) files = SynthLoads words
-
 -- The paths that are listed, and none where the list has a fault.
 abbrev pub listed_of : Result (List (List ℕ)) Fault → List (List ℕ)
 listed_of (Ok paths) = paths
@@ -98,3 +92,40 @@ AreListedFiles list files paths =
 abbrev pub AreListedWith : List ℕ → List ℕ → Files → List (List ℕ) → Type 0
 AreListedWith list order files paths =
     (outcome : Result (List (List ℕ)) Fault) × ListFileMeans list files outcome × (paths ≡ listed_with order outcome)
+
+-- The names of files by their numbers: a list has the number 0, and behind it stand the files that it names.
+abbrev pub AreListNames : List ℕ → Option Files → List (List ℕ) → Type 0
+AreListNames list told names =
+    (paths : List (List ℕ)) × IfSome told (λ files. AreListedFiles list files paths) × (names ≡ list ∷ paths)
+
+-- The names of the files of a replay by their numbers: the order file stands behind those of the list.
+abbrev pub AreReplayNames : List ℕ → List ℕ → Option Files → List (List ℕ) → Type 0
+AreReplayNames list order told names =
+    (paths : List (List ℕ)) × IfSome told (λ files. AreListedWith list order files paths) × (names ≡ list ∷ paths)
+
+-- The names of the files of a synthetic tree by their numbers: `synth` stands in the place of a list.
+abbrev pub AreSynthNames : SynthWords → List (List ℕ) → Type 0
+AreSynthNames words names =
+    (files : List Source) × AreTree words.seed words.modules files × (names ≡ synth_name ∷ map (λ f. f.0) files)
+
+-- A path of the list that can't be read: those before it have no fault.
+abbrev pub CannotReadOf : Files → List (List ℕ) → List ℕ → Type 0
+CannotReadOf files paths path =
+    (before after : List (List ℕ)) × (paths ≡ before ++ path ∷ after) × IsOk (sources_of files before)
+
+-- The path that can't be read is the list's, or one that the list names, where it has no fault.
+abbrev pub CannotRead : List ℕ → Files → List ℕ → Type 0
+CannotRead list files path =
+    (path ≡ list) ⊎ ((paths : List (List ℕ)) × ListFileMeans list files (Ok paths) × CannotReadOf files paths path)
+
+-- A path that can't be read is of a file of the list, or the order's, where no file of the list has a fault.
+abbrev pub CannotReadAlong : Files → List (List ℕ) → List ℕ → List ℕ → Type 0
+CannotReadAlong files paths order path =
+    CannotReadOf files paths path ⊎ ((path ≡ order) × IsOk (sources_of files paths))
+
+-- The path that a replay can't read: the list's, one that the list names, or the order's, where nothing before it has
+-- a fault.
+abbrev pub CannotReplay : List ℕ → List ℕ → Files → List ℕ → Type 0
+CannotReplay list order files path =
+    (path ≡ list)
+    ⊎ ((paths : List (List ℕ)) × ListFileMeans list files (Ok paths) × CannotReadAlong files paths order path)

@@ -1,5 +1,5 @@
 -- What a call of the program sees of its store and of its streams, and what it may do to them.
-use Rattle.std.specs.Prelude.{◌≡◌, ◌⊎◌, ℕ, List, ◌++◌, Option}
+use Rattle.std.specs.Prelude.{◌≡◌, ◌≤◌, ◌⊎◌, ℕ, List, ◌++◌, Option}
 use Rattle.bp_ports.specs.declared.store.Store.{Ghosts as StoreGhosts}
 use Rattle.bp_ports.specs.declared.sink.Sink.{Ghosts as SinkGhosts}
 use Rattle.bp_ports.specs.Causes.{Rose}
@@ -46,6 +46,11 @@ SaysNothing old new = new.bytes ≡ old.bytes
 pub record Unchanged (old new : World) : Type 0 where
   pub files : new.files ≡ old.files
   pub out : new.out ≡ old.out
+
+-- The counts of failures that putting texts may raise haven't fallen.
+pub record HaveCounted (old new : World) : Type 0 where
+  pub writes : old.writes ≤ new.writes
+  pub puts : old.puts ≤ new.puts
 
 -- Nothing was read or written.
 pub record IsSpared (old new : World) : Type 0 where

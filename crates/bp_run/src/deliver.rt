@@ -1,23 +1,13 @@
-ghost use Rattle.std.specs.Prelude.{◌≡◌, IfOk, Some, None};
-ghost use Rattle.bp_run.specs.End.{EndsWriting, EndsShowing, EndsDelivery};
-ghost use Rattle.bp_run.specs.Lines.{read_line, write_line};
-ghost use Rattle.bp_run.specs.Run.{Spares};
-ghost use Rattle.bp_run.specs.declared.words.Command.TheVariants.{Job};
+ghost use Rattle.std.specs.Prelude.{◌≡◌, ◌<◌, ◌∷◌, [], ℕ, List, IfOk, IfSome, IsNone, length, map, slice_index_or};
+ghost use Rattle.bp_run.specs.End.{EndsPutting, ArePrints, TryMeans, failure_line};
+ghost use Rattle.bp_run.specs.Lines.{write_line};
+ghost use Rattle.bp_run.specs.Puts.{ArePut, AreUnput};
 ghost use Rattle.bp_run.specs.World.{world, IsSpared};
 
-use crate::{Configuration, End, Journal, Made};
+use crate::{End, Put};
 use bp_faults::{OutOfMemory, Text};
-use bp_ports::{Sink, Store};
-use command_words::Build;
+use bp_ports::{Failed, Sink, Store};
 use std::alloc::Global;
-
-/// The line for a path that can't be read.
-pub fn cannot_read(alloc: Global, path: &Text) -> Result<Text, OutOfMemory>
-    ensures { IfOk result (λ line. line ≡ read_line path.now) }
-{
-    let path = path.as_str();
-    Ok(Text::new(format!(in alloc; "bpgen: cannot read {path}\n")?))
-}
 
 fn cannot_write(alloc: Global, path: &str) -> Result<Text, OutOfMemory>
     ensures { IfOk result (λ line. line ≡ write_line path.now) }
@@ -25,104 +15,80 @@ fn cannot_write(alloc: Global, path: &str) -> Result<Text, OutOfMemory>
     Ok(Text::new(format!(in alloc; "bpgen: cannot write {path}\n")?))
 }
 
-/// Writes the text to the path, where no journal is asked for. The line for a failure is made first.
-pub fn write_text<S: Store, O: Sink>(
-    alloc: Global,
-    path: &Text,
-    made: &Made,
-    store: &mut S,
-    out: &mut O,
-) -> End
-    requires { made.now.journal ≡ None }
-    ensures { EndsWriting path.now made.now
-        (world S.Store O.Sink store.old out.old) (world S.Store O.Sink store.new out.new) result }
+// The line for a text that can't be put where it goes.
+fn failure_line(alloc: Global, put: &Put) -> Result<Text, OutOfMemory>
+    ensures { IfOk result (λ line. line ≡ failure_line put.now) }
 {
-    match cannot_write(alloc, path.as_str()) {
-        Ok(line) => match store.write(path, made.text.as_slice()) {
-            Ok(()) => End::Done,
-            Err(_) => End::Write(line),
-        },
-        Err(_) => End::OutOfMemory,
+    match put {
+        Put::Write(path, _) => cannot_write(alloc, path.as_str()),
+        Put::Print(_) => cannot_write(alloc, "standard output"),
     }
 }
 
-// Writes the text to OUT, and then the journal. The lines for failures are made first.
-fn write_text_and_journal<S: Store, O: Sink>(
-    alloc: Global,
-    words: &Build,
-    made: &Made,
-    journal: &Journal,
-    store: &mut S,
-    out: &mut O,
-) -> End
-    requires { made.now.journal ≡ Some journal.now }
-    ensures { EndsWriting words.now.out made.now
-        (world S.Store O.Sink store.old out.old) (world S.Store O.Sink store.new out.new) result }
+// The same for each of some texts.
+fn failure_lines(alloc: Global, puts: &[Put]) -> Result<Vec<Text>, OutOfMemory>
+    ensures { IfOk result (λ lines. lines.items ≡ map failure_line puts.now) }
 {
-    let Ok(out_line) = cannot_write(alloc, words.out.as_str()) else {
-        return End::OutOfMemory;
-    };
-    let Ok(journal_line) = cannot_write(alloc, journal.path.as_str()) else {
-        return End::OutOfMemory;
-    };
-    match store.write(&words.out, made.text.as_slice()) {
-        Ok(()) => match store.write(&journal.path, journal.lines.as_slice()) {
-            Ok(()) => End::Done,
-            Err(_) => End::Write(journal_line),
-        },
-        Err(_) => End::Write(out_line),
+    let mut lines = Vec::new(alloc);
+    for put in puts {
+        lines.push(failure_line(alloc, put)?)?;
+    }
+    Ok(lines)
+}
+
+// Puts a text where it goes.
+fn put_one<S: Store, O: Sink>(put: &Put, store: &mut S, out: &mut O) -> Result<(), Failed>
+    ensures tried { TryMeans put.now
+        (world S.Store O.Sink store.old out.old) (world S.Store O.Sink store.new out.new) result }
+    ensures spares { ArePrints (put.now ∷ [])
+        → IsSpared (world S.Store O.Sink store.old out.old) (world S.Store O.Sink store.new out.new) }
+{
+    match put {
+        Put::Write(path, text) => store.write(path, text.as_slice()),
+        Put::Print(text) => out.put(text.as_slice()),
     }
 }
 
-// Writes what was made.
-fn write_made<S: Store, O: Sink>(
-    alloc: Global,
-    words: &Build,
-    made: &Made,
-    store: &mut S,
-    out: &mut O,
-) -> End
-    ensures { EndsWriting words.now.out made.now
-        (world S.Store O.Sink store.old out.old) (world S.Store O.Sink store.new out.new) result }
-{
-    match &made.journal {
-        Some(journal) => write_text_and_journal(alloc, words, made, journal, store, out),
-        None => write_text(alloc, &words.out, made, store, out),
-    }
-}
-
-// Puts the text on the output. The line for a failure is made first.
-fn put_text<S: Store, O: Sink>(alloc: Global, text: &[u8], store: &mut S, out: &mut O) -> End
-    ensures ends { EndsShowing text.now
-        (world S.Store O.Sink store.old out.old) (world S.Store O.Sink store.new out.new) result }
-    ensures spares { IsSpared (world S.Store O.Sink store.old out.old) (world S.Store O.Sink store.new out.new) }
-{
-    match cannot_write(alloc, "standard output") {
-        Ok(line) => match out.put(text) {
-            Ok(()) => End::Done,
-            Err(_) => End::Write(line),
-        },
-        Err(_) => End::OutOfMemory,
-    }
-}
-
-/// Puts what was made where the command puts it.
-pub fn deliver<S: Store, O: Sink>(
-    alloc: Global,
-    configuration: &Configuration,
-    made: &Made,
-    store: &mut S,
-    out: &mut O,
-) -> End
-    ensures ends { EndsDelivery configuration.now made.now
-        (world S.Store O.Sink store.old out.old) (world S.Store O.Sink store.new out.new) result }
-    ensures spares { Spares (Some (Job configuration.now))
+// Puts texts where they go, one after another: the index of the first that can't be put.
+fn put_each<S: Store, O: Sink>(puts: &[Put], store: &mut S, out: &mut O) -> Option<usize>
+    ensures done { IsNone result → ArePut puts.now
         (world S.Store O.Sink store.old out.old) (world S.Store O.Sink store.new out.new) }
+    ensures within { IfSome result (λ index. index < length puts.now) }
+    ensures failed { IfSome result (λ index. (line : List ℕ)
+        → line ≡ slice_index_or (map failure_line puts.now) index line
+        → AreUnput puts.now
+        (world S.Store O.Sink store.old out.old) (world S.Store O.Sink store.new out.new) line) }
+    ensures spares { ArePrints puts.now
+        → IsSpared (world S.Store O.Sink store.old out.old) (world S.Store O.Sink store.new out.new) }
 {
-    match configuration {
-        Configuration::Build(words) => write_made(alloc, words, made, store, out),
-        Configuration::Graph(_) | Configuration::Synth(_) => {
-            put_text(alloc, made.text.as_slice(), store, out)
+    for (index, put) in puts.iter().enumerate() {
+        if put_one(put, store, out).is_err() {
+            return Some(index);
         }
+    }
+    None
+}
+
+// The line at an index.
+fn line_at(mut lines: Vec<Text>, index: usize) -> Text
+    requires { index < length lines.items }
+    ensures { result ≡ slice_index_or lines.items index result }
+{
+    lines.swap_remove(index)
+}
+
+/// Puts texts where they go, one after another. The lines for failures are made first.
+pub fn deliver<S: Store, O: Sink>(alloc: Global, puts: &[Put], store: &mut S, out: &mut O) -> End
+    ensures ends { EndsPutting puts.now
+        (world S.Store O.Sink store.old out.old) (world S.Store O.Sink store.new out.new) result }
+    ensures spares { ArePrints puts.now
+        → IsSpared (world S.Store O.Sink store.old out.old) (world S.Store O.Sink store.new out.new) }
+{
+    match failure_lines(alloc, puts) {
+        Ok(lines) => match put_each(puts, store, out) {
+            Some(index) => End::Write(line_at(lines, index)),
+            None => End::Done,
+        },
+        Err(_) => End::OutOfMemory,
     }
 }

@@ -1,10 +1,10 @@
 ghost use Rattle.std.specs.Prelude.{◌≡◌};
-ghost use Rattle.std.specs.Option.{option_copied};
-ghost use Rattle.bp_run.specs.World.{stream};
+ghost use Rattle.bp_run.specs.World.{stream, Says};
 ghost use Rattle.bp_run.specs.End.{status_of, report_of, IsLineReported};
 
 use bp_faults::Text;
 use bp_ports::Sink;
+use command_words::usage_line;
 
 /// How a call ended, with the line that reports it.
 #[derive(Debug, Drop)]
@@ -31,22 +31,21 @@ pub fn status(end: &End) -> u8
     }
 }
 
-fn line(end: &End) -> Option<&str>
-    ensures { option_copied result ≡ report_of end.now }
+// Puts a line on a stream. A stream that fails changes nothing else.
+fn say<D: Sink>(line: &str, diag: &mut D)
+    ensures { Says (stream D.Sink diag.old) (stream D.Sink diag.new) line.now }
 {
-    match end {
-        End::Done => None,
-        End::Fault(line) | End::Read(line) | End::Write(line) => Some(line.as_str()),
-        End::Usage => Some("usage: bpgen build|replay|graph|synth|fmt|edit OPTIONS\n"),
-        End::OutOfMemory => Some("bpgen: out of memory\n"),
-    }
+    let _ = diag.put(line.as_bytes());
 }
 
-/// Puts the line on a stream. A stream that fails changes nothing else.
+/// Puts the line of an end on a stream.
 pub fn report<D: Sink>(end: &End, diag: &mut D)
     ensures { IsLineReported (report_of end.now) (stream D.Sink diag.old) (stream D.Sink diag.new) }
 {
-    if let Some(line) = line(end) {
-        let _ = diag.put(line.as_bytes());
+    match end {
+        End::Done => {}
+        End::Fault(line) | End::Read(line) | End::Write(line) => say(line.as_str(), diag),
+        End::Usage => say(usage_line(), diag),
+        End::OutOfMemory => say("bpgen: out of memory\n", diag),
     }
 }

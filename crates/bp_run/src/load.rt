@@ -4,8 +4,8 @@ ghost use Rattle.bp_faults.specs.declared.limits.TheConstants.{LARGEST_FILE, MOS
 ghost use Rattle.bp_load.specs.Directories.{AreInFileOrder};
 ghost use Rattle.bp_load.specs.Loaded.{LoadMeans};
 ghost use Rattle.bp_load.specs.Trees.{sources_given};
-ghost use Rattle.bp_run.specs.Steps.{GivesOrStops, GivesOrRunsOut, ReadCause, CannotReadOf};
-ghost use Rattle.bp_run.specs.Tree.{ListedFilesLoad};
+ghost use Rattle.bp_run.specs.Steps.{GivesOrStops, GivesOrRunsOut, ReadCause};
+ghost use Rattle.bp_run.specs.Tree.{ListedFilesLoad, CannotReadOf};
 
 use crate::Stop;
 use crate::leave::leave;

@@ -1,8 +1,8 @@
 ghost use Rattle.std.specs.Prelude.{◌≡◌, IfOk, IfErr};
 ghost use Rattle.command_words.specs.Explanations.{explanation_of};
 ghost use Rattle.command_words.specs.Notices.{notice_of, question_of};
+ghost use Rattle.command_words.specs.Words.{configuration_of};
 ghost use Rattle.bp_run.specs.Start.{AnswersWords, AnswersQuestion, AnswersNoWords, ExplainMeans, PrintMeans};
-ghost use Rattle.bp_run.specs.Words.{command_of};
 ghost use Rattle.bp_run.specs.World.{world, stream};
 
 use crate::run;
@@ -63,7 +63,7 @@ fn answer_question<R: Threads + Sync, S: Store, O: Sink, D: Sink, G: Gate + Sync
     diag: &mut D,
     gate: &G,
 ) -> u8
-    ensures { AnswersQuestion (question_of words.now) (command_of words.now)
+    ensures { AnswersQuestion (question_of words.now) (configuration_of words.now)
         (world S.Store O.Sink store.old out.old) (world S.Store O.Sink store.new out.new)
         (stream D.Sink diag.old) (stream D.Sink diag.new) result }
 {
@@ -105,7 +105,7 @@ fn answer<R: Threads + Sync, S: Store, O: Sink, D: Sink, G: Gate + Sync>(
     gate: &G,
 ) -> u8
     ensures words { IfOk given (λ words. AnswersWords (notice_of words.items) (question_of words.items)
-        (command_of words.items)
+        (configuration_of words.items)
         (world S.Store O.Sink store.old out.old) (world S.Store O.Sink store.new out.new)
         (stream D.Sink diag.old) (stream D.Sink diag.new) result) }
     ensures none { IfErr given (λ kind. AnswersNoWords kind

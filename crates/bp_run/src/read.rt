@@ -6,8 +6,8 @@ ghost use Rattle.bp_faults.specs.declared.limits.TheConstants.{MOST_FILES};
 ghost use Rattle.bp_load.specs.Directories.{AreInFileOrder};
 ghost use Rattle.bp_load.specs.ListFile.{ListMeans};
 ghost use Rattle.bp_load.specs.Trees.{sources_given};
-ghost use Rattle.bp_run.specs.Tree.{read_of, counted_bytes, file_bytes, sources_of, ListFileMeans};
-ghost use Rattle.bp_run.specs.Steps.{GivesOrStops, GivesOrRunsOut, Exactly, ReadCause, CannotReadOf};
+ghost use Rattle.bp_run.specs.Tree.{read_of, counted_bytes, file_bytes, sources_of, ListFileMeans, CannotReadOf};
+ghost use Rattle.bp_run.specs.Steps.{GivesOrStops, GivesOrRunsOut, Exactly, ReadCause};
 
 use crate::Stop;
 use bp_faults::limits::{LARGEST_FILE, LARGEST_LIST_FILE, LARGEST_TREE};

@@ -1,10 +1,11 @@
-ghost use Rattle.bp_run.specs.Words.{command_of};
+ghost use Rattle.command_words.specs.Words.{configuration_of};
+ghost use Rattle.bp_run.specs.Commands.{description_of};
 ghost use Rattle.bp_run.specs.Run.{RunMeans};
 ghost use Rattle.bp_run.specs.World.{world, stream};
 
-use crate::do_work;
+use crate::command::run_words;
 use crate::end::{report, status};
-use crate::laws::{one_job, one_replay, one_rewrite};
+use crate::laws::one_outcome;
 use bp_faults::Text;
 use bp_ports::{Gate, Sink, Store};
 use std::alloc::Global;
@@ -23,15 +24,13 @@ pub fn run<R: Threads + Sync, S: Store, O: Sink, D: Sink, G: Gate + Sync>(
     diag: &mut D,
     gate: &G,
 ) -> u8
-    ensures { RunMeans (command_of words.now)
+    ensures { RunMeans description_of (configuration_of words.now)
         (world S.Store O.Sink store.old out.old) (world S.Store O.Sink store.new out.new)
         (stream D.Sink diag.old) (stream D.Sink diag.new) result }
 {
-    // Laws: so a job that was done is no fault, and the other way round.
-    one_job();
-    one_replay();
-    one_rewrite();
-    let end = do_work(rt, alloc, words, store, out, gate);
+    // A law: so a command that came to a text comes to no fault, and the other way round.
+    one_outcome();
+    let end = run_words(rt, alloc, words, store, out, gate);
     report(&end, diag);
     status(&end)
 }
