@@ -6,6 +6,8 @@ mod faults;
 #[cfg(test)]
 mod names;
 #[cfg(test)]
+mod patterns;
+#[cfg(test)]
 mod ports;
 #[cfg(test)]
 mod rows;

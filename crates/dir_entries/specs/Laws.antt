@@ -1,0 +1,15 @@
+-- What holds of directories.
+use Rattle.std.specs.Prelude.{◌≡◌, ℕ, List}
+use Rattle.dir_entries.specs.declared.entry.DirEntry.{DirEntry}
+use Rattle.dir_entries.specs.contracts.entry.DirEntryOrd.TheImpl as entry_order
+use Rattle.dir_entries.specs.Entries.{AreEntries, entry_cmp}
+
+-- The held paths give a directory its entries in one way alone.
+abbrev pub EntriesAreOneList : Type 0
+EntriesAreOneList =
+    (held : List (List ℕ)) (dir : List ℕ) (one other : List DirEntry)
+    → AreEntries held dir one → AreEntries held dir other → one ≡ other
+
+-- The order of entries is `entry_cmp`.
+abbrev pub EntriesAreOrdered : Type 0
+EntriesAreOrdered = (a b : DirEntry) → (entry_order.ghosts).cmp a b ≡ entry_cmp a b

@@ -1,0 +1,13 @@
+pub mod Among
+pub mod Below
+pub mod Rows
+pub mod Places
+pub mod Steps
+pub mod Moves
+pub mod Walks
+pub mod Start
+pub mod Begins
+pub mod Reading
+pub mod Sorts
+pub mod Progress
+pub mod Found

@@ -1,0 +1,10 @@
+pub mod Globs
+pub mod Parts
+pub mod Matches
+pub mod Reads
+pub mod Rows
+pub mod Ways
+pub mod Stages
+pub mod Levels
+pub mod Causes
+pub mod Laws
