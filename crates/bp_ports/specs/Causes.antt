@@ -1,5 +1,6 @@
 -- Counts of failures: a failure is answered only where its count rose.
 use Rattle.std.specs.Prelude.{ℕ, ◌+◌, ◌-◌, ◌^◌, ◌≤◌, min, Result, Ok, Err, IsErrOf, OnErr}
+use Rattle.bp_ports.specs.declared.store.ListError.{ListError}
 use Rattle.bp_ports.specs.declared.store.ReadError.{ReadError}
 
 -- The count rose in between, or stands at its last value.
@@ -32,3 +33,11 @@ read_count_after (Err ReadError.Failed) count = risen count
 read_count_after (Err ReadError.Absent) count = count
 read_count_after (Err ReadError.TooLarge) count = count
 read_count_after (Err ReadError.OutOfMemory) count = count
+
+-- The same for lists.
+abbrev pub list_count_after : {T : Type 0} → Result T ListError → ℕ → ℕ
+list_count_after (Ok entries) count = count
+list_count_after (Err ListError.Failed) count = risen count
+list_count_after (Err ListError.Absent) count = count
+list_count_after (Err ListError.TooMany) count = count
+list_count_after (Err ListError.OutOfMemory) count = count

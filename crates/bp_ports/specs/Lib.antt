@@ -1,5 +1,6 @@
 pub mod Causes
 pub mod Files
+pub mod Lists
 pub mod Calls
 pub mod Written
 pub mod MemStore
@@ -8,6 +9,7 @@ pub mod FreeStore
 pub mod FreeSink
 pub mod FsStore
 pub mod FailedReads
+pub mod FailedLists
 pub mod RealFiles
 pub mod NewFiles
 pub mod StdSink

@@ -1,8 +1,10 @@
 -- Writes to files, one after another in one run of bytes, and what the files are after them.
-use Rattle.std.specs.Prelude.{ℕ, ◌+◌, List, [], ◌∷◌, length, take, drop, Option, Some, if◌then◌else◌}
+use Rattle.std.specs.Prelude.{ℕ, ◌+◌, List, [], ◌∷◌, length, take, drop, Option, Some, Bool, true, ◌&&◌}
+use Rattle.std.specs.Prelude.{if◌then◌else◌}
 use Rattle.std.specs.Ordering.{nat_cmp, is_eq}
 use Rattle.std.specs.Cmp.Lexicographic.{slice_cmp}
 use Rattle.std.specs.FinMap.{insert}
+use Rattle.std.specs.Str.{is_utf8}
 use Rattle.bp_ports.specs.Files.{Files}
 use Rattle.bp_ports.specs.declared.writes.Span.{Span}
 
@@ -39,3 +41,13 @@ held_after [] run path held = held
 held_after (s ∷ spans) run path held =
     let now = if is_eq (slice_cmp nat_cmp path (first_path s run)) then Some (first_bytes s run) else held in
     held_after spans (run_behind s run) path now
+
+-- The paths of these writes.
+abbrev pub written_paths : List Span → List ℕ → List (List ℕ)
+written_paths [] run = []
+written_paths (s ∷ spans) run = first_path s run ∷ written_paths spans (run_behind s run)
+
+-- The paths of these writes are texts.
+abbrev pub has_texts : List Span → List ℕ → Bool
+has_texts [] run = true
+has_texts (s ∷ spans) run = is_utf8 (first_path s run) && has_texts spans (run_behind s run)

@@ -3,8 +3,9 @@ ghost use Rattle.std.specs.Prelude.{IsNone, IsSomeAnd, IsTrue, ◌↔◌};
 ghost use Rattle.std.specs.Option.{option_copied, option_map};
 ghost use Rattle.bp_ports.specs.MemStore.{calls_of};
 
-use crate::{Failed, MemStore, ReadError, Store};
+use crate::{Failed, ListError, MemStore, ReadError, Store};
 use bp_faults::{OutOfMemory, Text};
+use dir_entries::DirEntry;
 use std::alloc::Global;
 
 /// Files in memory, without failures: a write that needs more room than is left ends the telling.
@@ -62,6 +63,7 @@ impl Store for FreeStore {
     ghost use Rattle.bp_ports.specs.Calls.{next_number};
     ghost use Rattle.bp_ports.specs.Causes.{HasCause, HasCauseAt};
     ghost use Rattle.bp_ports.specs.Files.{WhereTold, ReadGives, WriteLeaves};
+    ghost use Rattle.bp_ports.specs.Lists.{ListGives};
     ghost use Rattle.bp_ports.specs.FreeStore.{told_files, room_for_writes, calls_so_far};
     ghost use Rattle.bp_ports.specs.Written.{need_of};
 
@@ -106,5 +108,19 @@ impl Store for FreeStore {
             self.told = false;
         }
         Ok(())
+    }
+
+    fn list(&mut self, alloc: Global, dir: &Text, limit: u32) -> Result<Vec<DirEntry>, ListError>
+        ensures gives { IfSome (told_files self.old) (λ held. ListGives held dir.now limit result) }
+        ensures bound { IfOk result (λ entries. length entries.items ≤ limit) }
+        ensures files { told_files self.new ≡ told_files self.old }
+        ensures cause { HasCauseAt ListError.Failed 0 0 result }
+
+        // No call fails.
+        ensures not_failed { ¬ IsErrOf result ListError.Failed }
+        ensures counted { calls_so_far self.new ≡ next_number (calls_so_far self.old) }
+        ensures room { room_for_writes self.new ≡ room_for_writes self.old }
+    {
+        self.store.list(alloc, dir, limit)
     }
 }

@@ -1,12 +1,15 @@
 ghost use Rattle.std.specs.Prelude.{◌≡◌, ◌≤◌, Some, None, IfOk, IfSome, OnOk, length};
+ghost use Rattle.bp_ports.specs.Causes.{risen};
 ghost use Rattle.bp_ports.specs.Files.{ReadGives};
 ghost use Rattle.bp_ports.specs.FailedReads.{read_failure, open_failure};
 ghost use Rattle.bp_ports.specs.RealFiles.{OpenedGives, SomeOpeningGives};
 
+use crate::real_list::list_dir;
 use crate::replace::replace;
-use crate::{Failed, ReadError, Store};
+use crate::{Failed, ListError, ReadError, Store};
 use bp_faults::Text;
-use std::alloc::Global;
+use dir_entries::DirEntry;
+use std::alloc::{Alloc, Global};
 use std::io::{ErrorKind, Read};
 use std::rt::{Clock, Files};
 use std::{fs, io};
@@ -59,6 +62,13 @@ fn read_opened<F: Read + Drop>(
     }
 }
 
+// A count of failures with one more.
+fn one_more(count: u64) -> u64
+    ensures { result ≡ risen count }
+{
+    count.saturating_add(1)
+}
+
 /// The files of the system. It tells nothing of them.
 #[derive(Drop)]
 pub struct FsStore<R> {
@@ -91,8 +101,9 @@ impl<R: Files + Clock + Drop> FsStore<R> {
     }
 }
 
-impl<R: Files + Clock + Drop> Store for FsStore<R> {
+impl<R: Files + Clock + Alloc + Clone + Drop> Store for FsStore<R> {
     ghost use Rattle.bp_ports.specs.Causes.{HasCause, HasCauseAt, count_after, read_count_after};
+    ghost use Rattle.bp_ports.specs.Causes.{list_count_after};
     ghost use Rattle.bp_ports.specs.FsStore.{failed_reads, failed_writes};
     ghost use Rattle.bp_ports.specs.RealFiles.{SomeFileGains};
 
@@ -113,7 +124,7 @@ impl<R: Files + Clock + Drop> Store for FsStore<R> {
     {
         match self.bytes(alloc, path.as_str(), limit) {
             Err(ReadError::Failed) => {
-                self.read_faults = self.read_faults.saturating_add(1);
+                self.read_faults = one_more(self.read_faults);
                 Err(ReadError::Failed)
             }
             answer => answer,
@@ -131,9 +142,24 @@ impl<R: Files + Clock + Drop> Store for FsStore<R> {
         match replace(&self.rt, path.as_str(), bytes) {
             Ok(()) => Ok(()),
             Err(_) => {
-                self.write_faults = self.write_faults.saturating_add(1);
+                self.write_faults = one_more(self.write_faults);
                 Err(Failed)
             }
+        }
+    }
+
+    fn list(&mut self, alloc: Global, dir: &Text, limit: u32) -> Result<Vec<DirEntry>, ListError>
+        ensures bound { IfOk result (λ entries. length entries.items ≤ limit) }
+        ensures cause { HasCauseAt ListError.Failed (failed_reads self.old) (failed_reads self.new) result }
+        ensures writes { failed_writes self.new ≡ failed_writes self.old }
+        ensures raised { failed_reads self.new ≡ list_count_after result (failed_reads self.old) }
+    {
+        match list_dir(&self.rt, alloc, dir.as_str(), limit) {
+            Err(ListError::Failed) => {
+                self.read_faults = one_more(self.read_faults);
+                Err(ListError::Failed)
+            }
+            answer => answer,
         }
     }
 }

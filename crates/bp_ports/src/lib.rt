@@ -17,6 +17,7 @@ mod gate;
 mod mem_sink;
 mod mem_store;
 mod pair_gate;
+mod real_list;
 mod replace;
 mod sink;
 mod std_sink;
@@ -24,6 +25,7 @@ mod store;
 mod writes;
 mod writing;
 
+pub use dir_entries::DirEntry;
 pub use failed::Failed;
 pub use free_sink::FreeSink;
 pub use free_store::FreeStore;
@@ -34,7 +36,7 @@ pub use mem_store::MemStore;
 pub use pair_gate::PairGate;
 pub use sink::Sink;
 pub use std_sink::StdSink;
-pub use store::{ReadError, Store};
+pub use store::{ListError, ReadError, Store};
 
 #[cfg(test)]
 mod tests;

@@ -1,16 +1,19 @@
-ghost use Rattle.std.specs.Prelude.{◌≡◌, ℕ, ◌+◌, ◌≤◌, ◌<◌, List, length, Some, IfOk, OnOk, OnErr, IsErr, IsErrOf};
+ghost use Rattle.std.specs.Prelude.{◌≡◌, ℕ, ◌+◌, ◌≤◌, ◌<◌, List, map, length, Some, IfOk, OnOk, OnErr, IsErr, IsErrOf};
 ghost use Rattle.std.specs.Prelude.{IsSomeAnd, ◌↔◌, ◌⊎◌};
 ghost use Rattle.std.specs.Option.{option_copied};
 ghost use Rattle.std.specs.Ordering.{nat_cmp};
 ghost use Rattle.std.specs.Cmp.Lexicographic.{slice_cmp};
 ghost use Rattle.std.specs.FinMap.{find};
-ghost use Rattle.bp_ports.specs.Files.{ReadGives};
+ghost use Rattle.bp_ports.specs.Files.{Files, ReadGives};
+ghost use Rattle.bp_ports.specs.Lists.{ListGives, ArePaths};
 ghost use Rattle.bp_ports.specs.MemStore.{entries_of};
 
 use crate::calls::Calls;
 use crate::writes::{Writes, is_same};
-use crate::{Failed, ReadError, Store};
+use crate::{Failed, ListError, ReadError, Store};
 use bp_faults::{OutOfMemory, Text};
+use dir_entries::laws::paths_give_entries;
+use dir_entries::{DirEntry, entries_of};
 use std::alloc::Global;
 
 // A copy of what a path holds.
@@ -29,6 +32,24 @@ fn copy_of(alloc: Global, held: Option<&[u8]>, limit: u64) -> Result<Vec<u8>, Re
             Err(_) => Err(ReadError::OutOfMemory),
         },
     }
+}
+
+// The entries that these held paths give a directory, at most so many.
+fn listed(alloc: Global, paths: &[&str], dir: &str, limit: u32) -> Result<Vec<DirEntry>, ListError>
+    ensures gives { (files : Files) → ArePaths (map (λ path. path.now) paths.now) files
+        → ListGives files dir.now limit result }
+    ensures bound { IfOk result (λ entries. length entries.items ≤ limit) }
+    ensures not_failed { ¬ IsErrOf result ListError.Failed }
+{
+    paths_give_entries();
+    let entries = entries_of(alloc, dir, paths)?;
+    if entries.is_empty() && !dir.is_empty() {
+        return Err(ListError::Absent);
+    }
+    if entries.len() > limit as usize {
+        return Err(ListError::TooMany);
+    }
+    Ok(entries)
 }
 
 /// Files in memory, whose calls fail where they are told to.
@@ -51,6 +72,17 @@ fn given<'a>(files: &'a [(Text, Vec<u8>)], path: &str) -> Option<&'a [u8]>
         }
     }
     None
+}
+
+// The paths that were given.
+fn given_paths(alloc: Global, files: &[(Text, Vec<u8>)]) -> Result<Vec<&str>, OutOfMemory>
+    ensures { IfOk result (λ paths. map (λ path. path.now) paths.items ≡ map (λ file. file.0) files.now) }
+{
+    let mut paths = Vec::new(alloc);
+    for file in files {
+        paths.push(file.0.as_str())?;
+    }
+    Ok(paths)
 }
 
 impl MemStore {
@@ -89,12 +121,20 @@ impl MemStore {
     {
         self.writes.after(path, given(&self.files, path))
     }
+
+    // The paths that are held, in any order, maybe some more than once.
+    fn paths(&self, alloc: Global) -> Result<Vec<&str>, OutOfMemory>
+        ensures { IfOk result (λ paths. ArePaths (map (λ path. path.now) paths.items) (held_files self.now)) }
+    {
+        self.writes.after_paths(given_paths(alloc, &self.files)?)
+    }
 }
 
 impl Store for MemStore {
     ghost use Rattle.std.specs.FinMap.{get};
     ghost use Rattle.bp_ports.specs.Calls.{FailsNext, one_later};
     ghost use Rattle.bp_ports.specs.Causes.{HasCause, HasCauseAt, count_after, read_count_after};
+    ghost use Rattle.bp_ports.specs.Causes.{list_count_after};
     ghost use Rattle.bp_ports.specs.Files.{WriteLeaves};
     ghost use Rattle.bp_ports.specs.MemStore.{held_files, room_left, calls_of, failed_reads, failed_writes};
     ghost use Rattle.bp_ports.specs.Written.{need_of};
@@ -150,5 +190,25 @@ impl Store for MemStore {
         }
         self.write_faults = self.write_faults.saturating_add(1);
         Err(Failed)
+    }
+
+    fn list(&mut self, alloc: Global, dir: &Text, limit: u32) -> Result<Vec<DirEntry>, ListError>
+        ensures gives { ListGives (held_files self.old) dir.now limit result }
+        ensures bound { IfOk result (λ entries. length entries.items ≤ limit) }
+        ensures files { held_files self.new ≡ held_files self.old }
+        ensures cause { HasCauseAt ListError.Failed (failed_reads self.old) (failed_reads self.new) result }
+        ensures writes { failed_writes self.new ≡ failed_writes self.old }
+
+        // The call fails exactly where it is listed.
+        ensures exactly { IsErrOf result ListError.Failed ↔ FailsNext (calls_of self.old) }
+        ensures counted { calls_of self.new ≡ one_later (calls_of self.old) }
+        ensures raised { failed_reads self.new ≡ list_count_after result (failed_reads self.old) }
+        ensures room { room_left self.new ≡ room_left self.old }
+    {
+        if self.calls.fails() {
+            self.read_faults = self.read_faults.saturating_add(1);
+            return Err(ListError::Failed);
+        }
+        listed(alloc, &self.paths(alloc)?, dir.as_str(), limit)
     }
 }

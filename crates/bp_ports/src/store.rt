@@ -3,7 +3,8 @@ ghost use Rattle.std.specs.FinMap.{get};
 ghost use Rattle.bp_ports.specs.Causes.{HasCause, HasCauseAt};
 
 use crate::Failed;
-use bp_faults::Text;
+use bp_faults::{OutOfMemory, Text};
+use dir_entries::DirEntry;
 use std::alloc::Global;
 use thiserror::Error;
 
@@ -19,9 +20,33 @@ pub enum ReadError {
     OutOfMemory,
 }
 
+#[derive(Clone, Copy, Debug, Error, PartialEq, Eq)]
+pub enum ListError {
+    #[error("no such directory")]
+    Absent,
+    #[error("too many entries")]
+    TooMany,
+    #[error("cannot read")]
+    Failed,
+    #[error("out of memory")]
+    OutOfMemory,
+}
+
+impl From<OutOfMemory> for ListError {
+    ghost use Rattle.std.specs.Prelude.{◌≡◌};
+    ghost use Rattle.bp_ports.specs.declared.store.ListError.TheVariants.{OutOfMemory as Want};
+
+    ghost from_gives = { λ _ error. error ≡ Want };
+
+    fn from(_: OutOfMemory) -> Self {
+        ListError::OutOfMemory
+    }
+}
+
 /// Files by their paths.
 pub trait Store {
     ghost use Rattle.bp_ports.specs.Files.{Files, WhereTold, ReadGives, WriteLeaves};
+    ghost use Rattle.bp_ports.specs.Lists.{ListGives};
 
     /// The files, where the store tells them.
     ghost files: { Self → Option Files };
@@ -45,4 +70,12 @@ pub trait Store {
         ensures files { WhereTold (WriteLeaves path.now bytes.now result) (files self.old) (files self.new) }
         ensures cause { HasCause (write_faults self.old) (write_faults self.new) result }
         ensures reads { read_faults self.new ≡ read_faults self.old };
+
+    /// The entries of a directory, at most `limit` of them. The root is the empty path.
+    fn list(&mut self, alloc: Global, dir: &Text, limit: u32) -> Result<Vec<DirEntry>, ListError>
+        ensures gives { IfSome (files self.old) (λ held. ListGives held dir.now limit result) }
+        ensures bound { IfOk result (λ entries. length entries.items ≤ limit) }
+        ensures files { files self.new ≡ files self.old }
+        ensures cause { HasCauseAt ListError.Failed (read_faults self.old) (read_faults self.new) result }
+        ensures writes { write_faults self.new ≡ write_faults self.old };
 }

@@ -1,10 +1,12 @@
-ghost use Rattle.std.specs.Prelude.{◌≡◌, ℕ, ◌+◌, ◌*◌, ◌≤◌, ◌<◌, List, ◌++◌, [], ◌∷◌, length, vec_len, vec_capacity};
+ghost use Rattle.std.specs.Prelude.{◌≡◌, ℕ, ◌+◌, ◌*◌, ◌≤◌, ◌<◌, List, ◌++◌, [], ◌∷◌, true, map, length, vec_len, vec_capacity};
 ghost use Rattle.std.specs.Prelude.{IfOk, IfSome, IfNone};
 ghost use Rattle.std.specs.Option.{option_copied};
 ghost use Rattle.std.specs.Ordering.{nat_cmp, is_eq};
 ghost use Rattle.std.specs.Cmp.Lexicographic.{slice_cmp};
 ghost use Rattle.std.specs.FinMap.{insert};
 ghost use Rattle.bp_ports.specs.Written.{need_of, total, files_after, held_after};
+ghost use Rattle.bp_ports.specs.Written.{written_paths, has_texts};
+ghost use Rattle.std.specs.Str.{IsUtf8};
 
 use bp_faults::OutOfMemory;
 use std::alloc::Global;
@@ -42,6 +44,27 @@ fn latest<'a>(spans: &[Span], run: &'a [u8], path: &str, held: Option<&'a [u8]>)
     found
 }
 
+// The paths, and behind them those that were written.
+fn with_written<'a>(
+    mut paths: Vec<&'a str>,
+    spans: &[Span],
+    run: &'a [u8],
+) -> Result<Vec<&'a str>, OutOfMemory>
+    requires whole { total spans.now ≡ length run.now }
+    requires texts { has_texts spans.now run.now ≡ true }
+    ensures { IfOk result (λ all. map (λ path. path.now) all.items
+        ≡ map (λ path. path.now) paths.entry.items ++ written_paths spans.now run.now) }
+{
+    let mut rest = run;
+    for span in spans {
+        let (name, after) = rest.split_at(span.path);
+        let (_, next) = after.split_at(span.bytes);
+        paths.push(str::from_utf8(name).unwrap())?;
+        rest = next;
+    }
+    Ok(paths)
+}
+
 // One more write, for which there is room.
 fn append(spans: &mut Vec<Span>, run: &mut Vec<u8>, path: &[u8], bytes: &[u8])
     requires whole { total spans.old.items ≡ length run.old.items }
@@ -69,6 +92,7 @@ pub struct Writes {
     pub run: Vec<u8>,
     pub room: u32,
     ghost whole: { total spans.items ≡ length run.items },
+    ghost texts: { has_texts spans.items run.items ≡ true },
     ghost run_room: { vec_len run + room ≤ vec_capacity run },
     ghost span_room: { 16 * vec_len spans + room ≤ 16 * vec_capacity spans },
 }
@@ -94,8 +118,17 @@ impl Writes {
         latest(&self.spans, &self.run, path, held)
     }
 
+    /// The paths, and behind them those that were written.
+    pub fn after_paths<'a>(&'a self, paths: Vec<&'a str>) -> Result<Vec<&'a str>, OutOfMemory>
+        ensures { IfOk result (λ all. map (λ path. path.now) all.items
+            ≡ map (λ path. path.now) paths.entry.items ++ written_paths self.now.spans.items self.now.run.items) }
+    {
+        with_written(paths, &self.spans, &self.run)
+    }
+
     /// One more write, which uses up this room.
     pub fn add(&mut self, path: &[u8], bytes: &[u8], need: u32)
+        requires text { IsUtf8 path.now }
         requires need { need ≡ need_of path.now bytes.now }
         requires room { need ≤ self.old.room }
         ensures written { (files : _) → files_after self.new.spans.items self.new.run.items files

@@ -16,20 +16,20 @@ use Rattle.dir_entries.specs.contracts.entry.DirEntryOrd.TheImpl.Laws as laws
 use Rattle.dir_entries.specs.Entries.{AreEntries}
 
 -- The list has the element.
-abbrev Among : {X : Type 0} → List X → X → Type 0
+abbrev pub Among : {X : Type 0} → List X → X → Type 0
 Among [] x = ⊥
 Among (y ∷ ys) x = (y ≡ x) ⊎ Among ys x
 
 module _ {X : Type 0} where
-  at_index : (xs : List X) (x : X) (k : ℕ) → k < length xs → get_or xs k x ≡ x → Among xs x
+  pub at_index : (xs : List X) (x : X) (k : ℕ) → k < length xs → get_or xs k x ≡ x → Among xs x
   at_index [] x k inside is = absurd (omega arith)
   at_index (y ∷ ys) x zero inside is = inl is
   at_index (y ∷ ys) x (suc k) inside is = inr (at_index ys x k (omega arith) is)
 
-  contained_among : (xs : List X) (x : X) → Contains xs x → Among xs x
+  pub contained_among : (xs : List X) (x : X) → Contains xs x → Among xs x
   contained_among xs x h = at_index xs x h.0 h.1 h.2
 
-  among_contained : (xs : List X) (x : X) → Among xs x → Contains xs x
+  pub among_contained : (xs : List X) (x : X) → Among xs x → Contains xs x
   among_contained [] x h = absurd h
   among_contained (y ∷ ys) x (inl e) = (0, omega arith, e)
   among_contained (y ∷ ys) x (inr h) = let r = among_contained ys x h in (suc r.0, omega arith, r.2)

@@ -14,6 +14,11 @@ abbrev pub Begins : List ℕ → List ℕ → Bool → Type 0
 Begins rest name false = rest ≡ name
 Begins rest name true = (more : List ℕ) × (rest ≡ name ++ 47 ∷ more)
 
+-- An entry has the first name of what a path has behind its directory.
+pub record EntryMeans (rest : List ℕ) (e : DirEntry) : Type 0 where
+  pub whole : has_slash e.name ≡ false
+  pub begins : Begins rest e.name e.dir
+
 -- Some held path that lies below the directory begins there with this name.
 pub record IsDirEntry (held : List (List ℕ)) (dir : List ℕ) (e : DirEntry) : Type 0 where
   pub path : List ℕ
@@ -35,3 +40,7 @@ pub record AreEntries (held : List (List ℕ)) (dir : List ℕ) (entries : List 
 -- A directory has more entries than this.
 abbrev pub HasMore : List (List ℕ) → List ℕ → ℕ → Type 0
 HasMore held dir limit = (entries : List DirEntry) × AreEntries held dir entries × (limit < length entries)
+
+-- Some entries, in any order, are those that the held paths give the directory.
+abbrev pub GiveEntries : List (List ℕ) → List ℕ → List DirEntry → Type 0
+GiveEntries held dir entries = (e : DirEntry) → Contains entries e ↔ IsDirEntry held dir e

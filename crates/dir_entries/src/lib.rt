@@ -6,6 +6,8 @@
 mod children;
 mod entry;
 pub mod laws;
+mod listing;
 
 pub use children::child;
 pub use entry::DirEntry;
+pub use listing::{entries_of, rest_below};

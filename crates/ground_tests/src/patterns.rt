@@ -18,13 +18,19 @@ struct Tree<'a> {
 }
 
 impl<'a> Directories for Tree<'a> {
-    ghost use Rattle.std.specs.Prelude.{None};
+    ghost use Rattle.std.specs.Prelude.{None, ⊤};
 
     ghost held = { λ _. None };
 
     ghost faults = { λ tree. tree.faults };
 
     ghost last = { λ tree. tree.last.items };
+
+    ghost Kept = { ⊤ };
+
+    ghost kept = { λ _. tt };
+
+    ghost IsReady = { λ _. ⊤ };
 
     fn read(&mut self, dir: &Text) -> Result<(), DirError> {
         self.reads = self.reads.saturating_add(1);

@@ -30,11 +30,22 @@ pub trait Directories {
     /// The entries of the directory that was read last.
     ghost last: { Self → List DirEntry };
 
+    /// What of an implementation stays the same over every reading, as the place that it reads from.
+    ghost Kept: { Type 0 };
+
+    ghost kept: { Self → Self.Kept };
+
+    /// Whether it may be read. It stays so.
+    ghost IsReady: { Self → Type 0 };
+
     /// Reads the entries of a directory. There are none where no held path lies below it.
     fn read(&mut self, dir: &Text) -> Result<(), DirError>
+        requires ready { IsReady self.old }
         ensures gives { IfSome (held self.old) (λ held. DirGives held dir.now (last self.new) result) }
         ensures held { held self.new ≡ held self.old }
-        ensures cause { HasCauseAt DirError.Failed (faults self.old) (faults self.new) result };
+        ensures cause { HasCauseAt DirError.Failed (faults self.old) (faults self.new) result }
+        ensures kept { Self.kept self.new ≡ Self.kept self.old }
+        ensures ready { IsReady self.new };
 
     /// The entries of the directory that was read last.
     fn entries(&self) -> &[DirEntry]

@@ -22,6 +22,7 @@ fn walk_one<D: Directories>(
     found: &mut Vec<Text>,
     next: &mut Vec<OnWay>,
 ) -> Result<(), WalkError>
+    requires ready { D.IsReady dirs.old }
     ensures gives { IfSome (D.held dirs.old) (λ held. ReadMeans held dir.now.path (D.last dirs.new) result) }
     ensures found { OnOk result (found.new.items
         ≡ found.old.items ++ found_at (way_of parts.now dir.now) (D.last dirs.new)) }
@@ -29,6 +30,8 @@ fn walk_one<D: Directories>(
         ≡ ways_of parts.now next.old.items ++ ways_at (way_of parts.now dir.now) (D.last dirs.new)) }
     ensures held { D.held dirs.new ≡ D.held dirs.old }
     ensures cause { WalkCause (D.faults dirs.old) (D.faults dirs.new) result }
+    ensures kept { D.kept dirs.new ≡ D.kept dirs.old }
+    ensures ready { D.IsReady dirs.new }
 {
     read(alloc, dirs, &dir.path)?;
     visit(alloc, parts, dir, dirs.entries(), found, next)?;
@@ -44,6 +47,7 @@ fn walk_level<D: Directories>(
     level: &[OnWay],
     found: &mut Vec<Text>,
 ) -> Result<Vec<OnWay>, WalkError>
+    requires ready { D.IsReady dirs.old }
     ensures gives { IfSome (D.held dirs.old) (λ held. (first : Way)
         → Walks held MOST_ENTRIES first found.old.items (ways_of parts.now level.now)
         → LevelMeans held parts.now first found.new.items result) }
@@ -51,6 +55,8 @@ fn walk_level<D: Directories>(
         → tallest (ways_of parts.now next.items) < tallest (ways_of parts.now level.now)) }
     ensures held { D.held dirs.new ≡ D.held dirs.old }
     ensures cause { WalkCause (D.faults dirs.old) (D.faults dirs.new) result }
+    ensures kept { D.kept dirs.new ≡ D.kept dirs.old }
+    ensures ready { D.IsReady dirs.new }
 {
     let mut next = Vec::new(alloc);
     for dir in level {
@@ -66,10 +72,13 @@ pub fn walk<D: Directories>(
     parts: &[Text],
     first: OnWay,
 ) -> Result<Vec<Text>, WalkError>
+    requires ready { D.IsReady dirs.old }
     ensures gives { IfSome (D.held dirs.old) (λ held. has_rest (way_of parts.now first).rests ≡ true
         → WalkMeans held (way_of parts.now first) result) }
     ensures held { D.held dirs.new ≡ D.held dirs.old }
     ensures cause { WalkCause (D.faults dirs.old) (D.faults dirs.new) result }
+    ensures kept { D.kept dirs.new ≡ D.kept dirs.old }
+    ensures ready { D.IsReady dirs.new }
 {
     let mut found = Vec::new(alloc);
     let mut level = only(alloc, first)?;

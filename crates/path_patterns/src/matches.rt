@@ -42,10 +42,13 @@ pub fn find_matches<D: Directories>(
     dir: &Path,
     tail: &str,
 ) -> Result<Vec<Text>, WalkError>
-    requires { has_star tail.now ≡ true }
+    requires star { has_star tail.now ≡ true }
+    requires ready { D.IsReady dirs.old }
     ensures gives { IfSome (D.held dirs.old) (λ held. MatchesGive held dir.now tail.now result) }
     ensures held { D.held dirs.new ≡ D.held dirs.old }
     ensures cause { WalkCause (D.faults dirs.old) (D.faults dirs.new) result }
+    ensures kept { D.kept dirs.new ≡ D.kept dirs.old }
+    ensures ready { D.IsReady dirs.new }
 {
     let all = parts_of(alloc, tail)?;
     let parts = all.as_slice();

@@ -5,12 +5,12 @@ use Rattle.path_patterns.proofs.matches.find_matches.Goals as goal
 
 pub first_on_way-requires : goal.first_on_way-requires
 first_on_way-requires g c =
-    some_starred c.args.tail.now c.as_slice-parts.result.now c.requires
+    some_starred c.args.tail.now c.as_slice-parts.result.now c.requires.star
     (c.as_slice-parts.ensures.value ∙ c.in_ok-all.ensures)
 
 pub returns-in-None-clause-gives : goal.returns-in-None-clause-gives
 returns-in-None-clause-gives g c =
-    none_gives c.args.dir.now c.args.tail.now c.as_slice-parts.result.now c.as_text.ensures.normal c.requires
+    none_gives c.args.dir.now c.args.tail.now c.as_slice-parts.result.now c.as_text.ensures.normal c.requires.star
     (c.as_slice-parts.ensures.value ∙ c.in_ok-all.ensures) (g.D.Directories.held c.args.dirs.now)
     (begins_at c.as_text.result.now c.args.dir.now c.as_slice-parts.result.now c.in_ok-first.first None
     c.as_text.ensures.same
@@ -22,7 +22,7 @@ returns-in_err-found-in-Some-clause-gives g c =
     let refused = err_from_is_err_and c.from_residual-in_err-found-in-Some.result
     c.from_residual-in_err-found-in-Some.ensures.1 in
     rw (refused.1, refused.2)
-    (some_stops c.args.dir.now c.args.tail.now c.as_slice-parts.result.now c.as_text.ensures.normal c.requires
+    (some_stops c.args.dir.now c.args.tail.now c.as_slice-parts.result.now c.as_text.ensures.normal c.requires.star
     (c.as_slice-parts.ensures.value ∙ c.in_ok-all.ensures) c.in-Some.first
     (begins_at c.as_text.result.now c.args.dir.now c.as_slice-parts.result.now c.in_ok-first.first
     (Some c.in-Some.first)
@@ -31,7 +31,7 @@ returns-in_err-found-in-Some-clause-gives g c =
 
 pub returns-clause-gives : goal.returns-clause-gives
 returns-clause-gives g c =
-    some_gives c.args.dir.now c.args.tail.now c.as_slice-parts.result.now c.as_text.ensures.normal c.requires
+    some_gives c.args.dir.now c.args.tail.now c.as_slice-parts.result.now c.as_text.ensures.normal c.requires.star
     (c.as_slice-parts.ensures.value ∙ c.in_ok-all.ensures) c.in-Some.first
     (begins_at c.as_text.result.now c.args.dir.now c.as_slice-parts.result.now c.in_ok-first.first
     (Some c.in-Some.first)
