@@ -22,4 +22,5 @@ mod typing;
 pub use bp_faults::Refusal as LoadError;
 pub use list_file::file_list;
 pub use raw::raw_modules;
+pub use source_patterns::{ExpandError, expand};
 pub use tree::{LoadRest, Loaded, load, load_with_rest};

@@ -178,6 +178,19 @@ pub set_at : (pairs : List (GroupId × GroupProps)) (id : GroupId) (i : ℕ) (x 
     (g : GroupProps) → At pairs id (Ok i) → x ≡ get_or pairs i x → set pairs i (x.0, g) ≡ groups_with pairs id g
 set_at pairs id i x g here is = ap (λ (e : GroupId × GroupProps). set pairs i (e.0, g)) is ∙ here.2 g x
 
+keys_of-set : (pairs : List (GroupId × GroupProps)) (i : ℕ) (x : GroupId × GroupProps) (g : GroupProps)
+    → i < length pairs → x ≡ get_or pairs i x → keys_of (set pairs i (x.0, g)) ≡ keys_of pairs
+keys_of-set [] i x g within is = absurd (omega arith)
+keys_of-set (e ∷ pairs) Prim.Native.Nat.zero x g within is =
+    ap (λ (y : GroupId × GroupProps). y.0 ∷ keys_of pairs) is
+keys_of-set (e ∷ pairs) (suc i) x g within is = ap (λ ks. e.0 ∷ ks) (keys_of-set pairs i x g (omega arith) is)
+
+-- The ids ascend where another group stands under one of them.
+pub ascends_replaced : (pairs : List (GroupId × GroupProps)) (i : ℕ) (x : GroupId × GroupProps) (g : GroupProps)
+    → i < length pairs → x ≡ get_or pairs i x → Ascends pairs → Ascends (set pairs i (x.0, g))
+ascends_replaced pairs i x g within is ascends =
+    subst (IsStrictlySortedBy by_id) (sym (keys_of-set pairs i x g within is)) ascends
+
 set_updated : (pairs : List (GroupId × GroupProps)) (i : ℕ) (d : GroupId × GroupProps)
     (change : GroupProps → GroupProps) → i < length pairs
     → set pairs i ((get_or pairs i d).0, change (get_or pairs i d).1) ≡ updated_at i change pairs

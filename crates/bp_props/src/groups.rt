@@ -29,7 +29,8 @@ impl Model for Groups {
 }
 
 impl Groups {
-    ghost use Rattle.std.specs.Prelude.{[], filter};
+    ghost use Rattle.std.specs.Prelude.{◌<◌, [], filter, length, set};
+    ghost use Rattle.std.specs.List.{HoldsAt};
     ghost use Rattle.bp_props.specs.Kinds.{has_field};
     ghost use Rattle.bp_props.specs.declared.field.Field.TheVariants.{Group};
     ghost use Rattle.bp_props.specs.Groups.{group_of, groups_merged, groups_with, EachMerged};
@@ -70,6 +71,14 @@ impl Groups {
             Err(index) => insert_at(&mut self.pairs, index, (id, group))?,
         }
         Ok(())
+    }
+
+    /// Puts another group in the place of the one at an index, under the same id. It takes no memory.
+    pub fn replace_at(&mut self, index: usize, group: GroupProps)
+        requires { index < length self.old }
+        ensures { HoldsAt (λ e. self.new ≡ set self.old index (e.0, group)) self.old index }
+    {
+        self.pairs[index].1 = group;
     }
 
     /// Drops the groups that the kind's table lacks. It takes no memory.

@@ -10,6 +10,8 @@ mod loading;
 #[cfg(test)]
 mod parser;
 #[cfg(test)]
+mod patterns;
+#[cfg(test)]
 mod props;
 #[cfg(test)]
 mod tables;
