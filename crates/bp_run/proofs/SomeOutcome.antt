@@ -34,7 +34,7 @@ use Rattle.command_words.specs.declared.configuration.Configuration.TheVariants.
 use Rattle.command_words.specs.declared.configuration.Graph.{Graph as GraphWords}
 use Rattle.command_words.specs.declared.configuration.Replay.{Replay as ReplayWords}
 use Rattle.command_words.specs.declared.configuration.Synth.{Synth as SynthWords}
-use Rattle.command_words.specs.Sound.{IsSoundReplay, IsSoundGraph, IsSoundSynth}
+use Rattle.command_words.specs.Words.{IsSoundReplay, IsSoundGraph, IsSoundSynth}
 use Rattle.synthetic_tree.specs.declared.summary.Summary.{Summary}
 use Rattle.synthetic_tree.specs.Laws.{SomeTree}
 use Rattle.synthetic_tree.specs.Summary.{summary_text}

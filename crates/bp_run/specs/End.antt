@@ -1,6 +1,6 @@
 -- How a call ended, before and after it is said. Only the contracts of steps speak of it.
 use Rattle.std.specs.Prelude.{ℕ, List, [], ◌∷◌, Option, Some, None, IsNone, IsSomeAnd, Result, Ok, Err, ⊤}
-use Rattle.command_words.specs.Usage.{usage_line}
+use Rattle.command_words.specs.Options.{usage_line}
 use Rattle.bp_run.specs.declared.end.End.{End}
 use Rattle.bp_run.specs.declared.put.Put.{Put}
 use Rattle.bp_run.specs.declared.put.Put.TheVariants.{Write, Print}

@@ -9,7 +9,7 @@ use Rattle.ninja_write.specs.Meaning.{text_of, joined_text}
 use Rattle.command_words.specs.declared.configuration.Configuration.{Configuration}
 use Rattle.command_words.specs.declared.configuration.Configuration.TheVariants.{Edit}
 use Rattle.command_words.specs.declared.configuration.Edit.{Edit as EditWords}
-use Rattle.command_words.specs.Sound.{IsSoundConfiguration}
+use Rattle.command_words.specs.Words.{IsSoundConfiguration}
 use Rattle.bp_run.specs.Commands.{description_of}
 use Rattle.bp_run.specs.Tree.{ListLoads}
 

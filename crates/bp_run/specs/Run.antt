@@ -4,7 +4,7 @@ use Rattle.std.specs.Prelude.{Option, Some, Result, Ok, Err, IfSome, IsNone, IsS
 use Rattle.bp_faults.specs.declared.fault.Fault.{Fault}
 use Rattle.bp_faults.specs.Line.{line_of}
 use Rattle.bp_ports.specs.Causes.{Rose}
-use Rattle.command_words.specs.Usage.{usage_line}
+use Rattle.command_words.specs.Options.{usage_line}
 use Rattle.bp_run.specs.declared.put.Put.{Put}
 use Rattle.bp_run.specs.Description.{Description, seen_files}
 use Rattle.bp_run.specs.Lines.{read_line, memory_line}

@@ -1,7 +1,7 @@
 //! A command is a row: what it comes to before anything is put. Each has a file of its own.
 
 ghost use Rattle.std.specs.Prelude.{◌≡◌, [], IfOk};
-ghost use Rattle.command_words.specs.Sound.{IsSoundConfiguration};
+ghost use Rattle.command_words.specs.Words.{IsSoundConfiguration};
 ghost use Rattle.bp_run.specs.Commands.{description_of};
 ghost use Rattle.bp_run.specs.Description.{seen_by};
 ghost use Rattle.bp_run.specs.End.{Ended, ArePrints};

@@ -19,7 +19,7 @@ use Rattle.command_words.specs.declared.option.OptionName.TheVariants as option
 use Rattle.command_words.specs.Once.{has_none_twice}
 use Rattle.command_words.specs.Options.{command_named}
 use Rattle.command_words.specs.Plain.{plain_words}
-use Rattle.command_words.specs.Sound.{AreWorkers, AreDistinctTargets, IsIdentifier, IsSoundConfiguration}
+use Rattle.command_words.specs.Words.{AreWorkers, AreDistinctTargets, IsIdentifier, IsSoundConfiguration}
 use Rattle.command_words.specs.Values.{is_first_byte, is_further_byte, is_identifier, is_numeral, number_in}
 use Rattle.command_words.specs.Values.{targets_once, targets_named, names_in, mutator_number, is_same_target}
 use Rattle.command_words.specs.Words.{Given, and_then, workers_of, default_targets, targets_or_default, items_or_none}

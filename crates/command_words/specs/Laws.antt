@@ -9,7 +9,7 @@ use Rattle.command_words.specs.Causes.{causes_of, first_cause}
 use Rattle.command_words.specs.Holds.{HoldsOf}
 use Rattle.command_words.specs.Notices.{help_parts, notice_of, notice_text, part_of, question_of}
 use Rattle.command_words.specs.Options.{command_name}
-use Rattle.command_words.specs.Sound.{IsSoundConfiguration}
+use Rattle.command_words.specs.Words.{IsSoundConfiguration}
 use Rattle.command_words.specs.Words.{configuration_of}
 
 -- Every configuration that words give is sound.

@@ -8,10 +8,8 @@ pub mod Forms
 pub mod Places
 pub mod Causes
 pub mod Holds
-pub mod Sound
 pub mod Rules
 pub mod Found
-pub mod Usage
 pub mod Notices
 pub mod Explanations
 pub mod Laws

@@ -116,3 +116,7 @@ is_required _ = true
 -- Two options are the same one.
 abbrev pub is_same : OptionName → OptionName → Bool
 is_same a b = bytes_eq (option_name a) (option_name b)
+
+-- The line for words that give no configuration names the commands that bpgen has.
+abbrev pub usage_line : List ℕ
+usage_line = codes "usage: bpgen build|replay|graph|synth|fmt|edit OPTIONS\n"

@@ -1,7 +1,7 @@
 -- The configuration of the words, which are those after the program's name.
-use Rattle.std.specs.Prelude.{ℕ, List, [], ◌∷◌, Bool, true, ◌&&◌, ◌||◌, not, if◌then◌else◌}
-use Rattle.std.specs.Prelude.{Option, Some, None, find, option_map, option_and_then}
-use Rattle.std.specs.List.{list_all, list_any}
+use Rattle.std.specs.Prelude.{◌≡◌, ◌≢◌, ◌≤◌, ℕ, List, [], ◌∷◌, Bool, true, ◌&&◌, ◌||◌, not, if◌then◌else◌, ⊤}
+use Rattle.std.specs.Prelude.{Option, Some, None, IfSome, find, option_map, option_and_then}
+use Rattle.std.specs.List.{AllPairs, list_all, list_any}
 use Rattle.std.specs.Str.{bytes_eq}
 use Rattle.bp_faults.specs.declared.limits.TheConstants.{MOST_SYNTHETIC_MODULES, MOST_WORKERS}
 use Rattle.bp_faults.specs.declared.target.Target.{Target}
@@ -11,14 +11,18 @@ use Rattle.command_words.specs.declared.command.CommandName.TheVariants.{Build, 
 use Rattle.command_words.specs.declared.option.OptionName.{OptionName}
 use Rattle.command_words.specs.declared.option.OptionName.TheVariants as option
 use Rattle.command_words.specs.declared.pairs.Pair.{Pair}
+use Rattle.command_words.specs.declared.configuration.Build.{Build as BuildWords}
 use Rattle.command_words.specs.declared.configuration.Configuration.{Configuration}
 use Rattle.command_words.specs.declared.configuration.Configuration.TheVariants as configuration
+use Rattle.command_words.specs.declared.configuration.Edit.{Edit as EditWords}
+use Rattle.command_words.specs.declared.configuration.Graph.{Graph as GraphWords}
+use Rattle.command_words.specs.declared.configuration.Replay.{Replay as ReplayWords}
+use Rattle.command_words.specs.declared.configuration.Synth.{Synth as SynthWords}
 use Rattle.command_words.specs.Once.{has_none_twice}
 use Rattle.command_words.specs.Plain.{plain_words}
 use Rattle.command_words.specs.Options.{command_named, options_of, is_required, is_same, is_spelling}
 use Rattle.command_words.specs.Values.{is_option_value, number_in, targets_of, mutator_number, with_first}
-use Rattle.command_words.specs.Values.{is_identifier}
-use Rattle.command_words.specs.Values.{items_of}
+use Rattle.command_words.specs.Values.{is_identifier, is_first_byte, is_further_byte, items_of}
 
 -- The option of a command that the word spells.
 abbrev pub option_of : CommandName → List ℕ → Option OptionName
@@ -195,3 +199,57 @@ configuration_of_plain (word ∷ words) = and_then (command_named word) (configu
 -- The configuration of the words, or none.
 abbrev pub configuration_of : List (List ℕ) → Option Configuration
 configuration_of words = configuration_of_plain (plain_words words)
+
+-- What every configuration keeps, so that a caller need not know how words give one.
+
+-- There are 1 to 64 workers.
+abbrev pub AreWorkers : ℕ → Type 0
+AreWorkers n = (1 ≤ n) × (n ≤ MOST_WORKERS)
+
+-- The targets differ.
+abbrev pub AreDistinctTargets : List Target → Type 0
+AreDistinctTargets targets = AllPairs (λ a b. a ≢ b) targets
+
+-- An identifier: a letter of ASCII or `_`, and then letters, digits and `_`. So a name of a property is spelled.
+abbrev pub IsIdentifier : List ℕ → Type 0
+IsIdentifier word =
+    (first : ℕ) × (more : List ℕ) × (word ≡ first ∷ more)
+    × (is_first_byte first ≡ true) × (list_all is_further_byte more ≡ true)
+
+-- OUT differs from the list and from the journal.
+pub record IsSoundBuild (c : BuildWords) : Type 0 where
+  pub workers : AreWorkers c.workers
+  pub targets : AreDistinctTargets c.targets
+  pub list : c.out ≢ c.list
+  pub journal : IfSome c.journal (λ journal. c.out ≢ journal)
+
+-- OUT differs from the list and from the order.
+pub record IsSoundReplay (c : ReplayWords) : Type 0 where
+  pub targets : AreDistinctTargets c.targets
+  pub list : c.out ≢ c.list
+  pub order : c.out ≢ c.order
+
+-- There are eleven mutators.
+pub record IsSoundGraph (c : GraphWords) : Type 0 where
+  pub after : c.after ≤ 11
+  pub workers : AreWorkers c.workers
+  pub targets : AreDistinctTargets c.targets
+
+-- There are 1 to 100,000 modules.
+pub record IsSoundSynth (c : SynthWords) : Type 0 where
+  pub some : 1 ≤ c.modules
+  pub few : c.modules ≤ MOST_SYNTHETIC_MODULES
+  pub workers : AreWorkers c.workers
+
+-- The property is an identifier.
+pub record IsSoundEdit (c : EditWords) : Type 0 where
+  pub property : IsIdentifier c.property
+
+-- What a configuration keeps, by its command.
+abbrev pub IsSoundConfiguration : Configuration → Type 0
+IsSoundConfiguration (configuration.Build c) = IsSoundBuild c
+IsSoundConfiguration (configuration.Replay c) = IsSoundReplay c
+IsSoundConfiguration (configuration.Graph c) = IsSoundGraph c
+IsSoundConfiguration (configuration.Synth c) = IsSoundSynth c
+IsSoundConfiguration (configuration.Format c) = ⊤
+IsSoundConfiguration (configuration.Edit c) = IsSoundEdit c

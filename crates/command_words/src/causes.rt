@@ -11,9 +11,9 @@ ghost use Rattle.command_words.specs.Places.{place_of, places_of};
 ghost use Rattle.command_words.specs.Words.{option_of, option_pairs, has_option, option_value, configuration_of};
 
 use crate::cause::Cause;
-use crate::command::command_named;
+use crate::command::{command_named, options, options_apart};
 use crate::form::is_value_of;
-use crate::option::{option_spelled, options, options_apart};
+use crate::option::option_spelled;
 use crate::pairs::{Pair, has_option, paired};
 use crate::plain::plain;
 use crate::{CommandName, OptionName};

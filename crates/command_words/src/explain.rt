@@ -5,8 +5,8 @@ ghost use Rattle.command_words.specs.Explanations.{cause_text, cause_line, expla
 ghost use Rattle.command_words.specs.Options.{command_name, commands, options_of};
 
 use crate::causes::why;
+use crate::command::options;
 use crate::mutators::MUTATORS;
-use crate::option::options;
 use crate::targets::TARGETS;
 use crate::{COMMANDS, Cause, CommandName, Form, OptionName};
 use bp_faults::{OutOfMemory, Text, is_control};

@@ -1,8 +1,8 @@
 //! The words of the command line, and the configuration that they give.
 //!
 //! Words flow in, without the program's name, and a configuration of one of the six commands flows out, or none. It is
-//! measured by `specs/Words.antt`. Words are first put into their plain form and tested; `clap` then reads the value of
-//! each option. What a configuration keeps is `specs/Sound.antt`.
+//! measured by `specs/Words.antt`; the commands are the rows of `specs/Options.antt`. Words are first put into their
+//! plain form and tested; `clap` then reads the value of each option.
 #![tactic(auto)]
 
 mod cause;
@@ -22,17 +22,15 @@ mod pairs;
 mod parser;
 mod plain;
 mod targets;
-mod usage;
 mod words;
 
 pub use cause::Cause;
 pub use causes::why;
-pub use command::{COMMANDS, CommandName};
+pub use command::{COMMANDS, CommandName, options, usage_line};
 pub use configuration::{Build, Configuration, Edit, Format, Graph, Replay, Synth};
 pub use explain::explanation;
 pub use form::Form;
 pub use help::{HELP, HELP_PARTS, VERSION};
 pub use notices::{Notice, notice_of, question_of};
-pub use option::{OptionName, options};
-pub use usage::usage_line;
+pub use option::OptionName;
 pub use words::configure;

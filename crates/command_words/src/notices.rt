@@ -1,10 +1,10 @@
 ghost use Rattle.std.specs.Prelude.{◌≡◌};
 ghost use Rattle.std.specs.Option.{option_copied};
-ghost use Rattle.command_words.specs.Notices.{notice_named, part_asked, notice_of, part_of, notice_text, question_of};
+ghost use Rattle.command_words.specs.Notices.{notice_named, part_asked, notice_of, notice_text, question_of};
 
 use crate::CommandName;
-use crate::command::command_named;
-use crate::help::{HELP, HELP_PARTS, VERSION};
+use crate::command::{command_named, part_of};
+use crate::help::{HELP, VERSION};
 use bp_faults::Text;
 
 /// A text that words ask for in place of a command.
@@ -14,19 +14,6 @@ pub enum Notice {
     Version,
     /// A command's part of the help.
     Part(CommandName),
-}
-
-fn part_of(command: CommandName) -> &'static str
-    ensures { result.now ≡ part_of command }
-{
-    match command {
-        CommandName::Build => HELP_PARTS[1],
-        CommandName::Replay => HELP_PARTS[2],
-        CommandName::Graph => HELP_PARTS[3],
-        CommandName::Synth => HELP_PARTS[4],
-        CommandName::Format => HELP_PARTS[5],
-        CommandName::Edit => HELP_PARTS[6],
-    }
 }
 
 impl Notice {

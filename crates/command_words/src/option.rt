@@ -1,9 +1,9 @@
 ghost use Rattle.std.specs.Prelude.{◌≡◌};
-ghost use Rattle.command_words.specs.Options.{option_name, short_name, options_of, apart_of, is_required};
-ghost use Rattle.command_words.specs.Options.{is_spelling, is_same};
+ghost use Rattle.command_words.specs.Options.{option_name, short_name, is_required, is_spelling, is_same};
 ghost use Rattle.command_words.specs.Words.{option_of};
 
 use crate::CommandName;
+use crate::command::options;
 
 /// An option of a command.
 #[derive(Clone, Copy, Debug, Drop)]
@@ -98,53 +98,6 @@ impl OptionName {
         ensures { result ≡ is_same self other }
     {
         self.name() == other.name()
-    }
-}
-
-/// The options of a command. Those that must be given stand first.
-pub fn options(command: CommandName) -> &'static [OptionName]
-    ensures { result.now ≡ options_of command }
-{
-    match command {
-        CommandName::Build => &[
-            OptionName::List,
-            OptionName::Out,
-            OptionName::Jobs,
-            OptionName::Targets,
-            OptionName::Journal,
-        ],
-        CommandName::Replay => &[
-            OptionName::List,
-            OptionName::Out,
-            OptionName::Order,
-            OptionName::Targets,
-        ],
-        CommandName::Graph => &[
-            OptionName::List,
-            OptionName::After,
-            OptionName::Jobs,
-            OptionName::Targets,
-        ],
-        CommandName::Synth => &[OptionName::Seed, OptionName::Modules, OptionName::Jobs],
-        CommandName::Format => &[OptionName::In, OptionName::Out],
-        CommandName::Edit => &[
-            OptionName::In,
-            OptionName::Out,
-            OptionName::Module,
-            OptionName::Property,
-            OptionName::Items,
-        ],
-    }
-}
-
-/// The options of a command from whose paths OUT differs.
-pub fn options_apart(command: CommandName) -> &'static [OptionName]
-    ensures { result.now ≡ apart_of command }
-{
-    match command {
-        CommandName::Build => &[OptionName::List, OptionName::Journal],
-        CommandName::Replay => &[OptionName::List, OptionName::Order],
-        _ => &[],
     }
 }
 

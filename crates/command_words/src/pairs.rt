@@ -5,7 +5,8 @@ ghost use Rattle.command_words.specs.Values.{is_option_value};
 ghost use Rattle.command_words.specs.Options.{is_same};
 ghost use Rattle.command_words.specs.Words.{option_pairs, is_same_option, has_required, are_plain_pairs};
 
-use crate::option::{option_spelled, options};
+use crate::command::options;
+use crate::option::option_spelled;
 use crate::{CommandName, OptionName};
 use bp_faults::{OutOfMemory, Text};
 use std::alloc::Global;

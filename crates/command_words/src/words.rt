@@ -5,7 +5,7 @@ ghost use Rattle.command_words.specs.Words.{is_other, build_with, build_of, repl
 ghost use Rattle.command_words.specs.Words.{format_of, edit_with, edit_of, configuration_by, configuration_behind};
 ghost use Rattle.command_words.specs.Words.{configuration_of_plain, configuration_of};
 ghost use Rattle.command_words.specs.Found.{value_found};
-ghost use Rattle.command_words.specs.Sound.{IsSoundConfiguration};
+ghost use Rattle.command_words.specs.Words.{IsSoundConfiguration};
 
 use crate::command::command_named;
 use crate::items::{is_identifier, items};

@@ -3,7 +3,7 @@
 ghost use Rattle.std.specs.Prelude.{◌≡◌, ◌≤◌, ◌∷◌, [], ◌++◌, IfOk, Ok, Option, length};
 ghost use Rattle.bp_faults.specs.declared.limits.TheConstants.{MOST_MODULES};
 ghost use Rattle.bp_ports.specs.Files.{Files};
-ghost use Rattle.command_words.specs.Sound.{IsSoundBuild};
+ghost use Rattle.command_words.specs.Words.{IsSoundBuild};
 ghost use Rattle.order_text.specs.Texts.{journal_text};
 ghost use Rattle.bp_run.specs.Commands.{build_command, BuildGoes};
 ghost use Rattle.bp_run.specs.Job.{config_of, AreJournalLines, BuildGives};

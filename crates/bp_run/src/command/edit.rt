@@ -4,7 +4,7 @@ ghost use Rattle.std.specs.Prelude.{◌≡◌, ◌≤◌, length};
 ghost use Rattle.bp_faults.specs.Answers.{Tells};
 ghost use Rattle.bp_faults.specs.declared.limits.TheConstants.{LARGEST_FILE};
 ghost use Rattle.bp_format.specs.Editing.{EditMeans};
-ghost use Rattle.command_words.specs.Sound.{IsSoundEdit};
+ghost use Rattle.command_words.specs.Words.{IsSoundEdit};
 ghost use Rattle.bp_run.specs.Commands.{over_file};
 ghost use Rattle.bp_run.specs.Job.{wanted_of};
 ghost use Rattle.bp_run.specs.Steps.{Prepares, ReadEnds};

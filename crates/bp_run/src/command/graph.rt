@@ -3,7 +3,7 @@
 ghost use Rattle.std.specs.Prelude.{◌≡◌, ◌≤◌, Ok, None, Option, length};
 ghost use Rattle.bp_faults.specs.declared.limits.TheConstants.{MOST_MODULES};
 ghost use Rattle.bp_ports.specs.Files.{Files};
-ghost use Rattle.command_words.specs.Sound.{IsSoundGraph};
+ghost use Rattle.command_words.specs.Words.{IsSoundGraph};
 ghost use Rattle.bp_run.specs.Commands.{over_list, ToOutput};
 ghost use Rattle.bp_run.specs.Job.{GraphGives};
 ghost use Rattle.bp_run.specs.Steps.{LoadsTree, MakesPuts, Prepares, ReadEnds, OnReadEnd};

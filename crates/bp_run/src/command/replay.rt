@@ -7,7 +7,7 @@ ghost use Rattle.bp_faults.specs.declared.limits.TheConstants.{LARGEST_FILE, MOS
 ghost use Rattle.bp_load.specs.Directories.{AreInFileOrder};
 ghost use Rattle.bp_load.specs.Trees.{sources_given};
 ghost use Rattle.bp_pipeline.specs.Replays.{OrderMeans};
-ghost use Rattle.command_words.specs.Sound.{IsSoundReplay};
+ghost use Rattle.command_words.specs.Words.{IsSoundReplay};
 ghost use Rattle.mutator_rules.specs.Configs.{TargetsDiffer};
 ghost use Rattle.bp_run.specs.Commands.{replay_command};
 ghost use Rattle.bp_run.specs.Job.{SourcesReplay, ListedFilesReplay};

@@ -6,7 +6,7 @@ ghost use Rattle.std.specs.List.{All};
 ghost use Rattle.bp_faults.specs.declared.limits.TheConstants.{LARGEST_FILE, MOST_FILES, MOST_MODULES};
 ghost use Rattle.bp_load.specs.Directories.{AreInFileOrder};
 ghost use Rattle.bp_load.specs.Trees.{sources_given};
-ghost use Rattle.command_words.specs.Sound.{IsSoundSynth};
+ghost use Rattle.command_words.specs.Words.{IsSoundSynth};
 ghost use Rattle.synthetic_tree.specs.Blocks.{AreTree};
 ghost use Rattle.synthetic_tree.specs.Summary.{summary_text};
 ghost use Rattle.bp_run.specs.Commands.{synth_command, ToOutput};

@@ -3,7 +3,7 @@ use Rattle.std.specs.Prelude.{Option, IfSome}
 use Rattle.std.specs.Borrow.{Bor}
 use Rattle.std.proofs.lemmas.Result.{IfOk-weaker}
 use Rattle.command_words.specs.declared.configuration.Configuration.{Configuration}
-use Rattle.command_words.specs.Sound.{IsSoundConfiguration}
+use Rattle.command_words.specs.Words.{IsSoundConfiguration}
 use Rattle.command_words.proofs.Sound.{sound_plain}
 use Rattle.command_words.proofs.words.configure.Goals as goal
 
