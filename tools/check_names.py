@@ -19,6 +19,7 @@ the repository, by default the one in which this script is. The rules:
     readme      a crate has no README.md
     cites       a file cites the proofs/ of another crate, other than the shared files of bp_faults
     number      a paper, a demand or an issue is cited by its number
+    table       docs/PROPERTIES.md has another row for a property than crates/property_tables/specs/Tables.antt
     path        a document names a file of crates/, docs/, tools/ or examples/ that isn't there, or in a table of its own
                 columns a word that the file beside it doesn't define
 """
@@ -31,8 +32,11 @@ import sys
 
 HERE = os.path.dirname(os.path.dirname(os.path.abspath(__file__)))
 WIDEST = 120
-RULES = ["width", "comment", "meanings", "bool", "participle", "means", "laws", "readme", "cites", "number", "path"]
+RULES = ["width", "comment", "meanings", "bool", "participle", "means", "laws", "readme", "cites", "number", "table",
+         "path"]
 PRIVATE = "No public contract speaks of it"
+TABLE = "crates/property_tables/specs/Tables.antt"
+DOCUMENT = "docs/PROPERTIES.md"
 WORD = "(?:abbrev|unfoldable|pub|data|record)"
 HEAD = re.compile(rf"( *)({WORD}(?: {WORD})*) ([^\s:]+)(.*)")
 # Participles that don't end in -ed.
@@ -170,6 +174,25 @@ def check_links(paths, tell):
                         tell(path, number, "path", f"{named} doesn't define {word}")
 
 
+def check_table(tell):
+    """The properties of the definition, with kind, types and groups, and those of the documents' table."""
+    types = {"Every": "all", "Cc": "cc types", "Filegroup": "`filegroup`", "BothLinks": "`cc_library`, `cc_defaults`",
+             "PlugIns": "`cc_library`, `cc_library_shared`, `cc_defaults`", "Tests": "`cc_test`, `cc_defaults`"}
+    row = re.compile(r' (inert|sets|joint) \(codes "(\w+)"\) K\.(\w+) (?:[^∷]* )?(\w+) ∷')
+    defined = {}
+    for line in lines_of(TABLE):
+        for maker, name, kind, kinds in row.findall(line):
+            defined[name] = (kind, types.get(kinds), "yes" if maker == "joint" else "", maker != "inert")
+    for number, line in enumerate(lines_of(DOCUMENT), 1):
+        cells = [cell.strip() for cell in line.strip().strip("|").split("|")]
+        if len(cells) == 6 and cells[0].startswith("`"):
+            row_of = (cells[1], cells[2], cells[3], cells[5] != "none")
+            if defined.pop(cells[0].strip("`"), None) != row_of:
+                tell(DOCUMENT, number, "table", cells[0])
+    for name in defined:
+        tell(DOCUMENT, 1, "table", f"there is no row for `{name}`")
+
+
 def check_code(paths, tell):
     """The names of functions in the code, and where laws stand."""
     for path in paths:
@@ -259,6 +282,7 @@ def main():
                 private.add(path)
     check_texts(paths, tell)
     check_links(paths, tell)
+    check_table(tell)
     check_code(paths, tell)
     check_citations(paths, tell)
     check_crates(set(paths), tell)

@@ -26,9 +26,6 @@ GROUPS = {
     "target": ["android", "host", "linux", "linux_glibc", "not_windows", "darwin", "windows", "vendor", "recovery",
                "android_arm64", "android_arm", "android_x86_64", "android_x86", "linux_glibc_x86_64", "linux_glibc_x86"],
 }
-BASE = ["enabled", "srcs", "cflags", "conlyflags", "cppflags", "asflags", "ldflags", "local_include_dirs", "include_dirs",
-        "export_include_dirs", "whole_static_libs", "static_libs", "shared_libs", "header_libs", "export_static_lib_headers",
-        "export_shared_lib_headers", "export_header_lib_headers"]
 ODD_TEXT = ["", "a", "é", "äöü", "日本語", "😀", "\u00a0", "a b", "  ", "//", "/*", "*/", "{", "}", "[", ",", "=", "$", "\\",
             "\"", "'", "\t", "\n", "\r", "\a", "\b", "\v", "\f", "# x", "\u2028", "\ufeff", "%s", "-1", "true"]
 FLAGS = ["-Wall", "-DX=\"é\"", "", "a b", "-D'x'", "$(y)", "日本", "\u0080"]
@@ -37,15 +34,17 @@ ESCAPES = {"\a": "a", "\b": "b", "\f": "f", "\n": "n", "\r": "r", "\t": "t", "\v
 
 
 def table():
-    """The properties of docs/PROPERTIES.md: name, kind and types."""
+    """The properties of docs/PROPERTIES.md: name, kind, types, and whether groups have it."""
     rows = {}
     with open(os.path.join(TOP, "docs", "PROPERTIES.md"), encoding="utf-8") as text:
         for line in text:
-            found = re.match(r"\| `(\w+)` \| (\w+) \| (.*?) \|", line)
+            found = re.match(r"\| `(\w+)` \| (\w+) \| (.*?) \| (yes)? *\|", line)
             if found:
-                name, kind, types = found.groups()
-                rows[name] = (kind, set(re.findall(r"`(\w+)`", types)) | (set(TYPES) if "cc types" in types else set())
-                              | (set(TYPES) | {"filegroup"} if types == "all" else set()))
+                name, kind, types, in_groups = found.groups()
+                of_types = set(re.findall(r"`(\w+)`", types))
+                if types in ("cc types", "all"):
+                    of_types = set(TYPES) | ({"filegroup"} if types == "all" else set())
+                rows[name] = (kind, of_types, in_groups == "yes")
     return rows
 
 
@@ -287,13 +286,14 @@ class File:
         return self.base()
 
     def base(self):
-        return {n: self.of_kind(n, self.rows[n][0]) for n in self.rng.sample(BASE, self.rng.randint(0, 4))}
+        in_groups = sorted(n for n, row in self.rows.items() if row[2])
+        return {n: self.of_kind(n, self.rows[n][0]) for n in self.rng.sample(in_groups, self.rng.randint(0, 4))}
 
     # definitions
 
     def body(self, kind, name):
         rng = self.rng
-        known = sorted(n for n, (_, types) in self.rows.items() if kind in types and n != "name")
+        known = sorted(n for n, row in self.rows.items() if kind in row[1] and n != "name")
         chosen = rng.sample(known, min(len(known), rng.choice([0, 1, 2, 5, 12])))
         entries = [(n, self.of_kind(n, self.rows[n][0])) for n in chosen] + ([("name", name)] if name is not None else [])
         rng.shuffle(entries)

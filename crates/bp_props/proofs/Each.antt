@@ -11,7 +11,7 @@ use Rattle.std.proofs.lemmas.Cmp.{alike_right}
 use Rattle.std.proofs.lemmas.Map.Keys.{sorted_head, sorted_tail}
 use Rattle.bp_props.specs.contracts.group_id.GroupIdOrd.TheImpl.Laws as laws
 use Rattle.bp_props.specs.declared.group_id.GroupId.{GroupId}
-use Rattle.bp_props.specs.declared.group.GroupProps.{GroupProps}
+use Rattle.bp_props.specs.declared.fields.GroupProps.{GroupProps}
 use Rattle.bp_props.specs.declared.merge.Winner.{Winner}
 use Rattle.bp_props.specs.Groups.{Ascends, by_id, group_of, group_put, groups_merged, put_behind, either_merged}
 use Rattle.bp_props.specs.Groups.{EachMerged}

@@ -3,7 +3,7 @@ use Rattle.std.proofs.Common.{◌≡◌, ℕ, ◌+◌, ◌<◌, ◌≤◌, Bool,
 use Rattle.std.proofs.Common.{◌∷◌, suc, length, get_or, set, refl, ap, sym, ◌∙◌, subst, arith}
 use Rattle.std.specs.Prelude.{filter}
 use Rattle.std.specs.Map.{keys_of}
-use Rattle.std.specs.List.{AllByRecursion, AllWithin, insert, remove}
+use Rattle.std.specs.List.{AllByRecursion, AllWithin, insert}
 use Rattle.std.specs.List.Sorted.{IsStrictlySortedBy, IsNonDecreasingBy, IsSearchInRange}
 use Rattle.std.specs.List.Sorted.{IsBinarySearchResult}
 use Rattle.std.specs.Ordering.{is_lt, match_ordering, ordering_reverse, ordering_index}
@@ -15,11 +15,9 @@ use Rattle.std.proofs.lemmas.List.Kept.{IsStrictlySortedBy-filter}
 use Rattle.std.proofs.lemmas.List.Sorted.{searchable_from_sorted}
 use Rattle.bp_props.specs.contracts.group_id.GroupIdOrd.TheImpl.Laws as laws
 use Rattle.bp_props.specs.declared.group_id.GroupId.{GroupId}
-use Rattle.bp_props.specs.declared.group.GroupProps.{GroupProps}
-use Rattle.bp_props.specs.declared.merge.Winner.{Winner}
-use Rattle.bp_props.specs.Groups.{Ascends, by_id, group_of, groups_with, group_put, put_behind, groups_merged}
-use Rattle.bp_props.specs.Inside.{index_of, one_further, updated_at}
-use Rattle.bp_props.specs.Group.{group_merged}
+use Rattle.bp_props.specs.declared.fields.GroupProps.{GroupProps}
+use Rattle.bp_props.specs.Groups.{Ascends, by_id, group_of, groups_with}
+use Rattle.bp_props.specs.Inside.{index_of, one_further}
 use Rattle.bp_props.proofs.Each.{lookup-below}
 
 -- ascending pairs
@@ -60,12 +58,6 @@ ascends_with id g (e ∷ pairs) ascends = by (by_id id e.0) refl (ascends_with i
           (laws.total-law.antisymm e.0 id ∙ ap ordering_reverse is) ascends.0,
       rest,
     )
-
-pub ascends_merged : (winner : Winner) (others pairs : List (GroupId × GroupProps)) → Ascends pairs
-    → Ascends (groups_merged winner pairs others)
-ascends_merged winner [] pairs ascends = ascends
-ascends_merged winner (e ∷ others) pairs ascends = ascends_merged winner others
-    (group_put winner pairs e.0 e.1) (ascends_with e.0 (put_behind winner (group_of pairs e.0) e.1) pairs ascends)
 
 keys_of-filter : (p : GroupId → Bool) (pairs : List (GroupId × GroupProps))
     → keys_of (filter (λ e. p e.0) pairs) ≡ filter p (keys_of pairs)
@@ -190,52 +182,3 @@ pub ascends_replaced : (pairs : List (GroupId × GroupProps)) (i : ℕ) (x : Gro
     → i < length pairs → x ≡ get_or pairs i x → Ascends pairs → Ascends (set pairs i (x.0, g))
 ascends_replaced pairs i x g within is ascends =
     subst (IsStrictlySortedBy by_id) (sym (keys_of-set pairs i x g within is)) ascends
-
-set_updated : (pairs : List (GroupId × GroupProps)) (i : ℕ) (d : GroupId × GroupProps)
-    (change : GroupProps → GroupProps) → i < length pairs
-    → set pairs i ((get_or pairs i d).0, change (get_or pairs i d).1) ≡ updated_at i change pairs
-set_updated [] i d change within = absurd (omega arith)
-set_updated (e ∷ pairs) Prim.Native.Nat.zero d change within = refl
-set_updated (e ∷ pairs) (suc i) d change within = ap (λ es. e ∷ es) (set_updated pairs i d change (omega arith))
-
-pub set_changed : (pairs : List (GroupId × GroupProps)) (i : ℕ) (x : GroupId × GroupProps)
-    (change : GroupProps → GroupProps) (g : GroupProps) → i < length pairs → x ≡ get_or pairs i x
-    → g ≡ change x.1 → set pairs i (x.0, g) ≡ updated_at i change pairs
-set_changed pairs i x change g within is new = ap (λ g. set pairs i (x.0, g)) new
-    ∙ ap (λ (e : GroupId × GroupProps). set pairs i (e.0, change e.1)) is ∙ set_updated pairs i x change within
-
-pub put_at : (winner : Winner) (pairs : List (GroupId × GroupProps)) (id : GroupId) (g : GroupProps) (i : ℕ)
-    → At pairs id (Ok i) → updated_at i (λ old. group_merged winner old g) pairs ≡ group_put winner pairs id g
-put_at winner [] id g i here = absurd (omega (arith, here.0))
-put_at winner (e ∷ pairs) id g i here =
-    sym (set_updated (e ∷ pairs) i e (λ old. group_merged winner old g) here.0)
-    ∙ here.2 (group_merged winner (get_or (e ∷ pairs) i e).1 g) e
-    ∙ ap (λ old. groups_with (e ∷ pairs) id (put_behind winner old g)) (sym (here.1 e))
-
-set_back : (pairs : List (GroupId × GroupProps)) (i : ℕ) (d : GroupId × GroupProps) (g : GroupProps)
-    (back : GroupProps → GroupProps) → i < length pairs → back g ≡ (get_or pairs i d).1
-    → updated_at i back (set pairs i ((get_or pairs i d).0, g)) ≡ pairs
-set_back [] i d g back within returns = absurd (omega arith)
-set_back (e ∷ pairs) Prim.Native.Nat.zero d g back within returns = ap (λ g. (e.0, g) ∷ pairs) returns
-set_back (e ∷ pairs) (suc i) d g back within returns =
-    ap (λ es. e ∷ es) (set_back pairs i d g back (omega arith) returns)
-
-pub changed_back : (pairs : List (GroupId × GroupProps)) (i : ℕ) (x : GroupId × GroupProps) (g : GroupProps)
-    (back : GroupProps → GroupProps) → i < length pairs → x ≡ get_or pairs i x → back g ≡ x.1
-    → updated_at i back (set pairs i (x.0, g)) ≡ pairs
-changed_back pairs i x g back within is returns =
-    ap (λ (e : GroupId × GroupProps). updated_at i back (set pairs i (e.0, g))) is
-    ∙ set_back pairs i x g back within (returns ∙ ap (λ (e : GroupId × GroupProps). e.1) is)
-
-pub length-updated_at : (pairs : List (GroupId × GroupProps)) (i : ℕ) (change : GroupProps → GroupProps)
-    → length (updated_at i change pairs) ≡ length pairs
-length-updated_at [] i change = refl
-length-updated_at (e ∷ pairs) Prim.Native.Nat.zero change = refl
-length-updated_at (e ∷ pairs) (suc i) change = ap suc (length-updated_at pairs i change)
-
-pub insert_back : (pairs : List (GroupId × GroupProps)) (i : ℕ) (x : GroupId × GroupProps) → i ≤ length pairs
-    → remove (insert pairs i x) i ≡ pairs
-insert_back [] Prim.Native.Nat.zero x within = refl
-insert_back [] (suc i) x within = absurd (omega arith)
-insert_back (e ∷ pairs) Prim.Native.Nat.zero x within = refl
-insert_back (e ∷ pairs) (suc i) x within = ap (λ es. e ∷ es) (insert_back pairs i x (omega arith))

@@ -1,4 +1,3 @@
 pub mod Each
 pub mod Ids
 pub mod Indices
-pub mod Uncut

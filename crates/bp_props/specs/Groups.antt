@@ -1,16 +1,42 @@
--- The groups of a record: pairs of a group's id and its properties, which ascend by the id.
-use Rattle.std.specs.Prelude.{◌≡◌, Option, Some, None, List, [], ◌∷◌}
+-- A group: what sets nothing, what merging makes of two, what restriction or a test leaves; and the groups of a record.
+use Rattle.std.specs.Prelude.{◌≡◌, Bool, Option, Some, None, List, [], ◌∷◌, filter}
 use Rattle.std.specs.BTreeMap.{insert_entry, is_at}
 use Rattle.std.specs.Map.{keys_of, lookup}
 use Rattle.std.specs.List.Sorted.{IsStrictlySortedBy}
 use Rattle.std.specs.declared.cmp.Ordering.{Ordering}
 use Rattle.bp_props.specs.declared.group_id.GroupId.{GroupId}
 use Rattle.bp_props.specs.contracts.group_id.GroupIdOrd.TheImpl as order
-use Rattle.bp_props.specs.declared.group.GroupProps.{GroupProps}
+use Rattle.bp_props.specs.declared.fields.GroupProps.{GroupProps}
+use Rattle.bp_props.specs.declared.kind.ModuleKind.{ModuleKind}
 use Rattle.bp_props.specs.declared.merge.Winner.{Winner}
-use Rattle.bp_props.specs.Group.{group_merged}
+use Rattle.bp_props.specs.Fields.{Shape, Held, group_by}
+use Rattle.bp_props.specs.Kinds.{has_field}
+use Rattle.bp_props.specs.Meaning.{scalar_merged, list_merged, list_empty, with_items, kept_scalar, kept_list}
 
--- Ids are compared by their order, which is that of their list.
+-- A group may set nothing.
+abbrev pub group_empty : GroupProps
+group_empty = group_by (λ shape field of. None) (λ shape field of. list_empty)
+
+-- Two groups are merged field by field: each list, and each scalar.
+abbrev pub group_merged : Winner → GroupProps → GroupProps → GroupProps
+group_merged winner a b = group_by (λ shape field of. scalar_merged winner (of a) (of b))
+    (λ shape field of. list_merged (of a) (of b))
+
+-- What the kind's table has stays in a group, and the rest isn't set.
+abbrev pub group_restricted : ModuleKind → GroupProps → GroupProps
+group_restricted kind g = group_by (λ shape field of. kept_scalar (has_field kind field) (of g))
+    (λ shape field of. kept_list (has_field kind field) (of g))
+
+-- The items of each list of a group stay that pass a test of what such a list holds.
+abbrev pub group_filtered : ((shape : Shape) → Held shape → Bool) → GroupProps → GroupProps
+group_filtered test g = group_by (λ shape field of. of g)
+    (λ shape field of. with_items (filter (test shape) (of g).items) (of g))
+
+-- A group has no item but those that pass.
+abbrev pub HasOnly : ((shape : Shape) → Held shape → Bool) → GroupProps → Type 0
+HasOnly test g = group_filtered test g ≡ g
+
+-- Ids are compared by their order, which is that of their list. A record has pairs of an id and its group.
 abbrev pub by_id : GroupId → GroupId → Ordering
 by_id = (order.ghosts).cmp
 

@@ -2,8 +2,8 @@
 use Rattle.std.specs.Prelude.{Bool, true, false}
 use Rattle.bp_props.specs.declared.kind.ModuleKind.{ModuleKind}
 use Rattle.bp_props.specs.declared.kind.ModuleKind.TheVariants.{Library, LibraryShared, Test, Defaults, Filegroup}
-use Rattle.bp_props.specs.declared.field.Field.{Field}
-use Rattle.bp_props.specs.declared.field.Field.TheVariants as F
+use Rattle.bp_props.specs.declared.fields.Field.{Field}
+use Rattle.bp_props.specs.declared.fields.Field.TheVariants as F
 use Rattle.bp_props.specs.declared.group_id.GroupId.TheVariants as G
 
 -- Every kind but `filegroup` is built from C or C++.

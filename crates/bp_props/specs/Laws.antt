@@ -10,31 +10,10 @@ use Rattle.bp_props.specs.Groups.{by_id}
 -- The ids of groups, in their order.
 abbrev pub group_ids : List GroupId
 group_ids =
-    G.ArchArm ∷
-    G.ArchArm64 ∷
-    G.ArchRiscv64 ∷
-    G.ArchX86 ∷
-    G.ArchX86_64 ∷
-    G.Lib32 ∷
-    G.Lib64 ∷
-    G.Android ∷
-    G.Host ∷
-    G.Linux ∷
-    G.LinuxGlibc ∷
-    G.NotWindows ∷
-    G.Darwin ∷
-    G.Windows ∷
-    G.Vendor ∷
-    G.Recovery ∷
-    (G.Named T.AndroidArm64) ∷
-    (G.Named T.AndroidArm) ∷
-    (G.Named T.AndroidX86_64) ∷
-    (G.Named T.AndroidX86) ∷
-    (G.Named T.LinuxGlibcX86_64) ∷
-    (G.Named T.LinuxGlibcX86) ∷
-    G.Static ∷
-    G.Shared ∷
-    []
+    G.ArchArm ∷ G.ArchArm64 ∷ G.ArchRiscv64 ∷ G.ArchX86 ∷ G.ArchX86_64 ∷ G.Lib32 ∷ G.Lib64
+    ∷ G.Android ∷ G.Host ∷ G.Linux ∷ G.LinuxGlibc ∷ G.NotWindows ∷ G.Darwin ∷ G.Windows ∷ G.Vendor ∷ G.Recovery
+    ∷ G.Named T.AndroidArm64 ∷ G.Named T.AndroidArm ∷ G.Named T.AndroidX86_64 ∷ G.Named T.AndroidX86
+    ∷ G.Named T.LinuxGlibcX86_64 ∷ G.Named T.LinuxGlibcX86 ∷ G.Static ∷ G.Shared ∷ []
 
 -- Group ids are ordered as in their list.
 abbrev pub IdsAscend : Type 0

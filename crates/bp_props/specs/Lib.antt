@@ -1,14 +1,8 @@
-pub mod Placed
-pub mod Source
 pub mod Meaning
 pub mod Fields
-pub mod RecordFields
 pub mod Kinds
-pub mod Group
 pub mod Groups
 pub mod Records
-pub mod Undo
 pub mod Inside
 pub mod Same
-pub mod Made
 pub mod Laws

@@ -1,9 +1,10 @@
--- What merging makes of a scalar and of a list. Every field of a record is merged by one of these two rules.
+-- What merging makes of a scalar and of a list, by which every field of a record is merged; and what a source is.
 use Rattle.std.specs.Prelude.{Bool, true, false, Option, Some, None, List, [], ◌++◌}
 use Rattle.bp_props.specs.declared.given.Given.{Given}
 use Rattle.bp_props.specs.declared.listed.Listed.{Listed}
 use Rattle.bp_props.specs.declared.merge.Winner.{Winner}
 use Rattle.bp_props.specs.declared.merge.Winner.TheVariants.{Receiver, Argument}
+use Rattle.bp_props.specs.declared.source.Source.{Source}
 
 -- The first of two is taken where it is set, else the second.
 abbrev pub first_set : {A : Type 0} → Option A → Option A → Option A
@@ -36,3 +37,7 @@ kept_scalar false scalar = None
 abbrev pub kept_list : {A : Type 0} → Bool → Listed A → Listed A
 kept_list true list = list
 kept_list false list = list_empty
+
+-- A source names a module, or else it is a path.
+abbrev pub names_module : Source → Bool
+names_module source = source.named

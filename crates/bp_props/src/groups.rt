@@ -1,7 +1,8 @@
-ghost use Rattle.std.specs.Prelude.{◌≡◌, OnOk, OnErr, option_copied};
+ghost use Rattle.std.specs.Prelude.{◌≡◌, OnOk, OnErr, IfOk, option_copied};
+ghost use Rattle.std.specs.Option.{unwrap_or};
 
 use crate::merge::Winner;
-use crate::pairs::{copy_pairs, index_of_id, insert_at, merge_all};
+use crate::pairs::{copy_pairs, index_of_id, insert_at};
 use crate::{Field, GroupId, GroupProps, ModuleKind};
 use bp_faults::{OutOfMemory, Payload};
 use std::alloc::Global;
@@ -18,7 +19,7 @@ pub struct Groups {
 impl Model for Groups {
     ghost use Rattle.std.specs.Prelude.{List};
     ghost use Rattle.bp_props.specs.declared.group_id.GroupId.{GroupId};
-    ghost use Rattle.bp_props.specs.declared.group.GroupProps.{GroupProps};
+    ghost use Rattle.bp_props.specs.declared.fields.GroupProps.{GroupProps};
     ghost use Rattle.bp_props.specs.Groups.{Ascends};
 
     ghost Value = { List (GroupId × GroupProps) };
@@ -32,8 +33,8 @@ impl Groups {
     ghost use Rattle.std.specs.Prelude.{◌<◌, [], filter, length, set};
     ghost use Rattle.std.specs.List.{HoldsAt};
     ghost use Rattle.bp_props.specs.Kinds.{has_field};
-    ghost use Rattle.bp_props.specs.declared.field.Field.TheVariants.{Group};
-    ghost use Rattle.bp_props.specs.Groups.{group_of, groups_merged, groups_with, EachMerged};
+    ghost use Rattle.bp_props.specs.declared.fields.Field.TheVariants.{Group};
+    ghost use Rattle.bp_props.specs.Groups.{group_of, group_put, groups_merged, groups_with, EachMerged};
 
     /// No groups. It takes no memory.
     pub fn empty(alloc: Global) -> Groups
@@ -88,19 +89,67 @@ impl Groups {
         self.pairs.retain(|pair| kind.has(Field::Group(pair.0)));
     }
 
-    /// Merges each group into the one of its id.
-    pub(crate) fn merge(
+    // Merges a group into the one of its id.
+    fn put(
         &mut self,
+        alloc: Global,
+        id: GroupId,
+        group: &GroupProps,
+        winner: Winner,
+    ) -> Result<(), OutOfMemory>
+        ensures { OnOk result (self.new ≡ group_put winner self.old id group.now) }
+    {
+        let made = match self.group(id) {
+            Some(own) => {
+                let mut made = own.copy(alloc)?;
+                made.merge(alloc, group, winner)?;
+                made
+            }
+            None => group.copy(alloc)?,
+        };
+        self.insert(id, made)
+    }
+
+    // Merges each group into the one of its id. Where memory ran out some are.
+    fn put_all(
+        &mut self,
+        alloc: Global,
+        others: &[(GroupId, GroupProps)],
+        winner: Winner,
+    ) -> Result<(), OutOfMemory>
+        ensures { OnOk result (self.new ≡ groups_merged winner self.old others.now) }
+    {
+        for pair in others {
+            self.put(alloc, pair.0, &pair.1, winner)?;
+        }
+        Ok(())
+    }
+
+    /// These groups, each other one merged into the one of its id. None where there is no other.
+    pub(crate) fn merged(
+        &self,
         alloc: Global,
         others: &Groups,
         winner: Winner,
-    ) -> Result<(), OutOfMemory>
-        ensures ok { OnOk result (self.new ≡ groups_merged winner self.old others.now) }
-        ensures each { OnOk result (EachMerged winner self.old others.now self.new) }
-        ensures err { OnErr result (self.new ≡ self.old) }
+    ) -> Result<Option<Groups>, OutOfMemory>
+        ensures all { IfOk result (λ made. unwrap_or made self.now ≡ groups_merged winner self.now others.now) }
+        ensures each { IfOk result (λ made. EachMerged winner self.now others.now (unwrap_or made self.now)) }
     {
-        merge_all(&mut self.pairs, alloc, others.pairs.as_slice(), winner)?;
-        Ok(())
+        if others.pairs.is_empty() {
+            return Ok(None);
+        }
+        let mut made = self.copy(alloc)?;
+        made.put_all(alloc, others.pairs.as_slice(), winner)?;
+        Ok(Some(made))
+    }
+
+    /// Takes other groups in place of these, where some are given.
+    pub(crate) fn replace(&mut self, made: Option<Groups>)
+        ensures { self.new ≡ unwrap_or made self.old }
+    {
+        if let Some(groups) = made {
+            *self = groups;
+        }
     }
 }
 

@@ -6,7 +6,7 @@
 //! and by `specs/Kinds.antt`, the table of the kinds.
 #![tactic(auto)]
 
-mod field;
+mod fields;
 mod given;
 mod group;
 mod group_id;
@@ -14,7 +14,6 @@ mod groups;
 mod kind;
 pub mod laws;
 mod listed;
-mod mark;
 mod merge;
 mod module;
 mod multi;
@@ -24,9 +23,8 @@ mod same;
 mod source;
 mod table;
 
-pub use field::Field;
+pub use fields::{Field, GroupProps};
 pub use given::Given;
-pub use group::GroupProps;
 pub use group_id::GroupId;
 pub use groups::Groups;
 pub use kind::ModuleKind;

@@ -1,9 +1,8 @@
-ghost use Rattle.std.specs.Prelude.{◌≡◌, OnOk, OnErr, IfOk, [], ◌∷◌, ◌++◌, length, take};
+ghost use Rattle.std.specs.Prelude.{◌≡◌, OnOk, OnErr, IfOk, [], ◌∷◌, ◌++◌};
+ghost use Rattle.std.specs.Option.{unwrap_or};
 ghost use Rattle.bp_faults.specs.declared.place.Place.{Place};
 ghost use Rattle.bp_props.specs.Meaning.{list_merged, list_empty, kept_list, with_items};
-ghost use Rattle.bp_props.specs.Undo.{mark_of, list_cut, ListBegins};
 
-use crate::mark::Mark;
 use bp_faults::{OutOfMemory, Payload, Place, Seq};
 use std::alloc::Global;
 use std::marker::Model;
@@ -24,23 +23,21 @@ pub struct Listed<T> {
 
 impl<T> Model for Listed<T> {
     ghost use Rattle.std.specs.Option.{option_map_or};
-    ghost use Rattle.std.specs.Prelude.{box_value};
+    ghost use Rattle.std.specs.Prelude.{box_value, None, []};
     ghost use Rattle.bp_props.specs.declared.listed.Placed.{Placed};
-    ghost use Rattle.bp_props.specs.Placed.{nothing_placed};
 
     ghost Value = { Placed T };
 
-    ghost view = { λ l. option_map_or box_value l.placed nothing_placed };
+    ghost view = { λ l. option_map_or box_value l.placed (record { items = []; at = None }) };
 }
 
-// Puts a copy of each item at the end. Where memory ran out some may stand there.
+// Puts a copy of each item at the end.
 fn add_copies<T: Payload + Drop>(
     items: &mut Seq<T>,
     alloc: Global,
     more: &[T],
 ) -> Result<(), OutOfMemory>
-    ensures ok { OnOk result (items.new ≡ items.old ++ more.now) }
-    ensures begins { take (length items.old) items.new ≡ items.old }
+    ensures { OnOk result (items.new ≡ items.old ++ more.now) }
 {
     for item in more {
         items.push(item.copy(alloc)?)?;
@@ -99,24 +96,12 @@ impl<T: Drop> Listed<T> {
         Ok(())
     }
 
-    pub(crate) fn mark(&self) -> Mark
-        ensures { result ≡ mark_of self.now }
+    /// Takes another list in place of this one, where one is given.
+    pub(crate) fn replace(&mut self, made: Option<Listed<T>>)
+        ensures { self.new ≡ unwrap_or made self.old }
     {
-        Mark {
-            count: self.items().len(),
-            is_placed: self.at().is_some(),
-        }
-    }
-
-    /// Takes back what was put behind since the mark. It takes no memory.
-    pub(crate) fn cut(&mut self, mark: Mark)
-        ensures { self.new ≡ list_cut mark self.old }
-    {
-        if let Some(placed) = &mut self.placed {
-            placed.items.truncate(mark.count);
-            if !mark.is_placed {
-                placed.at = None;
-            }
+        if let Some(list) = made {
+            *self = list;
         }
     }
 
@@ -146,20 +131,24 @@ impl<T: Drop> Listed<T> {
 }
 
 impl<T: Payload + Drop> Listed<T> {
-    /// Puts the items of the other list behind. Where memory ran out a part of them may stand there.
-    pub(crate) fn extend(&mut self, alloc: Global, other: &Listed<T>) -> Result<(), OutOfMemory>
-        ensures ok { OnOk result (self.new ≡ list_merged self.old other.now) }
-        ensures begins { ListBegins self.old self.new }
+    /// This list with the items of the other behind. None where there is nothing to put behind.
+    pub(crate) fn merged(
+        &self,
+        alloc: Global,
+        other: &Listed<T>,
+    ) -> Result<Option<Listed<T>>, OutOfMemory>
+        ensures { IfOk result (λ made. unwrap_or made self.now ≡ list_merged self.now other.now) }
     {
-        match (&mut self.placed, &other.placed) {
-            (_, None) => Ok(()),
-            (Some(placed), Some(more)) => {
-                placed.at = placed.at.or(more.at);
-                add_copies(&mut placed.items, alloc, more.items.as_slice())
-            }
-            (None, Some(_)) => {
-                *self = other.copy(alloc)?;
-                Ok(())
+        match (&self.placed, &other.placed) {
+            (_, None) => Ok(None),
+            (None, Some(_)) => Ok(Some(other.copy(alloc)?)),
+            (Some(first), Some(more)) => {
+                let count = first.items.as_slice().len();
+                let count = count.saturating_add(more.items.as_slice().len());
+                let mut items = Seq::new(Vec::with_capacity(alloc, count)?);
+                add_copies(&mut items, alloc, first.items.as_slice())?;
+                add_copies(&mut items, alloc, more.items.as_slice())?;
+                Ok(Some(Listed::new(alloc, items, first.at.or(more.at))?))
             }
         }
     }

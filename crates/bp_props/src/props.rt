@@ -1,20 +1,21 @@
-ghost use Rattle.std.specs.Prelude.{◌≡◌, OnOk, OnErr, option_copied};
+ghost use Rattle.std.specs.Prelude.{◌≡◌, ◌&&◌, OnOk, OnErr, option_copied};
+ghost use Rattle.std.proofs.lemmas.Bool.Decides.{Decides-and};
 ghost use Rattle.bp_props.specs.Groups.{group_of, EachMerged};
 ghost use Rattle.bp_props.specs.Records.{props_empty, props_merged, props_appended, props_followed, props_over};
-ghost use Rattle.bp_props.specs.Records.{props_restricted, GroupsFollowed, GroupsOver};
-ghost use Rattle.bp_props.specs.Undo.{PropsBegins, BaseBegins};
+ghost use Rattle.bp_props.specs.Records.{props_restricted};
+ghost use Rattle.bp_props.specs.declared.merge.Winner.TheVariants.{Receiver, Argument};
 
 use crate::given::{copy_name, keep_scalar};
 use crate::merge::Winner;
 use crate::table::{
-    copy_lists, copy_scalars, extend_lists, keep_lists, keep_scalars, merge_scalars,
-    module_scalars, or_cut,
+    copy_lists, copy_scalars, keep_lists, keep_scalars, merge_lists, merge_scalars, module_scalars,
+    same_fields,
 };
 use crate::{
-    Field, Given, GroupId, GroupProps, Groups, Listed, ModuleKind, Multi, group_truths,
-    module_names, module_truths,
+    Field, Given, GroupId, GroupProps, Groups, Listed, ModuleKind, Multi, module_names,
+    module_truths,
 };
-use bp_faults::{Item, NodeId, OutOfMemory, Path, Payload, Seq, Text};
+use bp_faults::{Item, NodeId, OutOfMemory, Path, Payload, Same, Seq, Text};
 use std::alloc::Global;
 
 /// The level of a record that no mutator has given one yet.
@@ -143,46 +144,17 @@ impl Props {
         Ok(())
     }
 
-    // Puts the lists of a record behind, and then merges the groups and the scalars.
-    fn extend(&mut self, alloc: Global, other: &Props, winner: Winner) -> Result<(), OutOfMemory>
-        ensures ok { OnOk result (self.new ≡ props_merged winner self.old other.now) }
-        ensures groups { OnOk result (EachMerged winner self.old.groups other.now.groups self.new.groups) }
-        ensures begins { OnErr result (PropsBegins self.old self.new) }
-    {
-        self.base.extend(alloc, &other.base)?;
-        module_names!(extend_lists self, alloc, other);
-        self.groups.merge(alloc, &other.groups, winner)?;
-        group_truths!(merge_scalars self.base, other.base, winner);
-        module_scalars!(merge_scalars self, other, winner);
-        Ok(())
-    }
-
-    // The same, with the lists that are a record's alone cut back where memory ran out.
-    fn extend_base(
-        &mut self,
-        alloc: Global,
-        other: &Props,
-        winner: Winner,
-    ) -> Result<(), OutOfMemory>
-        ensures ok { OnOk result (self.new ≡ props_merged winner self.old other.now) }
-        ensures groups { OnOk result (EachMerged winner self.old.groups other.now.groups self.new.groups) }
-        ensures begins { OnErr result (BaseBegins self.old self.new) }
-    {
-        module_names!(or_cut self, self.extend(alloc, other, winner))
-    }
-
     // Merges a record into this one, but for `name` and `defaults`.
     fn merge(&mut self, alloc: Global, other: &Props, winner: Winner) -> Result<(), OutOfMemory>
         ensures ok { OnOk result (self.new ≡ props_merged winner self.old other.now) }
         ensures groups { OnOk result (EachMerged winner self.old.groups other.now.groups self.new.groups) }
         ensures err { OnErr result (self.new ≡ self.old) }
     {
-        let mark = self.base.mark();
-        let merged = self.extend_base(alloc, other, winner);
-        if merged.is_err() {
-            self.base.cut(mark);
-        }
-        merged
+        let groups = self.groups.merged(alloc, &other.groups, winner)?;
+        module_names!(merge_lists self, alloc, other, self.base.merge(alloc, &other.base, winner)?);
+        self.groups.replace(groups);
+        module_scalars!(merge_scalars self, other, winner);
+        Ok(())
     }
 
     /// Appends a group: its lists go behind, and each scalar that it sets replaces.
@@ -197,7 +169,7 @@ impl Props {
     /// `name` and `defaults` stay.
     pub fn follow(&mut self, alloc: Global, other: &Props) -> Result<(), OutOfMemory>
         ensures ok { OnOk result (self.new ≡ props_followed self.old other.now) }
-        ensures groups { OnOk result (GroupsFollowed self.old other.now self.new) }
+        ensures groups { OnOk result (EachMerged Receiver self.old.groups other.now.groups self.new.groups) }
         ensures err { OnErr result (self.new ≡ self.old) }
     {
         self.merge(alloc, other, Winner::Receiver)
@@ -207,7 +179,7 @@ impl Props {
     /// scalar that it sets replaces. `name` and `defaults` become its own.
     pub fn over(&mut self, alloc: Global, own: &Props) -> Result<(), OutOfMemory>
         ensures ok { OnOk result (self.new ≡ props_over self.old own.now) }
-        ensures groups { OnOk result (GroupsOver self.old own.now self.new) }
+        ensures groups { OnOk result (EachMerged Argument self.old.groups own.now.groups self.new.groups) }
         ensures err { OnErr result (self.new ≡ self.old) }
     {
         let name = copy_name(alloc, &own.name)?;
@@ -238,4 +210,96 @@ impl Payload for Props {
         copy.set_all(alloc, self)?;
         Ok(copy)
     }
+}
+
+// Whether what the mutators compute is the same in two records.
+fn same_computed(props: &Props, other: &Props) -> bool
+    ensures { result ≡ (⟦<bool as Same>⟧.same_as props.now.asan other.now.asan
+        && (⟦<u32 as Same>⟧.same_as props.now.level other.now.level
+        && (⟦<Seq<Path> as Same>⟧.same_as props.now.exports other.now.exports
+        && (⟦<Seq<Path> as Same>⟧.same_as props.now.includes other.now.includes
+        && (⟦<Seq<NodeId> as Same>⟧.same_as props.now.line other.now.line
+        && (⟦<Seq<NodeId> as Same>⟧.same_as props.now.slibs other.now.slibs)))))) }
+{
+    props.asan.same(&other.asan)
+        && props.level.same(&other.level)
+        && props.exports.same(&other.exports)
+        && props.includes.same(&other.includes)
+        && props.line.same(&other.line)
+        && props.slibs.same(&other.slibs)
+}
+
+impl Same for Props {
+    ghost use Rattle.std.proofs.Common.{rules};
+    ghost use Rattle.std.specs.Cmp.{booleans_Decides, unsigned_Decides};
+    ghost use Rattle.std.specs.Cmp.Lexicographic.{bytes_decides};
+    ghost use Rattle.bp_faults.specs.Equalities.{lists_tell, options_tell};
+    ghost use Rattle.bp_faults.specs.contracts.same.ItemSame.TheImpl.Laws.{tells-law as item_tells};
+    ghost use Rattle.bp_faults.specs.contracts.same.NodeIdSame.TheImpl.Laws.{tells-law as node_tells};
+    ghost use Rattle.bp_props.specs.contracts.fields.GroupPropsSame.TheImpl.Laws.{tells-law as group_tells};
+    ghost use Rattle.bp_props.specs.contracts.same.GroupsSame.TheImpl.Laws.{tells-law as groups_tells};
+    ghost use Rattle.bp_props.specs.contracts.same.MultiSame.TheImpl.Laws.{tells-law as multi_tells};
+    ghost use Rattle.bp_props.specs.Same.{given_tells, listed_tells};
+
+    ghost same_as = { λ a b. ⟦<GroupProps as Same>⟧.same_as a.base b.base
+        && (⟦<Groups as Same>⟧.same_as a.groups b.groups
+        && (⟦<Option<Given<Text>> as Same>⟧.same_as a.name b.name
+        && (⟦<Listed<Item> as Same>⟧.same_as a.defaults b.defaults
+        && (⟦<Option<Given<Multi>> as Same>⟧.same_as a.compile_multilib b.compile_multilib
+        && (⟦<Option<Given<bool>> as Same>⟧.same_as a.host_supported b.host_supported
+        && (⟦<Option<Given<bool>> as Same>⟧.same_as a.device_supported b.device_supported
+        && (⟦<Option<Given<bool>> as Same>⟧.same_as a.vendor b.vendor
+        && (⟦<Option<Given<bool>> as Same>⟧.same_as a.vendor_available b.vendor_available
+        && (⟦<Option<Given<bool>> as Same>⟧.same_as a.recovery b.recovery
+        && (⟦<Option<Given<bool>> as Same>⟧.same_as a.recovery_available b.recovery_available
+        && (⟦<Option<Given<bool>> as Same>⟧.same_as a.address b.address
+        && (⟦<Option<Given<bool>> as Same>⟧.same_as a.never b.never
+        && (⟦<Option<Given<bool>> as Same>⟧.same_as a.test_per_src b.test_per_src
+        && (⟦<Option<Given<u32>> as Same>⟧.same_as a.min_sdk_version b.min_sdk_version
+        && (⟦<Listed<Item> as Same>⟧.same_as a.plugin_of b.plugin_of
+        && (⟦<Listed<Item> as Same>⟧.same_as a.data_bins b.data_bins
+        && (⟦<bool as Same>⟧.same_as a.asan b.asan
+        && (⟦<u32 as Same>⟧.same_as a.level b.level
+        && (⟦<Seq<Path> as Same>⟧.same_as a.exports b.exports
+        && (⟦<Seq<Path> as Same>⟧.same_as a.includes b.includes
+        && (⟦<Seq<NodeId> as Same>⟧.same_as a.line b.line
+        && (⟦<Seq<NodeId> as Same>⟧.same_as a.slibs b.slibs)))))))))))))))))))))) };
+
+    fn same(&self, other: &Props) -> bool {
+        self.base.same(&other.base)
+            && self.groups.same(&other.groups)
+            && self.name.same(&other.name)
+            && self.defaults.same(&other.defaults)
+            && self.compile_multilib.same(&other.compile_multilib)
+            && module_truths!(same_fields self, other)
+            && self.min_sdk_version.same(&other.min_sdk_version)
+            && module_names!(same_fields self, other)
+            && same_computed(self, other)
+    }
+
+    ghost tells = { λ a b. let all =
+        Decides-and _ _ (group_tells a.base b.base) (
+        Decides-and _ _ (groups_tells a.groups b.groups) (
+        Decides-and _ _ (options_tell (given_tells bytes_decides) a.name b.name) (
+        Decides-and _ _ (listed_tells item_tells a.defaults b.defaults) (
+        Decides-and _ _ (options_tell (given_tells multi_tells) a.compile_multilib b.compile_multilib) (
+        Decides-and _ _ (options_tell (given_tells booleans_Decides) a.host_supported b.host_supported) (
+        Decides-and _ _ (options_tell (given_tells booleans_Decides) a.device_supported b.device_supported) (
+        Decides-and _ _ (options_tell (given_tells booleans_Decides) a.vendor b.vendor) (
+        Decides-and _ _ (options_tell (given_tells booleans_Decides) a.vendor_available b.vendor_available) (
+        Decides-and _ _ (options_tell (given_tells booleans_Decides) a.recovery b.recovery) (
+        Decides-and _ _ (options_tell (given_tells booleans_Decides) a.recovery_available b.recovery_available) (
+        Decides-and _ _ (options_tell (given_tells booleans_Decides) a.address b.address) (
+        Decides-and _ _ (options_tell (given_tells booleans_Decides) a.never b.never) (
+        Decides-and _ _ (options_tell (given_tells booleans_Decides) a.test_per_src b.test_per_src) (
+        Decides-and _ _ (options_tell (given_tells unsigned_Decides) a.min_sdk_version b.min_sdk_version) (
+        Decides-and _ _ (listed_tells item_tells a.plugin_of b.plugin_of) (
+        Decides-and _ _ (listed_tells item_tells a.data_bins b.data_bins) (
+        Decides-and _ _ (booleans_Decides a.asan b.asan) (
+        Decides-and _ _ (unsigned_Decides a.level b.level) (
+        Decides-and _ _ (lists_tell bytes_decides a.exports b.exports) (
+        Decides-and _ _ (lists_tell bytes_decides a.includes b.includes) (
+        Decides-and _ _ (lists_tell node_tells a.line b.line) (
+        lists_tell node_tells a.slibs b.slibs)))))))))))))))))))))) in
+        (λ h. let parts = all.0 h in Prim.search rules, λ e. all.1 (Prim.search rules)) };
 }

@@ -1,5 +1,5 @@
 ghost use Rattle.std.specs.Prelude.{◌≡◌};
-ghost use Rattle.bp_props.specs.Source.{names_module};
+ghost use Rattle.bp_props.specs.Meaning.{names_module};
 
 use bp_faults::{Item, OutOfMemory, Payload};
 use std::alloc::Global;

@@ -1,14 +1,14 @@
 -- The file of a graph is well formed.
 use Rattle.std.proofs.Common.{◌≡◌, ◌<◌, ◌++◌, ℕ, zero, suc, Bool, true, false, cond, List, [], ◌∷◌, map, drop, length}
 use Rattle.std.proofs.Common.{get_or, Option, Some, None, Ok, refl, arith, subst}
-use Rattle.std.specs.Prelude.{codes, IsTrue, Contains, slice_get, slice_index_or, filter}
+use Rattle.std.specs.Prelude.{codes, IsTrue, ◌||◌, Contains, slice_get, slice_index_or, filter}
 use Rattle.std.specs.Option.{option_map_or}
 use Rattle.std.specs.List.{AllByRecursion, flat_map, filter_map, cons_option}
 use Rattle.std.proofs.lemmas.Option.{slice_get_within, get_or_from_slice_get}
-use Rattle.std.proofs.lemmas.List.Elements.{All-from_recursion, recursion_from_All}
+use Rattle.std.proofs.lemmas.List.Elements.{All-from_recursion, recursion_from_All, filter_passes}
 use Rattle.bp_faults.specs.declared.ids.NodeId.{NodeId}
 use Rattle.bp_faults.specs.declared.place.Item.{Item}
-use Rattle.bp_faults.proofs.Lists.{all_map, both as each_both, all_append, all_image, all_split}
+use Rattle.bp_faults.proofs.Lists.{all_map, both as each_both, all_append, all_image}
 use Rattle.graph_nodes.specs.declared.graph.Edge.{Edge}
 use Rattle.graph_nodes.specs.declared.graph.Node.{Node}
 use Rattle.graph_nodes.specs.Laws.{VariantNamesArePlain}
@@ -19,10 +19,12 @@ use Rattle.module_graph.specs.Laws.{PredecessorsAreTargets}
 use Rattle.module_graph.specs.Planned.{plan_edges, plan_of}
 use Rattle.serial_pass.specs.Laws.{PredecessorsAreNodes, PredecessorsAreLess}
 use Rattle.serial_pass.specs.Plans.{IsPlan, HasNoCycle}
+use Rattle.bp_props.specs.declared.fields.GroupProps.{GroupProps}
 use Rattle.bp_props.specs.declared.module.Module.{Module}
+use Rattle.bp_props.specs.Groups.{group_filtered, HasOnly}
 use Rattle.bp_props.specs.declared.props.Props.{Props}
 use Rattle.bp_props.specs.declared.source.Source.{Source}
-use Rattle.bp_props.specs.Source.{names_module}
+use Rattle.bp_props.specs.Meaning.{names_module}
 use Rattle.ninja_file.specs.Names.{is_path}
 use Rattle.ninja_file.specs.Meaning.{IsStatement}
 use Rattle.build_parts.specs.declared.path.Role.{Role}
@@ -35,7 +37,7 @@ use Rattle.build_parts.specs.Sources.{sources_checked}
 use Rattle.build_parts.specs.Paths.{output_directory, object_path, output_path, output_of, output_by, output_at}
 use Rattle.build_parts.specs.Paths.{product_of, link_variation, product_suffix, role_of}
 use Rattle.build_parts.specs.Variables.{node_target, flags_of, cflags_of, level_words, include_word, include_line}
-use Rattle.build_parts.specs.Variables.{compile_variables, link_variables}
+use Rattle.build_parts.specs.Variables.{compile_variables, link_variables, link_flags}
 use Rattle.build_actions.specs.declared.actions.Actions.{Actions}
 use Rattle.build_actions.specs.Files.{results_of, leads_to_files, first_files, files_over, files_of}
 use Rattle.build_actions.specs.Compiles.{is_header, compiler_of, compile_steps, objects_in, variables_in}
@@ -43,7 +45,7 @@ use Rattle.build_actions.specs.Products.{is_whole, is_data, outputs_at, data_out
 use Rattle.build_actions.specs.Products.{product_step}
 use Rattle.build_actions.specs.Acts.{files_alone, objects_of, made_of, acts_by, acts, acts_at}
 use Rattle.build_actions.specs.Laws.{made_below, AreMade}
-use Rattle.build_actions.specs.Writable.{has_shown_bytes, flag_words, IsWritable, AreWritable}
+use Rattle.build_actions.specs.Writable.{has_shown_bytes, is_written, AreWritable}
 use Rattle.build_actions.proofs.Differing.{all_flat}
 use Rattle.build_actions.proofs.Outputs.{then_ok}
 use Rattle.build_actions.proofs.Shown.{IsPath, Shown, Clear, shown_of, clear_if, clear_append, path_clear, path_of}
@@ -84,6 +86,10 @@ rest_good : (given : List Actions) → AllByRecursion IsGood given → AllByRecu
 rest_good [] h = tt
 rest_good (made ∷ given) h = h.1
 
+-- A source that is a path can be a path of Ninja.
+abbrev IsWritable : Source → Type 0
+IsWritable s = names_module s ≡ false → IsTrue (is_path s.item.text)
+
 over_good : (sources : List Source) (given : List Actions)
     → AllByRecursion IsWritable sources
     → AllByRecursion IsGood given → AllByRecursion IsFile (files_over sources given)
@@ -111,31 +117,47 @@ headers_good (f ∷ files) h = by (is_header f) (headers_good files h.1)
     by false rest = rest
 
 pub record AreWords (p : Props) : Type 0 where
-  pub c : AllByRecursion Shown p.base.cflags.items
-  pub conly : AllByRecursion Shown p.base.conlyflags.items
-  pub cpp : AllByRecursion Shown p.base.cppflags.items
-  pub assembler : AllByRecursion Shown p.base.asflags.items
-  pub ld : AllByRecursion Shown p.base.ldflags.items
+  pub flags : HasOnly is_written p.base
   pub includes : AllByRecursion Shown p.includes
 
-words_are : (p : Props) → AllByRecursion (λ w. IsTrue (has_shown_bytes w)) (flag_words p) → AreWords p
-words_are p h =
-    let all = all_map (λ w. IsTrue (has_shown_bytes w)) Shown (λ w k. shown_of w k) (flag_words p) h in
-    let a = all_split Shown p.base.cflags.items (p.base.conlyflags.items
-    ++ (p.base.cppflags.items ++ (p.base.asflags.items ++ (p.base.ldflags.items ++ p.includes)))) all in
-    let b = all_split Shown p.base.conlyflags.items
-    (p.base.cppflags.items ++ (p.base.asflags.items ++ (p.base.ldflags.items ++ p.includes))) a.1 in
-    let d = all_split Shown p.base.cppflags.items (p.base.asflags.items ++ (p.base.ldflags.items ++ p.includes)) b.1 in
-    let e = all_split Shown p.base.asflags.items (p.base.ldflags.items ++ p.includes) d.1 in
-    let f = all_split Shown p.base.ldflags.items p.includes e.1 in
-    record { c = a.0; conly = b.0; cpp = d.0; assembler = e.0; ld = f.0; includes = f.1 }
+passing_shown : (texts : List (List ℕ)) → AllByRecursion Shown (filter has_shown_bytes texts)
+passing_shown texts =
+    all_map (λ w. has_shown_bytes w ≡ true) Shown (λ w k. shown_of w k) (filter has_shown_bytes texts)
+    (recursion_from_All (λ w. has_shown_bytes w ≡ true) (filter has_shown_bytes texts)
+    (filter_passes has_shown_bytes texts))
+
+-- What is made of the flags of a record is made of those that are shown, since it has no others.
+only_shown : (made : GroupProps → List (List ℕ)) (g : GroupProps) → HasOnly is_written g
+    → AllByRecursion Shown (made (group_filtered is_written g)) → AllByRecursion Shown (made g)
+only_shown made g only h = subst (λ b. AllByRecursion Shown (made b)) only h
+
+flags_shown : (p : Props) → AreWords p → (language : Language) → AllByRecursion Shown (flags_of p language)
+flags_shown p w language =
+    only_shown (λ b. flags_of (record p { base = b }) language) p.base w.flags (by language)
+  where
+    by : (language : Language)
+        → AllByRecursion Shown (flags_of (record p { base = group_filtered is_written p.base }) language)
+    by C = search (all_append, passing_shown)
+    by Cxx = search (all_append, passing_shown)
+    by Assembler = search passing_shown
+
+link_flags_shown : (p : Props) → AreWords p → AllByRecursion Shown (link_flags p)
+link_flags_shown p w =
+    only_shown (λ b. link_flags (record p { base = b })) p.base w.flags (search passing_shown)
+
+source_fine : (s : Source) → (names_module s || is_path s.item.text) ≡ true → IsWritable s
+source_fine s h plain_path = rw plain_path at h
+
+sources_fine : (g : GroupProps) → HasOnly is_written g → AllByRecursion IsWritable g.srcs.items
+sources_fine g only =
+    subst (λ (b : GroupProps). AllByRecursion IsWritable b.srcs.items) only
+    (all_map (λ (s : Source). (names_module s || is_path s.item.text) ≡ true) IsWritable source_fine
+    (filter (λ (s : Source). names_module s || is_path s.item.text) g.srcs.items)
+    (recursion_from_All (λ (s : Source). (names_module s || is_path s.item.text) ≡ true)
+    (filter (λ (s : Source). names_module s || is_path s.item.text) g.srcs.items)
+    (filter_passes (λ (s : Source). names_module s || is_path s.item.text) g.srcs.items)))
 
 module _ (plain : VariantNamesArePlain) where
-  flags_shown : (p : Props) → AreWords p → (language : Language) → AllByRecursion Shown (flags_of p language)
-  flags_shown p w C = all_append Shown p.base.cflags.items p.base.conlyflags.items w.c w.conly
-  flags_shown p w Cxx = all_append Shown p.base.cflags.items p.base.cppflags.items w.c w.cpp
-  flags_shown p w Assembler = w.assembler
-
   variables_good : (x : Node Props) → AreWords x.payload → (language : Language)
       → AreVariables (compile_variables x language)
   variables_good x w language =
@@ -152,7 +174,7 @@ module _ (plain : VariantNamesArePlain) where
   link_good x w =
       two_variables (codes "target") (codes "ldflags") (node_target x) _ refl refl
       (apart_texts (codes "target") (codes "ldflags") refl)
-      (target_shown _) (joined_shown x.payload.base.ldflags.items w.ld)
+      (target_shown _) (joined_shown (link_flags x.payload) (link_flags_shown x.payload w))
 
   directory_clear : (m : Module) (x : Node Props) → IsPath m.name → Clear (output_directory m x)
   directory_clear m x h =
@@ -294,19 +316,27 @@ module _ (plain : VariantNamesArePlain) where
       sources : AllByRecursion IsWritable x.payload.base.srcs.items
       words : AreWords x.payload
 
+    includes_fine : (p : Props) → AllByRecursion (λ path. IsTrue (has_shown_bytes path)) p.includes
+        → AllByRecursion Shown p.includes
+    includes_fine p h =
+        all_map (λ path. IsTrue (has_shown_bytes path)) Shown (λ path k. shown_of path k) p.includes h
+
+    at_node : (P : Node Props → Type 0) → AllByRecursion P nodes → (n : ℕ) (x : Node Props)
+        → slice_get nodes n ≡ Some x → P x
+    at_node P h n x is =
+        subst P (get_or_from_slice_get nodes n x x is)
+        (All-from_recursion P nodes h n x (slice_get_within nodes n x is))
+
     fine_at : (n : ℕ) (x : Node Props) → slice_get nodes n ≡ Some x → IsFine x
-    fine_at n x is = record {
-      sources =
-          subst (λ (y : Node Props). AllByRecursion IsWritable y.payload.base.srcs.items)
-          (get_or_from_slice_get nodes n x x is)
-          (All-from_recursion (λ (y : Node Props). AllByRecursion IsWritable y.payload.base.srcs.items)
-          nodes write.sources n x (slice_get_within nodes n x is));
-      words =
-          words_are x.payload (subst (λ (y : Node Props). AllByRecursion (λ w. IsTrue (has_shown_bytes w))
-          (flag_words y.payload)) (get_or_from_slice_get nodes n x x is)
-          (All-from_recursion (λ (y : Node Props). AllByRecursion (λ w. IsTrue (has_shown_bytes w))
-          (flag_words y.payload)) nodes write.words n x (slice_get_within nodes n x is)));
-    }
+    fine_at n x is =
+        let only = at_node (λ (y : Node Props). HasOnly is_written y.payload.base) write.groups n x is in
+        let paths = at_node
+        (λ (y : Node Props). AllByRecursion (λ path. IsTrue (has_shown_bytes path)) y.payload.includes)
+        write.includes n x is in
+        record {
+          sources = sources_fine x.payload.base only;
+          words = record { flags = only; includes = includes_fine x.payload paths };
+        }
 
     files_good : (x : Node Props) (ins : List Actions) → IsFine x → AllByRecursion IsGood ins
         → AllByRecursion IsFile (files_of ms nodes x ins)

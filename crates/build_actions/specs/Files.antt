@@ -15,7 +15,7 @@ use Rattle.graph_nodes.specs.declared.variation.Variation.TheVariants as V
 use Rattle.bp_props.specs.declared.module.Module.{Module}
 use Rattle.bp_props.specs.declared.props.Props.{Props}
 use Rattle.bp_props.specs.declared.source.Source.{Source}
-use Rattle.bp_props.specs.Source.{names_module}
+use Rattle.bp_props.specs.Meaning.{names_module}
 use Rattle.build_actions.specs.declared.actions.Actions.{Actions}
 
 -- What was made at the targets of the wanted edges, in edge order.

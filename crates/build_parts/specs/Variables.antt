@@ -54,6 +54,10 @@ flags_of p C = p.base.cflags.items ++ p.base.conlyflags.items
 flags_of p Cxx = p.base.cflags.items ++ p.base.cppflags.items
 flags_of p Assembler = p.base.asflags.items
 
+-- The flags of a link step.
+abbrev pub link_flags : Props → List (List ℕ)
+link_flags p = p.base.ldflags.items
+
 -- The flags of a language and the level, in a row.
 abbrev pub cflags_of : Props → Language → List ℕ
 cflags_of p language = word_line (flags_of p language ++ level_words p.level)
@@ -77,4 +81,4 @@ compile_variables x language =
 -- The variables of a link step.
 abbrev pub link_variables : Node Props → Variables
 link_variables x =
-    variable (codes "target") (node_target x) ++ variable (codes "ldflags") (word_line x.payload.base.ldflags.items)
+    variable (codes "target") (node_target x) ++ variable (codes "ldflags") (word_line (link_flags x.payload))

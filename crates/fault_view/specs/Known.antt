@@ -1,7 +1,7 @@
 -- The names that are known without a tree: module types and properties.
 use Rattle.std.specs.Prelude.{ℕ, List, [], ◌∷◌, ◌++◌, map, codes, if◌then◌else◌}
 use Rattle.std.specs.Str.{bytes_eq}
-use Rattle.property_tables.specs.Types.{types}
+use Rattle.property_tables.specs.Meaning.{types}
 use Rattle.property_tables.specs.Tables.{Property, properties, group_table, sanitize_table, arch_table, multilib_table}
 use Rattle.property_tables.specs.Tables.{target_table}
 
@@ -16,7 +16,7 @@ property_names table = map (λ p. p.name) table
 -- The properties that may stand in a group, and those of modules of any type where there is no group.
 abbrev pub table_names : List ℕ → List (List ℕ)
 table_names group =
-    if bytes_eq group [] then map (λ o. o.property.name) properties
+    if bytes_eq group [] then property_names (map (λ o. o.property) properties)
     else if bytes_eq group (codes "sanitize") then property_names sanitize_table
     else if bytes_eq group (codes "arch") then property_names arch_table
     else if bytes_eq group (codes "multilib") then property_names multilib_table

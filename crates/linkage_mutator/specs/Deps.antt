@@ -6,7 +6,7 @@ use Rattle.bp_props.specs.declared.kind.ModuleKind.TheVariants.{Filegroup}
 use Rattle.bp_props.specs.declared.module.Module.{Module}
 use Rattle.bp_props.specs.declared.props.Props.{Props}
 use Rattle.bp_props.specs.declared.source.Source.{Source}
-use Rattle.bp_props.specs.Source.{names_module}
+use Rattle.bp_props.specs.Meaning.{names_module}
 use Rattle.graph_nodes.specs.declared.graph.EdgeKind.TheVariants.{Whole, Static, Shared, Header, DataBin, Sources}
 use Rattle.graph_nodes.specs.declared.graph.Node.{Node}
 use Rattle.graph_nodes.specs.declared.variation.Variation.{Variation}

@@ -1,6 +1,6 @@
 -- How a record takes in one of its own groups.
 use Rattle.std.specs.Option.{option_map_or}
-use Rattle.bp_props.specs.declared.group.GroupProps.{GroupProps}
+use Rattle.bp_props.specs.declared.fields.GroupProps.{GroupProps}
 use Rattle.bp_props.specs.declared.group_id.GroupId.{GroupId}
 use Rattle.bp_props.specs.declared.props.Props.{Props}
 use Rattle.bp_props.specs.Groups.{group_of}

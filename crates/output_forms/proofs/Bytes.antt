@@ -12,11 +12,10 @@ use Rattle.bp_faults.proofs.Lists.{all_append}
 use Rattle.bp_load.specs.Directories.{directories, directory_of}
 use Rattle.build_actions.specs.Laws.{has_slash}
 use Rattle.ninja_file.specs.Names.{is_shown, is_value, is_path}
-use Rattle.property_tables.specs.Names.{is_module_name_byte, is_dots, is_module_name}
+use Rattle.property_tables.specs.Meaning.{is_module_name_byte, is_dots, is_module_name}
 use Rattle.property_values.specs.Fits.{is_empty}
 use Rattle.property_values.specs.Paths.{is_barred, parts, is_absolute, is_refused, components, path_below}
-use Rattle.output_forms.specs.Texts.{IsShown}
-use Rattle.output_forms.proofs.Each.{all_filtered}
+use Rattle.output_forms.proofs.Each.{all_filtered, IsShown}
 
 -- A byte may stand in a path.
 abbrev pub IsFree : ℕ → Type 0

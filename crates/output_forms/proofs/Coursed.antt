@@ -44,7 +44,7 @@ use Rattle.bp_pipeline.specs.Course.{CourseMeans}
 use Rattle.bp_pipeline.specs.First.{first_from, first_nodes}
 use Rattle.bp_pipeline.specs.Limits.{ComesTo}
 use Rattle.bp_pipeline.specs.Passes.{Answer, AskMeans, MakeMeans, StepMeans, pass_at}
-use Rattle.output_forms.specs.Texts.{HasSoundTexts}
+use Rattle.output_forms.specs.Forms.{HasSoundTexts}
 use Rattle.output_forms.specs.Forms.{HaveForms, AreSound}
 use Rattle.output_forms.proofs.Fits.{Keeps, asks_keep, renews_keep, splits_keep}
 use Rattle.output_forms.proofs.Informed.{IsOnSanitize, variations_on, mutated_sound, level_sound, info_keeps}

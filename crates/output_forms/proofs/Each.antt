@@ -1,11 +1,16 @@
 -- What holds of each item of a list, and of each item of what is made of it.
 use Rattle.std.proofs.Common.{◌≤◌, ◌+◌, ℕ, zero, suc, Bool, true, false, cond, List, [], ◌∷◌, map, length}
 use Rattle.std.proofs.Common.{Option, Some, None, arith}
-use Rattle.std.specs.Prelude.{slice_get, slice_index_or, ⊤}
+use Rattle.std.specs.Prelude.{IsTrue, slice_get, slice_index_or, ⊤}
 use Rattle.std.specs.List.{AllByRecursion, filter}
 use Rattle.std.proofs.lemmas.List.{length-append}
 use Rattle.bp_faults.proofs.Lists.{all_append}
+use Rattle.build_actions.specs.Writable.{has_shown_bytes}
 use Rattle.graph_nodes.specs.Numbered.{by_number}
+
+-- A text has no control character.
+abbrev pub IsShown : List ℕ → Type 0
+IsShown text = IsTrue (has_shown_bytes text)
 
 -- What holds of the value of an option, if there is one.
 abbrev pub IfThere : {X : Type 0} → (X → Type 0) → Option X → Type 0

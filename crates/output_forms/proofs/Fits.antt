@@ -16,7 +16,7 @@ use Rattle.module_rules.specs.Rules.{asks, renews, splits}
 use Rattle.module_rules.specs.Seen.{at_node, at_module, empty_result}
 use Rattle.mutator_rules.specs.declared.request.Request.{Request}
 use Rattle.mutator_rules.specs.declared.split.Split.{Split}
-use Rattle.output_forms.specs.Texts.{HasSoundTexts}
+use Rattle.output_forms.specs.Forms.{HasSoundTexts}
 use Rattle.output_forms.specs.Forms.{HasForm, HaveForms}
 use Rattle.output_forms.proofs.Each.{IfThere, got}
 use Rattle.output_forms.proofs.Outs.{IfResult}

@@ -1,11 +1,13 @@
 -- `sanitize`, `sdk` and `info` keep the forms of a graph.
-use Rattle.std.proofs.Common.{◌++◌, ◌||◌, ℕ, zero, suc, Bool, List, [], ◌∷◌, map, None, Ok, Err, refl, reverse}
+use Rattle.std.proofs.Common.{◌≡◌, ◌++◌, ◌||◌, ℕ, zero, suc, Bool, List, [], ◌∷◌, map, None, Ok, Err, refl, ap, reverse}
 use Rattle.std.specs.Prelude.{IsTrue, if◌then◌else◌}
 use Rattle.std.specs.List.{AllByRecursion, fold, list_any, flat_map}
 use Rattle.std.specs.Str.{bytes_eq}
 use Rattle.std.specs.Option.{unwrap_or}
 use Rattle.bp_faults.specs.declared.ids.NodeId.{NodeId}
 use Rattle.bp_faults.proofs.Lists.{all_append, all_image, all_flat, all_reversed}
+use Rattle.bp_props.specs.Fields as S
+use Rattle.bp_props.specs.declared.fields.GroupProps.{GroupProps}
 use Rattle.bp_props.specs.declared.listed.Listed.{Listed}
 use Rattle.bp_props.specs.declared.module.Module.{Module}
 use Rattle.bp_props.specs.declared.props.Props.{Props}
@@ -33,10 +35,11 @@ use Rattle.info_mutators.specs.Sanitize.{with_flag_if, has_sanitized, with_sanit
 use Rattle.info_mutators.specs.Sanitize.{sanitize_meant}
 use Rattle.info_mutators.specs.SdkLevel.{level_meant}
 use Rattle.build_actions.specs.Variants.{stands_on}
-use Rattle.output_forms.specs.Texts.{IsShown, AreShown, HasSoundTexts}
+use Rattle.output_forms.specs.Forms.{AreShown, is_writable, HasSoundTexts}
 use Rattle.output_forms.specs.Forms.{HasForm, HaveForms}
-use Rattle.output_forms.proofs.Each.{if_cond}
+use Rattle.output_forms.proofs.Each.{IsShown, if_cond}
 use Rattle.output_forms.proofs.Fits.{IsFit, Keeps, at_nodes}
+use Rattle.output_forms.proofs.Only.{all_pass, passing, added_passing}
 use Rattle.output_forms.proofs.Outs.{IfResult}
 use Rattle.output_forms.proofs.Records.{empty_sound}
 
@@ -108,23 +111,17 @@ module _ (nodes : List (Node Props)) where
 
 -- `sanitize`: the records
 
-flag_shown : (needed : Bool) (list : Listed (List ℕ)) → AreShown list.items → AreShown (with_flag_if needed list).items
-flag_shown needed list h =
-    all_append IsShown list.items (if needed then sanitizer_flag ∷ [] else []) h
+flag_passing : (needed : Bool) (list : Listed (List ℕ)) → passing (is_writable S.Flags) list ≡ list
+    → passing (is_writable S.Flags) (with_flag_if needed list) ≡ with_flag_if needed list
+flag_passing needed list h =
+    added_passing (is_writable S.Flags) list (if needed then sanitizer_flag ∷ [] else []) h
     (if_cond AreShown needed (sanitizer_flag ∷ []) [] (refl, tt) tt)
 
 sanitizer_sound : (compiles has : Bool) (p : Props) → HasSoundTexts p → HasSoundTexts (with_sanitizer compiles has p)
 sanitizer_sound compiles has p h = record {
-  base = record {
-    srcs = h.base.srcs;
-    cflags = flag_shown compiles p.base.cflags h.base.cflags;
-    conlyflags = h.base.conlyflags;
-    cppflags = h.base.cppflags;
-    asflags = h.base.asflags;
-    ldflags = flag_shown has p.base.ldflags h.base.ldflags;
-    local_include_dirs = h.base.local_include_dirs;
-    include_dirs = h.base.include_dirs;
-    export_include_dirs = h.base.export_include_dirs;
+  base = λ i. record (h.base i) {
+    cflags = flag_passing compiles p.base.cflags (ap (λ (g : GroupProps). g.cflags) h.base) i;
+    ldflags = flag_passing has p.base.ldflags (ap (λ (g : GroupProps). g.ldflags) h.base) i;
   };
   groups = h.groups;
   exports = h.exports;
@@ -181,27 +178,32 @@ dependencies_sound mods nodes (e ∷ es) [] h = tt
 dependencies_sound mods nodes (e ∷ es) (made ∷ ins) h =
     (made_sound made h.0, dependencies_sound mods nodes es ins h.1)
 
+dirs_shown : (list : Listed (List ℕ)) → (passing (is_writable S.Dirs) list).items ≡ list.items → AreShown list.items
+dirs_shown list h = all_pass (is_writable S.Dirs) list.items h
+
 lists_sound : (own : Props) (ds : List Dependency) → HasSoundTexts own → AllByRecursion HasSound ds
     → HasSoundTexts (with_lists own ds)
-lists_sound own ds h k = record {
-  base = h.base;
-  groups = h.groups;
-  exports =
-      first_shown (own.base.export_include_dirs.items ++ flat_map (export_part own) ds)
-      (all_append IsShown own.base.export_include_dirs.items (flat_map (export_part own) ds)
-      h.base.export_include_dirs
-      (all_flat HasSound IsShown (export_part own)
-      (λ d s. if_cond AreShown (is_handed_on own d.kind d.name) d.props.exports [] s.exports tt) ds k));
-  includes =
-      first_shown (own_includes own ++ flat_map include_part ds)
-      (all_append IsShown (own_includes own) (flat_map include_part ds)
-      (all_append IsShown own.base.local_include_dirs.items
-      (own.base.export_include_dirs.items ++ own.base.include_dirs.items) h.base.local_include_dirs
-      (all_append IsShown own.base.export_include_dirs.items own.base.include_dirs.items h.base.export_include_dirs
-      h.base.include_dirs))
-      (all_flat HasSound IsShown include_part
-      (λ d s. if_cond AreShown (is_linked_against d.kind) d.props.exports [] s.exports tt) ds k));
-}
+lists_sound own ds h k =
+    let g = own.base in
+    let exported = dirs_shown g.export_include_dirs (ap (λ (g : GroupProps). g.export_include_dirs.items) h.base) in
+    let local = dirs_shown g.local_include_dirs (ap (λ (g : GroupProps). g.local_include_dirs.items) h.base) in
+    let rooted = dirs_shown g.include_dirs (ap (λ (g : GroupProps). g.include_dirs.items) h.base) in
+    record {
+      base = h.base;
+      groups = h.groups;
+      exports =
+          first_shown (g.export_include_dirs.items ++ flat_map (export_part own) ds)
+          (all_append IsShown g.export_include_dirs.items (flat_map (export_part own) ds) exported
+          (all_flat HasSound IsShown (export_part own)
+          (λ d s. if_cond AreShown (is_handed_on own d.kind d.name) d.props.exports [] s.exports tt) ds k));
+      includes =
+          first_shown (own_includes own ++ flat_map include_part ds)
+          (all_append IsShown (own_includes own) (flat_map include_part ds)
+          (all_append IsShown g.local_include_dirs.items (g.export_include_dirs.items ++ g.include_dirs.items) local
+          (all_append IsShown g.export_include_dirs.items g.include_dirs.items exported rooted))
+          (all_flat HasSound IsShown include_part
+          (λ d s. if_cond AreShown (is_linked_against d.kind) d.props.exports [] s.exports tt) ds k));
+    }
 
 info_fit : (m : Module) (x : Node Props) (ds : List Dependency) → HasForm x → AllByRecursion HasSound ds
     → IfResult (IsFit None) (info_over m x ds)

@@ -1,4 +1,5 @@
 pub mod Each
+pub mod Only
 pub mod Records
 pub mod Outs
 pub mod Fits
@@ -8,7 +9,6 @@ pub mod Informed
 pub mod Ways
 pub mod Coursed
 pub mod Bytes
-pub mod Set
 pub mod Typed
 pub mod Loaded
 pub mod Linking

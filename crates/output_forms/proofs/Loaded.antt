@@ -25,8 +25,8 @@ use Rattle.bp_values.specs.Meaning.{Raw, file_evaluation}
 use Rattle.build_actions.specs.Laws.{has_slash}
 use Rattle.ninja_file.specs.Names.{is_path}
 use Rattle.property_tables.specs.Meaning.{typed_module}
-use Rattle.output_forms.specs.Texts.{HasSoundTexts}
-use Rattle.output_forms.specs.Modules.{MayBeListed, AreFormed}
+use Rattle.output_forms.specs.Forms.{HasSoundTexts}
+use Rattle.output_forms.specs.Forms.{MayBeListed, AreFormed}
 use Rattle.output_forms.proofs.Bytes.{IsClear, none_of, directory_clear, name_fits}
 use Rattle.output_forms.proofs.Each.{IfThere, all_made}
 use Rattle.output_forms.proofs.Outs.{IfResult}

@@ -24,7 +24,7 @@ use Rattle.mutator_rules.specs.Outcomes.{Made}
 use Rattle.variant_graphs.specs.Limits.{IsWithinLimits}
 use Rattle.variant_graphs.specs.Payloads.{with_payloads}
 use Rattle.variant_graphs.specs.Splitting.{Splitting, splitting, split_nodes, variants_at, variant_node}
-use Rattle.output_forms.specs.Texts.{HasSoundTexts}
+use Rattle.output_forms.specs.Forms.{HasSoundTexts}
 use Rattle.output_forms.specs.Forms.{HasForm, HaveForms}
 use Rattle.output_forms.proofs.Each.{all_numbered, got_or}
 use Rattle.output_forms.proofs.Fits.{IsOn, IsFit, Keeps}

@@ -1,81 +1,26 @@
 -- Merging sound records makes sound ones, and so does restriction.
 use Rattle.std.proofs.Common.{Bool, true, false, List, [], ◌∷◌, Option, Some, None}
-use Rattle.std.specs.List.{AllByRecursion}
 use Rattle.std.specs.BTreeMap.{insert_entry, is_at}
 use Rattle.std.specs.Map.{lookup}
 use Rattle.std.specs.Prelude.{cond}
 use Rattle.std.specs.Ordering.{match_ordering}
 use Rattle.std.specs.declared.cmp.Ordering.{Ordering}
 use Rattle.std.specs.declared.cmp.Ordering.TheVariants.{Less, Equal, Greater}
-use Rattle.bp_faults.proofs.Lists.{all_append}
-use Rattle.bp_props.specs.Meaning.{kept_list}
 use Rattle.bp_props.specs.Kinds.{has_field}
-use Rattle.bp_props.specs.Group.{group_empty, group_merged, group_restricted}
 use Rattle.bp_props.specs.Groups.{by_id, group_of, groups_with, put_behind, group_put, groups_merged}
 use Rattle.bp_props.specs.Records.{props_empty, props_merged, props_appended, props_followed, props_over}
 use Rattle.bp_props.specs.Records.{props_restricted}
-use Rattle.bp_props.specs.declared.field.Field.TheVariants as F
-use Rattle.bp_props.specs.declared.group.GroupProps.{GroupProps}
+use Rattle.bp_props.specs.declared.fields.Field.TheVariants as F
+use Rattle.bp_props.specs.declared.fields.GroupProps.{GroupProps}
 use Rattle.bp_props.specs.declared.group_id.GroupId.{GroupId}
 use Rattle.bp_props.specs.declared.kind.ModuleKind.{ModuleKind}
-use Rattle.bp_props.specs.declared.listed.Listed.{Listed}
 use Rattle.bp_props.specs.declared.props.Props.{Props}
-use Rattle.build_actions.specs.Writable.{IsWritable}
-use Rattle.output_forms.specs.Texts.{IsShown, HasTexts, HaveTexts, HasSoundTexts}
+use Rattle.output_forms.specs.Forms.{is_writable, HasTexts, HaveTexts, HasSoundTexts}
 use Rattle.output_forms.proofs.Each.{IfThere, all_filtered}
-
-pub empty_texts : HasTexts group_empty
-empty_texts = record {
-  srcs = tt;
-  cflags = tt;
-  conlyflags = tt;
-  cppflags = tt;
-  asflags = tt;
-  ldflags = tt;
-  local_include_dirs = tt;
-  include_dirs = tt;
-  export_include_dirs = tt;
-}
+use Rattle.output_forms.proofs.Only.{only_empty, only_merged, only_restricted}
 
 pub empty_sound : HasSoundTexts props_empty
-empty_sound = record { base = empty_texts; groups = tt; exports = tt; includes = tt }
-
-merged_group : (w : _) (a b : GroupProps) → HasTexts a → HasTexts b → HasTexts (group_merged w a b)
-merged_group w a b h k = record {
-  srcs = all_append IsWritable a.srcs.items b.srcs.items h.srcs k.srcs;
-  cflags = all_append IsShown a.cflags.items b.cflags.items h.cflags k.cflags;
-  conlyflags = all_append IsShown a.conlyflags.items b.conlyflags.items h.conlyflags k.conlyflags;
-  cppflags = all_append IsShown a.cppflags.items b.cppflags.items h.cppflags k.cppflags;
-  asflags = all_append IsShown a.asflags.items b.asflags.items h.asflags k.asflags;
-  ldflags = all_append IsShown a.ldflags.items b.ldflags.items h.ldflags k.ldflags;
-  local_include_dirs =
-      all_append IsShown a.local_include_dirs.items b.local_include_dirs.items h.local_include_dirs
-      k.local_include_dirs;
-  include_dirs = all_append IsShown a.include_dirs.items b.include_dirs.items h.include_dirs k.include_dirs;
-  export_include_dirs =
-      all_append IsShown a.export_include_dirs.items b.export_include_dirs.items h.export_include_dirs
-      k.export_include_dirs;
-}
-
-kept : {X : Type 0} (P : X → Type 0) (keeps : Bool) (list : Listed X) → AllByRecursion P list.items
-    → AllByRecursion P (kept_list keeps list).items
-kept P true list h = h
-kept P false list h = tt
-
-restricted_group : (kind : ModuleKind) (g : GroupProps) → HasTexts g → HasTexts (group_restricted kind g)
-restricted_group kind g h = record {
-  srcs = kept IsWritable (has_field kind F.Srcs) g.srcs h.srcs;
-  cflags = kept IsShown (has_field kind F.Cflags) g.cflags h.cflags;
-  conlyflags = kept IsShown (has_field kind F.Conlyflags) g.conlyflags h.conlyflags;
-  cppflags = kept IsShown (has_field kind F.Cppflags) g.cppflags h.cppflags;
-  asflags = kept IsShown (has_field kind F.Asflags) g.asflags h.asflags;
-  ldflags = kept IsShown (has_field kind F.Ldflags) g.ldflags h.ldflags;
-  local_include_dirs =
-      kept IsShown (has_field kind F.LocalIncludeDirs) g.local_include_dirs h.local_include_dirs;
-  include_dirs = kept IsShown (has_field kind F.IncludeDirs) g.include_dirs h.include_dirs;
-  export_include_dirs =
-      kept IsShown (has_field kind F.ExportIncludeDirs) g.export_include_dirs h.export_include_dirs;
-}
+empty_sound = record { base = only_empty is_writable; groups = tt; exports = tt; includes = tt }
 
 -- a group is put among groups
 pub put_texts : (groups : List (GroupId × GroupProps)) (id : GroupId) (g : GroupProps) → HaveTexts groups → HasTexts g
@@ -102,7 +47,7 @@ group_texts (e ∷ es) id h = by (is_at (by_id id) e.0) (group_texts es id h.1)
 
 behind_texts : (w : _) (o : Option GroupProps) (g : GroupProps) → IfThere HasTexts o → HasTexts g
     → HasTexts (put_behind w o g)
-behind_texts w (Some old) g h k = merged_group w old g h k
+behind_texts w (Some old) g h k = only_merged is_writable w old g h k
 behind_texts w None g h k = k
 
 merged_groups : (w : _) (groups others : List (GroupId × GroupProps)) → HaveTexts groups → HaveTexts others
@@ -116,7 +61,7 @@ merged_groups w groups (e ∷ others) h k =
 
 merged : (w : _) (p q : Props) → HasSoundTexts p → HasSoundTexts q → HasSoundTexts (props_merged w p q)
 merged w p q h k = record {
-  base = merged_group w p.base q.base h.base k.base;
+  base = only_merged is_writable w p.base q.base h.base k.base;
   groups = merged_groups w p.groups q.groups h.groups k.groups;
   exports = h.exports;
   includes = h.includes;
@@ -124,7 +69,7 @@ merged w p q h k = record {
 
 pub appended : (p : Props) (g : GroupProps) → HasSoundTexts p → HasTexts g → HasSoundTexts (props_appended p g)
 appended p g h k = record {
-  base = search (merged_group, h.base, k);
+  base = search (only_merged, h.base, k);
   groups = h.groups;
   exports = h.exports;
   includes = h.includes;
@@ -135,7 +80,7 @@ followed p q h k = search (merged, h, k)
 
 pub over : (p q : Props) → HasSoundTexts p → HasSoundTexts q → HasSoundTexts (props_over p q)
 over p q h k = record {
-  base = search (merged_group, h.base, k.base);
+  base = search (only_merged, h.base, k.base);
   groups = search (merged_groups, h.groups, k.groups);
   exports = h.exports;
   includes = h.includes;
@@ -143,7 +88,7 @@ over p q h k = record {
 
 pub restricted : (kind : ModuleKind) (p : Props) → HasSoundTexts p → HasSoundTexts (props_restricted kind p)
 restricted kind p h = record {
-  base = restricted_group kind p.base h.base;
+  base = only_restricted is_writable kind p.base h.base;
   groups =
       all_filtered (λ (e : GroupId × GroupProps). HasTexts e.1) (λ e. has_field kind (F.Group e.0)) p.groups h.groups;
   exports = h.exports;

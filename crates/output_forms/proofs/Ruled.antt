@@ -1,6 +1,6 @@
 -- The rules of the mutators that make new records or variants keep the forms of a graph.
 use Rattle.std.proofs.Common.{◌≤◌, ◌<◌, ◌+◌, ◌++◌, ℕ, Bool, true, cond, List, [], ◌∷◌, length, Option, Some, None}
-use Rattle.std.proofs.Common.{refl, arith}
+use Rattle.std.proofs.Common.{refl, ap, arith}
 use Rattle.std.specs.Prelude.{IsTrue, codes, fold}
 use Rattle.std.specs.Option.{option_map_or}
 use Rattle.std.specs.List.{AllByRecursion, cons_option}
@@ -8,7 +8,7 @@ use Rattle.std.proofs.lemmas.Bool.{lt-ltb}
 use Rattle.bp_faults.specs.declared.limits.TheConstants.{MOST_NODES}
 use Rattle.bp_faults.specs.declared.target.Target.{Target}
 use Rattle.bp_faults.proofs.Lists.{all_append, all_image}
-use Rattle.bp_props.specs.declared.group.GroupProps.{GroupProps}
+use Rattle.bp_props.specs.declared.fields.GroupProps.{GroupProps}
 use Rattle.bp_props.specs.declared.group_id.GroupId.{GroupId}
 use Rattle.bp_props.specs.declared.group_id.GroupId.TheVariants as G
 use Rattle.bp_props.specs.declared.kind.ModuleKind.{ModuleKind}
@@ -17,7 +17,9 @@ use Rattle.bp_props.specs.declared.kind.ModuleKind.TheVariants.{Filegroup}
 use Rattle.bp_props.specs.declared.module.Module.{Module}
 use Rattle.bp_props.specs.declared.props.Props.{Props}
 use Rattle.bp_props.specs.declared.source.Source.{Source}
+use Rattle.bp_props.specs.Fields as S
 use Rattle.bp_props.specs.Groups.{group_of}
+use Rattle.bp_props.specs.Meaning.{with_items}
 use Rattle.bp_props.specs.Records.{props_appended, props_followed, props_over}
 use Rattle.graph_nodes.specs.declared.graph.Edge.{Edge}
 use Rattle.graph_nodes.specs.declared.graph.EdgeKind.{EdgeKind}
@@ -47,10 +49,10 @@ use Rattle.target_mutators.specs.Targets.{groups_of}
 use Rattle.linkage_mutator.specs.Links.{links_of, has_link, pic_if_linked, link_variants}
 use Rattle.linkage_mutator.specs.Sources.{with_sources, variant_of_source, each_source, is_split, source_variants}
 use Rattle.build_actions.specs.Variants.{stands_on}
-use Rattle.build_actions.specs.Writable.{IsWritable}
-use Rattle.output_forms.specs.Texts.{IsShown, HasTexts, HasSoundTexts}
+use Rattle.output_forms.specs.Forms.{is_writable, HasTexts, HasSoundTexts}
 use Rattle.output_forms.specs.Forms.{HasForm}
 use Rattle.output_forms.proofs.Each.{IfThere, if_cond}
+use Rattle.output_forms.proofs.Only.{IsWritable, all_pass, list_passing, added_passing}
 use Rattle.output_forms.proofs.Records.{appended, followed, over, restricted, group_texts}
 use Rattle.output_forms.proofs.Fits.{IsOn, IsFit}
 
@@ -172,16 +174,11 @@ links_on kind p h = ((refl, h), tt)
 
 pic_sound : (p : Props) → HasSoundTexts p → HasSoundTexts (with_pic p)
 pic_sound p h = record {
-  base = record {
-    srcs = h.base.srcs;
-    cflags = all_append IsShown p.base.cflags.items (codes "-fPIC" ∷ []) h.base.cflags (refl, tt);
-    conlyflags = h.base.conlyflags;
-    cppflags = h.base.cppflags;
-    asflags = h.base.asflags;
-    ldflags = h.base.ldflags;
-    local_include_dirs = h.base.local_include_dirs;
-    include_dirs = h.base.include_dirs;
-    export_include_dirs = h.base.export_include_dirs;
+  base = λ i. record (h.base i) {
+    cflags =
+        added_passing (is_writable S.Flags) p.base.cflags (codes "-fPIC" ∷ [])
+        (ap (λ (g : GroupProps). g.cflags) h.base)
+        (refl, tt) i;
   };
   groups = h.groups;
   exports = h.exports;
@@ -199,16 +196,8 @@ linked_on m x form few =
 
 source_sound : (p : Props) (s : Source) → HasSoundTexts p → IsWritable s → HasSoundTexts (with_sources p (s ∷ []))
 source_sound p s h k = record {
-  base = record {
-    srcs = (k, tt);
-    cflags = h.base.cflags;
-    conlyflags = h.base.conlyflags;
-    cppflags = h.base.cppflags;
-    asflags = h.base.asflags;
-    ldflags = h.base.ldflags;
-    local_include_dirs = h.base.local_include_dirs;
-    include_dirs = h.base.include_dirs;
-    export_include_dirs = h.base.export_include_dirs;
+  base = λ i. record (h.base i) {
+    srcs = list_passing (is_writable S.Sources) (with_items (s ∷ []) p.base.srcs) (k, tt) i;
   };
   groups = h.groups;
   exports = h.exports;
@@ -234,4 +223,5 @@ pub per_source_on : (m : Module) (x : Node Props) → HasForm x → length (sour
     → AllByRecursion (IsOn A.PerSource) (source_variants m x)
 per_source_on m x form few =
     sources_on (is_split m.kind x.payload.test_per_src) x.payload x.payload.base.srcs.items form.texts
-    form.texts.base.srcs few
+    (all_pass (is_writable S.Sources) x.payload.base.srcs.items
+    (ap (λ (g : GroupProps). g.srcs.items) form.texts.base)) few

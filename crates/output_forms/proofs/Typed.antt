@@ -1,7 +1,7 @@
 -- A module that is typed has a sound record and a name that a path may hold.
 use Rattle.std.proofs.Common.{◌≡◌, ◌++◌, ◌||◌, ◌==◌, ℕ, Bool, true, false, cond, List, [], ◌∷◌, Option, Some, None}
 use Rattle.std.proofs.Common.{Result, Ok, Err, refl}
-use Rattle.std.specs.Prelude.{codes}
+use Rattle.std.specs.Prelude.{codes, IsTrue}
 use Rattle.std.specs.List.{AllByRecursion, list_any}
 use Rattle.std.specs.Map.{lookup}
 use Rattle.std.specs.Str.{bytes_eq}
@@ -13,44 +13,45 @@ use Rattle.bp_faults.specs.declared.place.Place.{Place}
 use Rattle.bp_faults.specs.Answers.{then_do}
 use Rattle.bp_faults.specs.Characters.{is_control}
 use Rattle.bp_faults.specs.Phases.{each_in_turn}
-use Rattle.bp_props.specs.declared.field.Field.{Field}
-use Rattle.bp_props.specs.declared.field.Field.TheVariants as F
+use Rattle.bp_faults.proofs.Lists.{all_each}
+use Rattle.bp_props.specs.declared.fields.Field.{Field}
+use Rattle.bp_props.specs.declared.fields.Field.TheVariants as F
 use Rattle.bp_props.specs.declared.given.Given.{Given}
-use Rattle.bp_props.specs.declared.group.GroupProps.{GroupProps}
+use Rattle.bp_props.specs.declared.fields.GroupProps.{GroupProps}
 use Rattle.bp_props.specs.declared.group_id.GroupId.{GroupId}
 use Rattle.bp_props.specs.declared.kind.ModuleKind.{ModuleKind}
+use Rattle.bp_props.specs.declared.listed.Listed.{Listed}
 use Rattle.bp_props.specs.declared.module.Module.{Module}
-use Rattle.bp_props.specs.declared.multi.Multi.TheVariants.{Both, First, Only32, Only64}
 use Rattle.bp_props.specs.declared.props.Props.{Props}
-use Rattle.bp_props.specs.Group.{group_empty}
+use Rattle.bp_props.specs.declared.source.Source.{Source}
+use Rattle.bp_props.specs.Fields as S
+use Rattle.bp_props.specs.Groups.{group_empty}
 use Rattle.bp_props.specs.Records.{props_empty}
 use Rattle.bp_values.specs.Meaning.{Raw}
 use Rattle.bp_values.specs.Values.{Fields, no_field, field_and, fields_then, Field as Entry}
-use Rattle.property_tables.specs.Entries.{each_entry, property_in, inner_prefix, group_with_fit, props_with_fit}
-use Rattle.property_tables.specs.Entries.{groups_with_group}
-use Rattle.property_tables.specs.Entries.{group_entry, group_typed, groups_entry, sanitize_entry, groups_typed}
-use Rattle.property_tables.specs.Entries.{inner_typed}
-use Rattle.property_tables.specs.Entries.{entry_typed, module_entry}
+use Rattle.property_tables.specs.Meaning.{each_entry, property_in, inner_prefix, entry_set, groups_with_group}
+use Rattle.property_tables.specs.Meaning.{group_typed, groups_entry, groups_typed}
+use Rattle.property_tables.specs.Meaning.{inner_typed}
+use Rattle.property_tables.specs.Meaning.{entry_typed, module_entry}
 use Rattle.property_tables.specs.Meaning.{module_typed, typed_by, typed_module}
-use Rattle.property_tables.specs.Names.{is_module_name, name_in}
+use Rattle.property_tables.specs.Meaning.{is_module_name, name_in}
 use Rattle.property_tables.specs.Tables.{Property, table_of, group_table, sanitize_table, arch_table, multilib_table}
 use Rattle.property_tables.specs.Tables.{target_table}
-use Rattle.property_tables.specs.Types.{types, is_dropped}
+use Rattle.property_tables.specs.Meaning.{types, is_dropped}
 use Rattle.property_values.specs.declared.row.PropKind.{PropKind}
 use Rattle.property_values.specs.declared.row.PropKind.TheVariants as K
+use Rattle.property_values.specs.declared.fit.Fit.{Fit}
 use Rattle.property_values.specs.Fits.{truth_in, word_in, list_in, map_in, flag_in, dir_in, is_empty, path_in}
-use Rattle.property_values.specs.Fits.{source_by}
-use Rattle.property_values.specs.Fits.{source_in, multi_in, is_number, in_levels, level_or, base_of, fit_of}
+use Rattle.property_values.specs.Fits.{source_by, source_in, multi_in, is_number, in_levels, level_or, base_of}
+use Rattle.property_values.specs.Fits.{listed_at, each_listed, fit_of}
 use Rattle.property_values.specs.Paths.{is_refused, components, path_below}
-use Rattle.property_values.specs.Records.{given_scalar, listed_items, group_set, props_set}
-use Rattle.build_actions.specs.Writable.{IsWritable}
-use Rattle.output_forms.specs.Texts.{IsShown, AreShown, HasTexts, HaveTexts, HasSoundTexts}
+use Rattle.property_values.specs.Fits.{group_set, props_set}
+use Rattle.output_forms.specs.Forms.{is_writable, HasTexts, HaveTexts, HasSoundTexts}
 use Rattle.output_forms.proofs.Bytes.{IsClear, none_of, bytes_shown, clear_shown, placed_clear, placed_path, item_clear}
-use Rattle.output_forms.proofs.Each.{IfThere, if_cond}
+use Rattle.output_forms.proofs.Each.{IfThere, IsShown, if_cond}
+use Rattle.output_forms.proofs.Only.{IsWritable, Passes, list_passing, only_empty, only_set}
 use Rattle.output_forms.proofs.Outs.{IfResult}
-use Rattle.output_forms.proofs.Records.{empty_texts, empty_sound, put_texts}
-use Rattle.output_forms.proofs.Set.{flags_set, sources_set, dirs_set, names_set, truth_set, with_base}
-use Rattle.output_forms.proofs.Set.{truth_given, names_given, word_given, multi_given, level_given}
+use Rattle.output_forms.proofs.Records.{empty_sound, put_texts}
 
 -- one step after another
 pub then_if : {A B : Type 0} (P : A → Type 0) (Q : B → Type 0) (r : Result A Fault) (next : A → Result B Fault)
@@ -105,7 +106,7 @@ path_writable : (dir : List ℕ) → IsClear dir → (item : Item) → IfResult 
 path_writable dir clear item =
     unless IsWritable (is_refused item.text || is_empty (components item.text)) _ _
     (λ e. let s = or_parts (is_refused item.text) (is_empty (components item.text)) e in
-    λ path. placed_path dir item.text clear (item_clear item.text s.0) s.1)
+    placed_path dir item.text clear (item_clear item.text s.0) s.1)
 
 source_writable : (dir : List ℕ) → IsClear dir → (item : Item) → IfResult IsWritable (source_in dir item)
 source_writable dir clear item = by item.text
@@ -115,104 +116,77 @@ source_writable dir clear item = by item.text
     by (c ∷ name) =
         if_cond (IfResult IsWritable) (c == 58)
         (Ok (record { named = true; item = record { text = name; at = item.at } })) (path_in dir item)
-        (λ path. absurd (cc)) (path_writable dir clear item)
-
--- What a value stands for leaves a group and a record sound in which it is set.
-abbrev Leaves : {V : Type 0} → (Field → Place → V → GroupProps → GroupProps) → (Field → Place → V → Props → Props) → V
-    → Type 0
-Leaves in_group in_record value =
-    ((field : Field) (at : Place) (g : GroupProps) → HasTexts g → HasTexts (in_group field at value g))
-    × ((field : Field) (at : Place) (p : Props) → HasSoundTexts p → HasSoundTexts (in_record field at value p))
+        refl (path_writable dir clear item)
 
 base_clear : (dir : List ℕ) (effect : Option Field) → IsClear dir → IsClear (base_of dir effect)
 base_clear dir (Some F.IncludeDirs) h = tt
 base_clear dir effect h = h
 
-multi_leaves : (at : Place) (path word : List ℕ) → IfResult (Leaves group_set props_set) (multi_in at path word)
-multi_leaves at path word =
-    if_cond (IfResult (Leaves group_set props_set)) (bytes_eq word (codes "both")) _ _
-    (λ field at g h. h, λ field at p h. multi_given field (given_scalar at Both) p h)
-    (if_cond (IfResult (Leaves group_set props_set)) (bytes_eq word (codes "first")) _ _
-    (λ field at g h. h, λ field at p h. multi_given field (given_scalar at First) p h)
-    (if_cond (IfResult (Leaves group_set props_set)) (bytes_eq word (codes "32")) _ _
-    (λ field at g h. h, λ field at p h. multi_given field (given_scalar at Only32) p h)
-    (if_cond (IfResult (Leaves group_set props_set)) (bytes_eq word (codes "64")) _ _
-    (λ field at g h. h, λ field at p h. multi_given field (given_scalar at Only64) p h) tt)))
+listed_if : {A : Type 0} (P : A → Type 0) (path : List ℕ) (entry : Entry) (step : Item → Result A Fault)
+    → ((item : Item) → IfResult P (step item))
+    → IfResult (λ (list : Listed A). AllByRecursion P list.items) (each_listed path entry step)
+listed_if {A} P path entry step each =
+    then_any (λ (list : Listed A). AllByRecursion P list.items) (list_in entry.at path entry.value) _
+    (λ items. then_if (AllByRecursion P) (λ (list : Listed A). AllByRecursion P list.items) (each_in_turn step items) _
+    (each_if P step each items) (λ made all. all))
 
-level_leaves : (at : Place) (path : List ℕ) (o : Option ℕ)
-    → IfResult (Leaves group_set props_set) (level_or at path o)
-level_leaves at path None = tt
-level_leaves at path (Some n) = (λ field at g h. h, λ field at p h. level_given field (given_scalar at n) p h)
+-- What a value stands for can be written.
+abbrev CanPass : Fit → Type 0
+CanPass fit = Passes is_writable fit
 
-fits_leave : (dir : List ℕ) (effect : Option Field) (path : List ℕ) (entry : Entry) (kind : PropKind) → IsClear dir
-    → IfResult (Leaves group_set props_set) (fit_of dir effect path entry kind)
-fits_leave dir effect path entry K.Bool clear =
-    then_any (Leaves group_set props_set) (truth_in entry.at path entry.value) _
-    (λ b. (
-      λ field at g h. truth_set field (given_scalar at b) g h,
-      λ field at p h. truth_given field (given_scalar at b) p h,
-    ))
-fits_leave dir effect path entry K.Word clear =
-    then_any (Leaves group_set props_set) (word_in entry.at path entry.value) _
-    (λ word. (λ field at g h. h, λ field at p h. word_given field (given_scalar at word) p h))
-fits_leave dir effect path entry K.Words clear =
-    then_any (Leaves group_set props_set) (list_in entry.at path entry.value) _
-    (λ items. (λ field at g h. h, λ field at p h. with_base p p.base h h.base))
-fits_leave dir effect path entry K.Flags clear =
-    then_any (Leaves group_set props_set) (list_in entry.at path entry.value) _
-    (λ items. then_if AreShown (Leaves group_set props_set) (each_in_turn (flag_in path) items) _
-    (each_if IsShown (flag_in path) (flag_shown path) items)
-    (λ flags shown. (
-      λ field at g h. flags_set field (listed_items at flags) g h shown,
-      λ field at p h. with_base p _ h (flags_set field (listed_items at flags) p.base h.base shown),
-    )))
-fits_leave dir effect path entry K.Names clear =
-    then_any (Leaves group_set props_set) (list_in entry.at path entry.value) _
-    (λ names. (
-      λ field at g h. names_set field (listed_items at names) g h,
-      λ field at p h. names_given field (listed_items at names) p h,
-    ))
-fits_leave dir effect path entry K.Paths clear =
-    then_any (Leaves group_set props_set) (list_in entry.at path entry.value) _
-    (λ items. then_if (AllByRecursion IsWritable) (Leaves group_set props_set) (each_in_turn (source_in dir) items) _
-    (each_if IsWritable (source_in dir) (source_writable dir clear) items)
-    (λ sources writable. (
-      λ field at g h. sources_set field (listed_items at sources) g h writable,
-      λ field at p h. with_base p _ h (sources_set field (listed_items at sources) p.base h.base writable),
-    )))
-fits_leave dir effect path entry K.Dirs clear =
-    then_any (Leaves group_set props_set) (list_in entry.at path entry.value) _
-    (λ items. then_if AreShown (Leaves group_set props_set) (each_in_turn (dir_in (base_of dir effect)) items) _
-    (each_if IsShown (dir_in (base_of dir effect))
-    (dir_shown (base_of dir effect) (base_clear dir effect clear)) items)
-    (λ dirs shown. (
-      λ field at g h. dirs_set field (listed_items at dirs) g h shown,
-      λ field at p h. with_base p _ h (dirs_set field (listed_items at dirs) p.base h.base shown),
-    )))
-fits_leave dir effect path entry K.Multi clear =
-    then_any (Leaves group_set props_set) (word_in entry.at path entry.value) _
-    (λ word. multi_leaves entry.at path word)
-fits_leave dir effect path entry K.Level clear =
-    then_any (Leaves group_set props_set) (word_in entry.at path entry.value) _
-    (λ word. if_cond (IfResult (Leaves group_set props_set)) (is_number word)
-    (level_or entry.at path (in_levels (digits_value 10 word))) _
-    (level_leaves entry.at path (in_levels (digits_value 10 word)))
-    (λ field at g h. h, λ field at p h. with_base p p.base h h.base))
-fits_leave dir effect path entry K.Group clear =
-    then_any (Leaves group_set props_set) (map_in entry.at path entry.value) _
-    (λ fields. (λ field at g h. h, λ field at p h. with_base p p.base h h.base))
+multi_passes : (at : Place) (path word : List ℕ) → IfResult CanPass (multi_in at path word)
+multi_passes at path word =
+    if_cond (IfResult CanPass) (bytes_eq word (codes "both")) _ _ tt
+    (if_cond (IfResult CanPass) (bytes_eq word (codes "first")) _ _ tt
+    (if_cond (IfResult CanPass) (bytes_eq word (codes "32")) _ _ tt
+    (if_cond (IfResult CanPass) (bytes_eq word (codes "64")) _ _ tt tt)))
+
+level_passes : (at : Place) (path : List ℕ) (o : Option ℕ) → IfResult CanPass (level_or at path o)
+level_passes at path None = tt
+level_passes at path (Some n) = tt
+
+fits_pass : (dir : List ℕ) (effect : Option Field) (path : List ℕ) (entry : Entry) (kind : PropKind) → IsClear dir
+    → IfResult CanPass (fit_of dir effect path entry kind)
+fits_pass dir effect path entry K.Bool clear = then_any CanPass (truth_in entry.at path entry.value) _ (λ b. tt)
+fits_pass dir effect path entry K.Word clear = then_any CanPass (word_in entry.at path entry.value) _ (λ word. tt)
+fits_pass dir effect path entry K.Words clear = then_any CanPass (list_in entry.at path entry.value) _ (λ items. tt)
+fits_pass dir effect path entry K.Flags clear =
+    then_if (λ (list : Listed (List ℕ)). AllByRecursion IsShown list.items) CanPass
+    (each_listed path entry (flag_in path)) _ (listed_if IsShown path entry (flag_in path) (flag_shown path))
+    (λ flags shown. list_passing (is_writable S.Flags) flags shown)
+fits_pass dir effect path entry K.Names clear =
+    then_any CanPass (list_in entry.at path entry.value) _
+    (λ items. list_passing (is_writable S.Names) (listed_at entry.at items)
+    (all_each (λ item. IsTrue (is_writable S.Names item)) (λ item. refl) items))
+fits_pass dir effect path entry K.Paths clear =
+    then_if (λ (list : Listed Source). AllByRecursion IsWritable list.items) CanPass
+    (each_listed path entry (source_in dir)) _
+    (listed_if IsWritable path entry (source_in dir) (source_writable dir clear))
+    (λ sources writable. list_passing (is_writable S.Sources) sources writable)
+fits_pass dir effect path entry K.Dirs clear =
+    then_if (λ (list : Listed (List ℕ)). AllByRecursion IsShown list.items) CanPass
+    (each_listed path entry (dir_in (base_of dir effect))) _
+    (listed_if IsShown path entry (dir_in (base_of dir effect))
+    (dir_shown (base_of dir effect) (base_clear dir effect clear)))
+    (λ dirs shown. list_passing (is_writable S.Dirs) dirs shown)
+fits_pass dir effect path entry K.Multi clear =
+    then_any CanPass (word_in entry.at path entry.value) _ (λ word. multi_passes entry.at path word)
+fits_pass dir effect path entry K.Level clear =
+    then_any CanPass (word_in entry.at path entry.value) _
+    (λ word. if_cond (IfResult CanPass) (is_number word) (level_or entry.at path (in_levels (digits_value 10 word))) _
+    (level_passes entry.at path (in_levels (digits_value 10 word))) tt)
+fits_pass dir effect path entry K.Group clear = then_any CanPass (map_in entry.at path entry.value) _ (λ fields. tt)
 
 -- Entries
 
-group_left : (effect : Option Field) (at : Place) (fit : _) (g : GroupProps) → Leaves group_set props_set fit
-    → HasTexts g → HasTexts (group_with_fit effect at fit g)
-group_left None at fit g leaves h = h
-group_left (Some field) at fit g leaves h = leaves.0 field at g h
-
-record_left : (effect : Option Field) (at : Place) (fit : _) (p : Props) → Leaves group_set props_set fit
-    → HasSoundTexts p → HasSoundTexts (props_with_fit effect at fit p)
-record_left None at fit p leaves h = h
-record_left (Some field) at fit p leaves h = leaves.1 field at p h
+record_set : (effect : Option Field) (fit : Fit) (p : Props) → CanPass fit → HasSoundTexts p
+    → HasSoundTexts (props_set effect fit p)
+record_set effect fit p passes h = record {
+  base = only_set is_writable effect fit p.base passes h.base;
+  groups = h.groups;
+  exports = h.exports;
+  includes = h.includes;
+}
 
 put_left : (effect : Option Field) (g : GroupProps) (groups : List (GroupId × GroupProps)) → HasTexts g
     → HaveTexts groups → HaveTexts (groups_with_group effect g groups)
@@ -220,17 +194,20 @@ put_left (Some (F.Group id)) g groups h k = put_texts groups id g k h
 put_left effect g groups h k = k
 
 module _ (dir : List ℕ) (clear : IsClear dir) where
-  group_entry_kept : (prefix : List ℕ) (g : GroupProps) (entry : Entry) → HasTexts g
-      → IfResult HasTexts (group_entry dir prefix g entry)
-  group_entry_kept prefix g entry h =
-      then_any HasTexts (property_in group_table prefix entry) _
-      (λ p. then_if (Leaves group_set props_set) HasTexts (fit_of dir p.effect (prefix ++ entry.name) entry p.kind) _
-      (fits_leave dir p.effect (prefix ++ entry.name) entry p.kind clear)
-      (λ fit leaves. group_left p.effect entry.at fit g leaves h))
+  entry_set_kept : {A : Type 0} (P : A → Type 0) (set : Option Field → Fit → A → A) (table : List Property)
+      → ((effect : Option Field) (fit : Fit) (made : A) → CanPass fit → P made → P (set effect fit made))
+      → (prefix : List ℕ) (made : A) (entry : Entry) → P made → IfResult P (entry_set set table dir prefix made entry)
+  entry_set_kept P set table keeps prefix made entry h =
+      then_any P (property_in table prefix entry) _
+      (λ p. then_if CanPass P (fit_of dir p.effect (prefix ++ entry.name) entry p.kind) _
+      (fits_pass dir p.effect (prefix ++ entry.name) entry p.kind clear)
+      (λ fit passes. keeps p.effect fit made passes h))
 
   group_kept : (prefix : List ℕ) (fields : Fields) → IfResult HasTexts (group_typed dir prefix fields)
   group_kept prefix fields =
-      entries_if HasTexts (group_entry dir prefix) (group_entry_kept prefix) group_empty empty_texts fields
+      entries_if HasTexts (entry_set group_set group_table dir prefix)
+      (entry_set_kept HasTexts group_set group_table (only_set is_writable) prefix) group_empty
+      (only_empty is_writable) fields
 
   groups_entry_kept : (prefix : List ℕ) (table : List Property) (groups : List (GroupId × GroupProps)) (entry : Entry)
       → HaveTexts groups → IfResult HaveTexts (groups_entry dir prefix table groups entry)
@@ -240,15 +217,6 @@ module _ (dir : List ℕ) (clear : IsClear dir) where
       (λ fields. then_if HasTexts HaveTexts (group_typed dir (inner_prefix prefix entry.name) fields) _
       (group_kept (inner_prefix prefix entry.name) fields)
       (λ g texts. put_left p.effect g groups texts h)))
-
-  sanitize_entry_kept : (prefix : List ℕ) (props : Props) (entry : Entry) → HasSoundTexts props
-      → IfResult HasSoundTexts (sanitize_entry dir prefix props entry)
-  sanitize_entry_kept prefix props entry h =
-      then_any HasSoundTexts (property_in sanitize_table prefix entry) _
-      (λ p.
-      then_if (Leaves group_set props_set) HasSoundTexts (fit_of dir p.effect (prefix ++ entry.name) entry p.kind) _
-      (fits_leave dir p.effect (prefix ++ entry.name) entry p.kind clear)
-      (λ fit leaves. record_left p.effect entry.at fit props leaves h))
 
   groups_kept : (prefix : List ℕ) (table : List Property) (props : Props) (fields : Fields) → HasSoundTexts props
       → IfResult HasSoundTexts (groups_typed dir prefix table props fields)
@@ -261,7 +229,8 @@ module _ (dir : List ℕ) (clear : IsClear dir) where
   inner_kept : (prefix : List ℕ) (effect : Option Field) (props : Props) (fields : Fields) → HasSoundTexts props
       → IfResult HasSoundTexts (inner_typed dir prefix effect props fields)
   inner_kept prefix (Some F.Sanitize) props fields h =
-      entries_if HasSoundTexts (sanitize_entry dir prefix) (sanitize_entry_kept prefix) props h fields
+      entries_if HasSoundTexts (entry_set props_set sanitize_table dir prefix)
+      (entry_set_kept HasSoundTexts props_set sanitize_table record_set prefix) props h fields
   inner_kept prefix (Some F.Arch) props fields h = groups_kept prefix arch_table props fields h
   inner_kept prefix (Some F.Multilib) props fields h = groups_kept prefix multilib_table props fields h
   inner_kept prefix (Some F.Target) props fields h = groups_kept prefix target_table props fields h
@@ -281,9 +250,8 @@ module _ (dir : List ℕ) (clear : IsClear dir) where
       then_any HasSoundTexts (map_in entry.at entry.name entry.value) _
       (λ fields. inner_kept (inner_prefix [] entry.name) effect props fields h)
   entry_kept effect props entry kind h =
-      then_if (Leaves group_set props_set) HasSoundTexts (fit_of dir effect entry.name entry kind) _
-      (fits_leave dir effect entry.name entry kind clear)
-      (λ fit leaves. record_left effect entry.at fit props leaves h)
+      then_if CanPass HasSoundTexts (fit_of dir effect entry.name entry kind) _
+      (fits_pass dir effect entry.name entry kind clear) (λ fit passes. record_set effect fit props passes h)
 
   module_entry_kept : (kind : ModuleKind) (props : Props) (entry : Entry) → HasSoundTexts props
       → IfResult HasSoundTexts (module_entry dir kind props entry)

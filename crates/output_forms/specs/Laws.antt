@@ -4,7 +4,7 @@ use Rattle.bp_faults.specs.declared.limits.TheConstants.{MOST_MODULES}
 use Rattle.bp_load.specs.ListFile.{ListMeans}
 use Rattle.bp_load.specs.Loaded.{LoadMeans}
 use Rattle.bp_load.specs.Trees.{Source}
-use Rattle.bp_props.specs.declared.group.GroupProps.{GroupProps}
+use Rattle.bp_props.specs.declared.fields.GroupProps.{GroupProps}
 use Rattle.bp_props.specs.declared.kind.ModuleKind.{ModuleKind}
 use Rattle.bp_props.specs.declared.module.Module.{Module}
 use Rattle.bp_props.specs.declared.props.Props.{Props}
@@ -27,9 +27,7 @@ use Rattle.ninja_read.specs.declared.reader.NinjaError.{NinjaError}
 use Rattle.ninja_read.specs.Meaning.{reading, Reads}
 use Rattle.ninja_text.specs.Meaning.{ReadBackMeans}
 use Rattle.serial_pass.specs.Outcomes.{PassOutcomeMeans}
-use Rattle.output_forms.specs.Forms.{HaveForms, AreSound}
-use Rattle.output_forms.specs.Modules.{MayBeListed, AreFormed}
-use Rattle.output_forms.specs.Texts.{HasTexts, HasSoundTexts}
+use Rattle.output_forms.specs.Forms.{HasTexts, HasSoundTexts, HaveForms, AreSound, MayBeListed, AreFormed}
 
 -- What merging makes of sound records is sound, and so is what restriction leaves.
 pub record MergesKeepTexts : Type 0 where
@@ -40,20 +38,17 @@ pub record MergesKeepTexts : Type 0 where
 
 -- Each pass keeps the forms of a graph.
 abbrev pub PassesKeepForms : Type 0
-PassesKeepForms =
-    (mods : List Module) (c : Config) (p : ℕ) (nodes new : List (Node Props)) → HaveForms nodes
+PassesKeepForms = (mods : List Module) (c : Config) (p : ℕ) (nodes new : List (Node Props)) → HaveForms nodes
     → StepMeans mods c (pass_at p) nodes (Ok new) → HaveForms new
 
 -- The nodes of each graph on the way have forms, where the records of the modules are sound.
 abbrev pub GraphsHaveForms : Type 0
-GraphsHaveForms =
-    (mods : List Module) (c : Config) (k : ℕ) (nodes : List (Node Props)) → AreSound mods
+GraphsHaveForms = (mods : List Module) (c : Config) (k : ℕ) (nodes : List (Node Props)) → AreSound mods
     → GraphAfter mods c k (Ok nodes) → HaveForms nodes
 
 -- Files whose paths a list gives may be listed.
 abbrev pub ListedFilesMayBeListed : Type 0
-ListedFilesMayBeListed =
-    (bytes : List ℕ) (paths : List (List ℕ)) (files : List Source) → ListMeans bytes (Ok paths)
+ListedFilesMayBeListed = (bytes : List ℕ) (paths : List (List ℕ)) (files : List Source) → ListMeans bytes (Ok paths)
     → map (λ (f : Source). f.0) files ≡ paths → MayBeListed files
 
 -- Files that may be listed load as modules that can be written and are told by their names.
@@ -63,27 +58,23 @@ LoadedModulesAreFormed =
 
 -- Each graph on the way is valid, and its nodes and edges are numbered.
 abbrev pub GraphsAreValid : Type 0
-GraphsAreValid =
-    (mods : List Module) (c : Config) (k : ℕ) (nodes : List (Node Props)) → length mods ≤ MOST_MODULES
+GraphsAreValid = (mods : List Module) (c : Config) (k : ℕ) (nodes : List (Node Props)) → length mods ≤ MOST_MODULES
     → TargetsDiffer c → GraphAfter mods c k (Ok nodes) → IsValid nodes × IsNumbered nodes
 
 -- The file of what is done at the nodes of a graph on the way is well formed, where the modules are formed.
 abbrev pub FilesOfGraphsAreWellFormed : Type 0
-FilesOfGraphsAreWellFormed =
-    (mods : List Module) (c : Config) (k : ℕ) (nodes : List (Node Props)) (made : List Actions)
+FilesOfGraphsAreWellFormed = (mods : List Module) (c : Config) (k : ℕ) (nodes : List (Node Props)) (made : List Actions)
     → AreFormed mods → TargetsDiffer c → GraphAfter mods c k (Ok nodes)
     → PassOutcomeMeans (acts_at mods nodes) (plan_of BottomUp nodes) (Ok made) → IsWellFormed (file_of_actions made)
 
 -- The file that is generated of formed modules is well formed.
 abbrev pub GeneratedFilesAreWellFormed : Type 0
-GeneratedFilesAreWellFormed =
-    (mods : List Module) (c : Config) (file : NinjaFile)
+GeneratedFilesAreWellFormed = (mods : List Module) (c : Config) (file : NinjaFile)
     → AreFormed mods → TargetsDiffer c → FileMeans mods c (Ok file) → IsWellFormed file
 
 -- So is that of modules which were loaded of files that may be listed.
 abbrev pub FilesOfTreesAreWellFormed : Type 0
-FilesOfTreesAreWellFormed =
-    (files : List Source) (mods : List Module) (c : Config) (file : NinjaFile)
+FilesOfTreesAreWellFormed = (files : List Source) (mods : List Module) (c : Config) (file : NinjaFile)
     → MayBeListed files → LoadMeans files (Ok mods) → TargetsDiffer c → FileMeans mods c (Ok file) → IsWellFormed file
 
 -- A reader's answer is the file that is generated, which is well formed, or that memory ran out.
@@ -93,8 +84,7 @@ ReadsGenerated mods c answer =
 
 -- Whatever `read` answers of the text that is generated of formed modules is that file, but for memory.
 abbrev pub GeneratedTextsAreReadBack : Type 0
-GeneratedTextsAreReadBack =
-    (mods : List Module) (c : Config) (text : List ℕ) (answer : Result NinjaFile NinjaError)
+GeneratedTextsAreReadBack = (mods : List Module) (c : Config) (text : List ℕ) (answer : Result NinjaFile NinjaError)
     → AreFormed mods → TargetsDiffer c → TextMeans mods c (Ok text) → IsUtf8 text
     → Reads answer (reading text) → ReadsGenerated mods c answer
 

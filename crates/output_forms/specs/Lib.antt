@@ -1,4 +1,2 @@
-pub mod Texts
 pub mod Forms
-pub mod Modules
 pub mod Laws

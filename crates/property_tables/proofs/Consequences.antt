@@ -8,22 +8,22 @@ use Rattle.bp_faults.specs.Answers.{then_do}
 use Rattle.bp_props.specs.declared.kind.ModuleKind.{ModuleKind}
 use Rattle.bp_values.specs.Meaning.{Raw}
 use Rattle.property_tables.specs.Meaning.{typed_by}
-use Rattle.property_tables.specs.Types.{is_dropped, types}
-use Rattle.property_tables.specs.Names.{name_in}
+use Rattle.property_tables.specs.Meaning.{is_dropped, types}
+use Rattle.property_tables.specs.Meaning.{name_in}
 use Rattle.std.proofs.lemmas.Slice.Eq.{bytes_eq-Decides}
 use Rattle.std.specs.Prelude.{codes}
 use Rattle.bp_values.specs.Values.{fields_then, no_field}
 use Rattle.bp_props.specs.Records.{props_empty}
-use Rattle.property_tables.specs.Entries.{each_entry, module_entry}
+use Rattle.property_tables.specs.Meaning.{each_entry, module_entry}
 use Rattle.std.specs.Prelude.{not}
 use Rattle.std.specs.Option.{IfSome}
 use Rattle.std.specs.List.{AllByRecursion, list_all}
 use Rattle.std.proofs.lemmas.Bool.{and_parts}
 use Rattle.bp_props.specs.declared.kind.ModuleKind.TheVariants.{Binary, Library, LibraryStatic, LibraryShared}
 use Rattle.bp_props.specs.declared.kind.ModuleKind.TheVariants.{LibraryHeaders, Test, Defaults, Filegroup}
-use Rattle.bp_props.specs.declared.field.Field.{Field}
+use Rattle.bp_props.specs.declared.fields.Field.{Field}
 use Rattle.bp_props.specs.Kinds.{has_field}
-use Rattle.property_tables.specs.Tables.{Offered, properties}
+use Rattle.property_tables.specs.Tables.{Offered, has_kind, properties}
 use Rattle.property_tables.specs.Laws.{TablesHaveFields, DropsExactly, EntriesComeFirst}
 
 -- the tables and the fields of the kinds, tested over the whole list
@@ -49,15 +49,15 @@ agrees_at kind (Some field) has is = equal_of_same has (has_field kind field) is
 agrees_at kind None has is = tt
 
 all_agree : (kind : ModuleKind) (os : List Offered)
-    → list_all (λ o. agrees kind o.property.effect (o.kinds kind)) os ≡ true
-    → AllByRecursion (λ o. IfSome o.property.effect (λ field. o.kinds kind ≡ has_field kind field)) os
+    → list_all (λ o. agrees kind o.property.effect (has_kind o.kinds kind)) os ≡ true
+    → AllByRecursion (λ o. IfSome o.property.effect (λ field. has_kind o.kinds kind ≡ has_field kind field)) os
 all_agree kind [] is = tt
 all_agree kind (o ∷ os) is =
-    let both = and_parts (agrees kind o.property.effect (o.kinds kind))
-    (list_all (λ o. agrees kind o.property.effect (o.kinds kind)) os) is in
-    (agrees_at kind o.property.effect (o.kinds kind) both.0, all_agree kind os both.1)
+    let both = and_parts (agrees kind o.property.effect (has_kind o.kinds kind))
+    (list_all (λ o. agrees kind o.property.effect (has_kind o.kinds kind)) os) is in
+    (agrees_at kind o.property.effect (has_kind o.kinds kind) both.0, all_agree kind os both.1)
 
-tested : (kind : ModuleKind) → list_all (λ o. agrees kind o.property.effect (o.kinds kind)) properties ≡ true
+tested : (kind : ModuleKind) → list_all (λ o. agrees kind o.property.effect (has_kind o.kinds kind)) properties ≡ true
 unfolding agrees same
 tested Binary = refl
 tested Library = refl

@@ -9,7 +9,7 @@ use Rattle.bp_values.specs.Values.{Field, Meaning, field_of, fields_then, no_fie
 use Rattle.bp_values.specs.declared.value.Entry.{out-Entry}
 use Rattle.bp_values.specs.declared.value.Value.TheFolds.{fold_out-Entry}
 use Rattle.bp_faults.proofs.Lists.{drop-here}
-use Rattle.property_tables.specs.Entries.{each_entry}
+use Rattle.property_tables.specs.Meaning.{each_entry}
 
 -- an entry has the name of its view
 pub name_of : (e : Entry) → (field_of e).name ≡ (out-Entry e).name

@@ -10,15 +10,13 @@ use Rattle.bp_props.specs.Kinds.{has_field}
 use Rattle.bp_props.specs.Records.{props_empty}
 use Rattle.bp_values.specs.Values.{fields_then, no_field}
 use Rattle.bp_values.specs.Meaning.{Raw}
-use Rattle.property_tables.specs.Tables.{properties}
-use Rattle.property_tables.specs.Entries.{each_entry, module_entry}
-use Rattle.property_tables.specs.Types.{is_dropped, types}
-use Rattle.property_tables.specs.Meaning.{typed_module}
+use Rattle.property_tables.specs.Tables.{has_kind, properties}
+use Rattle.property_tables.specs.Meaning.{each_entry, module_entry, is_dropped, types, typed_module}
 
 -- A property stands in the table of a kind exactly where the kind has the field that it sets.
 abbrev pub TablesHaveFields : Type 0
 TablesHaveFields = (kind : ModuleKind)
-    → AllByRecursion (λ o. IfSome o.property.effect (λ field. o.kinds kind ≡ has_field kind field)) properties
+    → AllByRecursion (λ o. IfSome o.property.effect (λ field. has_kind o.kinds kind ≡ has_field kind field)) properties
 
 -- Exactly the modules of the types `package` and `license` are dropped.
 abbrev pub DropsExactly : Type 0

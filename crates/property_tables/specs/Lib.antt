@@ -1,7 +1,4 @@
-pub mod Meaning
-pub mod Types
-pub mod Names
-pub mod Entries
 pub mod Tables
+pub mod Meaning
 pub mod Laws
 pub mod Inside

@@ -1,16 +1,19 @@
 -- The property tables: which properties the modules of each kind have, and what stands in their groups.
 -- Source: Soong reference, the properties of each module type; this project's profile has a part of them.
-use Rattle.std.specs.Prelude.{Option, Some, None, Bool, true, List, [], ◌∷◌, ℕ, ◌&&◌, find, codes, map, filter, not}
+use Rattle.std.specs.Prelude.{Option, Some, None, Bool, true, false, List, [], ◌∷◌, ℕ, ◌&&◌, find, codes, map}
+use Rattle.std.specs.Prelude.{filter, not}
 use Rattle.std.specs.Str.{bytes_eq}
 use Rattle.std.specs.Ordering.{nat_cmp, is_lt}
 use Rattle.std.specs.Cmp.Lexicographic.{slice_cmp}
 use Rattle.bp_faults.specs.declared.target.Target.TheVariants as T
 use Rattle.bp_props.specs.declared.kind.ModuleKind.{ModuleKind}
-use Rattle.bp_props.specs.declared.field.Field.{Field}
-use Rattle.bp_props.specs.declared.field.Field.TheVariants as F
+use Rattle.bp_props.specs.declared.fields.Field.{Field}
+use Rattle.bp_props.specs.declared.fields.Field.TheVariants as F
 use Rattle.bp_props.specs.declared.group_id.GroupId.{GroupId}
 use Rattle.bp_props.specs.declared.group_id.GroupId.TheVariants as G
 use Rattle.bp_props.specs.Kinds.{is_cc, has_both_links, may_plug_in, has_tests}
+use Rattle.property_tables.specs.declared.offer.Kinds.{Kinds}
+use Rattle.property_tables.specs.declared.offer.Kinds.TheVariants.{Every, Cc, Filegroup, BothLinks, PlugIns, Tests}
 use Rattle.property_values.specs.declared.row.Row.{Row}
 use Rattle.property_values.specs.declared.row.PropKind.{PropKind}
 use Rattle.property_values.specs.declared.row.PropKind.TheVariants as K
@@ -21,18 +24,20 @@ pub record Property : Type 0 where
   pub kind : PropKind
   pub effect : Option Field
 
--- A property is offered to some kinds of module.
+-- A property is offered to some kinds of module, and maybe to groups.
 pub record Offered : Type 0 where
   pub property : Property
-  pub kinds : ModuleKind → Bool
+  pub kinds : Kinds
+  pub in_groups : Bool
 
--- Every kind of module has it.
-abbrev pub every : ModuleKind → Bool
-every kind = true
-
--- `filegroup` alone has it.
-abbrev pub is_filegroup : ModuleKind → Bool
-is_filegroup kind = not (is_cc kind)
+-- These kinds of module have it.
+abbrev pub has_kind : Kinds → ModuleKind → Bool
+has_kind Every kind = true
+has_kind Cc kind = is_cc kind
+has_kind Filegroup kind = not (is_cc kind)
+has_kind BothLinks kind = has_both_links kind
+has_kind PlugIns kind = may_plug_in kind
+has_kind Tests kind = has_tests kind
 
 -- A property may set a field.
 abbrev pub field : List ℕ → PropKind → Field → Property
@@ -42,146 +47,90 @@ field name kind effect = record { name = name; kind = kind; effect = Some effect
 abbrev pub group : List ℕ → GroupId → Property
 group name id = field name K.Group (F.Group id)
 
--- A property of these kinds of module sets a field.
-abbrev pub sets : List ℕ → PropKind → Field → (ModuleKind → Bool) → Offered
-sets name kind effect kinds = record { property = field name kind effect; kinds = kinds }
-
 -- A property of these kinds of module has no effect.
-abbrev pub inert : List ℕ → PropKind → (ModuleKind → Bool) → Offered
-inert name kind kinds = record { property = record { name = name; kind = kind; effect = None }; kinds = kinds }
+abbrev pub inert : List ℕ → PropKind → Kinds → Offered
+inert name kind kinds =
+    record { property = record { name = name; kind = kind; effect = None }; kinds = kinds; in_groups = false }
+
+-- A property of these kinds of module sets a field.
+abbrev pub sets : List ℕ → PropKind → Field → Kinds → Offered
+sets name kind effect kinds = record { property = field name kind effect; kinds = kinds; in_groups = false }
+
+-- So does a property that every group but `sanitize` may hold too.
+abbrev pub joint : List ℕ → PropKind → Field → Kinds → Offered
+joint name kind effect kinds = record { property = field name kind effect; kinds = kinds; in_groups = true }
 
 -- Modules have these properties, by name.
 abbrev pub properties : List Offered
 properties =
-    inert (codes "apex_available") K.Words is_cc ∷
-    sets (codes "arch") K.Group F.Arch is_cc ∷
-    sets (codes "asflags") K.Flags F.Asflags is_cc ∷
-    inert (codes "auto_gen_config") K.Bool is_cc ∷
-    inert (codes "c_std") K.Word is_cc ∷
-    sets (codes "cflags") K.Flags F.Cflags is_cc ∷
-    sets (codes "compile_multilib") K.Multi F.CompileMultilib is_cc ∷
-    sets (codes "conlyflags") K.Flags F.Conlyflags is_cc ∷
-    inert (codes "cpp_std") K.Word is_cc ∷
-    sets (codes "cppflags") K.Flags F.Cppflags is_cc ∷
-    inert (codes "data") K.Words is_cc ∷
-    sets (codes "data_bins") K.Names F.DataBins has_tests ∷
-    sets (codes "defaults") K.Names F.Defaults is_cc ∷
-    sets (codes "device_supported") K.Bool F.DeviceSupported is_cc ∷
-    inert (codes "double_loadable") K.Bool is_cc ∷
-    sets (codes "enabled") K.Bool F.Enabled every ∷
-    sets (codes "export_header_lib_headers") K.Names F.ExportHeaderLibHeaders is_cc ∷
-    sets (codes "export_include_dirs") K.Dirs F.ExportIncludeDirs is_cc ∷
-    sets (codes "export_shared_lib_headers") K.Names F.ExportSharedLibHeaders is_cc ∷
-    sets (codes "export_static_lib_headers") K.Names F.ExportStaticLibHeaders is_cc ∷
-    inert (codes "gtest") K.Bool is_cc ∷
-    sets (codes "header_libs") K.Names F.HeaderLibs is_cc ∷
-    sets (codes "host_supported") K.Bool F.HostSupported is_cc ∷
-    sets (codes "include_dirs") K.Dirs F.IncludeDirs is_cc ∷
-    inert (codes "init_rc") K.Words is_cc ∷
-    sets (codes "ldflags") K.Flags F.Ldflags is_cc ∷
-    inert (codes "licenses") K.Words every ∷
-    sets (codes "local_include_dirs") K.Dirs F.LocalIncludeDirs is_cc ∷
-    sets (codes "min_sdk_version") K.Level F.MinSdkVersion is_cc ∷
-    sets (codes "multilib") K.Group F.Multilib is_cc ∷
-    sets (codes "name") K.Word F.Name every ∷
-    inert (codes "native_bridge_supported") K.Bool is_cc ∷
-    inert (codes "owner") K.Word is_cc ∷
-    inert (codes "path") K.Word is_filegroup ∷
-    sets (codes "plugin_of") K.Names F.PluginOf may_plug_in ∷
-    inert (codes "ramdisk_available") K.Bool is_cc ∷
-    sets (codes "recovery") K.Bool F.Recovery is_cc ∷
-    sets (codes "recovery_available") K.Bool F.RecoveryAvailable is_cc ∷
-    inert (codes "relative_install_path") K.Word is_cc ∷
-    inert (codes "required") K.Words is_cc ∷
-    sets (codes "sanitize") K.Group F.Sanitize is_cc ∷
-    inert (codes "sdk_version") K.Word is_cc ∷
-    sets (codes "shared") K.Group (F.Group G.Shared) has_both_links ∷
-    sets (codes "shared_libs") K.Names F.SharedLibs is_cc ∷
-    sets (codes "srcs") K.Paths F.Srcs every ∷
-    sets (codes "static") K.Group (F.Group G.Static) has_both_links ∷
-    sets (codes "static_libs") K.Names F.StaticLibs is_cc ∷
-    inert (codes "stl") K.Word is_cc ∷
-    sets (codes "target") K.Group F.Target is_cc ∷
-    inert (codes "test_config") K.Word is_cc ∷
-    sets (codes "test_per_src") K.Bool F.TestPerSrc has_tests ∷
-    inert (codes "test_suites") K.Words is_cc ∷
-    inert (codes "tidy") K.Bool is_cc ∷
-    sets (codes "vendor") K.Bool F.Vendor is_cc ∷
-    sets (codes "vendor_available") K.Bool F.VendorAvailable is_cc ∷
-    inert (codes "vintf_fragments") K.Words is_cc ∷
-    inert (codes "visibility") K.Words every ∷
-    sets (codes "whole_static_libs") K.Names F.WholeStaticLibs is_cc ∷
-    []
+    inert (codes "apex_available") K.Words Cc ∷ sets (codes "arch") K.Group F.Arch Cc ∷
+    joint (codes "asflags") K.Flags F.Asflags Cc ∷ inert (codes "auto_gen_config") K.Bool Cc ∷
+    inert (codes "c_std") K.Word Cc ∷ joint (codes "cflags") K.Flags F.Cflags Cc ∷
+    sets (codes "compile_multilib") K.Multi F.CompileMultilib Cc ∷ joint (codes "conlyflags") K.Flags F.Conlyflags Cc ∷
+    inert (codes "cpp_std") K.Word Cc ∷ joint (codes "cppflags") K.Flags F.Cppflags Cc ∷
+    inert (codes "data") K.Words Cc ∷ sets (codes "data_bins") K.Names F.DataBins Tests ∷
+    sets (codes "defaults") K.Names F.Defaults Cc ∷ sets (codes "device_supported") K.Bool F.DeviceSupported Cc ∷
+    inert (codes "double_loadable") K.Bool Cc ∷ joint (codes "enabled") K.Bool F.Enabled Every ∷
+    joint (codes "export_header_lib_headers") K.Names F.ExportHeaderLibHeaders Cc ∷
+    joint (codes "export_include_dirs") K.Dirs F.ExportIncludeDirs Cc ∷
+    joint (codes "export_shared_lib_headers") K.Names F.ExportSharedLibHeaders Cc ∷
+    joint (codes "export_static_lib_headers") K.Names F.ExportStaticLibHeaders Cc ∷ inert (codes "gtest") K.Bool Cc ∷
+    joint (codes "header_libs") K.Names F.HeaderLibs Cc ∷ sets (codes "host_supported") K.Bool F.HostSupported Cc ∷
+    joint (codes "include_dirs") K.Dirs F.IncludeDirs Cc ∷ inert (codes "init_rc") K.Words Cc ∷
+    joint (codes "ldflags") K.Flags F.Ldflags Cc ∷ inert (codes "licenses") K.Words Every ∷
+    joint (codes "local_include_dirs") K.Dirs F.LocalIncludeDirs Cc ∷
+    sets (codes "min_sdk_version") K.Level F.MinSdkVersion Cc ∷ sets (codes "multilib") K.Group F.Multilib Cc ∷
+    sets (codes "name") K.Word F.Name Every ∷ inert (codes "native_bridge_supported") K.Bool Cc ∷
+    inert (codes "owner") K.Word Cc ∷ inert (codes "path") K.Word Filegroup ∷
+    sets (codes "plugin_of") K.Names F.PluginOf PlugIns ∷ inert (codes "ramdisk_available") K.Bool Cc ∷
+    sets (codes "recovery") K.Bool F.Recovery Cc ∷ sets (codes "recovery_available") K.Bool F.RecoveryAvailable Cc ∷
+    inert (codes "relative_install_path") K.Word Cc ∷ inert (codes "required") K.Words Cc ∷
+    sets (codes "sanitize") K.Group F.Sanitize Cc ∷ inert (codes "sdk_version") K.Word Cc ∷
+    sets (codes "shared") K.Group (F.Group G.Shared) BothLinks ∷ joint (codes "shared_libs") K.Names F.SharedLibs Cc ∷
+    joint (codes "srcs") K.Paths F.Srcs Every ∷ sets (codes "static") K.Group (F.Group G.Static) BothLinks ∷
+    joint (codes "static_libs") K.Names F.StaticLibs Cc ∷ inert (codes "stl") K.Word Cc ∷
+    sets (codes "target") K.Group F.Target Cc ∷ inert (codes "test_config") K.Word Cc ∷
+    sets (codes "test_per_src") K.Bool F.TestPerSrc Tests ∷ inert (codes "test_suites") K.Words Cc ∷
+    inert (codes "tidy") K.Bool Cc ∷ sets (codes "vendor") K.Bool F.Vendor Cc ∷
+    sets (codes "vendor_available") K.Bool F.VendorAvailable Cc ∷ inert (codes "vintf_fragments") K.Words Cc ∷
+    inert (codes "visibility") K.Words Every ∷ joint (codes "whole_static_libs") K.Names F.WholeStaticLibs Cc ∷ []
+
+-- The properties that are offered where it is meant.
+abbrev pub those_of : (Offered → Bool) → List Offered → List Property
+those_of is_meant offered = map (λ o. o.property) (filter is_meant offered)
 
 -- The property table of a kind of module has what is offered to it.
 abbrev pub table_of : ModuleKind → List Property
-table_of kind = map (λ o. o.property) (filter (λ o. o.kinds kind) properties)
+table_of kind = those_of (λ o. has_kind o.kinds kind) properties
 
--- Every group but `sanitize` may hold these.
+-- Every group but `sanitize` may hold what is offered to groups.
 abbrev pub group_table : List Property
-group_table =
-    field (codes "asflags") K.Flags F.Asflags ∷
-    field (codes "cflags") K.Flags F.Cflags ∷
-    field (codes "conlyflags") K.Flags F.Conlyflags ∷
-    field (codes "cppflags") K.Flags F.Cppflags ∷
-    field (codes "enabled") K.Bool F.Enabled ∷
-    field (codes "export_header_lib_headers") K.Names F.ExportHeaderLibHeaders ∷
-    field (codes "export_include_dirs") K.Dirs F.ExportIncludeDirs ∷
-    field (codes "export_shared_lib_headers") K.Names F.ExportSharedLibHeaders ∷
-    field (codes "export_static_lib_headers") K.Names F.ExportStaticLibHeaders ∷
-    field (codes "header_libs") K.Names F.HeaderLibs ∷
-    field (codes "include_dirs") K.Dirs F.IncludeDirs ∷
-    field (codes "ldflags") K.Flags F.Ldflags ∷
-    field (codes "local_include_dirs") K.Dirs F.LocalIncludeDirs ∷
-    field (codes "shared_libs") K.Names F.SharedLibs ∷
-    field (codes "srcs") K.Paths F.Srcs ∷
-    field (codes "static_libs") K.Names F.StaticLibs ∷
-    field (codes "whole_static_libs") K.Names F.WholeStaticLibs ∷
-    []
+group_table = those_of (λ o. o.in_groups) properties
 
 -- `sanitize` may hold these.
 abbrev pub sanitize_table : List Property
-sanitize_table =
-    field (codes "address") K.Bool F.Address ∷
-    field (codes "never") K.Bool F.Never ∷
-    []
+sanitize_table = field (codes "address") K.Bool F.Address ∷ field (codes "never") K.Bool F.Never ∷ []
 
 -- `arch` may hold these groups.
 abbrev pub arch_table : List Property
 arch_table =
-    group (codes "arm") G.ArchArm ∷
-    group (codes "arm64") G.ArchArm64 ∷
-    group (codes "riscv64") G.ArchRiscv64 ∷
-    group (codes "x86") G.ArchX86 ∷
-    group (codes "x86_64") G.ArchX86_64 ∷
-    []
+    group (codes "arm") G.ArchArm ∷ group (codes "arm64") G.ArchArm64 ∷ group (codes "riscv64") G.ArchRiscv64 ∷
+    group (codes "x86") G.ArchX86 ∷ group (codes "x86_64") G.ArchX86_64 ∷ []
 
 -- `multilib` may hold these groups.
 abbrev pub multilib_table : List Property
-multilib_table =
-    group (codes "lib32") G.Lib32 ∷
-    group (codes "lib64") G.Lib64 ∷
-    []
+multilib_table = group (codes "lib32") G.Lib32 ∷ group (codes "lib64") G.Lib64 ∷ []
 
 -- `target` may hold these groups.
 abbrev pub target_table : List Property
 target_table =
-    group (codes "android") G.Android ∷
-    group (codes "android_arm") (G.Named T.AndroidArm) ∷
-    group (codes "android_arm64") (G.Named T.AndroidArm64) ∷
-    group (codes "android_x86") (G.Named T.AndroidX86) ∷
-    group (codes "android_x86_64") (G.Named T.AndroidX86_64) ∷
-    group (codes "darwin") G.Darwin ∷
-    group (codes "host") G.Host ∷
-    group (codes "linux") G.Linux ∷
-    group (codes "linux_glibc") G.LinuxGlibc ∷
+    group (codes "android") G.Android ∷ group (codes "android_arm") (G.Named T.AndroidArm) ∷
+    group (codes "android_arm64") (G.Named T.AndroidArm64) ∷ group (codes "android_x86") (G.Named T.AndroidX86) ∷
+    group (codes "android_x86_64") (G.Named T.AndroidX86_64) ∷ group (codes "darwin") G.Darwin ∷
+    group (codes "host") G.Host ∷ group (codes "linux") G.Linux ∷ group (codes "linux_glibc") G.LinuxGlibc ∷
     group (codes "linux_glibc_x86") (G.Named T.LinuxGlibcX86) ∷
-    group (codes "linux_glibc_x86_64") (G.Named T.LinuxGlibcX86_64) ∷
-    group (codes "not_windows") G.NotWindows ∷
-    group (codes "recovery") G.Recovery ∷
-    group (codes "vendor") G.Vendor ∷
-    group (codes "windows") G.Windows ∷
-    []
+    group (codes "linux_glibc_x86_64") (G.Named T.LinuxGlibcX86_64) ∷ group (codes "not_windows") G.NotWindows ∷
+    group (codes "recovery") G.Recovery ∷ group (codes "vendor") G.Vendor ∷ group (codes "windows") G.Windows ∷ []
 
 -- A row of the code is a property.
 abbrev pub property_of : Row → Property

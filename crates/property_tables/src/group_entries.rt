@@ -1,33 +1,20 @@
 ghost use Rattle.std.specs.Prelude.{◌≡◌, map, OnOk};
 ghost use Rattle.bp_faults.specs.Answers.{Answers, Leaves};
 ghost use Rattle.bp_values.specs.Values.{field_of, fields_then, no_field};
-ghost use Rattle.property_tables.specs.Entries.{each_entry, group_with_fit, groups_with_group};
-ghost use Rattle.property_tables.specs.Entries.{group_entry as group_entry_as};
-ghost use Rattle.property_tables.specs.Entries.{group_typed, groups_entry as groups_entry_as};
+ghost use Rattle.property_tables.specs.Meaning.{each_entry, groups_with_group};
+ghost use Rattle.property_tables.specs.Meaning.{entry_set};
+ghost use Rattle.property_tables.specs.Tables.{group_table};
+ghost use Rattle.property_values.specs.Fits.{group_set};
+ghost use Rattle.property_tables.specs.Meaning.{group_typed, groups_entry as groups_entry_as};
 
 use crate::lookup::{row_of, within};
 use crate::tables::group;
 use crate::{LoadError, PropTable};
-use bp_faults::{OutOfMemory, Path, Place};
+use bp_faults::{OutOfMemory, Path};
 use bp_props::{Field, GroupProps, Groups};
 use bp_values::Entry;
-use property_values::{Fit, entries, fitted, set_group};
+use property_values::{entries, fitted, set_group};
 use std::alloc::Global;
-
-fn put_group(
-    alloc: Global,
-    props: &mut GroupProps,
-    effect: Option<Field>,
-    at: Place,
-    fit: Fit,
-) -> Result<(), OutOfMemory>
-    ensures { OnOk result (props.new ≡ group_with_fit effect at fit props.old) }
-{
-    match effect {
-        Some(field) => set_group(alloc, props, field, at, fit),
-        None => Ok(()),
-    }
-}
 
 fn group_entry(
     alloc: Global,
@@ -37,11 +24,11 @@ fn group_entry(
     entry: &Entry,
 ) -> Result<(), LoadError>
     ensures { Leaves (λ props. props) props.new result
-        (group_entry_as dir.now prefix.now props.old (field_of entry.now)) }
+        (entry_set group_set group_table dir.now prefix.now props.old (field_of entry.now)) }
 {
     let row = row_of(alloc, &group(), prefix, entry)?;
     let fit = fitted(alloc, dir, prefix, row, entry)?;
-    put_group(alloc, props, row.effect, entry.at, fit)?;
+    set_group(props, row.effect, fit);
     Ok(())
 }
 
@@ -75,11 +62,11 @@ fn put_groups(
     }
 }
 
-fn groups_entry<const N: usize>(
+fn groups_entry(
     alloc: Global,
     dir: &Path,
     prefix: &str,
-    table: &PropTable<N>,
+    table: &PropTable,
     groups: &mut Groups,
     entry: &Entry,
 ) -> Result<(), LoadError>
@@ -95,11 +82,11 @@ fn groups_entry<const N: usize>(
 }
 
 /// Puts the groups of a table into those of a record.
-pub(crate) fn add_groups<const N: usize>(
+pub(crate) fn add_groups(
     alloc: Global,
     dir: &Path,
     prefix: &str,
-    table: &PropTable<N>,
+    table: &PropTable,
     groups: &mut Groups,
     entries: &[Entry],
 ) -> Result<(), LoadError>

@@ -13,14 +13,14 @@ mod lookup;
 mod module_entries;
 mod module_name;
 mod module_type;
+mod offer;
 mod prop_table;
 mod tables;
 mod typing;
 
 pub use bp_faults::Refusal as LoadError;
+pub use module_type::type_names;
 pub use prop_table::PropTable;
 pub use property_values::{PropKind, Row};
-pub use tables::{
-    arch, cc, defaults, filegroup, group, library, multilib, sanitize, shared_library, target, test,
-};
+pub use tables::{arch, group, multilib, of_modules, sanitize, target};
 pub use typing::typed;

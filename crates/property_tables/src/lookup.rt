@@ -1,40 +1,16 @@
 ghost use Rattle.std.specs.Prelude.{◌≡◌, ◌++◌, [], IfOk, option_map};
 ghost use Rattle.bp_faults.specs.Answers.{Answers};
 ghost use Rattle.bp_values.specs.Values.{field_of};
-ghost use Rattle.property_tables.specs.Tables.{property_of, property_named, table_of};
-ghost use Rattle.property_tables.specs.Entries.{property_or_unknown, property_in, inner_prefix as within_group};
+ghost use Rattle.property_tables.specs.Tables.{property_of, table_of};
+ghost use Rattle.property_tables.specs.Meaning.{property_or_unknown, property_in, inner_prefix as within_group};
 
-use crate::tables::{cc, defaults, filegroup, library, shared_library, test};
+use crate::tables::of_kind;
 use crate::{LoadError, PropTable, Row};
 use bp_faults::{FaultKind, OutOfMemory, Text};
 use bp_props::ModuleKind;
 use bp_values::Entry;
 use property_values::entry_fault;
 use std::alloc::Global;
-
-/// The row of a name in a table. It takes no memory.
-#[tactic(auto, using(crate::proofs::Rows::copied_row))]
-fn row_in<const N: usize>(table: &PropTable<N>, name: &Text) -> Option<Row>
-    ensures { option_map property_of result ≡ property_named table.now name.now }
-{
-    table.row(name).copied()
-}
-
-/// The row of a name in the table of a kind. It takes no memory.
-fn module_row(kind: ModuleKind, name: &Text) -> Option<Row>
-    ensures { option_map property_of result ≡ property_named (table_of kind) name.now }
-{
-    match kind {
-        ModuleKind::Binary | ModuleKind::LibraryStatic | ModuleKind::LibraryHeaders => {
-            row_in(&cc(), name)
-        }
-        ModuleKind::Library => row_in(&library(), name),
-        ModuleKind::LibraryShared => row_in(&shared_library(), name),
-        ModuleKind::Test => row_in(&test(), name),
-        ModuleKind::Defaults => row_in(&defaults(), name),
-        ModuleKind::Filegroup => row_in(&filegroup(), name),
-    }
-}
 
 fn known(alloc: Global, row: Option<Row>, prefix: &str, entry: &Entry) -> Result<Row, LoadError>
     ensures { Answers property_of result
@@ -52,15 +28,15 @@ fn known(alloc: Global, row: Option<Row>, prefix: &str, entry: &Entry) -> Result
 }
 
 /// The row of an entry of a group, in the group's table.
-pub(crate) fn row_of<const N: usize>(
+pub(crate) fn row_of(
     alloc: Global,
-    table: &PropTable<N>,
+    table: &PropTable,
     prefix: &str,
     entry: &Entry,
 ) -> Result<Row, LoadError>
     ensures { Answers property_of result (property_in table.now prefix.now (field_of entry.now)) }
 {
-    known(alloc, row_in(table, &entry.name), prefix, entry)
+    known(alloc, table.row(&entry.name), prefix, entry)
 }
 
 /// The row of an entry of a module, in the table of its kind.
@@ -71,7 +47,7 @@ pub(crate) fn module_row_of(
 ) -> Result<Row, LoadError>
     ensures { Answers property_of result (property_in (table_of kind) [] (field_of entry.now)) }
 {
-    known(alloc, module_row(kind, &entry.name), "", entry)
+    row_of(alloc, &of_kind(kind), "", entry)
 }
 
 /// What stands before the names in a group.

@@ -1,37 +1,24 @@
-ghost use Rattle.std.specs.Prelude.{◌≡◌, map, OnOk, Some};
-ghost use Rattle.bp_props.specs.declared.field.Field.TheVariants.{Group};
+ghost use Rattle.std.specs.Prelude.{map, Some};
+ghost use Rattle.bp_props.specs.declared.fields.Field.TheVariants.{Group};
 ghost use Rattle.property_values.specs.declared.row.PropKind.TheVariants as K;
-ghost use Rattle.bp_faults.specs.Answers.{Answers, Leaves};
+ghost use Rattle.bp_faults.specs.Answers.{Leaves};
 ghost use Rattle.bp_values.specs.Values.{field_of, fields_then, no_field};
 ghost use Rattle.bp_props.specs.Records.{props_empty};
-ghost use Rattle.property_tables.specs.Entries.{each_entry, props_with_fit, sanitize_entry as sanitize_entry_as};
-ghost use Rattle.property_tables.specs.Entries.{groups_typed, inner_typed, entry_typed};
-ghost use Rattle.property_tables.specs.Entries.{module_entry as module_entry_as};
+ghost use Rattle.property_tables.specs.Meaning.{each_entry, entry_set};
+ghost use Rattle.property_tables.specs.Tables.{sanitize_table};
+ghost use Rattle.property_values.specs.Fits.{props_set};
+ghost use Rattle.property_tables.specs.Meaning.{groups_typed, inner_typed, entry_typed};
+ghost use Rattle.property_tables.specs.Meaning.{module_entry as module_entry_as};
 
 use crate::group_entries::{add_groups, group_of};
 use crate::lookup::{module_row_of, row_of, within};
 use crate::tables::{arch, multilib, sanitize, target};
 use crate::{LoadError, PropKind, PropTable, Row};
-use bp_faults::{OutOfMemory, Path, Place};
+use bp_faults::Path;
 use bp_props::{Field, GroupId, ModuleKind, Props};
 use bp_values::Entry;
-use property_values::{Fit, entries, fitted, set_props};
+use property_values::{entries, fitted, set_props};
 use std::alloc::Global;
-
-fn put_props(
-    alloc: Global,
-    props: &mut Props,
-    effect: Option<Field>,
-    at: Place,
-    fit: Fit,
-) -> Result<(), OutOfMemory>
-    ensures { OnOk result (props.new ≡ props_with_fit effect at fit props.old) }
-{
-    match effect {
-        Some(field) => set_props(alloc, props, field, at, fit),
-        None => Ok(()),
-    }
-}
 
 fn sanitize_entry(
     alloc: Global,
@@ -41,11 +28,11 @@ fn sanitize_entry(
     entry: &Entry,
 ) -> Result<(), LoadError>
     ensures { Leaves (λ props. props) props.new result
-        (sanitize_entry_as dir.now prefix.now props.old (field_of entry.now)) }
+        (entry_set props_set sanitize_table dir.now prefix.now props.old (field_of entry.now)) }
 {
     let row = row_of(alloc, &sanitize(), prefix, entry)?;
     let fit = fitted(alloc, dir, prefix, row, entry)?;
-    put_props(alloc, props, row.effect, entry.at, fit)?;
+    set_props(props, row.effect, fit);
     Ok(())
 }
 
@@ -57,7 +44,7 @@ fn add_sanitize(
     entries: &[Entry],
 ) -> Result<(), LoadError>
     ensures { Leaves (λ props. props) props.new result
-        (each_entry (sanitize_entry_as dir.now prefix.now) props.old
+        (each_entry (entry_set props_set sanitize_table dir.now prefix.now) props.old
         (fields_then (map field_of entries.now) no_field)) }
 {
     'entries: for entry in entries {
@@ -66,11 +53,11 @@ fn add_sanitize(
     Ok(())
 }
 
-fn add_table<const N: usize>(
+fn add_table(
     alloc: Global,
     dir: &Path,
     prefix: &str,
-    table: &PropTable<N>,
+    table: &PropTable,
     props: &mut Props,
     entries: &[Entry],
 ) -> Result<(), LoadError>
@@ -147,7 +134,7 @@ fn add_entry(
         PropKind::Group => add_map(alloc, dir, row.effect, props, entry),
         _ => {
             let fit = fitted(alloc, dir, "", row, entry)?;
-            put_props(alloc, props, row.effect, entry.at, fit)?;
+            set_props(props, row.effect, fit);
             Ok(())
         }
     }

@@ -1,6 +1,6 @@
 ghost use Rattle.std.specs.Prelude.{◌≡◌};
 ghost use Rattle.std.specs.List.{list_all};
-ghost use Rattle.property_tables.specs.Names.{is_module_name_byte as name_byte, is_module_name as module_name};
+ghost use Rattle.property_tables.specs.Meaning.{is_module_name_byte as name_byte, is_module_name as module_name};
 
 use bp_faults::limits::LONGEST_MODULE_NAME;
 

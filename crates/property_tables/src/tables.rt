@@ -1,154 +1,123 @@
-ghost use Rattle.std.specs.Prelude.{◌≡◌};
-ghost use Rattle.bp_props.specs.declared.kind.ModuleKind.TheVariants.{Binary, Library, LibraryShared, Test, Defaults};
-ghost use Rattle.bp_props.specs.declared.kind.ModuleKind.TheVariants.{Filegroup};
-ghost use Rattle.property_tables.specs.Tables.{table_of, group_table, sanitize_table, arch_table, multilib_table};
-ghost use Rattle.property_tables.specs.Tables.{target_table};
+//! The rows of the property tables. A property has one row, whichever modules and groups have it.
+ghost use Rattle.std.specs.Prelude.{◌≡◌, IsTrue, map};
+ghost use Rattle.property_tables.specs.Inside.{offered_of};
+ghost use Rattle.property_tables.specs.Tables.{properties, table_of, group_table, sanitize_table, arch_table};
+ghost use Rattle.property_tables.specs.Tables.{multilib_table, target_table, property_of, names_ascend};
 
+use crate::offer::{Kinds, Offer, Wanted};
 use crate::{PropKind, PropTable, Row};
 use bp_faults::Target;
-use bp_props::{Field, GroupId};
+use bp_props::{Field, GroupId, ModuleKind};
+
+macro_rules! offer {
+    ($name:literal $kind:ident $kinds:ident $effect:expr, $in_groups:literal) => {
+        Offer {
+            row: Row {
+                name: $name,
+                kind: PropKind::$kind,
+                effect: $effect,
+            },
+            kinds: Kinds::$kinds,
+            in_groups: $in_groups,
+        }
+    };
+}
 
 /// A row that sets a field.
 macro_rules! sets {
-    ($name:literal $kind:ident $($field:tt)+) => {
-        Row { name: $name, kind: PropKind::$kind, effect: Some(Field::$($field)+) }
+    ($name:literal $kind:ident $kinds:ident $($field:tt)+) => {
+        offer!($name $kind $kinds Some(Field::$($field)+), false)
+    };
+}
+
+/// A row that sets a field, which groups may hold too.
+macro_rules! joint {
+    ($name:literal $kind:ident $kinds:ident $field:ident) => {
+        offer!($name $kind $kinds Some(Field::$field), true)
     };
 }
 
 /// A row without effect.
 macro_rules! inert {
-    ($name:literal $kind:ident) => {
-        Row { name: $name, kind: PropKind::$kind, effect: None }
+    ($name:literal $kind:ident $kinds:ident) => {
+        offer!($name $kind $kinds None, false)
     };
 }
 
 /// A row of a group.
 macro_rules! group {
     ($name:literal $($id:tt)+) => {
-        Row { name: $name, kind: PropKind::Group, effect: Some(Field::Group(GroupId::$($id)+)) }
+        sets!($name Group Every Group(GroupId::$($id)+))
     };
 }
 
-/// The rows of a type that is built from C or C++, with those that some of these types alone have.
-macro_rules! cc_rows {
-    (
-        [$($data_bins:expr)?] [$($plugin_of:expr)?] [$($linked_shared:expr)?]
-        [$($linked_static:expr)?] [$($test_per_src:expr)?]
-    ) => {
-        [
-            inert!("apex_available" Words),
-            sets!("arch" Group Arch),
-            sets!("asflags" Flags Asflags),
-            inert!("auto_gen_config" Bool),
-            inert!("c_std" Word),
-            sets!("cflags" Flags Cflags),
-            sets!("compile_multilib" Multi CompileMultilib),
-            sets!("conlyflags" Flags Conlyflags),
-            inert!("cpp_std" Word),
-            sets!("cppflags" Flags Cppflags),
-            inert!("data" Words),
-            $($data_bins,)?
-            sets!("defaults" Names Defaults),
-            sets!("device_supported" Bool DeviceSupported),
-            inert!("double_loadable" Bool),
-            sets!("enabled" Bool Enabled),
-            sets!("export_header_lib_headers" Names ExportHeaderLibHeaders),
-            sets!("export_include_dirs" Dirs ExportIncludeDirs),
-            sets!("export_shared_lib_headers" Names ExportSharedLibHeaders),
-            sets!("export_static_lib_headers" Names ExportStaticLibHeaders),
-            inert!("gtest" Bool),
-            sets!("header_libs" Names HeaderLibs),
-            sets!("host_supported" Bool HostSupported),
-            sets!("include_dirs" Dirs IncludeDirs),
-            inert!("init_rc" Words),
-            sets!("ldflags" Flags Ldflags),
-            inert!("licenses" Words),
-            sets!("local_include_dirs" Dirs LocalIncludeDirs),
-            sets!("min_sdk_version" Level MinSdkVersion),
-            sets!("multilib" Group Multilib),
-            sets!("name" Word Name),
-            inert!("native_bridge_supported" Bool),
-            inert!("owner" Word),
-            $($plugin_of,)?
-            inert!("ramdisk_available" Bool),
-            sets!("recovery" Bool Recovery),
-            sets!("recovery_available" Bool RecoveryAvailable),
-            inert!("relative_install_path" Word),
-            inert!("required" Words),
-            sets!("sanitize" Group Sanitize),
-            inert!("sdk_version" Word),
-            $($linked_shared,)?
-            sets!("shared_libs" Names SharedLibs),
-            sets!("srcs" Paths Srcs),
-            $($linked_static,)?
-            sets!("static_libs" Names StaticLibs),
-            inert!("stl" Word),
-            sets!("target" Group Target),
-            inert!("test_config" Word),
-            $($test_per_src,)?
-            inert!("test_suites" Words),
-            inert!("tidy" Bool),
-            sets!("vendor" Bool Vendor),
-            sets!("vendor_available" Bool VendorAvailable),
-            inert!("vintf_fragments" Words),
-            inert!("visibility" Words),
-            sets!("whole_static_libs" Names WholeStaticLibs),
-        ]
-    };
-}
-
-const DATA_BINS: Row = sets!("data_bins" Names DataBins);
-
-const PLUGIN_OF: Row = sets!("plugin_of" Names PluginOf);
-
-const SHARED: Row = group!("shared" Shared);
-
-const STATIC: Row = group!("static" Static);
-
-const TEST_PER_SRC: Row = sets!("test_per_src" Bool TestPerSrc);
-
-const CC: [Row; 52] = cc_rows!([] [] [] [] []);
-
-const SHARED_LIBRARY: [Row; 53] = cc_rows!([] [PLUGIN_OF] [] [] []);
-
-const TEST: [Row; 54] = cc_rows!([DATA_BINS] [] [] [] [TEST_PER_SRC]);
-
-const LIBRARY: [Row; 55] = cc_rows!([] [PLUGIN_OF] [SHARED] [STATIC] []);
-
-const DEFAULTS: [Row; 57] = cc_rows!([DATA_BINS][PLUGIN_OF][SHARED][STATIC][TEST_PER_SRC]);
-
-const FILEGROUP: [Row; 6] = [
-    sets!("enabled" Bool Enabled),
-    inert!("licenses" Words),
-    sets!("name" Word Name),
-    inert!("path" Word),
-    sets!("srcs" Paths Srcs),
-    inert!("visibility" Words),
+static PROPERTIES: [Offer; 58] = [
+    inert!("apex_available" Words Cc),
+    sets!("arch" Group Cc Arch),
+    joint!("asflags" Flags Cc Asflags),
+    inert!("auto_gen_config" Bool Cc),
+    inert!("c_std" Word Cc),
+    joint!("cflags" Flags Cc Cflags),
+    sets!("compile_multilib" Multi Cc CompileMultilib),
+    joint!("conlyflags" Flags Cc Conlyflags),
+    inert!("cpp_std" Word Cc),
+    joint!("cppflags" Flags Cc Cppflags),
+    inert!("data" Words Cc),
+    sets!("data_bins" Names Tests DataBins),
+    sets!("defaults" Names Cc Defaults),
+    sets!("device_supported" Bool Cc DeviceSupported),
+    inert!("double_loadable" Bool Cc),
+    joint!("enabled" Bool Every Enabled),
+    joint!("export_header_lib_headers" Names Cc ExportHeaderLibHeaders),
+    joint!("export_include_dirs" Dirs Cc ExportIncludeDirs),
+    joint!("export_shared_lib_headers" Names Cc ExportSharedLibHeaders),
+    joint!("export_static_lib_headers" Names Cc ExportStaticLibHeaders),
+    inert!("gtest" Bool Cc),
+    joint!("header_libs" Names Cc HeaderLibs),
+    sets!("host_supported" Bool Cc HostSupported),
+    joint!("include_dirs" Dirs Cc IncludeDirs),
+    inert!("init_rc" Words Cc),
+    joint!("ldflags" Flags Cc Ldflags),
+    inert!("licenses" Words Every),
+    joint!("local_include_dirs" Dirs Cc LocalIncludeDirs),
+    sets!("min_sdk_version" Level Cc MinSdkVersion),
+    sets!("multilib" Group Cc Multilib),
+    sets!("name" Word Every Name),
+    inert!("native_bridge_supported" Bool Cc),
+    inert!("owner" Word Cc),
+    inert!("path" Word Filegroup),
+    sets!("plugin_of" Names PlugIns PluginOf),
+    inert!("ramdisk_available" Bool Cc),
+    sets!("recovery" Bool Cc Recovery),
+    sets!("recovery_available" Bool Cc RecoveryAvailable),
+    inert!("relative_install_path" Word Cc),
+    inert!("required" Words Cc),
+    sets!("sanitize" Group Cc Sanitize),
+    inert!("sdk_version" Word Cc),
+    sets!("shared" Group BothLinks Group(GroupId::Shared)),
+    joint!("shared_libs" Names Cc SharedLibs),
+    joint!("srcs" Paths Every Srcs),
+    sets!("static" Group BothLinks Group(GroupId::Static)),
+    joint!("static_libs" Names Cc StaticLibs),
+    inert!("stl" Word Cc),
+    sets!("target" Group Cc Target),
+    inert!("test_config" Word Cc),
+    sets!("test_per_src" Bool Tests TestPerSrc),
+    inert!("test_suites" Words Cc),
+    inert!("tidy" Bool Cc),
+    sets!("vendor" Bool Cc Vendor),
+    sets!("vendor_available" Bool Cc VendorAvailable),
+    inert!("vintf_fragments" Words Cc),
+    inert!("visibility" Words Every),
+    joint!("whole_static_libs" Names Cc WholeStaticLibs),
 ];
 
-const GROUP: [Row; 17] = [
-    sets!("asflags" Flags Asflags),
-    sets!("cflags" Flags Cflags),
-    sets!("conlyflags" Flags Conlyflags),
-    sets!("cppflags" Flags Cppflags),
-    sets!("enabled" Bool Enabled),
-    sets!("export_header_lib_headers" Names ExportHeaderLibHeaders),
-    sets!("export_include_dirs" Dirs ExportIncludeDirs),
-    sets!("export_shared_lib_headers" Names ExportSharedLibHeaders),
-    sets!("export_static_lib_headers" Names ExportStaticLibHeaders),
-    sets!("header_libs" Names HeaderLibs),
-    sets!("include_dirs" Dirs IncludeDirs),
-    sets!("ldflags" Flags Ldflags),
-    sets!("local_include_dirs" Dirs LocalIncludeDirs),
-    sets!("shared_libs" Names SharedLibs),
-    sets!("srcs" Paths Srcs),
-    sets!("static_libs" Names StaticLibs),
-    sets!("whole_static_libs" Names WholeStaticLibs),
+static SANITIZE: [Offer; 2] = [
+    sets!("address" Bool Every Address),
+    sets!("never" Bool Every Never),
 ];
 
-const SANITIZE: [Row; 2] = [sets!("address" Bool Address), sets!("never" Bool Never)];
-
-const ARCH: [Row; 5] = [
+static ARCH: [Offer; 5] = [
     group!("arm" ArchArm),
     group!("arm64" ArchArm64),
     group!("riscv64" ArchRiscv64),
@@ -156,9 +125,9 @@ const ARCH: [Row; 5] = [
     group!("x86_64" ArchX86_64),
 ];
 
-const MULTILIB: [Row; 2] = [group!("lib32" Lib32), group!("lib64" Lib64)];
+static MULTILIB: [Offer; 2] = [group!("lib32" Lib32), group!("lib64" Lib64)];
 
-const TARGET: [Row; 15] = [
+static TARGET: [Offer; 15] = [
     group!("android" Android),
     group!("android_arm" Named(Target::AndroidArm)),
     group!("android_arm64" Named(Target::AndroidArm64)),
@@ -176,79 +145,58 @@ const TARGET: [Row; 15] = [
     group!("windows" Windows),
 ];
 
-/// The table of `cc_binary`, `cc_library_static` and `cc_library_headers`.
-pub fn cc() -> PropTable<52>
-    ensures { result ≡ table_of Binary }
+fn rows() -> &'static [Offer]
+    ensures rows { map offered_of result.now ≡ properties }
+    ensures order { IsTrue (names_ascend (map (λ o. property_of o.row) result.now)) }
 {
-    PropTable::of(&CC)
+    &PROPERTIES
 }
 
-/// The table of `cc_library_shared`.
-pub fn shared_library() -> PropTable<53>
-    ensures { result ≡ table_of LibraryShared }
+/// The table of a kind of module.
+pub(crate) fn of_kind(kind: ModuleKind) -> PropTable
+    ensures { result ≡ table_of kind }
 {
-    PropTable::of(&SHARED_LIBRARY)
+    PropTable::of(rows(), Wanted::Kind(kind))
 }
 
-/// The table of `cc_test`.
-pub fn test() -> PropTable<54>
-    ensures { result ≡ table_of Test }
+/// The properties of modules of any kind.
+pub fn of_modules() -> PropTable
+    ensures { result ≡ map (λ o. o.property) properties }
 {
-    PropTable::of(&TEST)
-}
-
-/// The table of `cc_library`.
-pub fn library() -> PropTable<55>
-    ensures { result ≡ table_of Library }
-{
-    PropTable::of(&LIBRARY)
-}
-
-/// The table of `cc_defaults`.
-pub fn defaults() -> PropTable<57>
-    ensures { result ≡ table_of Defaults }
-{
-    PropTable::of(&DEFAULTS)
-}
-
-/// The table of `filegroup`.
-pub fn filegroup() -> PropTable<6>
-    ensures { result ≡ table_of Filegroup }
-{
-    PropTable::of(&FILEGROUP)
+    PropTable::of(rows(), Wanted::All)
 }
 
 /// The table of every group but `sanitize`.
-pub fn group() -> PropTable<17>
+pub fn group() -> PropTable
     ensures { result ≡ group_table }
 {
-    PropTable::of(&GROUP)
+    PropTable::of(rows(), Wanted::Groups)
 }
 
 /// The table of `sanitize`.
-pub fn sanitize() -> PropTable<2>
+pub fn sanitize() -> PropTable
     ensures { result ≡ sanitize_table }
 {
-    PropTable::of(&SANITIZE)
+    PropTable::of(&SANITIZE, Wanted::All)
 }
 
 /// The table of the groups of `arch`.
-pub fn arch() -> PropTable<5>
+pub fn arch() -> PropTable
     ensures { result ≡ arch_table }
 {
-    PropTable::of(&ARCH)
+    PropTable::of(&ARCH, Wanted::All)
 }
 
 /// The table of the groups of `multilib`.
-pub fn multilib() -> PropTable<2>
+pub fn multilib() -> PropTable
     ensures { result ≡ multilib_table }
 {
-    PropTable::of(&MULTILIB)
+    PropTable::of(&MULTILIB, Wanted::All)
 }
 
 /// The table of the groups of `target`.
-pub fn target() -> PropTable<15>
+pub fn target() -> PropTable
     ensures { result ≡ target_table }
 {
-    PropTable::of(&TARGET)
+    PropTable::of(&TARGET, Wanted::All)
 }

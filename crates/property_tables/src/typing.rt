@@ -2,7 +2,7 @@ ghost use Rattle.std.specs.Prelude.{◌≡◌, IfOk};
 ghost use Rattle.bp_faults.specs.Faults.{fault_on as fault_on_as};
 ghost use Rattle.bp_faults.specs.Answers.{Answers};
 ghost use Rattle.bp_values.specs.Meaning.{raw_of};
-ghost use Rattle.property_tables.specs.Names.{name_in};
+ghost use Rattle.property_tables.specs.Meaning.{name_in};
 ghost use Rattle.property_tables.specs.Meaning.{module_typed, typed_module as typed_as};
 
 use crate::LoadError;

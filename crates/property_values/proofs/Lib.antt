@@ -1,3 +1,4 @@
 pub mod Joined
 pub mod Sources
 pub mod Levels
+pub mod Elsewhere

@@ -1,5 +1,4 @@
 pub mod Fits
 pub mod Paths
-pub mod Records
 pub mod Laws
 pub mod Inside

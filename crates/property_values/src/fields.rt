@@ -1,17 +1,14 @@
 //! The fields of a group and of a record are set here, each under its own name.
-ghost use Rattle.std.specs.Prelude.{◌≡◌, IfOk, OnOk};
-ghost use Rattle.property_values.specs.Records.{group_truth, group_flags, group_names, group_sources, group_dirs};
-ghost use Rattle.property_values.specs.Records.{group_set, given_scalar as given_at, listed_items as listed_at};
-ghost use Rattle.property_values.specs.Records.{props_truth, props_names, props_word, props_multi, props_level};
-ghost use Rattle.property_values.specs.Records.{props_set};
+ghost use Rattle.std.specs.Prelude.{◌≡◌, Some};
+ghost use Rattle.property_values.specs.declared.fit.Fit.TheVariants as V;
+ghost use Rattle.property_values.specs.Fits.{group_set, props_set};
 
 use crate::fit::Fit;
-use bp_faults::{Item, OutOfMemory, Path, Place, Seq, Text};
+use bp_faults::{Item, Path, Text};
 use bp_props::{
     Field, Given, GroupProps, Listed, Multi, Props, Source, group_dirs, group_flags, group_names,
     group_sources, group_truths, module_names, module_truths,
 };
-use std::alloc::Global;
 
 /// Sets the field that is meant, or does what is left to do where it isn't in the table.
 macro_rules! set {
@@ -23,174 +20,121 @@ macro_rules! set {
     };
 }
 
-/// A scalar that is set at an entry.
-fn given<T>(at: Place, value: T) -> Option<Given<T>>
-    ensures { result ≡ given_at at value }
+fn set_truth(group: &mut GroupProps, field: Field, truth: Given<bool>)
+    ensures { group.new ≡ group_set (Some field) (V.Truth truth) group.old }
 {
-    Some(Given { value, at })
+    group_truths!(set group, field, Some(truth), {})
 }
 
-/// A list that is set at an entry.
-fn listed<T: Drop>(alloc: Global, at: Place, items: Seq<T>) -> Result<Listed<T>, OutOfMemory>
-    ensures { IfOk result (λ list. list ≡ listed_at at items) }
+fn set_names(group: &mut GroupProps, field: Field, names: Listed<Item>)
+    ensures { group.new ≡ group_set (Some field) (V.Names names) group.old }
 {
-    Listed::new(alloc, items, Some(at))
+    group_names!(set group, field, names, {})
 }
 
-fn set_truth(group: &mut GroupProps, field: Field, truth: Option<Given<bool>>)
-    ensures { group.new ≡ group_truth field truth group.old }
+fn set_flags(group: &mut GroupProps, field: Field, flags: Listed<Text>)
+    ensures { group.new ≡ group_set (Some field) (V.Flags flags) group.old }
 {
-    group_truths!(set group, field, truth, {})
+    group_flags!(set group, field, flags, {})
 }
 
-fn set_names(
-    alloc: Global,
-    group: &mut GroupProps,
-    field: Field,
-    at: Place,
-    names: Seq<Item>,
-) -> Result<(), OutOfMemory>
-    ensures { OnOk result (group.new ≡ group_names field (listed_at at names) group.old) }
+fn set_sources(group: &mut GroupProps, field: Field, sources: Listed<Source>)
+    ensures { group.new ≡ group_set (Some field) (V.Sources sources) group.old }
 {
-    let names = listed(alloc, at, names)?;
-    group_names!(set group, field, names, {});
-    Ok(())
+    group_sources!(set group, field, sources, {})
 }
 
-fn set_flags(
-    alloc: Global,
-    group: &mut GroupProps,
-    field: Field,
-    at: Place,
-    flags: Seq<Text>,
-) -> Result<(), OutOfMemory>
-    ensures { OnOk result (group.new ≡ group_flags field (listed_at at flags) group.old) }
+fn set_dirs(group: &mut GroupProps, field: Field, dirs: Listed<Path>)
+    ensures { group.new ≡ group_set (Some field) (V.Dirs dirs) group.old }
 {
-    let flags = listed(alloc, at, flags)?;
-    group_flags!(set group, field, flags, {});
-    Ok(())
+    group_dirs!(set group, field, dirs, {})
 }
 
-fn set_sources(
-    alloc: Global,
-    group: &mut GroupProps,
-    field: Field,
-    at: Place,
-    sources: Seq<Source>,
-) -> Result<(), OutOfMemory>
-    ensures { OnOk result (group.new ≡ group_sources field (listed_at at sources) group.old) }
-{
-    let sources = listed(alloc, at, sources)?;
-    group_sources!(set group, field, sources, {});
-    Ok(())
-}
-
-fn set_dirs(
-    alloc: Global,
-    group: &mut GroupProps,
-    field: Field,
-    at: Place,
-    dirs: Seq<Path>,
-) -> Result<(), OutOfMemory>
-    ensures { OnOk result (group.new ≡ group_dirs field (listed_at at dirs) group.old) }
-{
-    let dirs = listed(alloc, at, dirs)?;
-    group_dirs!(set group, field, dirs, {});
-    Ok(())
-}
-
-/// Sets a field of a group.
-pub fn set_group(
-    alloc: Global,
-    group: &mut GroupProps,
-    field: Field,
-    at: Place,
-    fit: Fit,
-) -> Result<(), OutOfMemory>
-    ensures { OnOk result (group.new ≡ group_set field at fit group.old) }
+fn set_group_field(group: &mut GroupProps, field: Field, fit: Fit)
+    ensures { group.new ≡ group_set (Some field) fit group.old }
 {
     match fit {
-        Fit::Truth(truth) => {
-            set_truth(group, field, given(at, truth));
-            Ok(())
-        }
-        Fit::Flags(flags) => set_flags(alloc, group, field, at, flags),
-        Fit::Names(names) => set_names(alloc, group, field, at, names),
-        Fit::Sources(sources) => set_sources(alloc, group, field, at, sources),
-        Fit::Dirs(dirs) => set_dirs(alloc, group, field, at, dirs),
-        Fit::Word(_) | Fit::Multi(_) | Fit::Level(_) | Fit::Unset => Ok(()),
+        Fit::Truth(truth) => set_truth(group, field, truth),
+        Fit::Flags(flags) => set_flags(group, field, flags),
+        Fit::Names(names) => set_names(group, field, names),
+        Fit::Sources(sources) => set_sources(group, field, sources),
+        Fit::Dirs(dirs) => set_dirs(group, field, dirs),
+        Fit::Word(_) => {}
+        Fit::Multi(_) => {}
+        Fit::Level(_) => {}
+        Fit::Unset => {}
     }
 }
 
-fn set_props_truth(props: &mut Props, field: Field, truth: Option<Given<bool>>)
-    ensures { props.new ≡ props_truth field truth props.old }
+/// Sets the field of a group that a property names.
+pub fn set_group(group: &mut GroupProps, effect: Option<Field>, fit: Fit)
+    ensures { group.new ≡ group_set effect fit group.old }
 {
-    module_truths!(set props, field, truth, set_truth(&mut props.base, field, truth))
-}
-
-fn set_props_names(
-    alloc: Global,
-    props: &mut Props,
-    field: Field,
-    at: Place,
-    names: Seq<Item>,
-) -> Result<(), OutOfMemory>
-    ensures { OnOk result (props.new ≡ props_names field (listed_at at names) props.old) }
-{
-    if field == Field::Defaults {
-        props.defaults = listed(alloc, at, names)?;
-    } else {
-        module_names!(
-            set props,
-            field,
-            listed(alloc, at, names)?,
-            set_names(alloc, &mut props.base, field, at, names)?
-        )
+    if let Some(field) = effect {
+        set_group_field(group, field, fit);
     }
-    Ok(())
 }
 
-fn set_props_word(props: &mut Props, field: Field, word: Option<Given<Text>>)
-    ensures { props.new ≡ props_word field word props.old }
+fn set_props_truth(props: &mut Props, field: Field, truth: Given<bool>)
+    ensures { props.new ≡ props_set (Some field) (V.Truth truth) props.old }
+{
+    module_truths!(set props, field, Some(truth), set_truth(&mut props.base, field, truth))
+}
+
+fn set_props_names(props: &mut Props, field: Field, names: Listed<Item>)
+    ensures { props.new ≡ props_set (Some field) (V.Names names) props.old }
+{
+    match field {
+        Field::Defaults => props.defaults = names,
+        _ => module_names!(set props, field, names, set_names(&mut props.base, field, names)),
+    }
+}
+
+fn set_props_word(props: &mut Props, field: Field, word: Given<Text>)
+    ensures { props.new ≡ props_set (Some field) (V.Word word) props.old }
 {
     if field == Field::Name {
-        props.name = word;
+        props.name = Some(word);
     }
 }
 
-fn set_props_multi(props: &mut Props, field: Field, multi: Option<Given<Multi>>)
-    ensures { props.new ≡ props_multi field multi props.old }
+fn set_props_multi(props: &mut Props, field: Field, multi: Given<Multi>)
+    ensures { props.new ≡ props_set (Some field) (V.Multi multi) props.old }
 {
     if field == Field::CompileMultilib {
-        props.compile_multilib = multi;
+        props.compile_multilib = Some(multi);
     }
 }
 
-fn set_props_level(props: &mut Props, field: Field, level: Option<Given<u32>>)
-    ensures { props.new ≡ props_level field level props.old }
+fn set_props_level(props: &mut Props, field: Field, level: Given<u32>)
+    ensures { props.new ≡ props_set (Some field) (V.Level level) props.old }
 {
     if field == Field::MinSdkVersion {
-        props.min_sdk_version = level;
+        props.min_sdk_version = Some(level);
     }
 }
 
-/// Sets a field of a record.
-pub fn set_props(
-    alloc: Global,
-    props: &mut Props,
-    field: Field,
-    at: Place,
-    fit: Fit,
-) -> Result<(), OutOfMemory>
-    ensures { OnOk result (props.new ≡ props_set field at fit props.old) }
+fn set_props_field(props: &mut Props, field: Field, fit: Fit)
+    ensures { props.new ≡ props_set (Some field) fit props.old }
 {
     match fit {
-        Fit::Truth(truth) => set_props_truth(props, field, given(at, truth)),
-        Fit::Word(word) => set_props_word(props, field, given(at, word)),
-        Fit::Names(names) => set_props_names(alloc, props, field, at, names)?,
-        Fit::Multi(multi) => set_props_multi(props, field, given(at, multi)),
-        Fit::Level(level) => set_props_level(props, field, given(at, level)),
-        other => set_group(alloc, &mut props.base, field, at, other)?,
+        Fit::Truth(truth) => set_props_truth(props, field, truth),
+        Fit::Word(word) => set_props_word(props, field, word),
+        Fit::Names(names) => set_props_names(props, field, names),
+        Fit::Multi(multi) => set_props_multi(props, field, multi),
+        Fit::Level(level) => set_props_level(props, field, level),
+        Fit::Flags(flags) => set_flags(&mut props.base, field, flags),
+        Fit::Dirs(dirs) => set_dirs(&mut props.base, field, dirs),
+        Fit::Sources(sources) => set_sources(&mut props.base, field, sources),
+        Fit::Unset => {}
     }
-    Ok(())
+}
+
+/// Sets the field of a record, or of its own group, that a property names.
+pub fn set_props(props: &mut Props, effect: Option<Field>, fit: Fit)
+    ensures { props.new ≡ props_set effect fit props.old }
+{
+    if let Some(field) = effect {
+        set_props_field(props, field, fit);
+    }
 }

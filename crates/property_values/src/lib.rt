@@ -3,7 +3,7 @@
 //!
 //! The row of a property, an entry and the directory of its module flow in; what the value stands for
 //! flows out, or the first fault in it. A record takes it into its field. The layer is measured by
-//! `fit_of` in `specs/Fits.antt`, and by `group_set` and `props_set` in `specs/Records.antt`.
+//! `fit_of`, `group_set` and `props_set` in `specs/Fits.antt`.
 #![tactic(auto)]
 
 mod entry_values;

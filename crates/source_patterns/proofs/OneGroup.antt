@@ -6,7 +6,7 @@ use Rattle.std.proofs.lemmas.List.{set-get_or}
 use Rattle.bp_faults.specs.declared.fault.Fault.{Fault}
 use Rattle.bp_faults.specs.Phases.{Then}
 use Rattle.bp_faults.proofs.Lists.{same_at}
-use Rattle.bp_props.specs.declared.group.GroupProps.{GroupProps}
+use Rattle.bp_props.specs.declared.fields.GroupProps.{GroupProps}
 use Rattle.bp_props.specs.declared.group_id.GroupId.{GroupId}
 use Rattle.source_patterns.specs.declared.error.ExpandError.{ExpandError}
 use Rattle.source_patterns.specs.Answers.{ExpandGives}

@@ -6,7 +6,7 @@ use Rattle.std.specs.List.{list_any}
 use Rattle.std.proofs.lemmas.List.{drop_all, append-nil}
 use Rattle.bp_faults.specs.declared.fault.Fault.{Fault}
 use Rattle.bp_faults.proofs.Lists.{drop-here}
-use Rattle.bp_props.specs.declared.group.GroupProps.{GroupProps}
+use Rattle.bp_props.specs.declared.fields.GroupProps.{GroupProps}
 use Rattle.bp_props.specs.declared.source.Source.{Source}
 use Rattle.source_patterns.specs.Expansion.{GroupMeans}
 use Rattle.source_patterns.specs.Items.{SourceMeans, ItemMeans, ItemsMean}

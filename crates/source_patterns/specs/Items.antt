@@ -10,7 +10,7 @@ use Rattle.bp_faults.specs.declared.place.Place.{Place}
 use Rattle.bp_faults.specs.Faults.{fault_on}
 use Rattle.bp_faults.specs.Phases.{Then}
 use Rattle.bp_props.specs.declared.source.Source.{Source}
-use Rattle.bp_props.specs.Source.{names_module}
+use Rattle.bp_props.specs.Meaning.{names_module}
 use Rattle.source_patterns.specs.Patterns.{is_pattern, FoundMeans}
 
 -- A source is this path.

@@ -5,7 +5,7 @@ use Rattle.bp_faults.specs.declared.fault.Fault.{Fault}
 use Rattle.bp_faults.specs.declared.kind.FaultKind.TheVariants.{TooMany}
 use Rattle.bp_faults.specs.Faults.{fault_on}
 use Rattle.bp_props.specs.declared.source.Source.{Source}
-use Rattle.bp_props.specs.Source.{names_module}
+use Rattle.bp_props.specs.Meaning.{names_module}
 use Rattle.path_patterns.specs.Globs.{has_star}
 use Rattle.path_patterns.specs.Matches.{AreMatches, IsWide, IsWalked}
 

@@ -1,6 +1,6 @@
 use Rattle.std.proofs.Common.{◌≡◌, map, drop}
 use Rattle.bp_values.specs.Values.{field_of, fields_then, no_field}
-use Rattle.property_tables.specs.Entries.{each_entry, module_entry}
+use Rattle.property_tables.specs.Meaning.{each_entry, module_entry}
 use Rattle.property_tables.proofs.module_entries.put_entries.Given as goal
 
 abbrev pub invariant-entries : goal.invariant-entries

@@ -3,7 +3,7 @@ use Rattle.std.specs.List.{list_any}
 use Rattle.std.proofs.lemmas.Option.{IfSome_then}
 use Rattle.std.proofs.lemmas.List.{length-set}
 use Rattle.std.proofs.lemmas.Result.{err_from_is_err_and}
-use Rattle.bp_props.specs.declared.group.GroupProps.{GroupProps}
+use Rattle.bp_props.specs.declared.fields.GroupProps.{GroupProps}
 use Rattle.bp_props.specs.declared.group_id.GroupId.{GroupId}
 use Rattle.source_patterns.specs.Patterns.{is_pattern}
 use Rattle.source_patterns.proofs.Gives.{if_each}

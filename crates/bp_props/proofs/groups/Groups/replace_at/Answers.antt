@@ -1,6 +1,6 @@
 use Rattle.std.proofs.Common.{length, get_or, set, ap, ◌∙◌, arith}
 use Rattle.bp_faults.proofs.Lists.{same_at}
-use Rattle.bp_props.specs.declared.group.GroupProps.{GroupProps}
+use Rattle.bp_props.specs.declared.fields.GroupProps.{GroupProps}
 use Rattle.bp_props.specs.declared.group_id.GroupId.{GroupId}
 use Rattle.bp_props.proofs.Indices.{ascends_replaced}
 use Rattle.bp_props.proofs.groups.Groups.replace_at.Goals as goal

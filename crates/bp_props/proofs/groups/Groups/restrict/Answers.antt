@@ -3,7 +3,7 @@ use Rattle.std.specs.Prelude.{filter}
 use Rattle.std.proofs.lemmas.Fn.{filter_same}
 use Rattle.bp_props.specs.Groups.{Ascends}
 use Rattle.bp_props.specs.Kinds.{has_field}
-use Rattle.bp_props.specs.declared.field.Field.TheVariants.{Group}
+use Rattle.bp_props.specs.declared.fields.Field.TheVariants.{Group}
 use Rattle.bp_props.proofs.Indices.{ascends_filtered}
 use Rattle.bp_props.proofs.groups.Groups.restrict.Goals as goal
 
