@@ -17,7 +17,7 @@ use Rattle.bp_parser.specs.Trees as tree
 use Rattle.bp_parser.specs.Trees.{Tree, Atom, Trees, Terms, Entries, no_tree, tree_and, no_term, term_and, no_entry}
 use Rattle.bp_parser.specs.Trees.{entry_and, Map, Definition, Assigns, Extends, Declares, first_place}
 use Rattle.bp_values.specs.Values.{Meaning, Items, body}
-use Rattle.bp_values.specs.Depths.{nested_fields}
+use Rattle.bp_values.specs.Depths.{nested_entries}
 use Rattle.bp_values.specs.Sums.{sum, list_within}
 use Rattle.bp_values.specs.Scopes.{Pairs, value_in}
 use Rattle.bp_values.specs.Expressions.{val, val_atom, val_items, val_terms, val_entries, val_map, known_value, item_of}
@@ -43,7 +43,7 @@ mutual
       ap (λ r. then_do r (λ l. then_do (list_within MOST_LIST_ITEMS (codes "list") at l) (λ m. Ok (Items m))))
       (same_items items a b same)
   same_val (tree.Body at entries) a b same =
-      ap (λ r. then_do (then_do r (λ fs. nested_fields at fs)) (λ fs. Ok (body fs))) (same_entries entries a b same)
+      ap (λ r. then_do (then_do r (λ fs. nested_entries at fs)) (λ fs. Ok (body fs))) (same_entries entries a b same)
   same_val (tree.Sum first terms) a b same =
       λ i. then_do (same_val first a b same i) (λ value. same_terms terms value a b same i)
 
@@ -66,7 +66,7 @@ mutual
       (λ v. then_do (same_entries more a b same i) (λ fs. Ok ((record { name = name; at = at; value = v }) ∷ fs)))
 
 same_map : (m : Map) (a b : Pairs) → HasSameValues a b → val_map a m.at m.entries ≡ val_map b m.at m.entries
-same_map m a b same = ap (λ r. then_do r (λ fs. nested_fields m.at fs)) (same_entries m.entries a b same)
+same_map m a b same = ap (λ r. then_do r (λ fs. nested_entries m.at fs)) (same_entries m.entries a b same)
 
 -- scopes in which a name gets a value
 

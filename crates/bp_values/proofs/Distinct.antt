@@ -25,17 +25,18 @@ use Rattle.bp_parser.specs.Trees.{Tree, Atom, Trees, Terms, Entries, no_term, te
 use Rattle.bp_parser.specs.Trees.{entry_and, Definition, Assigns, Extends, Declares}
 use Rattle.bp_parser.specs.Names as written
 use Rattle.bp_parser.specs.Names.{AreDistinct, DefinitionHasDistinctNames}
-use Rattle.bp_values.specs.Values.{Meaning, Truth, Number, Str, Items, Body, Fields, no_field, field_and, Field}
-use Rattle.bp_values.specs.Values.{fields_of, fields_then, body}
-use Rattle.bp_values.specs.Depths.{nested_fields}
-use Rattle.bp_values.specs.Sums.{sum, sum_fields, sum_body, sum_number, sum_text, sum_item, list_within, is_i64}
+use Rattle.bp_values.specs.Values.{Meaning, Truth, Number, Str, Items, Body, MapEntries, no_map_entry, map_entry_and}
+use Rattle.bp_values.specs.Values.{MapEntry}
+use Rattle.bp_values.specs.Values.{map_entries_of, map_entries_then, body}
+use Rattle.bp_values.specs.Depths.{nested_entries}
+use Rattle.bp_values.specs.Sums.{sum, sum_entries, sum_body, sum_number, sum_text, sum_item, list_within, is_i64}
 use Rattle.bp_values.specs.Sums.{combined_value, value_at, has_name, others}
 use Rattle.bp_values.specs.Scopes.{Pairs, value_in}
 use Rattle.bp_values.specs.Expressions.{val, val_atom, val_items, val_terms, val_entries, val_map, known_value}
 use Rattle.bp_values.specs.Meaning.{Raw, Known, with_new, with_other, known_with, after_assignment, after_extension}
 use Rattle.bp_values.specs.Meaning.{after_own_extension, after_definition, after_definitions, known_first}
 use Rattle.bp_values.specs.Meaning.{file_evaluation}
-use Rattle.bp_values.specs.Names.{field_names, HasDistinctNames, FieldsHaveDistinctNames, ModuleHasDistinctNames}
+use Rattle.bp_values.specs.Names.{map_entry_names, HasDistinctNames, EntriesHaveDistinctNames, ModuleHasDistinctNames}
 use Rattle.bp_values.specs.Names.{ScopeHasDistinctNames}
 
 -- results
@@ -53,64 +54,65 @@ anything : {X : Type 0} (r : Result X Fault) → IfOk r (λ x. ⊤)
 anything (Ok x) = tt
 anything (Err f) = tt
 
--- fields as a list
+-- entries as a list
 
-abbrev Apart : Field → Field → Type 0
+abbrev Apart : MapEntry → MapEntry → Type 0
 Apart f g = f.name ≢ g.name
 
-abbrev Kept : Field → Type 0
+abbrev Kept : MapEntry → Type 0
 Kept f = HasDistinctNames f.value
 
-abbrev names : List Field → List (List ℕ)
+abbrev names : List MapEntry → List (List ℕ)
 names fs = map (λ f. f.name) fs
 
-abbrev field_named : List ℕ → Field
-field_named name = record { name = name; at = record { file = 0; line = 0; col = 0 }; value = Truth false }
+abbrev entry_named : List ℕ → MapEntry
+entry_named name = record { name = name; at = record { file = 0; line = 0; col = 0 }; value = Truth false }
 
-listed_names : (fields : Fields) → names (fields_of fields) ≡ field_names fields
-listed_names no_field = refl
-listed_names (field_and name at value more) = ap (λ l. name ∷ l) (listed_names more)
+listed_names : (fields : MapEntries) → names (map_entries_of fields) ≡ map_entry_names fields
+listed_names no_map_entry = refl
+listed_names (map_entry_and name at value more) = ap (λ l. name ∷ l) (listed_names more)
 
-listed_values : (fields : Fields) → FieldsHaveDistinctNames fields → All Kept (fields_of fields)
-listed_values no_field kept = All-nil Kept
-listed_values (field_and name at value more) kept =
-    All-cons Kept (record { name = name; at = at; value = value }) (fields_of more) kept.0 (listed_values more kept.1)
+listed_values : (fields : MapEntries) → EntriesHaveDistinctNames fields → All Kept (map_entries_of fields)
+listed_values no_map_entry kept = All-nil Kept
+listed_values (map_entry_and name at value more) kept =
+    All-cons Kept (record { name = name; at = at; value = value }) (map_entries_of more) kept.0
+    (listed_values more kept.1)
 
-names_then : (fs : List Field) → field_names (fields_then fs no_field) ≡ names fs
+names_then : (fs : List MapEntry) → map_entry_names (map_entries_then fs no_map_entry) ≡ names fs
 names_then [] = refl
 names_then (f ∷ fs) = ap (λ l. f.name ∷ l) (names_then fs)
 
-values_then : (fs : List Field) → All Kept fs → FieldsHaveDistinctNames (fields_then fs no_field)
+values_then : (fs : List MapEntry) → All Kept fs → EntriesHaveDistinctNames (map_entries_then fs no_map_entry)
 values_then [] kept = tt
 values_then (f ∷ fs) kept = (All-head Kept f fs kept, values_then fs (All-tail Kept f fs kept))
 
-whole_body : (fs : List Field) → AreDistinct (names fs) → All Kept fs → HasDistinctNames (body fs)
+whole_body : (fs : List MapEntry) → AreDistinct (names fs) → All Kept fs → HasDistinctNames (body fs)
 whole_body fs distinct kept = (subst AreDistinct (sym (names_then fs)) distinct, values_then fs kept)
 
-apart_from_names : (fs : List Field) → AreDistinct (names fs) → AllPairs Apart fs
+apart_from_names : (fs : List MapEntry) → AreDistinct (names fs) → AllPairs Apart fs
 apart_from_names fs distinct i j d less within same =
-    let long : length (names fs) ≡ length fs = length-map fs (λ (f : Field). f.name) in
+    let long : length (names fs) ≡ length fs = length-map fs (λ (f : MapEntry). f.name) in
     distinct i j d.name less (omega arith)
-    (get_or-map (λ (f : Field). f.name) fs i d d.name (omega arith)
+    (get_or-map (λ (f : MapEntry). f.name) fs i d d.name (omega arith)
     ∙ same
-    ∙ sym (get_or-map (λ (f : Field). f.name) fs j d d.name within))
+    ∙ sym (get_or-map (λ (f : MapEntry). f.name) fs j d d.name within))
 
-names_from_apart : (fs : List Field) → AllPairs Apart fs → AreDistinct (names fs)
+names_from_apart : (fs : List MapEntry) → AllPairs Apart fs → AreDistinct (names fs)
 names_from_apart fs apart i j d less within same =
-    let long : length (names fs) ≡ length fs = length-map fs (λ (f : Field). f.name) in
+    let long : length (names fs) ≡ length fs = length-map fs (λ (f : MapEntry). f.name) in
     let below : j < length fs = omega arith in
-    apart i j (field_named d) less below
-    (sym (get_or-map (λ (f : Field). f.name) fs i (field_named d) d (omega arith))
+    apart i j (entry_named d) less below
+    (sym (get_or-map (λ (f : MapEntry). f.name) fs i (entry_named d) d (omega arith))
     ∙ same
-    ∙ get_or-map (λ (f : Field). f.name) fs j (field_named d) d below)
+    ∙ get_or-map (λ (f : MapEntry). f.name) fs j (entry_named d) d below)
 
-head_apart : (f : Field) (fs : List Field) → AllPairs Apart (f ∷ fs) → All (Apart f) fs
+head_apart : (f : MapEntry) (fs : List MapEntry) → AllPairs Apart (f ∷ fs) → All (Apart f) fs
 head_apart f fs apart k d within = apart 0 (suc k) d (omega arith) (omega arith)
 
-tail_apart : (f : Field) (fs : List Field) → AllPairs Apart (f ∷ fs) → AllPairs Apart fs
+tail_apart : (f : MapEntry) (fs : List MapEntry) → AllPairs Apart (f ∷ fs) → AllPairs Apart fs
 tail_apart f fs apart i j d less within = apart (suc i) (suc j) d (omega arith) (omega arith)
 
-append_apart : (fs gs : List Field) → AllPairs Apart fs → AllPairs Apart gs → All (λ f. All (Apart f) gs) fs
+append_apart : (fs gs : List MapEntry) → AllPairs Apart fs → AllPairs Apart gs → All (λ f. All (Apart f) gs) fs
     → AllPairs Apart (fs ++ gs)
 append_apart [] gs first second cross = second
 append_apart (f ∷ fs) gs first second cross =
@@ -118,22 +120,23 @@ append_apart (f ∷ fs) gs first second cross =
     (All-append (Apart f) fs gs (head_apart f fs first) (All-head (λ g. All (Apart g) gs) f fs cross))
     (append_apart fs gs (tail_apart f fs first) second (All-tail (λ g. All (Apart g) gs) f fs cross))
 
-any_name : (q : List ℕ) (fs : List Field) → has_name fs q ≡ list_any (bytes_eq q) (names fs)
+any_name : (q : List ℕ) (fs : List MapEntry) → has_name fs q ≡ list_any (bytes_eq q) (names fs)
 any_name q [] = refl
 any_name q (f ∷ fs) = ap (λ b. bytes_eq q f.name || b) (any_name q fs)
 
--- no field of the first is named like one of the others
-others_apart : (fs firsts seconds : List Field) → names fs ≡ names firsts
+-- no entry of the first is named like one of the others
+others_apart : (fs firsts seconds : List MapEntry) → names fs ≡ names firsts
     → All (λ f. All (Apart f) (others seconds firsts)) fs
 others_apart fs firsts seconds named k d within j e behind same =
     let f = get_or fs k d in
     let g = get_or (others seconds firsts) j e in
     let passes : not (has_name firsts g.name) ≡ true =
-    filter_passes (λ (h : Field). not (has_name firsts h.name)) seconds j e behind in
-    let long : length (names fs) ≡ length fs = length-map fs (λ (h : Field). h.name) in
+    filter_passes (λ (h : MapEntry). not (has_name firsts h.name)) seconds j e behind in
+    let long : length (names fs) ≡ length fs = length-map fs (λ (h : MapEntry). h.name) in
     let found = list_any-from_Contains nat_list_eq_equiv (get_or (names fs) k d.name) (names fs)
     (Contains-get_or (names fs) k d.name (omega arith)) in
-    let here : get_or (names fs) k d.name ≡ g.name = get_or-map (λ (h : Field). h.name) fs k d d.name within ∙ same in
+    let here : get_or (names fs) k d.name ≡ g.name =
+    get_or-map (λ (h : MapEntry). h.name) fs k d d.name within ∙ same in
     let there : has_name firsts g.name ≡ true =
     any_name g.name firsts
     ∙ ap (list_any (bytes_eq g.name)) (sym named)
@@ -143,7 +146,7 @@ others_apart fs firsts seconds named k d within j e behind same =
 
 -- sums
 
-value_kept : (name : List ℕ) (fs : List Field) → All Kept fs → IfSome (value_at name fs) HasDistinctNames
+value_kept : (name : List ℕ) (fs : List MapEntry) → All Kept fs → IfSome (value_at name fs) HasDistinctNames
 value_kept name [] kept = tt
 value_kept name (f ∷ fs) kept = by (bytes_eq name f.name) (value_kept name fs (All-tail Kept f fs kept))
   where
@@ -152,21 +155,21 @@ value_kept name (f ∷ fs) kept = by (bytes_eq name f.name) (value_kept name fs 
     by true rest = All-head Kept f fs kept
     by false rest = rest
 
--- the fields of a first map, each with its sum
-abbrev Summed : Fields → List Field → Type 0
-Summed fields fs = (names fs ≡ field_names fields) × All Kept fs
+-- the entries of a first map, each with its sum
+abbrev Summed : MapEntries → List MapEntry → Type 0
+Summed fields fs = (names fs ≡ map_entry_names fields) × All Kept fs
 
-body_kept : (a : Fields) (seconds fs : List Field) → AreDistinct (field_names a) → AllPairs Apart seconds
-    → All Kept seconds → Summed a fs → HasDistinctNames (body (fs ++ others seconds (fields_of a)))
+body_kept : (a : MapEntries) (seconds fs : List MapEntry) → AreDistinct (map_entry_names a) → AllPairs Apart seconds
+    → All Kept seconds → Summed a fs → HasDistinctNames (body (fs ++ others seconds (map_entries_of a)))
 body_kept a seconds fs distinct apart kept summed =
-    let rest = others seconds (fields_of a) in
-    let test : Field → Bool = λ f. not (has_name (fields_of a) f.name) in
-    let named : names fs ≡ names (fields_of a) = summed.0 ∙ sym (listed_names a) in
+    let rest = others seconds (map_entries_of a) in
+    let test : MapEntry → Bool = λ f. not (has_name (map_entries_of a) f.name) in
+    let named : names fs ≡ names (map_entries_of a) = summed.0 ∙ sym (listed_names a) in
     whole_body (fs ++ rest)
     (names_from_apart (fs ++ rest) (append_apart fs rest
     (apart_from_names fs (subst AreDistinct (sym summed.0) distinct))
     (AllPairs-filter Apart test seconds apart)
-    (others_apart fs (fields_of a) seconds named)))
+    (others_apart fs (map_entries_of a) seconds named)))
     (All-append Kept fs rest summed.1 (All-filter test Kept seconds kept))
 
 number_kept : (at : Place) (a : ℤ) (b : Meaning) → IfOk (sum_number at a b) HasDistinctNames
@@ -185,16 +188,16 @@ items_kept at a (Items b) =
     (anything (list_within MOST_LIST_ITEMS (codes "list") at (a ++ b))) (λ c any. tt)
 items_kept at a _ = tt
 
-map_kept : (at : Place) (a : Fields) (each : List Field → Result (List Field) Fault) (b : Meaning)
-    → AreDistinct (field_names a) → HasDistinctNames b
-    → ((seconds : List Field) → All Kept seconds → IfOk (each seconds) (Summed a))
+map_kept : (at : Place) (a : MapEntries) (each : List MapEntry → Result (List MapEntry) Fault) (b : Meaning)
+    → AreDistinct (map_entry_names a) → HasDistinctNames b
+    → ((seconds : List MapEntry) → All Kept seconds → IfOk (each seconds) (Summed a))
     → IfOk (sum_body at a each b) HasDistinctNames
 map_kept at a each (Body b) distinct whole rest =
     let kept = listed_values b whole.1 in
-    let apart = apart_from_names (fields_of b) (subst AreDistinct (sym (listed_names b)) whole.0) in
-    if_then (Summed a) HasDistinctNames (each (fields_of b))
-    (λ fs. Ok (body (fs ++ others (fields_of b) (fields_of a)))) (rest (fields_of b) kept)
-    (λ fs summed. body_kept a (fields_of b) fs distinct apart kept summed)
+    let apart = apart_from_names (map_entries_of b) (subst AreDistinct (sym (listed_names b)) whole.0) in
+    if_then (Summed a) HasDistinctNames (each (map_entries_of b))
+    (λ fs. Ok (body (fs ++ others (map_entries_of b) (map_entries_of a)))) (rest (map_entries_of b) kept)
+    (λ fs summed. body_kept a (map_entries_of b) fs distinct apart kept summed)
 map_kept at a each _ distinct whole rest = tt
 
 met_kept : (value : Meaning) (add : Meaning → Result Meaning Fault) (o : Option Meaning) → HasDistinctNames value
@@ -212,18 +215,19 @@ mutual
   sum_kept (Str a) at b first second = text_kept at a b
   sum_kept (Items a) at b first second = items_kept at a b
   sum_kept (Body a) at b first second =
-      map_kept at a (sum_fields at a) b first.0 second (λ seconds kept. fields_kept a at seconds first.1 kept)
+      map_kept at a (sum_entries at a) b first.0 second (λ seconds kept. map_entries_kept a at seconds first.1 kept)
 
-  fields_kept : (a : Fields) (at : Place) (seconds : List Field) → FieldsHaveDistinctNames a → All Kept seconds
-      → IfOk (sum_fields at a seconds) (Summed a)
-  fields_kept no_field at seconds first kept = (refl, All-nil Kept)
-  fields_kept (field_and name place value more) at seconds first kept =
-      if_then HasDistinctNames (Summed (field_and name place value more))
+  map_entries_kept : (a : MapEntries) (at : Place) (seconds : List MapEntry) → EntriesHaveDistinctNames a
+      → All Kept seconds
+      → IfOk (sum_entries at a seconds) (Summed a)
+  map_entries_kept no_map_entry at seconds first kept = (refl, All-nil Kept)
+  map_entries_kept (map_entry_and name place value more) at seconds first kept =
+      if_then HasDistinctNames (Summed (map_entry_and name place value more))
       (combined_value value (sum at value) (value_at name seconds)) _
       (met_kept value (sum at value) (value_at name seconds) first.0 (value_kept name seconds kept)
       (λ w other. sum_kept value at w first.0 other))
-      (λ v whole. if_then (Summed more) (Summed (field_and name place value more)) (sum_fields at more seconds) _
-      (fields_kept more at seconds first.1 kept)
+      (λ v whole. if_then (Summed more) (Summed (map_entry_and name place value more)) (sum_entries at more seconds) _
+      (map_entries_kept more at seconds first.1 kept)
       (λ fs summed.
       (ap (λ l. name ∷ l) summed.0, All-cons Kept (record { name = name; at = place; value = v }) fs whole summed.1)))
 
@@ -253,8 +257,8 @@ atom_kept scope at (tree.Number n) kept = tt
 atom_kept scope at (tree.Str text) kept = tt
 atom_kept scope at (tree.Name name) kept = known_kept at name (value_in scope name) (in_scope name scope kept)
 
--- the fields of a map literal
-abbrev Evaluated : Entries → List Field → Type 0
+-- the entries of a map literal
+abbrev Evaluated : Entries → List MapEntry → Type 0
 Evaluated es fs = (names fs ≡ written.entry_names es) × All Kept fs
 
 items_any : (r : Result (List Item) Fault) (at : Place) → IfOk (then_do r
@@ -264,10 +268,10 @@ items_any r at =
     (λ l any. if_then (λ m. ⊤) HasDistinctNames (list_within MOST_LIST_ITEMS (codes "list") at l) (λ m. Ok (Items m))
     (anything (list_within MOST_LIST_ITEMS (codes "list") at l)) (λ m also. tt))
 
-nested_kept : (r : Result (List Field) Fault) (at : Place) (es : Entries) → AreDistinct (written.entry_names es)
-    → IfOk r (Evaluated es) → IfOk (then_do r (λ fs. nested_fields at fs)) (λ fs. HasDistinctNames (body fs))
+nested_kept : (r : Result (List MapEntry) Fault) (at : Place) (es : Entries) → AreDistinct (written.entry_names es)
+    → IfOk r (Evaluated es) → IfOk (then_do r (λ fs. nested_entries at fs)) (λ fs. HasDistinctNames (body fs))
 nested_kept r at es distinct found =
-    if_then (Evaluated es) (λ fs. HasDistinctNames (body fs)) r (λ fs. nested_fields at fs) found
+    if_then (Evaluated es) (λ fs. HasDistinctNames (body fs)) r (λ fs. nested_entries at fs) found
     (λ fs e.
     if_test (λ gs. HasDistinctNames (body gs)) _ fs _ (whole_body fs (subst AreDistinct (sym e.0) distinct) e.1))
 
@@ -278,7 +282,7 @@ mutual
   val_kept (tree.Items at items) scope kept distinct = items_any (val_items scope items) at
   val_kept (tree.Body at entries) scope kept distinct =
       if_then (λ fs. HasDistinctNames (body fs)) HasDistinctNames
-      (then_do (val_entries scope entries) (λ fs. nested_fields at fs)) (λ fs. Ok (body fs))
+      (then_do (val_entries scope entries) (λ fs. nested_entries at fs)) (λ fs. Ok (body fs))
       (nested_kept (val_entries scope entries) at entries distinct.0
       (entries_kept entries scope kept distinct.1)) (λ fs whole. whole)
   val_kept (tree.Sum first terms) scope kept distinct =

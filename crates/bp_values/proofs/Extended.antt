@@ -9,7 +9,7 @@ use Rattle.bp_faults.specs.declared.fault.Fault.{Fault}
 use Rattle.bp_faults.specs.declared.kind.FaultKind.TheVariants.{AfterUse}
 use Rattle.bp_faults.specs.declared.place.Place.{Place}
 use Rattle.bp_parser.specs.Trees.{Tree, Map, Definition, Assigns, Extends, Declares}
-use Rattle.bp_values.specs.Values.{Meaning, Field}
+use Rattle.bp_values.specs.Values.{Meaning, MapEntry}
 use Rattle.bp_values.specs.Sums.{sum}
 use Rattle.bp_values.specs.Scopes.{Pairs, value_in}
 use Rattle.bp_values.specs.Expressions.{val, val_map}
@@ -117,7 +117,7 @@ declaration : (inherited : Pairs) (ds : List Definition) → AreSame inherited d
     ≡ last (more inherited ds (after_module (known scope other modules) kind at m))
 declaration inherited ds rest scope one other modules kind at m agree = by (val_map scope m.at m.entries)
   where
-    by : (r : Result (List Field) Fault)
+    by : (r : Result (List MapEntry) Fault)
         → last (more inherited ds (then_do r (λ fs. Ok (with_module (known scope one modules) kind at m fs))))
         ≡ last (more inherited ds (then_do r (λ fs. Ok (with_module (known scope other modules) kind at m fs))))
     by (Ok fs) =

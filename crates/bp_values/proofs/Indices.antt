@@ -23,57 +23,59 @@ use Rattle.bp_faults.specs.declared.refusal.Refusal.TheVariants.{Bad, OutOfMemor
 use Rattle.bp_faults.specs.Answers.{then_do, Refuses}
 use Rattle.bp_values.specs.declared.value.Value.{Value}
 use Rattle.bp_values.specs.declared.value.Entry.{Entry, out-Entry}
-use Rattle.bp_values.specs.Values.{Meaning, meaning, Field, field_of, fields_then, no_field, body}
-use Rattle.bp_values.specs.Sums.{sum, sum_fields, field_then, combined_value, value_at, has_name, others}
+use Rattle.bp_values.specs.Values.{Meaning, meaning, MapEntry, map_entry_of, map_entries_then, no_map_entry, body}
+use Rattle.bp_values.specs.Sums.{sum, sum_entries, map_entry_then, combined_value, value_at, has_name, others}
 use Rattle.bp_values.specs.Indices.{Search, names_in, index_in, AreApart, IsIndexed, is_index, value_for}
-use Rattle.bp_values.specs.Indices.{unindexed_fields, sum_at_each, sum_at}
-use Rattle.bp_values.proofs.Views.{field_out}
+use Rattle.bp_values.specs.Indices.{unindexed_entries, sum_at_each, sum_at}
+use Rattle.bp_values.proofs.Views.{entry_out}
 use Rattle.bp_values.proofs.Steps.{map_take_more}
 use Rattle.bp_values.proofs.Unite.{sum_bodies}
 
 -- no value is added
-pub sum_none : (at : Place) (fs : List Field) (g : ℕ → Option Meaning) → ((i : ℕ) → g i ≡ None)
+pub sum_none : (at : Place) (fs : List MapEntry) (g : ℕ → Option Meaning) → ((i : ℕ) → g i ≡ None)
     → sum_at_each at fs g ≡ Ok fs
 sum_none at [] g none = refl
 sum_none at (f ∷ fs) g none =
-    λ i. field_then f.name f.at (combined_value f.value (sum at f.value) (none 0 i))
+    λ i. map_entry_then f.name f.at (combined_value f.value (sum at f.value) (none 0 i))
     (sum_none at fs (λ k. g (suc k)) (λ k. none (suc k)) i)
 
 -- of the values that are left, that at the first index is added first
-pub sum_next : (at : Place) (fs : List Field) (p : ℕ) (v : Meaning) (g h : ℕ → Option Meaning)
+pub sum_next : (at : Place) (fs : List MapEntry) (p : ℕ) (v : Meaning) (g h : ℕ → Option Meaning)
     → ((i : ℕ) → i < p → g i ≡ None) → g p ≡ Some v → ((i : ℕ) → i ≤ p → h i ≡ None) → ((i : ℕ) → p < i → g i ≡ h i)
     → sum_at_each at fs g ≡ then_do (sum_at at fs p v) (λ gs. sum_at_each at gs h)
 sum_next at [] p v g h below here none above = refl
 sum_next at (f ∷ fs) zero v g h below here none above =
-    ap (λ o. field_then f.name f.at (combined_value f.value (sum at f.value) o) (sum_at_each at fs (λ i. g (suc i))))
+    ap (λ o.
+    map_entry_then f.name f.at (combined_value f.value (sum at f.value) o) (sum_at_each at fs (λ i. g (suc i))))
     here
     ∙ by (sum at f.value v)
   where
-    by : (r : Result Meaning Fault) → field_then f.name f.at r (sum_at_each at fs (λ i. g (suc i)))
+    by : (r : Result Meaning Fault) → map_entry_then f.name f.at r (sum_at_each at fs (λ i. g (suc i)))
         ≡ then_do (then_do r (λ w. Ok ((record { name = f.name; at = f.at; value = w }) ∷ fs)))
         (λ gs. sum_at_each at gs h)
     by (Err e) = refl
     by (Ok w) =
-        λ j. field_then f.name f.at (combined_value w (sum at w) (sym (none 0 (omega arith)) j))
+        λ j. map_entry_then f.name f.at (combined_value w (sum at w) (sym (none 0 (omega arith)) j))
         (sum_at_each at fs (λ i. above (suc i) (omega arith) j))
 sum_next at (f ∷ fs) (suc p) v g h below here none above =
-    ap (λ o. field_then f.name f.at (combined_value f.value (sum at f.value) o) (sum_at_each at fs (λ i. g (suc i))))
+    ap (λ o.
+    map_entry_then f.name f.at (combined_value f.value (sum at f.value) o) (sum_at_each at fs (λ i. g (suc i))))
     (below 0 (omega arith))
-    ∙ ap (λ r. field_then f.name f.at (Ok f.value) r)
+    ∙ ap (λ r. map_entry_then f.name f.at (Ok f.value) r)
     (sum_next at fs p v (λ i. g (suc i)) (λ i. h (suc i)) (λ i lt. below (suc i) (omega arith)) here
     (λ i le. none (suc i) (omega arith)) (λ i lt. above (suc i) (omega arith)))
     ∙ by (sum_at at fs p v)
   where
-    by : (r : Result (List Field) Fault)
-        → field_then f.name f.at (Ok f.value) (then_do r (λ gs. sum_at_each at gs (λ i. h (suc i))))
+    by : (r : Result (List MapEntry) Fault)
+        → map_entry_then f.name f.at (Ok f.value) (then_do r (λ gs. sum_at_each at gs (λ i. h (suc i))))
         ≡ then_do (then_do r (λ gs. Ok (f ∷ gs))) (λ gs. sum_at_each at gs h)
     by (Err e) = refl
     by (Ok gs) =
-        λ j. field_then f.name f.at (combined_value f.value (sum at f.value) (sym (none 0 (omega arith)) j))
+        λ j. map_entry_then f.name f.at (combined_value f.value (sum at f.value) (sym (none 0 (omega arith)) j))
         (sum_at_each at gs (λ i. h (suc i)))
 
 -- sums keep the names
-pub sum_keeps : (at : Place) (fs gs : List Field) (g : ℕ → Option Meaning) → sum_at_each at fs g ≡ Ok gs
+pub sum_keeps : (at : Place) (fs gs : List MapEntry) (g : ℕ → Option Meaning) → sum_at_each at fs g ≡ Ok gs
     → names_in gs ≡ names_in fs
 sum_keeps at [] gs g is =
     let same : [] ≡ gs = cc in
@@ -82,9 +84,9 @@ sum_keeps at (f ∷ fs) gs g is =
     by (combined_value f.value (sum at f.value) (g 0)) (sum_at_each at fs (λ i. g (suc i)))
     (λ hs. sum_keeps at fs hs (λ i. g (suc i))) is
   where
-    by : (r : Result Meaning Fault) (s : Result (List Field) Fault)
-        → ((hs : List Field) → s ≡ Ok hs → names_in hs ≡ names_in fs)
-        → field_then f.name f.at r s ≡ Ok gs → names_in gs ≡ names_in (f ∷ fs)
+    by : (r : Result Meaning Fault) (s : Result (List MapEntry) Fault)
+        → ((hs : List MapEntry) → s ≡ Ok hs → names_in hs ≡ names_in fs)
+        → map_entry_then f.name f.at r s ≡ Ok gs → names_in gs ≡ names_in (f ∷ fs)
     by (Err e) s rest is = cc
     by (Ok v) (Err e) rest is = cc
     by (Ok v) (Ok hs) rest is =
@@ -99,7 +101,7 @@ eqb_suc p i = by (eqb p i) refl
     by false e = ne_eqb (suc p) (suc i) (λ h. eqb-false p i e (omega arith))
 
 -- the value for the first name's index
-first_value : (name : List ℕ) (names : List (List ℕ)) (fs : List Field)
+first_value : (name : List ℕ) (names : List (List ℕ)) (fs : List MapEntry)
     → value_for (index_in (name ∷ names)) 0 fs ≡ value_at name fs
 first_value name names [] = refl
 first_value name names (f ∷ fs) =
@@ -116,7 +118,7 @@ first_value name names (f ∷ fs) =
         ∙ rest
 
 -- the values for the other indices
-other_values : (name : List ℕ) (names : List (List ℕ)) (fs : List Field) (i : ℕ) → index_in names name ≡ None
+other_values : (name : List ℕ) (names : List (List ℕ)) (fs : List MapEntry) (i : ℕ) → index_in names name ≡ None
     → value_for (index_in (name ∷ names)) (suc i) fs ≡ value_for (index_in names) i fs
 other_values name names [] i none = refl
 other_values name names (f ∷ fs) i none =
@@ -139,24 +141,25 @@ other_values name names (f ∷ fs) i none =
         ∙ ap (λ r. cond (eqb p i) (Some f.value) r) rest
 
 -- the sums at the indices are those by the names
-by_indices : (at : Place) (fs second : List Field) → AreApart (names_in fs) → sum_at_each at fs
-    (λ i. value_for (index_in (names_in fs)) i second) ≡ sum_fields at (fields_then fs no_field) second
+by_indices : (at : Place) (fs second : List MapEntry) → AreApart (names_in fs) → sum_at_each at fs
+    (λ i. value_for (index_in (names_in fs)) i second) ≡ sum_entries at (map_entries_then fs no_map_entry) second
 by_indices at [] second apart = refl
 by_indices at (f ∷ fs) second apart =
-    (λ j. field_then f.name f.at (combined_value f.value (sum at f.value) (first_value f.name (names_in fs) second j))
+    (λ j.
+    map_entry_then f.name f.at (combined_value f.value (sum at f.value) (first_value f.name (names_in fs) second j))
     (sum_at_each at fs (λ i. other_values f.name (names_in fs) second i apart.0 j)))
-    ∙ ap (λ r. field_then f.name f.at (combined_value f.value (sum at f.value) (value_at f.name second)) r)
+    ∙ ap (λ r. map_entry_then f.name f.at (combined_value f.value (sum at f.value) (value_at f.name second)) r)
     (by_indices at fs second apart.1)
 
-pub sums_by_names : (at : Place) (search : Search) (fs second : List Field) (g : ℕ → Option Meaning)
+pub sums_by_names : (at : Place) (search : Search) (fs second : List MapEntry) (g : ℕ → Option Meaning)
     → IsIndexed search (names_in fs) → ((i : ℕ) → g i ≡ value_for search i second)
-    → sum_at_each at fs g ≡ sum_fields at (fields_then fs no_field) second
+    → sum_at_each at fs g ≡ sum_entries at (map_entries_then fs no_map_entry) second
 sums_by_names at search fs second g indexed same =
     ap (λ h. sum_at_each at fs h) (λ j i. same i j)
     ∙ ap (λ s. sum_at_each at fs (λ i. value_for s i second)) (λ j q. indexed.indices q j)
     ∙ by_indices at fs second indexed.apart
 
-has_indexed : (name : List ℕ) (fs : List Field) → is_some (index_in (names_in fs) name) ≡ has_name fs name
+has_indexed : (name : List ℕ) (fs : List MapEntry) → is_some (index_in (names_in fs) name) ≡ has_name fs name
 has_indexed name [] = refl
 has_indexed name (f ∷ fs) = by (bytes_eq name f.name) (index_in (names_in fs) name) (has_indexed name fs)
   where
@@ -166,8 +169,8 @@ has_indexed name (f ∷ fs) = by (bytes_eq name f.name) (index_in (names_in fs) 
     by false None e = e
     by false (Some i) e = e
 
-pub others_unindexed : (search : Search) (first second : List Field) → IsIndexed search (names_in first)
-    → unindexed_fields search second ≡ others second first
+pub others_unindexed : (search : Search) (first second : List MapEntry) → IsIndexed search (names_in first)
+    → unindexed_entries search second ≡ others second first
 others_unindexed search first second indexed =
     ap (λ (test : List ℕ → Bool). filter (λ f. not (test f.name)) second)
     (λ j q. (ap is_some (indexed.indices q) ∙ has_indexed q first) j)
@@ -184,7 +187,7 @@ index_within (first ∷ names) name i is = by (bytes_eq name first) (index_in na
     by false (Some j) rest is = let here : i ≡ suc j = cc in let k = rest j refl in omega arith
 
 -- behind the last index there is no value
-pub none_behind : (search : Search) (names : List (List ℕ)) (fs : List Field) (i : ℕ) → IsIndexed search names
+pub none_behind : (search : Search) (names : List (List ℕ)) (fs : List MapEntry) (i : ℕ) → IsIndexed search names
     → length names ≤ i → value_for search i fs ≡ None
 none_behind search names [] i indexed le = refl
 none_behind search names (f ∷ fs) i indexed le =
@@ -264,34 +267,38 @@ indexed_more old new names now name n indexed none count learned is = subst (λ 
 -- where the value of an entry is replaced by its sum
 pub replaced : (at : Place) (es : List Entry) (p : ℕ) (other w : Meaning) (e new : Entry) → p < length es
     → get_or es p e ≡ e → sum at (meaning (out-Entry e).value) other ≡ Ok w
-    → field_of new ≡ record { name = (out-Entry e).name; at = (out-Entry e).at; value = w }
-    → sum_at at (map field_of es) p other ≡ Ok (map field_of (set es p new))
+    → map_entry_of new ≡ record { name = (out-Entry e).name; at = (out-Entry e).at; value = w }
+    → sum_at at (map map_entry_of es) p other ≡ Ok (map map_entry_of (set es p new))
 replaced at [] p other w e new lt here is made = absurd (omega arith)
 replaced at (x ∷ es) zero other w e new lt here is made =
     ap (λ f. then_do (sum at f.value other)
-    (λ v. Ok ((record { name = f.name; at = f.at; value = v }) ∷ map field_of es))) (ap field_of here ∙ field_out e)
+    (λ v. Ok ((record { name = f.name; at = f.at; value = v }) ∷ map map_entry_of es)))
+    (ap map_entry_of here ∙ entry_out e)
     ∙ ap (λ r.
-    then_do r (λ v. Ok ((record { name = (out-Entry e).name; at = (out-Entry e).at; value = v }) ∷ map field_of es))) is
-    ∙ ap (λ f. Ok (f ∷ map field_of es)) (sym made)
+    then_do r
+    (λ v. Ok ((record { name = (out-Entry e).name; at = (out-Entry e).at; value = v }) ∷ map map_entry_of es))) is
+    ∙ ap (λ f. Ok (f ∷ map map_entry_of es)) (sym made)
 replaced at (x ∷ es) (suc p) other w e new lt here is made =
-    ap (λ r. then_do r (λ gs. Ok (field_of x ∷ gs))) (replaced at es p other w e new (omega arith) here is made)
+    ap (λ r. then_do r (λ gs. Ok (map_entry_of x ∷ gs))) (replaced at es p other w e new (omega arith) here is made)
 
 -- where it has no sum
 not_replaced : (at : Place) (es : List Entry) (p : ℕ) (other : Meaning) (e : Entry) (fault : Fault) → p < length es
     → get_or es p e ≡ e → sum at (meaning (out-Entry e).value) other ≡ Err fault
-    → sum_at at (map field_of es) p other ≡ Err fault
+    → sum_at at (map map_entry_of es) p other ≡ Err fault
 not_replaced at [] p other e fault lt here is = absurd (omega arith)
 not_replaced at (x ∷ es) zero other e fault lt here is =
     ap (λ f. then_do (sum at f.value other)
-    (λ v. Ok ((record { name = f.name; at = f.at; value = v }) ∷ map field_of es))) (ap field_of here ∙ field_out e)
+    (λ v. Ok ((record { name = f.name; at = f.at; value = v }) ∷ map map_entry_of es)))
+    (ap map_entry_of here ∙ entry_out e)
     ∙ ap (λ r.
-    then_do r (λ v. Ok ((record { name = (out-Entry e).name; at = (out-Entry e).at; value = v }) ∷ map field_of es))) is
+    then_do r
+    (λ v. Ok ((record { name = (out-Entry e).name; at = (out-Entry e).at; value = v }) ∷ map map_entry_of es))) is
 not_replaced at (x ∷ es) (suc p) other e fault lt here is =
-    ap (λ r. then_do r (λ gs. Ok (field_of x ∷ gs))) (not_replaced at es p other e fault (omega arith) here is)
+    ap (λ r. then_do r (λ gs. Ok (map_entry_of x ∷ gs))) (not_replaced at es p other e fault (omega arith) here is)
 
 pub refused_at : (at : Place) (es : List Entry) (p : ℕ) (other : Meaning) (e : Entry) (refusal : Refusal)
     → p < length es → get_or es p e ≡ e → Refuses refusal (sum at (meaning (out-Entry e).value) other)
-    → Refuses refusal (sum_at at (map field_of es) p other)
+    → Refuses refusal (sum_at at (map map_entry_of es) p other)
 refused_at at es p other e (Bad fault) lt here is = not_replaced at es p other e fault lt here is
 refused_at at es p other e OutOfMemory lt here is = tt
 
@@ -301,35 +308,37 @@ none_of (Some n) h = cc
 
 -- one entry more, which no search found before
 pub indexed_entry : (old new : Search) (es : List Entry) (i : ℕ) (e : Entry) → i < length es → e ≡ get_or es i e
-    → IsIndexed old (names_in (map field_of (take i es))) → is_some (old (field_of e).name) ≡ false
-    → ((q : List ℕ) → new q ≡ cond (bytes_eq (field_of e).name q) (Some i) (old q))
-    → IsIndexed new (names_in (map field_of (take (i + 1) es)))
+    → IsIndexed old (names_in (map map_entry_of (take i es))) → is_some (old (map_entry_of e).name) ≡ false
+    → ((q : List ℕ) → new q ≡ cond (bytes_eq (map_entry_of e).name q) (Some i) (old q))
+    → IsIndexed new (names_in (map map_entry_of (take (i + 1) es)))
 indexed_entry old new es i e lt is indexed missed learned =
-    let done : List Field = map field_of (take i es) in
+    let done : List MapEntry = map map_entry_of (take i es) in
     let count : length (names_in done) ≡ i =
-    length-map done (λ (f : Field). f.name) ∙ length-map (take i es) field_of ∙ length-take-le i es (omega arith) in
-    indexed_more old new (names_in done) (names_in (map field_of (take (i + 1) es))) (field_of e).name i indexed
-    (none_of (old (field_of e).name) missed) (sym count) learned
-    (ap names_in (map_take_more field_of es i e lt)
-    ∙ map-append (λ (f : Field). f.name) done (field_of (get_or es i e) ∷ [])
-    ∙ ap (λ x. names_in done ++ (field_of x).name ∷ []) (sym is))
+    length-map done (λ (f : MapEntry). f.name)
+    ∙ length-map (take i es) map_entry_of
+    ∙ length-take-le i es (omega arith) in
+    indexed_more old new (names_in done) (names_in (map map_entry_of (take (i + 1) es))) (map_entry_of e).name i indexed
+    (none_of (old (map_entry_of e).name) missed) (sym count) learned
+    (ap names_in (map_take_more map_entry_of es i e lt)
+    ∙ map-append (λ (f : MapEntry). f.name) done (map_entry_of (get_or es i e) ∷ [])
+    ∙ ap (λ x. names_in done ++ (map_entry_of x).name ∷ []) (sym is))
 
 -- all entries have been gone through
 pub indexed_all : (search : Search) (es : List Entry) (i : ℕ) → length es ≤ i
-    → IsIndexed search (names_in (map field_of (take i es))) → IsIndexed search (names_in (map field_of es))
+    → IsIndexed search (names_in (map map_entry_of (take i es))) → IsIndexed search (names_in (map map_entry_of es))
 indexed_all search es i le indexed =
-    subst (λ l. IsIndexed search (names_in (map field_of l))) (take_all i es le) indexed
+    subst (λ l. IsIndexed search (names_in (map map_entry_of l))) (take_all i es le) indexed
 
 -- the entries with their sums have the same indices
-pub indexed_summed : (at : Place) (search : Search) (first summed : List Field) (g : ℕ → Option Meaning)
+pub indexed_summed : (at : Place) (search : Search) (first summed : List MapEntry) (g : ℕ → Option Meaning)
     → IsIndexed search (names_in first) → sum_at_each at first g ≡ Ok summed → IsIndexed search (names_in summed)
 indexed_summed at search first summed g indexed is =
     subst (λ ns. IsIndexed search ns) (sym (sum_keeps at first summed g is)) indexed
 
 -- the sum of two maps, once the shared values are added and the others put behind
-pub indexed_sum : (at : Place) (search : Search) (first second summed left all : List Field) (g : ℕ → Option Meaning)
+pub indexed_sum : (at : Place) (search : Search) (first second summed left all : List MapEntry) (g : ℕ → Option Meaning)
     → IsIndexed search (names_in first) → ((i : ℕ) → g i ≡ value_for search i second)
-    → left ≡ unindexed_fields search second → all ≡ summed ++ left → sum_at_each at first g ≡ Ok summed
+    → left ≡ unindexed_entries search second → all ≡ summed ++ left → sum_at_each at first g ≡ Ok summed
     → sum at (body first) (body second) ≡ Ok (body all)
 indexed_sum at search first second summed left all g indexed values others_are is each =
     sum_bodies at first second
@@ -339,7 +348,7 @@ indexed_sum at search first second summed left all g indexed values others_are i
     ∙ ap (λ l. Ok (body l)) (sym is)
 
 -- where the shared values have no sum, the maps have none
-indexed_fault : (at : Place) (search : Search) (first second : List Field) (g : ℕ → Option Meaning) (fault : Fault)
+indexed_fault : (at : Place) (search : Search) (first second : List MapEntry) (g : ℕ → Option Meaning) (fault : Fault)
     → IsIndexed search (names_in first) → ((i : ℕ) → g i ≡ value_for search i second)
     → sum_at_each at first g ≡ Err fault → sum at (body first) (body second) ≡ Err fault
 indexed_fault at search first second g fault indexed values each =
@@ -347,7 +356,7 @@ indexed_fault at search first second g fault indexed values each =
     ∙ ap (λ r. then_do r (λ hs. Ok (body (hs ++ others second first))))
     (sym (sums_by_names at search first second g indexed values) ∙ each)
 
-pub indexed_refusal : (at : Place) (search : Search) (first second : List Field) (g : ℕ → Option Meaning)
+pub indexed_refusal : (at : Place) (search : Search) (first second : List MapEntry) (g : ℕ → Option Meaning)
     (refusal : Refusal) → IsIndexed search (names_in first) → ((i : ℕ) → g i ≡ value_for search i second)
     → Refuses refusal (sum_at_each at first g) → Refuses refusal (sum at (body first) (body second))
 indexed_refusal at search first second g (Bad fault) indexed values refused =
@@ -368,7 +377,8 @@ above p i (e ∷ left) all le =
     ∙ above p i left all.1 le
 
 -- the value at the first index that is left is added
-pub sum_left : (at : Place) (fs : List Field) (left rest : List (ℕ × Value)) (p : ℕ) (v : Value) → left ≡ (p, v) ∷ rest
+pub sum_left : (at : Place) (fs : List MapEntry) (left rest : List (ℕ × Value)) (p : ℕ) (v : Value)
+    → left ≡ (p, v) ∷ rest
     → IsStrictlySortedBy nat_cmp (keys_of left)
     → sum_at_each at fs (value_left left)
     ≡ then_do (sum_at at fs p (meaning v)) (λ gs. sum_at_each at gs (value_left rest))

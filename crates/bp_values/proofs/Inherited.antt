@@ -9,7 +9,7 @@ use Rattle.bp_faults.specs.declared.place.Place.{Place}
 use Rattle.bp_faults.specs.Answers.{then_do}
 use Rattle.bp_faults.specs.Faults.{fault_on}
 use Rattle.bp_parser.specs.Trees.{Tree, Definition, Assigns, Extends, Declares}
-use Rattle.bp_values.specs.Values.{Meaning, Field}
+use Rattle.bp_values.specs.Values.{Meaning, MapEntry}
 use Rattle.bp_values.specs.Sums.{sum}
 use Rattle.bp_values.specs.Scopes.{Pairs, value_in, Keeps}
 use Rattle.bp_values.specs.Expressions.{val, val_map}
@@ -79,7 +79,7 @@ definition_keeps before k next (Extends name at e) keeps is =
     own_extension_keeps before k next name at e (value_in before name) refl keeps is
 definition_keeps before k next (Declares kind at m) keeps is = by (val_map k.scope m.at m.entries) is
   where
-    by : (r : Result (List Field) Fault) → then_do r (λ fs. Ok (with_module k kind at m fs)) ≡ Ok next
+    by : (r : Result (List MapEntry) Fault) → then_do r (λ fs. Ok (with_module k kind at m fs)) ≡ Ok next
         → Keeps before next.scope
     by (Err f) is = cc
     by (Ok fs) is =

@@ -13,13 +13,13 @@ use Rattle.bp_values.specs.declared.map_indices.MapIndices.TheFolds.{fold_out-Ma
 use Rattle.bp_values.specs.declared.map_indices.MapIndices.TheViews.{roll-MapIndices, the_lemmas as the_views}
 use Rattle.bp_values.specs.declared.index_table.IndexTable.{IndexTable}
 use Rattle.bp_values.specs.declared.value.Entry.{Entry, out-Entry}
-use Rattle.bp_values.specs.Values.{Meaning, meaning, Field, field_of, body}
+use Rattle.bp_values.specs.Values.{Meaning, meaning, MapEntry, map_entry_of, body}
 use Rattle.bp_values.specs.IndexTable.{found_index}
 use Rattle.bp_values.specs.Indices.{Search, IsIndexed, names_in}
 use Rattle.bp_values.specs.MapIndices.{Way, value_there, value_below, value_under, search_then, indices_step, search_at}
 use Rattle.bp_values.specs.MapIndices.{search_of, Finds, IndicesOf, AreKnown}
 use Rattle.bp_values.proofs.Indices.{eqb_suc}
-use Rattle.bp_values.proofs.Unite.{fields_back}
+use Rattle.bp_values.proofs.Unite.{entries_back}
 use Rattle.bp_values.proofs.Views.{value_out}
 
 -- the search for the names of the map itself
@@ -52,33 +52,33 @@ search_below p index way =
     by (Some q) = refl
 
 -- the indices of a map are those of its names, and what is known of its entries' values
-pub names_known : (p : MapIndices) (fs : List Field) → IndicesOf (Some p) (Some (body fs))
+pub names_known : (p : MapIndices) (fs : List MapEntry) → IndicesOf (Some p) (Some (body fs))
     → IsIndexed (found_index (out-MapIndices p).names) (names_in fs)
 names_known p fs of =
-    subst (λ (l : List Field). IsIndexed (found_index (out-MapIndices p).names) (names_in l)) (fields_back fs)
+    subst (λ (l : List MapEntry). IsIndexed (found_index (out-MapIndices p).names) (names_in l)) (entries_back fs)
     (subst (λ (s : Option Search). Finds s (Some (body fs))) (search_here p) (of []))
 
-pub values_known : (p : MapIndices) (fs : List Field) → IndicesOf (Some p) (Some (body fs))
+pub values_known : (p : MapIndices) (fs : List MapEntry) → IndicesOf (Some p) (Some (body fs))
     → AreKnown (out-MapIndices p).below fs
 values_known p fs of index way =
-    subst (λ (l : List Field). Finds (search_of (get nat_cmp (out-MapIndices p).below index) way)
-    (value_under (value_there index l) way)) (fields_back fs)
+    subst (λ (l : List MapEntry). Finds (search_of (get nat_cmp (out-MapIndices p).below index) way)
+    (value_under (value_there index l) way)) (entries_back fs)
     (subst (λ (s : Option Search). Finds s (value_under (value_below (Some (body fs)) index) way))
     (search_below p index way) (of (index ∷ way)))
 
-pub map_known : (p : MapIndices) (fs : List Field) → IsIndexed (found_index (out-MapIndices p).names) (names_in fs)
+pub map_known : (p : MapIndices) (fs : List MapEntry) → IsIndexed (found_index (out-MapIndices p).names) (names_in fs)
     → AreKnown (out-MapIndices p).below fs → IndicesOf (Some p) (Some (body fs))
 map_known p fs indexed known [] =
     subst (λ (s : Option Search). Finds s (Some (body fs))) (sym (search_here p))
-    (subst (λ (l : List Field). IsIndexed (found_index (out-MapIndices p).names) (names_in l))
-    (sym (fields_back fs)) indexed)
+    (subst (λ (l : List MapEntry). IsIndexed (found_index (out-MapIndices p).names) (names_in l))
+    (sym (entries_back fs)) indexed)
 map_known p fs indexed known (index ∷ way) =
     subst (λ (s : Option Search). Finds s (value_under (value_below (Some (body fs)) index) way))
     (sym (search_below p index way))
-    (subst (λ (l : List Field). Finds (search_of (get nat_cmp (out-MapIndices p).below index) way)
-    (value_under (value_there index l) way)) (sym (fields_back fs)) (known index way))
+    (subst (λ (l : List MapEntry). Finds (search_of (get nat_cmp (out-MapIndices p).below index) way)
+    (value_under (value_there index l) way)) (sym (entries_back fs)) (known index way))
 
-pub made_known : (names : IndexTable) (below : BTreeMap ℕ MapIndices) (fs : List Field)
+pub made_known : (names : IndexTable) (below : BTreeMap ℕ MapIndices) (fs : List MapEntry)
     → IsIndexed (found_index names) (names_in fs) → AreKnown below fs
     → IndicesOf (Some (roll-MapIndices (record { names = names; below = below }))) (Some (body fs))
 made_known names below fs indexed known =
@@ -89,7 +89,7 @@ made_known names below fs indexed known =
     (subst (λ (b : BTreeMap ℕ MapIndices). AreKnown b fs) (sym same_below) known)
 
 -- nothing is known at first
-pub nothing_known : (below : BTreeMap ℕ MapIndices) (fs : List Field) → below.entries ≡ [] → AreKnown below fs
+pub nothing_known : (below : BTreeMap ℕ MapIndices) (fs : List MapEntry) → below.entries ≡ [] → AreKnown below fs
 nothing_known below fs none index way =
     subst (λ (es : List (ℕ × MapIndices)). Finds (search_of (lookup (λ k. is_eq (nat_cmp index k)) es) way)
     (value_under (value_there index fs) way)) (sym none) tt
@@ -98,14 +98,15 @@ nothing_known below fs none index way =
 pub known_nowhere : (p : MapIndices) → IndicesOf (Some p) None → ⊥
 known_nowhere p of = subst (λ (s : Option Search). Finds s None) (search_here p) (of [])
 
-there_before : (index : ℕ) (fs gs : List Field) (v : Meaning) → value_there index fs ≡ Some v
+there_before : (index : ℕ) (fs gs : List MapEntry) (v : Meaning) → value_there index fs ≡ Some v
     → value_there index (fs ++ gs) ≡ Some v
 there_before index [] gs v is = cc
 there_before zero (f ∷ fs) gs v is = is
 there_before (suc index) (f ∷ fs) gs v is = there_before index fs gs v is
 
 -- entries go behind those of which something is known
-pub known_before : (below : BTreeMap ℕ MapIndices) (fs gs : List Field) → AreKnown below fs → AreKnown below (fs ++ gs)
+pub known_before : (below : BTreeMap ℕ MapIndices) (fs gs : List MapEntry) → AreKnown below fs
+    → AreKnown below (fs ++ gs)
 known_before below fs gs known index = by (get nat_cmp below index) (value_there index fs) refl (known index)
   where
     by : (o : Option MapIndices) (v : Option Meaning) → value_there index fs ≡ v → IndicesOf o v
@@ -117,24 +118,25 @@ known_before below fs gs known index = by (get nat_cmp below index) (value_there
 
 -- the value of an entry
 pub there_at : (es : List Entry) (p : ℕ) (e : Entry) → p < length es → get_or es p e ≡ e
-    → value_there p (map field_of es) ≡ Some (meaning (out-Entry e).value)
+    → value_there p (map map_entry_of es) ≡ Some (meaning (out-Entry e).value)
 there_at [] p e lt here = absurd (omega arith)
-there_at (x ∷ es) zero e lt here = ap (λ y. Some (field_of y).value) here ∙ ap Some (value_out e)
+there_at (x ∷ es) zero e lt here = ap (λ y. Some (map_entry_of y).value) here ∙ ap Some (value_out e)
 there_at (x ∷ es) (suc p) e lt here = there_at es p e (omega arith) here
 
-there_set : (es : List Entry) (p i : ℕ) (new : Entry) → p < length es → value_there i (map field_of (set es p new))
-    ≡ cond (eqb i p) (Some (field_of new).value) (value_there i (map field_of es))
+there_set : (es : List Entry) (p i : ℕ) (new : Entry) → p < length es → value_there i (map map_entry_of (set es p new))
+    ≡ cond (eqb i p) (Some (map_entry_of new).value) (value_there i (map map_entry_of es))
 there_set [] p i new lt = absurd (omega arith)
 there_set (x ∷ es) zero zero new lt =
-    ap (λ b. cond b (Some (field_of new).value) (Some (field_of x).value)) (sym (eq-eqb 0 0 refl))
+    ap (λ b. cond b (Some (map_entry_of new).value) (Some (map_entry_of x).value)) (sym (eq-eqb 0 0 refl))
 there_set (x ∷ es) zero (suc i) new lt =
-    ap (λ b. cond b (Some (field_of new).value) (value_there i (map field_of es)))
+    ap (λ b. cond b (Some (map_entry_of new).value) (value_there i (map map_entry_of es)))
     (sym (ne_eqb (suc i) 0 (λ h. omega arith)))
 there_set (x ∷ es) (suc p) zero new lt =
-    ap (λ b. cond b (Some (field_of new).value) (Some (field_of x).value)) (sym (ne_eqb 0 (suc p) (λ h. omega arith)))
+    ap (λ b. cond b (Some (map_entry_of new).value) (Some (map_entry_of x).value))
+    (sym (ne_eqb 0 (suc p) (λ h. omega arith)))
 there_set (x ∷ es) (suc p) (suc i) new lt =
     there_set es p i new (omega arith)
-    ∙ ap (λ b. cond b (Some (field_of new).value) (value_there i (map field_of es))) (sym (eqb_suc i p))
+    ∙ ap (λ b. cond b (Some (map_entry_of new).value) (value_there i (map map_entry_of es))) (sym (eqb_suc i p))
 
 -- an index that is another isn't the query's
 apart : (p i : ℕ) → eqb i p ≡ false → is_eq (nat_cmp p i) ≡ false
@@ -147,19 +149,20 @@ apart p i other = by (nat_cmp p i) (ranked p i (nat_cmp p i) refl)
 
 -- the value of an entry is replaced, and what is known of it
 pub known_replaced : (below mid now : BTreeMap ℕ MapIndices) (es : List Entry) (p : ℕ) (new : Entry) (v : Meaning)
-    (indices : Option MapIndices) → p < length es → AreKnown below (map field_of es)
+    (indices : Option MapIndices) → p < length es → AreKnown below (map map_entry_of es)
     → ((i : ℕ) → get nat_cmp mid i ≡ cond (is_eq (nat_cmp p i)) None (get nat_cmp below i))
     → ((i : ℕ) → get nat_cmp now i ≡ cond (eqb i p) indices (get nat_cmp mid i))
-    → (field_of new).value ≡ v → IndicesOf indices (Some v) → AreKnown now (map field_of (set es p new))
+    → (map_entry_of new).value ≡ v → IndicesOf indices (Some v) → AreKnown now (map map_entry_of (set es p new))
 known_replaced below mid now es p new v indices lt known taken kept value of i =
     subst (λ (o : Option Meaning). IndicesOf (get nat_cmp now i) o) (sym (there_set es p i new lt))
     (subst (λ (o : Option MapIndices). IndicesOf o
-    (cond (eqb i p) (Some (field_of new).value) (value_there i (map field_of es)))) (sym (kept i)) (by (eqb i p) refl))
+    (cond (eqb i p) (Some (map_entry_of new).value) (value_there i (map map_entry_of es)))) (sym (kept i))
+    (by (eqb i p) refl))
   where
     by : (b : Bool) → eqb i p ≡ b → IndicesOf (cond b indices (get nat_cmp mid i))
-        (cond b (Some (field_of new).value) (value_there i (map field_of es)))
+        (cond b (Some (map_entry_of new).value) (value_there i (map map_entry_of es)))
     by true here = subst (λ (w : Meaning). IndicesOf indices (Some w)) (sym value) of
     by false other =
         let same : get nat_cmp mid i ≡ get nat_cmp below i =
         taken i ∙ ap (λ b. cond b None (get nat_cmp below i)) (apart p i other) in
-        subst (λ (o : Option MapIndices). IndicesOf o (value_there i (map field_of es))) (sym same) (known i)
+        subst (λ (o : Option MapIndices). IndicesOf o (value_there i (map map_entry_of es))) (sym same) (known i)

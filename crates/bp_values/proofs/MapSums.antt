@@ -18,48 +18,51 @@ use Rattle.bp_faults.specs.declared.place.Place.{Place}
 use Rattle.bp_values.specs.declared.map_indices.MapIndices.{MapIndices}
 use Rattle.bp_values.specs.declared.value.Entry.{Entry}
 use Rattle.bp_values.specs.declared.value.Value.{Value}
-use Rattle.bp_values.specs.Values.{Meaning, meaning, Field, field_of, fields_then, no_field}
-use Rattle.bp_values.specs.Depths.{depth, depth_of_fields}
+use Rattle.bp_values.specs.Values.{Meaning, meaning, MapEntry, map_entry_of, map_entries_then, no_map_entry}
+use Rattle.bp_values.specs.Depths.{depth, depth_of_entries}
 use Rattle.bp_values.specs.Indices.{Search, is_index, value_for, sum_at_each, sum_at}
 use Rattle.bp_values.specs.MapIndices.{AreKnown}
 use Rattle.bp_values.proofs.Indices.{value_left, above, sum_left, sorted_left, within_left, sum_none}
 
--- a value of a list of fields is no deeper than the deepest
-value_depth : (search : Search) (i : ℕ) (fs : List Field)
-    → IfSome (value_for search i fs) (λ v. depth v ≤ depth_of_fields (fields_then fs no_field))
+-- a value of a list of entries is no deeper than the deepest
+value_depth : (search : Search) (i : ℕ) (fs : List MapEntry)
+    → IfSome (value_for search i fs) (λ v. depth v ≤ depth_of_entries (map_entries_then fs no_map_entry))
 value_depth search i [] = tt
 value_depth search i (f ∷ fs) = by (is_index (search f.name) i) (value_for search i fs) (value_depth search i fs)
   where
-    by : (b : Bool) (o : Option Meaning) → IfSome o (λ v. depth v ≤ depth_of_fields (fields_then fs no_field))
+    by : (b : Bool) (o : Option Meaning) → IfSome o (λ v. depth v ≤ depth_of_entries (map_entries_then fs no_map_entry))
         → IfSome (cond b (Some f.value) o)
-        (λ v. depth v ≤ max (depth f.value) (depth_of_fields (fields_then fs no_field)))
-    by true o rest = le-max_left (depth f.value) (depth_of_fields (fields_then fs no_field))
+        (λ v. depth v ≤ max (depth f.value) (depth_of_entries (map_entries_then fs no_map_entry)))
+    by true o rest = le-max_left (depth f.value) (depth_of_entries (map_entries_then fs no_map_entry))
     by false None rest = tt
     by false (Some v) rest =
-        let more = le-max_right (depth f.value) (depth_of_fields (fields_then fs no_field)) in omega (arith, more, rest)
+        let more = le-max_right (depth f.value) (depth_of_entries (map_entries_then fs no_map_entry)) in
+        omega (arith, more, rest)
 
 -- what is left to add, once the values before are added
-pub record SumsLeft (at : Place) (search : Search) (first second : List Field) (entries : List Entry)
+pub record SumsLeft (at : Place) (search : Search) (first second : List MapEntry) (entries : List Entry)
     (below : BTreeMap ℕ MapIndices) (left : List (ℕ × Value)) : Type 0 where
   pub sums : sum_at_each at first (λ i. value_for search i second)
-      ≡ sum_at_each at (map field_of entries) (value_left left)
+      ≡ sum_at_each at (map map_entry_of entries) (value_left left)
   pub sorted : IsStrictlySortedBy nat_cmp (keys_of left)
   pub within : (i : ℕ) → length entries ≤ i → value_left left i ≡ None
-  pub shallow : (i : ℕ) → IfSome (value_left left i) (λ v. depth v ≤ depth_of_fields (fields_then second no_field))
-  pub known : AreKnown below (map field_of entries)
+  pub shallow : (i : ℕ)
+      → IfSome (value_left left i) (λ v. depth v ≤ depth_of_entries (map_entries_then second no_map_entry))
+  pub known : AreKnown below (map map_entry_of entries)
 
-pub sums_begin : (at : Place) (search : Search) (second : List Field) (entries : List Entry)
+pub sums_begin : (at : Place) (search : Search) (second : List MapEntry) (entries : List Entry)
     (below : BTreeMap ℕ MapIndices) (left : List (ℕ × Value))
     → ((i : ℕ) → value_left left i ≡ value_for search i second)
     → IsStrictlySortedBy nat_cmp (keys_of left) → ((i : ℕ) → length entries ≤ i → value_for search i second ≡ None)
-    → AreKnown below (map field_of entries)
-    → SumsLeft at search (map field_of entries) second entries below left
+    → AreKnown below (map map_entry_of entries)
+    → SumsLeft at search (map map_entry_of entries) second entries below left
 sums_begin at search second entries below left same sorted within known = record {
-  sums = ap (λ g. sum_at_each at (map field_of entries) g) (λ j i. sym (same i) j);
+  sums = ap (λ g. sum_at_each at (map map_entry_of entries) g) (λ j i. sym (same i) j);
   sorted = sorted;
   within = λ i le. same i ∙ within i le;
   shallow =
-      λ i. subst (λ (o : Option Meaning). IfSome o (λ v. depth v ≤ depth_of_fields (fields_then second no_field)))
+      λ i.
+      subst (λ (o : Option Meaning). IfSome o (λ v. depth v ≤ depth_of_entries (map_entries_then second no_map_entry)))
       (sym (same i)) (value_depth search i second);
   known = known;
 }
@@ -94,53 +97,55 @@ left_stays left rest p v i P is sorted has =
         subst (λ (o : Option Meaning). IfSome o P) same has
 
 -- the depth of the value at the first index that is left, which is within the entries
-pub depth_left : {at : Place} {search : Search} {first second : List Field} {entries : List Entry} {below : BTreeMap ℕ
+pub depth_left : {at : Place} {search : Search} {first second : List MapEntry} {entries : List Entry} {below : BTreeMap
+    ℕ
     MapIndices} {left : List (ℕ × Value)} (rest : List (ℕ × Value)) (p : ℕ) (v : Value)
     → left ≡ (p, v) ∷ rest → SumsLeft at search first second entries below left
-    → (depth (meaning v) ≤ depth_of_fields (fields_then second no_field)) × (p < length entries)
+    → (depth (meaning v) ≤ depth_of_entries (map_entries_then second no_map_entry)) × (p < length entries)
 depth_left {second = second} {entries = entries} {left = left} rest p v is sums = (
-  subst (λ (o : Option Meaning). IfSome o (λ w. depth w ≤ depth_of_fields (fields_then second no_field)))
+  subst (λ (o : Option Meaning). IfSome o (λ w. depth w ≤ depth_of_entries (map_entries_then second no_map_entry)))
       (first_left left rest p v is) (sums.shallow p),
   (within_left left rest p v (length entries) is sums.sorted sums.within).0,
 )
 
 -- the value at the first index is added
-pub sums_next : (at : Place) (search : Search) (first second : List Field) (entries now : List Entry)
+pub sums_next : (at : Place) (search : Search) (first second : List MapEntry) (entries now : List Entry)
     (below later : BTreeMap ℕ MapIndices) (left rest : List (ℕ × Value)) (p : ℕ) (v : Value)
     → left ≡ (p, v) ∷ rest → SumsLeft at search first second entries below left
-    → sum_at at (map field_of entries) p (meaning v) ≡ Ok (map field_of now) → length now ≡ length entries
-    → AreKnown later (map field_of now) → SumsLeft at search first second now later rest
+    → sum_at at (map map_entry_of entries) p (meaning v) ≡ Ok (map map_entry_of now) → length now ≡ length entries
+    → AreKnown later (map map_entry_of now) → SumsLeft at search first second now later rest
 sums_next at search first second entries now below later left rest p v is sums one len known = record {
   sums =
       sums.sums
-      ∙ sum_left at (map field_of entries) left rest p v is sums.sorted
+      ∙ sum_left at (map map_entry_of entries) left rest p v is sums.sorted
       ∙ ap (λ r. then_do r (λ gs. sum_at_each at gs (value_left rest))) one;
   sorted = sorted_left left rest p v is sums.sorted;
   within = λ i le. (within_left left rest p v (length entries) is sums.sorted sums.within).1 i (omega (arith, len, le));
   shallow =
-      λ i. left_stays left rest p v i (λ w. depth w ≤ depth_of_fields (fields_then second no_field)) is sums.sorted
+      λ i.
+      left_stays left rest p v i (λ w. depth w ≤ depth_of_entries (map_entries_then second no_map_entry)) is sums.sorted
       (sums.shallow i);
   known = known;
 }
 
 -- where it has no sum, the maps have none
-pub sums_stop : (at : Place) (search : Search) (first second : List Field) (entries : List Entry)
+pub sums_stop : (at : Place) (search : Search) (first second : List MapEntry) (entries : List Entry)
     (below : BTreeMap ℕ MapIndices) (left rest : List (ℕ × Value)) (p : ℕ) (v : Value) (e : Refusal)
     → left ≡ (p, v) ∷ rest → SumsLeft at search first second entries below left
-    → Refuses e (sum_at at (map field_of entries) p (meaning v))
+    → Refuses e (sum_at at (map map_entry_of entries) p (meaning v))
     → Refuses e (sum_at_each at first (λ i. value_for search i second))
 sums_stop at search first second entries below left rest p v (Bad fault) is sums refused =
     sums.sums
-    ∙ sum_left at (map field_of entries) left rest p v is sums.sorted
+    ∙ sum_left at (map map_entry_of entries) left rest p v is sums.sorted
     ∙ ap (λ r. then_do r (λ gs. sum_at_each at gs (value_left rest))) refused
 sums_stop at search first second entries below left rest p v OutOfMemory is sums refused = tt
 
 -- all values are added
-pub sums_done : (at : Place) (search : Search) (first second : List Field) (entries : List Entry)
+pub sums_done : (at : Place) (search : Search) (first second : List MapEntry) (entries : List Entry)
     (below : BTreeMap ℕ MapIndices) (left : List (ℕ × Value)) → left ≡ []
     → SumsLeft at search first second entries below left
-    → sum_at_each at first (λ i. value_for search i second) ≡ Ok (map field_of entries)
+    → sum_at_each at first (λ i. value_for search i second) ≡ Ok (map map_entry_of entries)
 sums_done at search first second entries below left is sums =
     sums.sums
-    ∙ ap (λ l. sum_at_each at (map field_of entries) (value_left l)) is
-    ∙ sum_none at (map field_of entries) (value_left []) (λ i. refl)
+    ∙ ap (λ l. sum_at_each at (map map_entry_of entries) (value_left l)) is
+    ∙ sum_none at (map map_entry_of entries) (value_left []) (λ i. refl)

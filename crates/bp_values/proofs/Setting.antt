@@ -7,7 +7,7 @@ use Rattle.bp_faults.specs.declared.kind.FaultKind.TheVariants.{AfterUse}
 use Rattle.bp_faults.specs.declared.fault.Fault.{Fault}
 use Rattle.bp_faults.specs.declared.place.Place.{Place}
 use Rattle.bp_parser.specs.Trees.{Tree, Map}
-use Rattle.bp_values.specs.Values.{Meaning, Field}
+use Rattle.bp_values.specs.Values.{Meaning, MapEntry}
 use Rattle.bp_values.specs.Sums.{sum}
 use Rattle.bp_values.specs.Scopes.{Pairs, value_in}
 use Rattle.bp_values.specs.Expressions.{val, val_map}
@@ -78,7 +78,7 @@ is_extended scope used later modules name at e first w has unused value noted =
 
 -- a module is kept behind the others
 pub is_declared : (scope : Pairs) (used later : List ℕ → Bool) (modules now : List Raw) (kind : List ℕ) (at : Place)
-    (m : Map) (fs : List Field)
+    (m : Map) (fs : List MapEntry)
     → val_map scope m.at m.entries ≡ Ok fs → ((q : List ℕ) → later q ≡ (used q || is_in_entries q m.entries))
     → now ≡ modules ++ (record { kind = kind; at = at; entries = fs }) ∷ []
     → after_module (known scope used modules) kind at m ≡ Ok (known scope later now)

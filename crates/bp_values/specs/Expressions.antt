@@ -12,8 +12,8 @@ use Rattle.bp_parser.specs.Trees as tree
 use Rattle.bp_parser.specs.Trees.{Tree, Atom, Trees, Terms, Entries, no_tree, tree_and, no_term, term_and}
 use Rattle.bp_parser.specs.Trees.{no_entry, first_place}
 use Rattle.bp_parser.specs.Trees.{entry_and}
-use Rattle.bp_values.specs.Values.{Meaning, Truth, Number, Str, Items, Field, body}
-use Rattle.bp_values.specs.Depths.{nested_fields}
+use Rattle.bp_values.specs.Values.{Meaning, Truth, Number, Str, Items, MapEntry, body}
+use Rattle.bp_values.specs.Depths.{nested_entries}
 use Rattle.bp_values.specs.Scopes.{Pairs, value_in}
 use Rattle.bp_values.specs.Sums.{sum, list_within}
 
@@ -43,7 +43,7 @@ abbrev mutual
       then_do (val_items scope items)
       (λ l. then_do (list_within MOST_LIST_ITEMS (codes "list") at l) (λ m. Ok (Items m)))
   val scope (tree.Body at entries) =
-      then_do (then_do (val_entries scope entries) (λ fs. nested_fields at fs)) (λ fs. Ok (body fs))
+      then_do (then_do (val_entries scope entries) (λ fs. nested_entries at fs)) (λ fs. Ok (body fs))
   val scope (tree.Sum first terms) = then_do (val scope first) (λ value. val_terms scope value terms)
 
   -- The items are evaluated in turn, and each is checked to be a string before the next is evaluated.
@@ -60,12 +60,12 @@ abbrev mutual
       then_do (then_do (val scope term) (λ w. sum at value w)) (λ s. val_terms scope s more)
 
   -- The entries are evaluated in turn, and each keeps its name and its place.
-  pub val_entries : Pairs → Entries → Result (List Field) Fault
+  pub val_entries : Pairs → Entries → Result (List MapEntry) Fault
   val_entries scope no_entry = Ok []
   val_entries scope (entry_and name at value more) =
       then_do (val scope value) (λ v. then_do (val_entries scope more)
       (λ fs. Ok ((record { name = name; at = at; value = v }) ∷ fs)))
 
--- The fields of a map literal.
-abbrev pub val_map : Pairs → Place → Entries → Result (List Field) Fault
-val_map scope at entries = then_do (val_entries scope entries) (λ fs. nested_fields at fs)
+-- The entries of a map literal.
+abbrev pub val_map : Pairs → Place → Entries → Result (List MapEntry) Fault
+val_map scope at entries = then_do (val_entries scope entries) (λ fs. nested_entries at fs)

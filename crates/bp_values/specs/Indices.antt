@@ -9,12 +9,12 @@ use Rattle.bp_faults.specs.declared.fault.Fault.{Fault}
 use Rattle.bp_faults.specs.Answers.{then_do}
 use Rattle.bp_values.specs.declared.value.Value.{Value}
 use Rattle.bp_values.specs.declared.index_table.IndexTable.{IndexTable}
-use Rattle.bp_values.specs.Values.{Meaning, meaning, Field}
-use Rattle.bp_values.specs.Sums.{sum, field_then, combined_value}
+use Rattle.bp_values.specs.Values.{Meaning, meaning, MapEntry}
+use Rattle.bp_values.specs.Sums.{sum, map_entry_then, combined_value}
 use Rattle.bp_values.specs.IndexTable.{found_index}
 
 -- The names of the entries, in their order.
-abbrev pub names_in : List Field → List (List ℕ)
+abbrev pub names_in : List MapEntry → List (List ℕ)
 names_in fs = map (λ f. f.name) fs
 
 -- The index of the first name that is this one.
@@ -47,27 +47,27 @@ is_index None index = false
 is_index (Some found) index = found == index
 
 -- The value of the first entry whose name has that index.
-abbrev pub value_for : Search → ℕ → List Field → Option Meaning
+abbrev pub value_for : Search → ℕ → List MapEntry → Option Meaning
 value_for search index [] = None
 value_for search index (f ∷ fs) = if is_index (search f.name) index then Some f.value else value_for search index fs
 
 -- The entries whose names have no index.
-abbrev pub unindexed_fields : Search → List Field → List Field
-unindexed_fields search fs = filter (λ f. not (is_some (search f.name))) fs
+abbrev pub unindexed_entries : Search → List MapEntry → List MapEntry
+unindexed_entries search fs = filter (λ f. not (is_some (search f.name))) fs
 
 -- The value that a map of values has for an index.
 abbrev pub value_at_index : BTreeMap ℕ Value → ℕ → Option Meaning
 value_at_index values index = option_map meaning (get nat_cmp values index)
 
 -- The entries, each with the sum where there is a value for its index.
-abbrev pub sum_at_each : Place → List Field → (ℕ → Option Meaning) → Result (List Field) Fault
+abbrev pub sum_at_each : Place → List MapEntry → (ℕ → Option Meaning) → Result (List MapEntry) Fault
 sum_at_each at [] others = Ok []
 sum_at_each at (f ∷ fs) others =
-    field_then f.name f.at (combined_value f.value (sum at f.value) (others 0))
+    map_entry_then f.name f.at (combined_value f.value (sum at f.value) (others 0))
     (sum_at_each at fs (λ i. others (suc i)))
 
 -- The entries, that at one index with its sum.
-abbrev pub sum_at : Place → List Field → ℕ → Meaning → Result (List Field) Fault
+abbrev pub sum_at : Place → List MapEntry → ℕ → Meaning → Result (List MapEntry) Fault
 sum_at at [] index other = Ok []
 sum_at at (f ∷ fs) zero other =
     then_do (sum at f.value other) (λ v. Ok ((record { name = f.name; at = f.at; value = v }) ∷ fs))

@@ -10,7 +10,7 @@ use Rattle.bp_values.specs.References.{is_atom}
 use Rattle.bp_values.specs.declared.file.State.{State}
 use Rattle.bp_values.specs.declared.marks.Marks.{Marks}
 use Rattle.bp_values.specs.declared.map_sum.MapSum.{MapSum}
-use Rattle.bp_values.specs.Values.{Meaning, Field, field_of, body}
+use Rattle.bp_values.specs.Values.{Meaning, MapEntry, map_entry_of, body}
 use Rattle.bp_values.specs.Scopes.{Pairs, pairs_of, outer_pairs, count_of, value_in}
 use Rattle.bp_values.specs.Sums.{has_name}
 use Rattle.bp_values.specs.MapIndices.{IndicesOf}
@@ -44,25 +44,25 @@ pub record IsConsistent (s : State) : Type 0 where
   pub indices : (name : List ℕ) → IndicesOf (kept_for s.kept name) (value_in (pairs_of s.scope) name)
 
 -- The index of the first entry of that name.
-abbrev pub index_of : List ℕ → List Field → Option ℕ
+abbrev pub index_of : List ℕ → List MapEntry → Option ℕ
 index_of name [] = None
 index_of name (f ∷ fs) = if bytes_eq name f.name then Some 0 else option_map suc (index_of name fs)
 
 -- The table gives each name's first index in the list.
-pub record IsIndex (table : List (List ℕ × ℕ)) (fs : List Field) : Type 0 where
+pub record IsIndex (table : List (List ℕ × ℕ)) (fs : List MapEntry) : Type 0 where
   pub indices : (name : List ℕ) → number_of table name ≡ index_of name fs
 
 -- The names are those of the list that have an index.
-pub record HasMet (names : List (List ℕ)) (table : List (List ℕ × ℕ)) (fs : List Field) : Type 0 where
+pub record HasMet (names : List (List ℕ)) (table : List (List ℕ × ℕ)) (fs : List MapEntry) : Type 0 where
   pub met : (name : List ℕ) → knows names name ≡ (has_name fs name && is_some (number_of table name))
 
 -- The entries whose names are not among these.
-abbrev pub not_among : List (List ℕ) → List Field → List Field
+abbrev pub not_among : List (List ℕ) → List MapEntry → List MapEntry
 not_among names fs = filter (λ f. not (knows names f.name)) fs
 
 -- The map that a sum of maps is so far.
 abbrev pub sum_so_far : MapSum → Meaning
-sum_so_far total = body (map field_of total.entries.items)
+sum_so_far total = body (map map_entry_of total.entries.items)
 
 -- The indices that it knows are those of that map.
 abbrev pub HasIndices : MapSum → Type 0

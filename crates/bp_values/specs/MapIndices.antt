@@ -5,7 +5,7 @@ use Rattle.std.specs.BTreeMap.{BTreeMap, get}
 use Rattle.bp_values.specs.declared.map_indices.MapIndices.{MapIndices}
 use Rattle.bp_values.specs.declared.map_indices.MapIndices.TheOpen.{MapIndices-F}
 use Rattle.bp_values.specs.declared.map_indices.MapIndices.TheFolds.{fold-MapIndices}
-use Rattle.bp_values.specs.Values.{Meaning, Body, Field, fields_of}
+use Rattle.bp_values.specs.Values.{Meaning, Body, MapEntry, map_entries_of}
 use Rattle.bp_values.specs.IndexTable.{found_index}
 use Rattle.bp_values.specs.Indices.{Search, IsIndexed, names_in}
 
@@ -14,14 +14,14 @@ abbrev pub Way : Type 0
 Way = List ℕ
 
 -- The value of the entry at an index.
-abbrev pub value_there : ℕ → List Field → Option Meaning
+abbrev pub value_there : ℕ → List MapEntry → Option Meaning
 value_there index [] = None
 value_there zero (f ∷ fs) = Some f.value
 value_there (suc index) (f ∷ fs) = value_there index fs
 
 -- The value at an index of a map.
 abbrev pub value_below : Option Meaning → ℕ → Option Meaning
-value_below (Some (Body fields)) index = value_there index (fields_of fields)
+value_below (Some (Body entries)) index = value_there index (map_entries_of entries)
 value_below _ index = None
 
 -- The value to which a way leads.
@@ -51,7 +51,7 @@ search_of (Some indices) way = search_at indices way
 -- The search, if there is one, finds the index of each name of a map, which the value is.
 abbrev pub Finds : Option Search → Option Meaning → Type 0
 Finds None value = ⊤
-Finds (Some search) (Some (Body fields)) = IsIndexed search (names_in (fields_of fields))
+Finds (Some search) (Some (Body entries)) = IsIndexed search (names_in (map_entries_of entries))
 Finds (Some search) _ = ⊥
 
 -- The indices are those of a value: so is each search for the map to which its way leads.
@@ -59,5 +59,5 @@ abbrev pub IndicesOf : Option MapIndices → Option Meaning → Type 0
 IndicesOf indices value = (way : Way) → Finds (search_of indices way) (value_under value way)
 
 -- What is known of the values of the entries is so.
-abbrev pub AreKnown : BTreeMap ℕ MapIndices → List Field → Type 0
+abbrev pub AreKnown : BTreeMap ℕ MapIndices → List MapEntry → Type 0
 AreKnown below fs = (index : ℕ) → IndicesOf (get nat_cmp below index) (value_there index fs)

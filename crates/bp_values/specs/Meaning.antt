@@ -10,7 +10,7 @@ use Rattle.bp_faults.specs.Answers.{then_do}
 use Rattle.bp_faults.specs.Faults.{fault_on}
 use Rattle.bp_parser.specs.Trees.{Tree, Map, Definition, Assigns, Extends, Declares}
 use Rattle.bp_values.specs.declared.file.RawModule.{RawModule}
-use Rattle.bp_values.specs.Values.{Meaning, Field, field_of}
+use Rattle.bp_values.specs.Values.{Meaning, MapEntry, map_entry_of}
 use Rattle.bp_values.specs.Sums.{sum}
 use Rattle.bp_values.specs.Scopes.{Pairs, value_in}
 use Rattle.bp_values.specs.Expressions.{val, val_map}
@@ -20,11 +20,11 @@ use Rattle.bp_values.specs.References.{is_in, is_in_entries}
 pub record Raw : Type 0 where
   pub kind : List ℕ
   pub at : Place
-  pub entries : List Field
+  pub entries : List MapEntry
 
 -- How contracts see a module of the code.
 abbrev pub raw_of : RawModule → Raw
-raw_of m = record { kind = m.kind; at = m.at; entries = map field_of m.entries.items }
+raw_of m = record { kind = m.kind; at = m.at; entries = map map_entry_of m.entries.items }
 
 -- What is known after some definitions: the scope, the names that they refer to, and their modules.
 pub record Known : Type 0 where
@@ -66,8 +66,8 @@ abbrev pub after_own_extension : Known → List ℕ → Place → Tree → Optio
 after_own_extension k name at e (Some inherited) = Err (fault_on NotLocal at name)
 after_own_extension k name at e None = after_extension k name at e (value_in k.scope name)
 
--- What is known after a module with these fields.
-abbrev pub with_module : Known → List ℕ → Place → Map → List Field → Known
+-- What is known after a module with these entries.
+abbrev pub with_module : Known → List ℕ → Place → Map → List MapEntry → Known
 with_module k kind at m fs = record {
   scope = k.scope;
   is_used = λ name. k.is_used name || is_in_entries name m.entries;

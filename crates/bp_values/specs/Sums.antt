@@ -11,8 +11,9 @@ use Rattle.bp_faults.specs.declared.kind.FaultKind.TheVariants.{BadSum, TooMany}
 use Rattle.bp_faults.specs.declared.limits.TheConstants.{LONGEST_STRING, MOST_LIST_ITEMS}
 use Rattle.bp_faults.specs.Answers.{then_do}
 use Rattle.bp_faults.specs.Faults.{fault_on}
-use Rattle.bp_values.specs.Values.{Meaning, Truth, Number, Str, Items, Body, Fields, no_field, field_and, Field}
-use Rattle.bp_values.specs.Values.{fields_of, body}
+use Rattle.bp_values.specs.Values.{Meaning, Truth, Number, Str, Items, Body, MapEntries, no_map_entry, map_entry_and}
+use Rattle.bp_values.specs.Values.{MapEntry}
+use Rattle.bp_values.specs.Values.{map_entries_of, body}
 
 -- The word for a value's type.
 abbrev pub word : Meaning → List ℕ
@@ -20,7 +21,7 @@ word (Truth b) = codes "bool"
 word (Number n) = codes "integer"
 word (Str text) = codes "string"
 word (Items items) = codes "list"
-word (Body fields) = codes "map"
+word (Body entries) = codes "map"
 
 -- Two values that have no sum.
 unfoldable pub cannot_add : Place → Meaning → Meaning → Fault
@@ -47,16 +48,16 @@ abbrev pub sum_numbers : Place → ℤ → ℤ → Result Meaning Fault
 sum_numbers at a b = if is_i64 (a +ℤ b) then Ok (Number (a +ℤ b)) else Err (cannot_add at (Number a) (Number b))
 
 -- The value of the first entry of that name.
-abbrev pub value_at : List ℕ → List Field → Option Meaning
+abbrev pub value_at : List ℕ → List MapEntry → Option Meaning
 value_at name [] = None
 value_at name (f ∷ fs) = if bytes_eq name f.name then Some f.value else value_at name fs
 
 -- One of the entries has the name.
-abbrev pub has_name : List Field → List ℕ → Bool
+abbrev pub has_name : List MapEntry → List ℕ → Bool
 has_name fs name = list_any (λ f. bytes_eq name f.name) fs
 
 -- The entries whose names the others lack.
-abbrev pub others : List Field → List Field → List Field
+abbrev pub others : List MapEntry → List MapEntry → List MapEntry
 others fs ofs = filter (λ f. not (has_name ofs f.name)) fs
 
 -- A value alone, or met with another.
@@ -64,9 +65,10 @@ abbrev pub combined_value : Meaning → (Meaning → Result Meaning Fault) → O
 combined_value value add None = Ok value
 combined_value value add (Some other) = add other
 
--- A field, and the fields behind it, if each has a value.
-abbrev pub field_then : List ℕ → Place → Result Meaning Fault → Result (List Field) Fault → Result (List Field) Fault
-field_then name at value more =
+-- An entry, and the entries behind it, if each has a value.
+abbrev pub map_entry_then : List ℕ → Place → Result Meaning Fault → Result (List MapEntry) Fault
+    → Result (List MapEntry) Fault
+map_entry_then name at value more =
     then_do value (λ v. then_do more (λ fs. Ok ((record { name = name; at = at; value = v }) ∷ fs)))
 
 -- An integer and another value.
@@ -85,8 +87,10 @@ sum_item at a (Items b) = sum_items at a b
 sum_item at a b = Err (cannot_add at (Items a) b)
 
 -- The first map's entries, each with its sum, then the second's others.
-abbrev pub sum_body : Place → Fields → (List Field → Result (List Field) Fault) → Meaning → Result Meaning Fault
-sum_body at a each (Body b) = then_do (each (fields_of b)) (λ fs. Ok (body (fs ++ others (fields_of b) (fields_of a))))
+abbrev pub sum_body : Place → MapEntries → (List MapEntry → Result (List MapEntry) Fault) → Meaning
+    → Result Meaning Fault
+sum_body at a each (Body b) =
+    then_do (each (map_entries_of b)) (λ fs. Ok (body (fs ++ others (map_entries_of b) (map_entries_of a))))
 sum_body at a each b = Err (cannot_add at (Body a) b)
 
 abbrev mutual
@@ -96,10 +100,11 @@ abbrev mutual
   sum at (Number a) b = sum_number at a b
   sum at (Str a) b = sum_text at a b
   sum at (Items a) b = sum_item at a b
-  sum at (Body a) b = sum_body at a (sum_fields at a) b
+  sum at (Body a) b = sum_body at a (sum_entries at a) b
 
   -- Each entry of the first map has the sum for its value where the second has its name, and else stays as it is.
-  pub sum_fields : Place → Fields → List Field → Result (List Field) Fault
-  sum_fields at no_field second = Ok []
-  sum_fields at (field_and name place value more) second =
-      field_then name place (combined_value value (sum at value) (value_at name second)) (sum_fields at more second)
+  pub sum_entries : Place → MapEntries → List MapEntry → Result (List MapEntry) Fault
+  sum_entries at no_map_entry second = Ok []
+  sum_entries at (map_entry_and name place value more) second =
+      map_entry_then name place (combined_value value (sum at value) (value_at name second))
+      (sum_entries at more second)

@@ -15,49 +15,50 @@ mutual
     Number : ℤ → Meaning
     Str : List ℕ → Meaning
     Items : List Item → Meaning
-    Body : Fields → Meaning
+    Body : MapEntries → Meaning
 
   -- The entries of a map stand in order, each with its name, the name's place, and its value.
-  pub data Fields : Type 0 where
-    no_field : Fields
-    field_and : List ℕ → Place → Meaning → Fields → Fields
+  pub data MapEntries : Type 0 where
+    no_map_entry : MapEntries
+    map_entry_and : List ℕ → Place → Meaning → MapEntries → MapEntries
 
--- One field of a map: its name, the name's place, and its value.
-pub record Field : Type 0 where
+-- One entry of a map: its name, the name's place, and its value.
+pub record MapEntry : Type 0 where
   pub name : List ℕ
   pub at : Place
   pub value : Meaning
 
--- These fields, and then others.
-abbrev pub fields_then : List Field → Fields → Fields
-fields_then [] more = more
-fields_then (f ∷ fs) more = field_and f.name f.at f.value (fields_then fs more)
+-- These entries, and then others.
+abbrev pub map_entries_then : List MapEntry → MapEntries → MapEntries
+map_entries_then [] more = more
+map_entries_then (f ∷ fs) more = map_entry_and f.name f.at f.value (map_entries_then fs more)
 
--- The fields as a list.
-abbrev pub fields_of : Fields → List Field
-fields_of no_field = []
-fields_of (field_and name at value more) = (record { name = name; at = at; value = value }) ∷ fields_of more
+-- The entries as a list.
+abbrev pub map_entries_of : MapEntries → List MapEntry
+map_entries_of no_map_entry = []
+map_entries_of (map_entry_and name at value more) =
+    (record { name = name; at = at; value = value }) ∷ map_entries_of more
 
--- The map of these fields.
-abbrev pub body : List Field → Meaning
-body fs = Body (fields_then fs no_field)
+-- The map of these entries.
+abbrev pub body : List MapEntry → Meaning
+body fs = Body (map_entries_then fs no_map_entry)
 
 -- One layer of a value of the code, with what each part means in its place.
-abbrev pub value_step : Value-F Meaning Field → Meaning
+abbrev pub value_step : Value-F Meaning MapEntry → Meaning
 value_step (layer.Bool b) = Truth b
 value_step (layer.Int n) = Number n
 value_step (layer.Str text) = Str text
 value_step (layer.Strs items) = Items items.items
-value_step (layer.Map entries) = Body (fields_then entries.items no_field)
+value_step (layer.Map entries) = Body (map_entries_then entries.items no_map_entry)
 
 -- One layer of an entry of the code.
-abbrev pub field_step : Entry-F Meaning Field → Field
-field_step e = record { name = e.name; at = e.at; value = e.value }
+abbrev pub map_entry_step : Entry-F Meaning MapEntry → MapEntry
+map_entry_step e = record { name = e.name; at = e.at; value = e.value }
 
 -- What a value of the code means.
 abbrev pub meaning : Value → Meaning
-meaning = fold-Value Meaning Field value_step field_step
+meaning = fold-Value Meaning MapEntry value_step map_entry_step
 
 -- What an entry of the code means.
-abbrev pub field_of : Entry → Field
-field_of = fold-Entry Meaning Field value_step field_step
+abbrev pub map_entry_of : Entry → MapEntry
+map_entry_of = fold-Entry Meaning MapEntry value_step map_entry_step

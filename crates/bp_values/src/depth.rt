@@ -1,7 +1,7 @@
 ghost use Rattle.std.specs.Prelude.{◌≡◌, map, nat_le};
 ghost use Rattle.bp_faults.specs.Answers.{Answers};
-ghost use Rattle.bp_values.specs.Values.{meaning, field_of, fields_then, no_field};
-ghost use Rattle.bp_values.specs.Depths.{nested_fields, depth, depth_of_fields};
+ghost use Rattle.bp_values.specs.Values.{meaning, map_entry_of, map_entries_then, no_map_entry};
+ghost use Rattle.bp_values.specs.Depths.{nested_entries, depth, depth_of_entries};
 
 use crate::{Entry, EvalError, Value};
 use bp_faults::limits::DEEPEST_NESTING;
@@ -10,7 +10,7 @@ use std::alloc::Global;
 
 /// The entries, where their map is not too deep.
 pub fn within_depth(alloc: Global, at: Place, entries: Vec<Entry>) -> Result<Vec<Entry>, EvalError>
-    ensures { Answers (λ es. map field_of es.items) result (nested_fields at (map field_of entries.items)) }
+    ensures { Answers (λ es. map map_entry_of es.items) result (nested_entries at (map map_entry_of entries.items)) }
 {
     if are_within(entries.as_slice(), DEEPEST_NESTING - 1) {
         return Ok(entries);
@@ -31,7 +31,7 @@ fn is_within(value: &Value, limit: usize) -> bool
 
 #[cycle(depths)]
 fn are_within(entries: &[Entry], limit: usize) -> bool
-    ensures { result ≡ nat_le (depth_of_fields (fields_then (map field_of entries.now) no_field)) limit }
+    ensures { result ≡ nat_le (depth_of_entries (map_entries_then (map map_entry_of entries.now) no_map_entry)) limit }
 {
     'entries: for entry in entries {
         if !is_within(&entry.value, limit) {

@@ -2,7 +2,7 @@ ghost use Rattle.std.specs.Prelude.{◌≡◌, map, codes, Ok, IfOk};
 ghost use Rattle.bp_parser.specs.Trees.{tree_of, map_of, entry_of, term_of, trees_then, terms_then};
 ghost use Rattle.bp_parser.specs.Trees.{entries_then, first_place as place_of};
 ghost use Rattle.bp_parser.specs.Trees.{no_tree, no_term, no_entry};
-ghost use Rattle.bp_values.specs.Values.{meaning, field_of, Items, body};
+ghost use Rattle.bp_values.specs.Values.{meaning, map_entry_of, Items, body};
 ghost use Rattle.bp_faults.specs.Answers.{Answers, then_do};
 ghost use Rattle.bp_values.specs.Sums.{list_within, sum as sum_of};
 ghost use Rattle.bp_values.specs.Scopes.{pairs_of, value_in};
@@ -188,7 +188,7 @@ fn add_maps(
     first: Vec<Entry>,
 ) -> Result<Value, EvalError>
     ensures { Answers meaning result (val_terms (pairs_of scope.now)
-        (body (map field_of first.items)) (terms_then (map term_of terms.now) no_term)) }
+        (body (map map_entry_of first.items)) (terms_then (map term_of terms.now) no_term)) }
 {
     let mut total = MapSum::of(first);
     'terms: for (at, term) in terms {
@@ -217,7 +217,7 @@ fn add_map(
 /// The entries of a map literal.
 #[cycle(expressions)]
 pub fn entries_of(alloc: Global, scope: &Scope, literal: &MapExpr) -> Result<Vec<Entry>, EvalError>
-    ensures { Answers (λ es. map field_of es.items) result
+    ensures { Answers (λ es. map map_entry_of es.items) result
         (val_map (pairs_of scope.now) (map_of literal.now).at (map_of literal.now).entries) }
 {
     let entries = all_entries(alloc, scope, literal.entries.as_slice())?;
@@ -226,7 +226,7 @@ pub fn entries_of(alloc: Global, scope: &Scope, literal: &MapExpr) -> Result<Vec
 
 #[cycle(expressions)]
 fn all_entries(alloc: Global, scope: &Scope, entries: &[EntryExpr]) -> Result<Vec<Entry>, EvalError>
-    ensures { Answers (λ es. map field_of es.items) result
+    ensures { Answers (λ es. map map_entry_of es.items) result
         (val_entries (pairs_of scope.now) (entries_then (map entry_of entries.now) no_entry)) }
 {
     let mut list = Vec::with_capacity(alloc, entries.len())?;

@@ -1,10 +1,10 @@
 ghost use Rattle.std.specs.Prelude.{◌≡◌, ◌++◌, ◌≤◌, ◌<◌, ℕ, List, map, length, take, is_some, None, Some, IfOk, IfSome};
 ghost use Rattle.std.specs.Prelude.{OnOk, if◌then◌else◌, option_map};
 ghost use Rattle.std.specs.Option.{option_or};
-ghost use Rattle.bp_values.specs.Values.{meaning, field_of, body};
+ghost use Rattle.bp_values.specs.Values.{meaning, map_entry_of, body};
 ghost use Rattle.bp_values.specs.Sums.{sum as sum_of};
 ghost use Rattle.bp_values.specs.IndexTable.{found_index};
-ghost use Rattle.bp_values.specs.Indices.{IsIndexed, Indices, names_in, value_for, unindexed_fields, is_index};
+ghost use Rattle.bp_values.specs.Indices.{IsIndexed, Indices, names_in, value_for, unindexed_entries, is_index};
 ghost use Rattle.bp_values.specs.Indices.{value_at_index};
 ghost use Rattle.bp_values.specs.Indices.{sum_at};
 ghost use Rattle.bp_values.specs.MapIndices.{IndicesOf, AreKnown};
@@ -31,7 +31,7 @@ pub struct MapSum {
 
 impl MapSum {
     pub fn of(entries: Vec<Entry>) -> MapSum
-        ensures total { sum_so_far result ≡ body (map field_of entries.items) }
+        ensures total { sum_so_far result ≡ body (map map_entry_of entries.items) }
         ensures indices { HasIndices result }
     {
         MapSum {
@@ -95,8 +95,8 @@ fn known(
     indices: Option<MapIndices>,
     entries: &[Entry],
 ) -> Result<Option<MapIndices>, OutOfMemory>
-    requires { IndicesOf indices (Some (body (map field_of entries.now))) }
-    ensures { IfOk result (λ all. IndicesOf all (Some (body (map field_of entries.now)))) }
+    requires { IndicesOf indices (Some (body (map map_entry_of entries.now))) }
+    ensures { IfOk result (λ all. IndicesOf all (Some (body (map map_entry_of entries.now)))) }
 {
     if let Some(indices) = indices {
         return Ok(Some(indices));
@@ -119,8 +119,8 @@ fn with_names(
     from: usize,
 ) -> Result<Option<IndexTable>, OutOfMemory>
     requires within { from ≤ length entries.now }
-    requires indexed { IsIndexed (found_index names) (names_in (map field_of (take from entries.now))) }
-    ensures { IfOk result (λ all. Indices all (names_in (map field_of entries.now))) }
+    requires indexed { IsIndexed (found_index names) (names_in (map map_entry_of (take from entries.now))) }
+    ensures { IfOk result (λ all. Indices all (names_in (map map_entry_of entries.now))) }
 {
     let mut all = names;
     for index in from..entries.len() {
@@ -144,9 +144,9 @@ fn add_indexed(
     indices: MapIndices,
     second: Vec<Entry>,
 ) -> Result<MapSum, EvalError>
-    requires { IndicesOf (Some indices) (Some (body (map field_of first.items))) }
+    requires { IndicesOf (Some indices) (Some (body (map map_entry_of first.items))) }
     ensures total { Answers sum_so_far result
-        (sum_of at (body (map field_of first.items)) (body (map field_of second.items))) }
+        (sum_of at (body (map map_entry_of first.items)) (body (map map_entry_of second.items))) }
     ensures indices { IfOk result HasIndices }
 {
     let MapIndices { names, mut below } = indices;
@@ -166,10 +166,10 @@ fn with_others(
     below: BTreeMap<usize, MapIndices>,
     others: Vec<Entry>,
 ) -> Result<MapSum, OutOfMemory>
-    requires indexed { IsIndexed (found_index names) (names_in (map field_of entries.items)) }
-    requires known { AreKnown below (map field_of entries.items) }
+    requires indexed { IsIndexed (found_index names) (names_in (map map_entry_of entries.items)) }
+    requires known { AreKnown below (map map_entry_of entries.items) }
     ensures total { IfOk result
-        (λ sum. sum_so_far sum ≡ body (map field_of entries.items ++ map field_of others.items)) }
+        (λ sum. sum_so_far sum ≡ body (map map_entry_of entries.items ++ map map_entry_of others.items)) }
     ensures indices { IfOk result HasIndices }
 {
     let (mut all, mut others) = (entries, others);
@@ -191,9 +191,9 @@ fn split(
     second: Vec<Entry>,
 ) -> Result<(BTreeMap<usize, Value>, Vec<Entry>), OutOfMemory>
     ensures shared { IfOk result
-        (λ r. (i : ℕ) → value_at_index r.0 i ≡ value_for (found_index names.now) i (map field_of second.items)) }
+        (λ r. (i : ℕ) → value_at_index r.0 i ≡ value_for (found_index names.now) i (map map_entry_of second.items)) }
     ensures others { IfOk result
-        (λ r. map field_of r.1.items ≡ unindexed_fields (found_index names.now) (map field_of second.items)) }
+        (λ r. map map_entry_of r.1.items ≡ unindexed_entries (found_index names.now) (map map_entry_of second.items)) }
 {
     let mut shared = BTreeMap::new(alloc);
     let mut others = Vec::new(alloc);
@@ -232,11 +232,11 @@ fn add_at(
     other: Value,
 ) -> Result<(), EvalError>
     requires within { index < length entries.old.items }
-    requires known { AreKnown below.old (map field_of entries.old.items) }
+    requires known { AreKnown below.old (map map_entry_of entries.old.items) }
     ensures len { length entries.new.items ≡ length entries.old.items }
-    ensures sum { Leaves (λ es. map field_of es.items) entries.new result
-        (sum_at at (map field_of entries.old.items) index (meaning other)) }
-    ensures known { OnOk result (AreKnown below.new (map field_of entries.new.items)) }
+    ensures sum { Leaves (λ es. map map_entry_of es.items) entries.new result
+        (sum_at at (map map_entry_of entries.old.items) index (meaning other)) }
+    ensures known { OnOk result (AreKnown below.new (map map_entry_of entries.new.items)) }
 {
     let blank = make_entry(Text::new(String::new(alloc)), at, Value::Bool(false));
     let Entry {

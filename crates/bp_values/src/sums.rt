@@ -2,11 +2,11 @@ ghost use Rattle.std.specs.Prelude.{◌≡◌, ℤ, ◌+ℤ◌, List, ℕ, map, 
 ghost use Rattle.std.specs.Prelude.{option_map, ◌++◌, Some, None, if◌then◌else◌, ◌||◌, ◌&&◌, is_some};
 ghost use Rattle.std.specs.Str.{bytes_eq};
 ghost use Rattle.bp_names.specs.Meaning.{knows, number_of};
-ghost use Rattle.bp_values.specs.Values.{meaning, field_of, fields_then, no_field, Field, fields_of, Truth, Number};
+ghost use Rattle.bp_values.specs.Values.{meaning, map_entry_of, map_entries_then, no_map_entry, MapEntry, map_entries_of, Truth, Number};
 ghost use Rattle.bp_values.specs.Values.{Str, Items, Body, body};
 ghost use Rattle.bp_faults.specs.Answers.{Answers};
 ghost use Rattle.bp_faults.specs.Faults.{fault_on};
-ghost use Rattle.bp_values.specs.Sums.{sum as sum_of, sum_fields, sum_number, sum_text, sum_item, sum_texts, sum_items};
+ghost use Rattle.bp_values.specs.Sums.{sum as sum_of, sum_entries, sum_number, sum_text, sum_item, sum_texts, sum_items};
 ghost use Rattle.bp_values.specs.Sums.{sum_numbers, cannot_add as cannot_be_added, word as word_of, is_i64};
 ghost use Rattle.bp_values.specs.Sums.{combined_value};
 ghost use Rattle.bp_values.specs.Sums.{value_at};
@@ -94,7 +94,7 @@ fn added(a: i64, b: i64) -> Option<i64>
 
 /// The first index of each name.
 fn index<'a>(alloc: Global, entries: &'a [Entry]) -> Result<NameTable<'a>, OutOfMemory>
-    ensures { IfOk result (λ table. IsIndex table (map field_of entries.now)) }
+    ensures { IfOk result (λ table. IsIndex table (map map_entry_of entries.now)) }
 {
     if entries.len() >= 1 << 32 {
         return Err(OutOfMemory);
@@ -105,8 +105,8 @@ fn index<'a>(alloc: Global, entries: &'a [Entry]) -> Result<NameTable<'a>, OutOf
 
 /// The entry of a name.
 fn find<'a>(table: &NameTable<'_>, entries: &'a [Entry], name: &Text) -> Option<&'a Entry>
-    requires { IsIndex table.now (map field_of entries.now) }
-    ensures { option_map (λ e. (field_of e.now).value) result ≡ value_at name.now (map field_of entries.now) }
+    requires { IsIndex table.now (map map_entry_of entries.now) }
+    ensures { option_map (λ e. (map_entry_of e.now).value) result ≡ value_at name.now (map map_entry_of entries.now) }
 {
     match table.number_of(name.as_str()) {
         Some(number) => Some(&entries[number as usize]),
@@ -164,7 +164,8 @@ fn unite_copy(
     first: Vec<Entry>,
     second: &[Entry],
 ) -> Result<Value, EvalError>
-    ensures { Answers meaning result (sum_of at (body (map field_of first.items)) (body (map field_of second.now))) }
+    ensures { Answers meaning result
+        (sum_of at (body (map map_entry_of first.items)) (body (map map_entry_of second.now))) }
 {
     let table = index(alloc, second)?;
     let mut entries = sum_each(alloc, at, first, second, &table)?;
@@ -182,8 +183,8 @@ pub(crate) fn unite(
     first: Vec<Entry>,
     second: Vec<Entry>,
 ) -> Result<Vec<Entry>, EvalError>
-    ensures { Answers (λ es. body (map field_of es.items)) result
-        (sum_of at (body (map field_of first.items)) (body (map field_of second.items))) }
+    ensures { Answers (λ es. body (map map_entry_of es.items)) result
+        (sum_of at (body (map map_entry_of first.items)) (body (map map_entry_of second.items))) }
 {
     let table = index(alloc, second.as_slice())?;
     let mut entries = sum_each(alloc, at, first, second.as_slice(), &table)?;
@@ -204,9 +205,9 @@ fn sum_each(
     second: &[Entry],
     table: &NameTable<'_>,
 ) -> Result<Vec<Entry>, EvalError>
-    requires { IsIndex table.now (map field_of second.now) }
-    ensures { Answers (λ es. map field_of es.items) result
-        (sum_fields at (fields_then (map field_of first.items) no_field) (map field_of second.now)) }
+    requires { IsIndex table.now (map map_entry_of second.now) }
+    ensures { Answers (λ es. map map_entry_of es.items) result
+        (sum_entries at (map_entries_then (map map_entry_of first.items) no_map_entry) (map map_entry_of second.now)) }
 {
     let mut entries = Vec::with_capacity(alloc, first.len())?;
     for entry in first {
@@ -221,7 +222,7 @@ fn sum_each(
 fn meet(alloc: Global, value: Value, other: Option<&Entry>, at: Place) -> Result<Value, EvalError>
     ensures { Answers meaning result
         (combined_value (meaning value) (sum_of at (meaning value))
-        (option_map (λ e. (field_of e.now).value) other.entry)) }
+        (option_map (λ e. (map_entry_of e.now).value) other.entry)) }
 {
     match other {
         Some(entry) => add_copy(alloc, value, &entry.value, at),
@@ -250,7 +251,7 @@ fn names_met<'a>(
     entries: &'a [Entry],
     table: &NameTable<'_>,
 ) -> Result<NameSet<'a>, OutOfMemory>
-    ensures { IfOk result (λ met. HasMet met table.now (map field_of entries.now)) }
+    ensures { IfOk result (λ met. HasMet met table.now (map map_entry_of entries.now)) }
 {
     let mut met = NameSet::new(alloc);
     for entry in entries {
@@ -265,7 +266,7 @@ fn move_others(
     others: Vec<Entry>,
     met: &NameSet<'_>,
 ) -> Result<Vec<Entry>, OutOfMemory>
-    ensures { IfOk result (λ left. map field_of left.items ≡ not_among met.now (map field_of others.items)) }
+    ensures { IfOk result (λ left. map map_entry_of left.items ≡ not_among met.now (map map_entry_of others.items)) }
 {
     let mut left = Vec::new(alloc);
     for entry in others {
@@ -275,8 +276,8 @@ fn move_others(
 }
 
 fn push_unless(entries: &mut Vec<Entry>, met: bool, entry: Entry) -> Result<(), OutOfMemory>
-    ensures { OnOk result (map field_of entries.new.items
-        ≡ map field_of entries.old.items ++ (if met then [] else (field_of entry ∷ []))) }
+    ensures { OnOk result (map map_entry_of entries.new.items
+        ≡ map map_entry_of entries.old.items ++ (if met then [] else (map_entry_of entry ∷ []))) }
 {
     if !met {
         entries.push(entry)?;
@@ -290,7 +291,7 @@ fn copy_others(
     others: &[Entry],
     met: &NameSet<'_>,
 ) -> Result<Vec<Entry>, OutOfMemory>
-    ensures { IfOk result (λ left. map field_of left.items ≡ not_among met.now (map field_of others.now)) }
+    ensures { IfOk result (λ left. map map_entry_of left.items ≡ not_among met.now (map map_entry_of others.now)) }
 {
     let mut left = Vec::new(alloc);
     for entry in others {
@@ -305,8 +306,8 @@ fn copy_unless(
     met: bool,
     entry: &Entry,
 ) -> Result<(), OutOfMemory>
-    ensures { OnOk result (map field_of entries.new.items
-        ≡ map field_of entries.old.items ++ (if met then [] else (field_of entry.now ∷ []))) }
+    ensures { OnOk result (map map_entry_of entries.new.items
+        ≡ map map_entry_of entries.old.items ++ (if met then [] else (map_entry_of entry.now ∷ []))) }
 {
     if !met {
         entries.push(copy_entry(alloc, entry)?)?;

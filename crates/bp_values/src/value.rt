@@ -1,5 +1,5 @@
 ghost use Rattle.std.specs.Prelude.{◌≡◌, List, ℕ, map, IfOk, IsTrue, ◌↔◌};
-ghost use Rattle.bp_values.specs.Values.{meaning, field_of, fields_then, no_field, body, Field};
+ghost use Rattle.bp_values.specs.Values.{meaning, map_entry_of, map_entries_then, no_map_entry, body, MapEntry};
 
 use bp_faults::{Item, OutOfMemory, Place, Text, copy_all};
 use bp_names::Named;
@@ -26,9 +26,9 @@ pub struct Entry {
 }
 
 impl Named for Entry {
-    ghost use Rattle.bp_values.specs.Values.{field_of};
+    ghost use Rattle.bp_values.specs.Values.{map_entry_of};
 
-    ghost name = { λ entry. (field_of entry).name };
+    ghost name = { λ entry. (map_entry_of entry).name };
 
     #[tactic(auto, using(crate::proofs::Views::name_out))]
     fn name(&self) -> &str {
@@ -51,7 +51,7 @@ pub fn copy_value(alloc: Global, value: &Value) -> Result<Value, OutOfMemory>
 
 #[cycle(copies)]
 pub fn copy_entries(alloc: Global, entries: &[Entry]) -> Result<Vec<Entry>, OutOfMemory>
-    ensures { IfOk result (λ copy. map field_of copy.items ≡ map field_of entries.now) }
+    ensures { IfOk result (λ copy. map map_entry_of copy.items ≡ map map_entry_of entries.now) }
 {
     let mut copy = Vec::with_capacity(alloc, entries.len())?;
     for entry in entries {
@@ -62,7 +62,7 @@ pub fn copy_entries(alloc: Global, entries: &[Entry]) -> Result<Vec<Entry>, OutO
 
 #[cycle(copies)]
 pub fn copy_entry(alloc: Global, entry: &Entry) -> Result<Entry, OutOfMemory>
-    ensures { IfOk result (λ copy. field_of copy ≡ field_of entry.now) }
+    ensures { IfOk result (λ copy. map_entry_of copy ≡ map_entry_of entry.now) }
 {
     Ok(Entry {
         name: entry.name.copy(alloc)?,
@@ -111,14 +111,14 @@ fn weight_of_entries(entries: &[Entry]) -> usize {
 
 /// The map of these entries.
 pub fn map_value(entries: Vec<Entry>) -> Value
-    ensures { meaning result ≡ body (map field_of entries.items) }
+    ensures { meaning result ≡ body (map map_entry_of entries.items) }
 {
     Value::Map(entries)
 }
 
 /// An entry.
 pub fn make_entry(name: Text, at: Place, value: Value) -> Entry
-    ensures { field_of result ≡ record { name = name; at = at; value = meaning value } }
+    ensures { map_entry_of result ≡ record { name = name; at = at; value = meaning value } }
 {
     Entry { name, at, value }
 }

@@ -28,7 +28,7 @@ use Rattle.bp_props.specs.Fields as S
 use Rattle.bp_props.specs.Groups.{group_empty}
 use Rattle.bp_props.specs.Records.{props_empty}
 use Rattle.bp_values.specs.Meaning.{Raw}
-use Rattle.bp_values.specs.Values.{Fields, no_field, field_and, fields_then, Field as Entry}
+use Rattle.bp_values.specs.Values.{MapEntries, no_map_entry, map_entry_and, map_entries_then, MapEntry as Entry}
 use Rattle.property_tables.specs.Meaning.{each_entry, property_in, inner_prefix, entry_set, groups_with_group}
 use Rattle.property_tables.specs.Meaning.{group_typed, groups_entry, groups_typed}
 use Rattle.property_tables.specs.Meaning.{inner_typed}
@@ -73,10 +73,11 @@ each_if P step each (x ∷ xs) =
     (each_if P step each xs) (λ ys all. (p, all)))
 
 entries_if : {A : Type 0} (P : A → Type 0) (step : A → Entry → Result A Fault)
-    → ((made : A) (entry : Entry) → P made → IfResult P (step made entry)) → (made : A) → P made → (fields : Fields)
-    → IfResult P (each_entry step made fields)
-entries_if P step each made h no_field = h
-entries_if P step each made h (field_and name at value more) =
+    → ((made : A) (entry : Entry) → P made → IfResult P (step made entry)) → (made : A) → P made
+    → (entries : MapEntries)
+    → IfResult P (each_entry step made entries)
+entries_if P step each made h no_map_entry = h
+entries_if P step each made h (map_entry_and name at value more) =
     then_if P P (step made (record { name = name; at = at; value = value })) (λ next. each_entry step next more)
     (each made (record { name = name; at = at; value = value }) h) (λ next p. entries_if P step each next p more)
 
@@ -175,7 +176,7 @@ fits_pass dir effect path entry K.Level clear =
     then_any CanPass (word_in entry.at path entry.value) _
     (λ word. if_cond (IfResult CanPass) (is_number word) (level_or entry.at path (in_levels (digits_value 10 word))) _
     (level_passes entry.at path (in_levels (digits_value 10 word))) tt)
-fits_pass dir effect path entry K.Group clear = then_any CanPass (map_in entry.at path entry.value) _ (λ fields. tt)
+fits_pass dir effect path entry K.Group clear = then_any CanPass (map_in entry.at path entry.value) _ (λ entries. tt)
 
 -- Entries
 
@@ -203,52 +204,52 @@ module _ (dir : List ℕ) (clear : IsClear dir) where
       (fits_pass dir p.effect (prefix ++ entry.name) entry p.kind clear)
       (λ fit passes. keeps p.effect fit made passes h))
 
-  group_kept : (prefix : List ℕ) (fields : Fields) → IfResult HasTexts (group_typed dir prefix fields)
-  group_kept prefix fields =
+  group_kept : (prefix : List ℕ) (entries : MapEntries) → IfResult HasTexts (group_typed dir prefix entries)
+  group_kept prefix entries =
       entries_if HasTexts (entry_set group_set group_table dir prefix)
       (entry_set_kept HasTexts group_set group_table (only_set is_writable) prefix) group_empty
-      (only_empty is_writable) fields
+      (only_empty is_writable) entries
 
   groups_entry_kept : (prefix : List ℕ) (table : List Property) (groups : List (GroupId × GroupProps)) (entry : Entry)
       → HaveTexts groups → IfResult HaveTexts (groups_entry dir prefix table groups entry)
   groups_entry_kept prefix table groups entry h =
       then_any HaveTexts (property_in table prefix entry) _
       (λ p. then_any HaveTexts (map_in entry.at (prefix ++ entry.name) entry.value) _
-      (λ fields. then_if HasTexts HaveTexts (group_typed dir (inner_prefix prefix entry.name) fields) _
-      (group_kept (inner_prefix prefix entry.name) fields)
+      (λ entries. then_if HasTexts HaveTexts (group_typed dir (inner_prefix prefix entry.name) entries) _
+      (group_kept (inner_prefix prefix entry.name) entries)
       (λ g texts. put_left p.effect g groups texts h)))
 
-  groups_kept : (prefix : List ℕ) (table : List Property) (props : Props) (fields : Fields) → HasSoundTexts props
-      → IfResult HasSoundTexts (groups_typed dir prefix table props fields)
-  groups_kept prefix table props fields h =
-      then_if HaveTexts HasSoundTexts (each_entry (groups_entry dir prefix table) props.groups fields) _
+  groups_kept : (prefix : List ℕ) (table : List Property) (props : Props) (entries : MapEntries) → HasSoundTexts props
+      → IfResult HasSoundTexts (groups_typed dir prefix table props entries)
+  groups_kept prefix table props entries h =
+      then_if HaveTexts HasSoundTexts (each_entry (groups_entry dir prefix table) props.groups entries) _
       (entries_if HaveTexts (groups_entry dir prefix table) (groups_entry_kept prefix table) props.groups h.groups
-      fields)
+      entries)
       (λ groups texts. record { base = h.base; groups = texts; exports = h.exports; includes = h.includes })
 
-  inner_kept : (prefix : List ℕ) (effect : Option Field) (props : Props) (fields : Fields) → HasSoundTexts props
-      → IfResult HasSoundTexts (inner_typed dir prefix effect props fields)
-  inner_kept prefix (Some F.Sanitize) props fields h =
+  inner_kept : (prefix : List ℕ) (effect : Option Field) (props : Props) (entries : MapEntries) → HasSoundTexts props
+      → IfResult HasSoundTexts (inner_typed dir prefix effect props entries)
+  inner_kept prefix (Some F.Sanitize) props entries h =
       entries_if HasSoundTexts (entry_set props_set sanitize_table dir prefix)
-      (entry_set_kept HasSoundTexts props_set sanitize_table record_set prefix) props h fields
-  inner_kept prefix (Some F.Arch) props fields h = groups_kept prefix arch_table props fields h
-  inner_kept prefix (Some F.Multilib) props fields h = groups_kept prefix multilib_table props fields h
-  inner_kept prefix (Some F.Target) props fields h = groups_kept prefix target_table props fields h
-  inner_kept prefix (Some (F.Group id)) props fields h =
-      then_if HasTexts HasSoundTexts (group_typed dir prefix fields) _ (group_kept prefix fields)
+      (entry_set_kept HasSoundTexts props_set sanitize_table record_set prefix) props h entries
+  inner_kept prefix (Some F.Arch) props entries h = groups_kept prefix arch_table props entries h
+  inner_kept prefix (Some F.Multilib) props entries h = groups_kept prefix multilib_table props entries h
+  inner_kept prefix (Some F.Target) props entries h = groups_kept prefix target_table props entries h
+  inner_kept prefix (Some (F.Group id)) props entries h =
+      then_if HasTexts HasSoundTexts (group_typed dir prefix entries) _ (group_kept prefix entries)
       (λ g texts. record {
         base = h.base;
         groups = put_texts props.groups id g h.groups texts;
         exports = h.exports;
         includes = h.includes;
       })
-  inner_kept prefix effect props fields h = h
+  inner_kept prefix effect props entries h = h
 
   entry_kept : (effect : Option Field) (props : Props) (entry : Entry) (kind : PropKind) → HasSoundTexts props
       → IfResult HasSoundTexts (entry_typed dir effect props entry kind)
   entry_kept effect props entry K.Group h =
       then_any HasSoundTexts (map_in entry.at entry.name entry.value) _
-      (λ fields. inner_kept (inner_prefix [] entry.name) effect props fields h)
+      (λ entries. inner_kept (inner_prefix [] entry.name) effect props entries h)
   entry_kept effect props entry kind h =
       then_if CanPass HasSoundTexts (fit_of dir effect entry.name entry kind) _
       (fits_pass dir effect entry.name entry kind clear) (λ fit passes. record_set effect fit props passes h)
@@ -271,9 +272,9 @@ module_kept : (raw : Raw) (dir : List ℕ) → IsClear dir → (kind : ModuleKin
     → IfResult (IfThere IsTyped) (module_typed raw dir kind)
 module_kept raw dir clear kind =
     then_if HasSoundTexts (IfThere IsTyped)
-    (each_entry (module_entry dir kind) props_empty (fields_then raw.entries no_field)) _
+    (each_entry (module_entry dir kind) props_empty (map_entries_then raw.entries no_map_entry)) _
     (entries_if HasSoundTexts (module_entry dir kind) (module_entry_kept dir clear kind) props_empty empty_sound
-    (fields_then raw.entries no_field))
+    (map_entries_then raw.entries no_map_entry))
     (λ props sound. then_if (λ name. is_module_name name ≡ true) (IfThere IsTyped) (name_in raw props.name) _
     (name_kept raw props.name) (λ name named. (sound, named)))
 

@@ -12,7 +12,7 @@ use Rattle.property_tables.specs.Meaning.{is_dropped, types}
 use Rattle.property_tables.specs.Meaning.{name_in}
 use Rattle.std.proofs.lemmas.Slice.Eq.{bytes_eq-Decides}
 use Rattle.std.specs.Prelude.{codes}
-use Rattle.bp_values.specs.Values.{fields_then, no_field}
+use Rattle.bp_values.specs.Values.{map_entries_then, no_map_entry}
 use Rattle.bp_props.specs.Records.{props_empty}
 use Rattle.property_tables.specs.Meaning.{each_entry, module_entry}
 use Rattle.std.specs.Prelude.{not}
@@ -84,7 +84,7 @@ never_none {A} {B} {C} (Ok a) next made is = by (next a) is
 kept : (raw : Raw) (dir : List ℕ) (kind : Option ModuleKind) → typed_by raw dir kind ≡ Ok None → ⊥
 kept raw dir None is = cc
 kept raw dir (Some kind) is =
-    never_none (each_entry (module_entry dir kind) props_empty (fields_then raw.entries no_field))
+    never_none (each_entry (module_entry dir kind) props_empty (map_entries_then raw.entries no_map_entry))
     (λ props. name_in raw props.name)
     (λ props name. record { name = name; kind = kind; dir = dir; at = raw.at; props = props }) is
 

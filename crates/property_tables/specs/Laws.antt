@@ -8,7 +8,7 @@ use Rattle.bp_faults.specs.declared.fault.Fault.{Fault}
 use Rattle.bp_props.specs.declared.kind.ModuleKind.{ModuleKind}
 use Rattle.bp_props.specs.Kinds.{has_field}
 use Rattle.bp_props.specs.Records.{props_empty}
-use Rattle.bp_values.specs.Values.{fields_then, no_field}
+use Rattle.bp_values.specs.Values.{map_entries_then, no_map_entry}
 use Rattle.bp_values.specs.Meaning.{Raw}
 use Rattle.property_tables.specs.Tables.{has_kind, properties}
 use Rattle.property_tables.specs.Meaning.{each_entry, module_entry, is_dropped, types, typed_module}
@@ -26,5 +26,5 @@ DropsExactly = (raw : Raw) (dir : List ℕ) → (typed_module raw dir ≡ Ok Non
 abbrev pub EntriesComeFirst : Type 0
 EntriesComeFirst = (raw : Raw) (dir : List ℕ) (kind : ModuleKind) (fault : Fault)
     → lookup (bytes_eq raw.kind) types ≡ Some kind
-    → each_entry (module_entry dir kind) props_empty (fields_then raw.entries no_field) ≡ Err fault
+    → each_entry (module_entry dir kind) props_empty (map_entries_then raw.entries no_map_entry) ≡ Err fault
     → typed_module raw dir ≡ Err fault

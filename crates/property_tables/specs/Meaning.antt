@@ -25,7 +25,7 @@ use Rattle.bp_props.specs.declared.kind.ModuleKind.TheVariants as M
 use Rattle.bp_props.specs.declared.module.Module.{Module}
 use Rattle.bp_props.specs.declared.props.Props.{Props}
 use Rattle.bp_values.specs.Meaning.{Raw}
-use Rattle.bp_values.specs.Values.{Fields, no_field, field_and, fields_then, Field as Entry}
+use Rattle.bp_values.specs.Values.{MapEntries, no_map_entry, map_entry_and, map_entries_then, MapEntry as Entry}
 use Rattle.property_values.specs.declared.row.PropKind.{PropKind}
 use Rattle.property_values.specs.declared.row.PropKind.TheVariants as K
 use Rattle.property_values.specs.declared.fit.Fit.{Fit}
@@ -34,9 +34,9 @@ use Rattle.property_tables.specs.Tables.{Property, property_named, table_of, gro
 use Rattle.property_tables.specs.Tables.{multilib_table, target_table}
 
 -- The entries of a map are taken in turn, each put into what the ones before it made.
-abbrev pub each_entry : {A : Type 0} → (A → Entry → Result A Fault) → A → Fields → Result A Fault
-each_entry step made no_field = Ok made
-each_entry step made (field_and name at value more) =
+abbrev pub each_entry : {A : Type 0} → (A → Entry → Result A Fault) → A → MapEntries → Result A Fault
+each_entry step made no_map_entry = Ok made
+each_entry step made (map_entry_and name at value more) =
     then_do (step made (record { name = name; at = at; value = value })) (λ next. each_entry step next more)
 
 -- A property is known, or the entry is refused.
@@ -64,38 +64,38 @@ entry_set set table dir prefix made entry = then_do (property_in table prefix en
     (λ p. then_do (fit_of dir p.effect (prefix ++ entry.name) entry p.kind) (λ fit. Ok (set p.effect fit made)))
 
 -- A group is made of its entries, one after the other.
-abbrev pub group_typed : List ℕ → List ℕ → Fields → Result GroupProps Fault
-group_typed dir prefix fields = each_entry (entry_set group_set group_table dir prefix) group_empty fields
+abbrev pub group_typed : List ℕ → List ℕ → MapEntries → Result GroupProps Fault
+group_typed dir prefix entries = each_entry (entry_set group_set group_table dir prefix) group_empty entries
 
 -- An entry of `arch`, `multilib` or `target` is a group.
 abbrev pub groups_entry : List ℕ → List ℕ → List Property → List (GroupId × GroupProps) → Entry
     → Result (List (GroupId × GroupProps)) Fault
 groups_entry dir prefix table groups entry = then_do (property_in table prefix entry)
     (λ p. then_do (map_in entry.at (prefix ++ entry.name) entry.value)
-    (λ fields. then_do (group_typed dir (inner_prefix prefix entry.name) fields)
+    (λ entries. then_do (group_typed dir (inner_prefix prefix entry.name) entries)
     (λ g. Ok (groups_with_group p.effect g groups))))
 
 -- The groups of a table are put into those of a record.
-abbrev pub groups_typed : List ℕ → List ℕ → List Property → Props → Fields → Result Props Fault
-groups_typed dir prefix table props fields =
-    then_do (each_entry (groups_entry dir prefix table) props.groups fields)
+abbrev pub groups_typed : List ℕ → List ℕ → List Property → Props → MapEntries → Result Props Fault
+groups_typed dir prefix table props entries =
+    then_do (each_entry (groups_entry dir prefix table) props.groups entries)
     (λ groups. Ok (record props { groups = groups }))
 
 -- The entries of a module's group are put into its record, by the field that the group is.
-abbrev pub inner_typed : List ℕ → List ℕ → Option Field → Props → Fields → Result Props Fault
-inner_typed dir prefix (Some F.Sanitize) props fields =
-    each_entry (entry_set props_set sanitize_table dir prefix) props fields
-inner_typed dir prefix (Some F.Arch) props fields = groups_typed dir prefix arch_table props fields
-inner_typed dir prefix (Some F.Multilib) props fields = groups_typed dir prefix multilib_table props fields
-inner_typed dir prefix (Some F.Target) props fields = groups_typed dir prefix target_table props fields
-inner_typed dir prefix (Some (F.Group id)) props fields = then_do (group_typed dir prefix fields)
+abbrev pub inner_typed : List ℕ → List ℕ → Option Field → Props → MapEntries → Result Props Fault
+inner_typed dir prefix (Some F.Sanitize) props entries =
+    each_entry (entry_set props_set sanitize_table dir prefix) props entries
+inner_typed dir prefix (Some F.Arch) props entries = groups_typed dir prefix arch_table props entries
+inner_typed dir prefix (Some F.Multilib) props entries = groups_typed dir prefix multilib_table props entries
+inner_typed dir prefix (Some F.Target) props entries = groups_typed dir prefix target_table props entries
+inner_typed dir prefix (Some (F.Group id)) props entries = then_do (group_typed dir prefix entries)
     (λ g. Ok (record props { groups = groups_with props.groups id g }))
-inner_typed dir prefix effect props fields = Ok props
+inner_typed dir prefix effect props entries = Ok props
 
 -- An entry whose property is known is entered where it is a group, and else its value has to fit.
 abbrev pub entry_typed : List ℕ → Option Field → Props → Entry → PropKind → Result Props Fault
 entry_typed dir effect props entry K.Group = then_do (map_in entry.at entry.name entry.value)
-    (λ fields. inner_typed dir (inner_prefix [] entry.name) effect props fields)
+    (λ entries. inner_typed dir (inner_prefix [] entry.name) effect props entries)
 entry_typed dir effect props entry kind = then_do (fit_of dir effect entry.name entry kind)
     (λ fit. Ok (props_set effect fit props))
 
@@ -136,7 +136,8 @@ name_in raw (Some name) = if is_module_name name.value then Ok name.value else E
 
 -- A module of a kind is made of its entries first, and then of its name.
 abbrev pub module_typed : Raw → List ℕ → ModuleKind → Result (Option Module) Fault
-module_typed raw dir kind = then_do (each_entry (module_entry dir kind) props_empty (fields_then raw.entries no_field))
+module_typed raw dir kind =
+    then_do (each_entry (module_entry dir kind) props_empty (map_entries_then raw.entries no_map_entry))
     (λ props. then_do (name_in raw props.name)
     (λ name. Ok (Some (record { name = name; kind = kind; dir = dir; at = raw.at; props = props }))))
 

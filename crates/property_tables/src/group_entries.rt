@@ -1,6 +1,6 @@
 ghost use Rattle.std.specs.Prelude.{◌≡◌, map, OnOk};
 ghost use Rattle.bp_faults.specs.Answers.{Answers, Leaves};
-ghost use Rattle.bp_values.specs.Values.{field_of, fields_then, no_field};
+ghost use Rattle.bp_values.specs.Values.{map_entry_of, map_entries_then, no_map_entry};
 ghost use Rattle.property_tables.specs.Meaning.{each_entry, groups_with_group};
 ghost use Rattle.property_tables.specs.Meaning.{entry_set};
 ghost use Rattle.property_tables.specs.Tables.{group_table};
@@ -24,7 +24,7 @@ fn group_entry(
     entry: &Entry,
 ) -> Result<(), LoadError>
     ensures { Leaves (λ props. props) props.new result
-        (entry_set group_set group_table dir.now prefix.now props.old (field_of entry.now)) }
+        (entry_set group_set group_table dir.now prefix.now props.old (map_entry_of entry.now)) }
 {
     let row = row_of(alloc, &group(), prefix, entry)?;
     let fit = fitted(alloc, dir, prefix, row, entry)?;
@@ -40,7 +40,7 @@ pub(crate) fn group_of(
     entries: &[Entry],
 ) -> Result<GroupProps, LoadError>
     ensures { Answers (λ props. props) result
-        (group_typed dir.now prefix.now (fields_then (map field_of entries.now) no_field)) }
+        (group_typed dir.now prefix.now (map_entries_then (map map_entry_of entries.now) no_map_entry)) }
 {
     let mut props = GroupProps::empty(alloc);
     'entries: for entry in entries {
@@ -71,7 +71,7 @@ fn groups_entry(
     entry: &Entry,
 ) -> Result<(), LoadError>
     ensures { Leaves (λ groups. groups) groups.new result
-        (groups_entry_as dir.now prefix.now table.now groups.old (field_of entry.now)) }
+        (groups_entry_as dir.now prefix.now table.now groups.old (map_entry_of entry.now)) }
 {
     let row = row_of(alloc, table, prefix, entry)?;
     let inside = entries(alloc, prefix, entry)?;
@@ -92,7 +92,7 @@ pub(crate) fn add_groups(
 ) -> Result<(), LoadError>
     ensures { Leaves (λ groups. groups) groups.new result
         (each_entry (groups_entry_as dir.now prefix.now table.now) groups.old
-        (fields_then (map field_of entries.now) no_field)) }
+        (map_entries_then (map map_entry_of entries.now) no_map_entry)) }
 {
     'entries: for entry in entries {
         groups_entry(alloc, dir, prefix, table, groups, entry)?;

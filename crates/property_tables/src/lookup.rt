@@ -1,6 +1,6 @@
 ghost use Rattle.std.specs.Prelude.{◌≡◌, ◌++◌, [], IfOk, option_map};
 ghost use Rattle.bp_faults.specs.Answers.{Answers};
-ghost use Rattle.bp_values.specs.Values.{field_of};
+ghost use Rattle.bp_values.specs.Values.{map_entry_of};
 ghost use Rattle.property_tables.specs.Tables.{property_of, table_of};
 ghost use Rattle.property_tables.specs.Meaning.{property_or_unknown, property_in, inner_prefix as within_group};
 
@@ -14,7 +14,7 @@ use std::alloc::Global;
 
 fn known(alloc: Global, row: Option<Row>, prefix: &str, entry: &Entry) -> Result<Row, LoadError>
     ensures { Answers property_of result
-        (property_or_unknown (field_of entry.now).at (prefix.now ++ (field_of entry.now).name)
+        (property_or_unknown (map_entry_of entry.now).at (prefix.now ++ (map_entry_of entry.now).name)
         (option_map property_of row)) }
 {
     match row {
@@ -34,7 +34,7 @@ pub(crate) fn row_of(
     prefix: &str,
     entry: &Entry,
 ) -> Result<Row, LoadError>
-    ensures { Answers property_of result (property_in table.now prefix.now (field_of entry.now)) }
+    ensures { Answers property_of result (property_in table.now prefix.now (map_entry_of entry.now)) }
 {
     known(alloc, table.row(&entry.name), prefix, entry)
 }
@@ -45,7 +45,7 @@ pub(crate) fn module_row_of(
     kind: ModuleKind,
     entry: &Entry,
 ) -> Result<Row, LoadError>
-    ensures { Answers property_of result (property_in (table_of kind) [] (field_of entry.now)) }
+    ensures { Answers property_of result (property_in (table_of kind) [] (map_entry_of entry.now)) }
 {
     row_of(alloc, &of_kind(kind), "", entry)
 }

@@ -2,7 +2,7 @@ ghost use Rattle.std.specs.Prelude.{map, Some};
 ghost use Rattle.bp_props.specs.declared.fields.Field.TheVariants.{Group};
 ghost use Rattle.property_values.specs.declared.row.PropKind.TheVariants as K;
 ghost use Rattle.bp_faults.specs.Answers.{Leaves};
-ghost use Rattle.bp_values.specs.Values.{field_of, fields_then, no_field};
+ghost use Rattle.bp_values.specs.Values.{map_entry_of, map_entries_then, no_map_entry};
 ghost use Rattle.bp_props.specs.Records.{props_empty};
 ghost use Rattle.property_tables.specs.Meaning.{each_entry, entry_set};
 ghost use Rattle.property_tables.specs.Tables.{sanitize_table};
@@ -28,7 +28,7 @@ fn sanitize_entry(
     entry: &Entry,
 ) -> Result<(), LoadError>
     ensures { Leaves (λ props. props) props.new result
-        (entry_set props_set sanitize_table dir.now prefix.now props.old (field_of entry.now)) }
+        (entry_set props_set sanitize_table dir.now prefix.now props.old (map_entry_of entry.now)) }
 {
     let row = row_of(alloc, &sanitize(), prefix, entry)?;
     let fit = fitted(alloc, dir, prefix, row, entry)?;
@@ -45,7 +45,7 @@ fn add_sanitize(
 ) -> Result<(), LoadError>
     ensures { Leaves (λ props. props) props.new result
         (each_entry (entry_set props_set sanitize_table dir.now prefix.now) props.old
-        (fields_then (map field_of entries.now) no_field)) }
+        (map_entries_then (map map_entry_of entries.now) no_map_entry)) }
 {
     'entries: for entry in entries {
         sanitize_entry(alloc, dir, prefix, props, entry)?;
@@ -62,7 +62,8 @@ fn add_table(
     entries: &[Entry],
 ) -> Result<(), LoadError>
     ensures { Leaves (λ props. props) props.new result
-        (groups_typed dir.now prefix.now table.now props.old (fields_then (map field_of entries.now) no_field)) }
+        (groups_typed dir.now prefix.now table.now props.old
+        (map_entries_then (map map_entry_of entries.now) no_map_entry)) }
 {
     add_groups(alloc, dir, prefix, table, &mut props.groups, entries)
 }
@@ -76,7 +77,8 @@ fn add_group(
     entries: &[Entry],
 ) -> Result<(), LoadError>
     ensures { Leaves (λ props. props) props.new result
-        (inner_typed dir.now prefix.now (Some (Group id)) props.old (fields_then (map field_of entries.now) no_field)) }
+        (inner_typed dir.now prefix.now (Some (Group id)) props.old
+        (map_entries_then (map map_entry_of entries.now) no_map_entry)) }
 {
     let group = group_of(alloc, dir, prefix, entries)?;
     props.groups.insert(id, group)?;
@@ -93,7 +95,8 @@ fn open(
     entries: &[Entry],
 ) -> Result<(), LoadError>
     ensures { Leaves (λ props. props) props.new result
-        (inner_typed dir.now prefix.now effect props.old (fields_then (map field_of entries.now) no_field)) }
+        (inner_typed dir.now prefix.now effect props.old
+        (map_entries_then (map map_entry_of entries.now) no_map_entry)) }
 {
     match effect {
         Some(Field::Sanitize) => add_sanitize(alloc, dir, prefix, props, entries),
@@ -113,7 +116,7 @@ fn add_map(
     entry: &Entry,
 ) -> Result<(), LoadError>
     ensures { Leaves (λ props. props) props.new result
-        (entry_typed dir.now effect props.old (field_of entry.now) K.Group) }
+        (entry_typed dir.now effect props.old (map_entry_of entry.now) K.Group) }
 {
     let inside = entries(alloc, "", entry)?;
     let inner = within(alloc, "", &entry.name)?;
@@ -128,7 +131,7 @@ fn add_entry(
     entry: &Entry,
 ) -> Result<(), LoadError>
     ensures { Leaves (λ props. props) props.new result
-        (entry_typed dir.now row.effect props.old (field_of entry.now) row.kind) }
+        (entry_typed dir.now row.effect props.old (map_entry_of entry.now) row.kind) }
 {
     match row.kind {
         PropKind::Group => add_map(alloc, dir, row.effect, props, entry),
@@ -147,7 +150,8 @@ fn module_entry(
     props: &mut Props,
     entry: &Entry,
 ) -> Result<(), LoadError>
-    ensures { Leaves (λ props. props) props.new result (module_entry_as dir.now kind props.old (field_of entry.now)) }
+    ensures { Leaves (λ props. props) props.new result
+        (module_entry_as dir.now kind props.old (map_entry_of entry.now)) }
 {
     let row = module_row_of(alloc, kind, entry)?;
     add_entry(alloc, dir, row, props, entry)
@@ -162,7 +166,8 @@ pub(crate) fn put_entries(
     props: &mut Props,
 ) -> Result<(), LoadError>
     ensures { Leaves (λ props. props) props.new result
-        (each_entry (module_entry_as dir.now kind) props.old (fields_then (map field_of entries.now) no_field)) }
+        (each_entry (module_entry_as dir.now kind) props.old
+        (map_entries_then (map map_entry_of entries.now) no_map_entry)) }
 {
     'entries: for entry in entries {
         module_entry(alloc, dir, kind, props, entry)?;

@@ -26,7 +26,7 @@ use Rattle.bp_props.specs.declared.multi.Multi.TheVariants.{Both, First, Only32,
 use Rattle.bp_props.specs.declared.fields.Field.{Field}
 use Rattle.bp_props.specs.declared.fields.Field.TheVariants.{IncludeDirs}
 use Rattle.bp_values.specs.Values as value
-use Rattle.bp_values.specs.Values.{Meaning, Fields, Field as Entry}
+use Rattle.bp_values.specs.Values.{Meaning, MapEntries, MapEntry as Entry}
 use Rattle.property_values.specs.declared.row.PropKind.{PropKind}
 use Rattle.property_values.specs.declared.row.PropKind.TheVariants as K
 use Rattle.property_values.specs.declared.fit.Fit.{Fit}
@@ -53,8 +53,8 @@ list_in at path (value.Items items) = Ok items
 list_in at path other = wrong_type at path
 
 -- A value has to be a map.
-abbrev pub map_in : Place → List ℕ → Meaning → Result Fields Fault
-map_in at path (value.Body fields) = Ok fields
+abbrev pub map_in : Place → List ℕ → Meaning → Result MapEntries Fault
+map_in at path (value.Body entries) = Ok entries
 map_in at path other = wrong_type at path
 
 -- A flag holds no control character.
@@ -148,7 +148,7 @@ fit_of dir effect path entry K.Dirs =
     then_do (each_listed path entry (dir_in (base_of dir effect))) (λ dirs. Ok (fit.Dirs dirs))
 fit_of dir effect path entry K.Multi = then_do (word_in entry.at path entry.value) (λ word. multi_in entry.at path word)
 fit_of dir effect path entry K.Level = then_do (word_in entry.at path entry.value) (λ word. level_in entry.at path word)
-fit_of dir effect path entry K.Group = then_do (map_in entry.at path entry.value) (λ fields. Ok fit.Unset)
+fit_of dir effect path entry K.Group = then_do (map_in entry.at path entry.value) (λ entries. Ok fit.Unset)
 
 -- A property may set this field.
 abbrev pub is_effect : Option Field → Field → Bool

@@ -2,7 +2,7 @@ ghost use Rattle.std.specs.Prelude.{◌≡◌, ◌++◌, IfOk, map};
 ghost use Rattle.bp_faults.specs.Answers.{Answers};
 ghost use Rattle.bp_faults.specs.Faults.{fault_on};
 ghost use Rattle.bp_faults.specs.declared.kind.FaultKind.TheVariants.{WrongType};
-ghost use Rattle.bp_values.specs.Values.{field_of, fields_then, no_field};
+ghost use Rattle.bp_values.specs.Values.{map_entry_of, map_entries_then, no_map_entry};
 ghost use Rattle.property_values.specs.Fits.{truth_in, word_in, list_in, map_in};
 
 use crate::LoadError;
@@ -27,7 +27,8 @@ pub fn entry_fault(
 
 fn wrong_type(alloc: Global, prefix: &str, entry: &Entry) -> Result<Fault, OutOfMemory>
     ensures { IfOk result
-        (λ fault. fault ≡ fault_on WrongType (field_of entry.now).at (prefix.now ++ (field_of entry.now).name)) }
+        (λ fault. fault ≡ fault_on WrongType (map_entry_of entry.now).at
+        (prefix.now ++ (map_entry_of entry.now).name)) }
 {
     entry_fault(alloc, FaultKind::WrongType, entry.at, prefix, &entry.name)
 }
@@ -35,7 +36,8 @@ fn wrong_type(alloc: Global, prefix: &str, entry: &Entry) -> Result<Fault, OutOf
 /// The bool that an entry's value is.
 pub(crate) fn truth(alloc: Global, prefix: &str, entry: &Entry) -> Result<bool, LoadError>
     ensures { Answers (λ b. b) result
-        (truth_in (field_of entry.now).at (prefix.now ++ (field_of entry.now).name) (field_of entry.now).value) }
+        (truth_in (map_entry_of entry.now).at (prefix.now ++ (map_entry_of entry.now).name)
+        (map_entry_of entry.now).value) }
 {
     match &entry.value {
         Value::Bool(b) => Ok(*b),
@@ -46,7 +48,8 @@ pub(crate) fn truth(alloc: Global, prefix: &str, entry: &Entry) -> Result<bool, 
 /// The string that an entry's value is.
 pub(crate) fn word<'a>(alloc: Global, prefix: &str, entry: &'a Entry) -> Result<&'a Text, LoadError>
     ensures { Answers (λ text. text.now) result
-        (word_in (field_of entry.now).at (prefix.now ++ (field_of entry.now).name) (field_of entry.now).value) }
+        (word_in (map_entry_of entry.now).at (prefix.now ++ (map_entry_of entry.now).name)
+        (map_entry_of entry.now).value) }
 {
     match &entry.value {
         Value::Str(text) => Ok(text),
@@ -61,7 +64,8 @@ pub(crate) fn list<'a>(
     entry: &'a Entry,
 ) -> Result<&'a [Item], LoadError>
     ensures { Answers (λ items. items.now) result
-        (list_in (field_of entry.now).at (prefix.now ++ (field_of entry.now).name) (field_of entry.now).value) }
+        (list_in (map_entry_of entry.now).at (prefix.now ++ (map_entry_of entry.now).name)
+        (map_entry_of entry.now).value) }
 {
     match &entry.value {
         Value::Strs(items) => Ok(items.as_slice()),
@@ -71,8 +75,9 @@ pub(crate) fn list<'a>(
 
 /// The entries of the map that an entry's value is.
 pub fn entries<'a>(alloc: Global, prefix: &str, entry: &'a Entry) -> Result<&'a [Entry], LoadError>
-    ensures { Answers (λ es. fields_then (map field_of es.now) no_field) result
-        (map_in (field_of entry.now).at (prefix.now ++ (field_of entry.now).name) (field_of entry.now).value) }
+    ensures { Answers (λ es. map_entries_then (map map_entry_of es.now) no_map_entry) result
+        (map_in (map_entry_of entry.now).at (prefix.now ++ (map_entry_of entry.now).name)
+        (map_entry_of entry.now).value) }
 {
     match &entry.value {
         Value::Map(entries) => Ok(entries.as_slice()),

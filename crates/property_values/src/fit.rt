@@ -3,7 +3,7 @@ ghost use Rattle.std.specs.List.{list_all};
 ghost use Rattle.std.specs.Char.{is_ascii_digit};
 ghost use Rattle.std.specs.Str.Parse.{digits_value};
 ghost use Rattle.bp_faults.specs.Answers.{Answers};
-ghost use Rattle.bp_values.specs.Values.{field_of};
+ghost use Rattle.bp_values.specs.Values.{map_entry_of};
 ghost use Rattle.property_values.specs.Fits.{multi_in, level_in, is_number as number, in_levels as levels, dir_in};
 ghost use Rattle.property_values.specs.Fits.{base_of, fit_of, given_at, listed_at};
 ghost use Rattle.bp_faults.specs.Phases.{each_in_turn};
@@ -124,7 +124,7 @@ fn dirs_of(
 
 fn truth_fit(alloc: Global, prefix: &str, entry: &Entry) -> Result<Fit, LoadError>
     ensures { Answers (λ fit. fit) result
-        (fit_of [] None (prefix.now ++ (field_of entry.now).name) (field_of entry.now) K.Bool) }
+        (fit_of [] None (prefix.now ++ (map_entry_of entry.now).name) (map_entry_of entry.now) K.Bool) }
 {
     let truth = truth(alloc, prefix, entry)?;
     Ok(Fit::Truth(given(entry.at, truth)))
@@ -132,7 +132,7 @@ fn truth_fit(alloc: Global, prefix: &str, entry: &Entry) -> Result<Fit, LoadErro
 
 fn word_fit(alloc: Global, prefix: &str, entry: &Entry) -> Result<Fit, LoadError>
     ensures { Answers (λ fit. fit) result
-        (fit_of [] None (prefix.now ++ (field_of entry.now).name) (field_of entry.now) K.Word) }
+        (fit_of [] None (prefix.now ++ (map_entry_of entry.now).name) (map_entry_of entry.now) K.Word) }
 {
     let word = word(alloc, prefix, entry)?;
     Ok(Fit::Word(given(entry.at, word.copy(alloc)?)))
@@ -140,7 +140,7 @@ fn word_fit(alloc: Global, prefix: &str, entry: &Entry) -> Result<Fit, LoadError
 
 fn flags_fit(alloc: Global, prefix: &str, entry: &Entry) -> Result<Fit, LoadError>
     ensures { Answers (λ fit. fit) result
-        (fit_of [] None (prefix.now ++ (field_of entry.now).name) (field_of entry.now) K.Flags) }
+        (fit_of [] None (prefix.now ++ (map_entry_of entry.now).name) (map_entry_of entry.now) K.Flags) }
 {
     let items = list(alloc, prefix, entry)?;
     let flags = flags(alloc, prefix, &entry.name, items)?;
@@ -149,7 +149,7 @@ fn flags_fit(alloc: Global, prefix: &str, entry: &Entry) -> Result<Fit, LoadErro
 
 fn names_fit(alloc: Global, prefix: &str, entry: &Entry) -> Result<Fit, LoadError>
     ensures { Answers (λ fit. fit) result
-        (fit_of [] None (prefix.now ++ (field_of entry.now).name) (field_of entry.now) K.Names) }
+        (fit_of [] None (prefix.now ++ (map_entry_of entry.now).name) (map_entry_of entry.now) K.Names) }
 {
     let items = list(alloc, prefix, entry)?;
     let names = names(alloc, items)?;
@@ -158,7 +158,7 @@ fn names_fit(alloc: Global, prefix: &str, entry: &Entry) -> Result<Fit, LoadErro
 
 fn sources_fit(alloc: Global, dir: &Path, prefix: &str, entry: &Entry) -> Result<Fit, LoadError>
     ensures { Answers (λ fit. fit) result
-        (fit_of dir.now None (prefix.now ++ (field_of entry.now).name) (field_of entry.now) K.Paths) }
+        (fit_of dir.now None (prefix.now ++ (map_entry_of entry.now).name) (map_entry_of entry.now) K.Paths) }
 {
     let items = list(alloc, prefix, entry)?;
     let sources = sources(alloc, dir, items)?;
@@ -173,7 +173,7 @@ fn dirs_fit(
     entry: &Entry,
 ) -> Result<Fit, LoadError>
     ensures { Answers (λ fit. fit) result
-        (fit_of dir.now effect (prefix.now ++ (field_of entry.now).name) (field_of entry.now) K.Dirs) }
+        (fit_of dir.now effect (prefix.now ++ (map_entry_of entry.now).name) (map_entry_of entry.now) K.Dirs) }
 {
     let items = list(alloc, prefix, entry)?;
     let dirs = dirs_of(alloc, dir, effect, items)?;
@@ -182,7 +182,7 @@ fn dirs_fit(
 
 fn multi_fit(alloc: Global, prefix: &str, entry: &Entry) -> Result<Fit, LoadError>
     ensures { Answers (λ fit. fit) result
-        (fit_of [] None (prefix.now ++ (field_of entry.now).name) (field_of entry.now) K.Multi) }
+        (fit_of [] None (prefix.now ++ (map_entry_of entry.now).name) (map_entry_of entry.now) K.Multi) }
 {
     let word = word(alloc, prefix, entry)?;
     multi(alloc, prefix, &entry.name, entry.at, word)
@@ -190,7 +190,7 @@ fn multi_fit(alloc: Global, prefix: &str, entry: &Entry) -> Result<Fit, LoadErro
 
 fn level_fit(alloc: Global, prefix: &str, entry: &Entry) -> Result<Fit, LoadError>
     ensures { Answers (λ fit. fit) result
-        (fit_of [] None (prefix.now ++ (field_of entry.now).name) (field_of entry.now) K.Level) }
+        (fit_of [] None (prefix.now ++ (map_entry_of entry.now).name) (map_entry_of entry.now) K.Level) }
 {
     let word = word(alloc, prefix, entry)?;
     level(alloc, prefix, &entry.name, entry.at, word)
@@ -198,7 +198,7 @@ fn level_fit(alloc: Global, prefix: &str, entry: &Entry) -> Result<Fit, LoadErro
 
 fn no_fit(alloc: Global, prefix: &str, entry: &Entry) -> Result<Fit, LoadError>
     ensures { Answers (λ fit. fit) result
-        (fit_of [] None (prefix.now ++ (field_of entry.now).name) (field_of entry.now) K.Words) }
+        (fit_of [] None (prefix.now ++ (map_entry_of entry.now).name) (map_entry_of entry.now) K.Words) }
 {
     list(alloc, prefix, entry)?;
     Ok(Fit::Unset)
@@ -206,7 +206,7 @@ fn no_fit(alloc: Global, prefix: &str, entry: &Entry) -> Result<Fit, LoadError>
 
 fn group_fit(alloc: Global, prefix: &str, entry: &Entry) -> Result<Fit, LoadError>
     ensures { Answers (λ fit. fit) result
-        (fit_of [] None (prefix.now ++ (field_of entry.now).name) (field_of entry.now) K.Group) }
+        (fit_of [] None (prefix.now ++ (map_entry_of entry.now).name) (map_entry_of entry.now) K.Group) }
 {
     entries(alloc, prefix, entry)?;
     Ok(Fit::Unset)
@@ -221,7 +221,7 @@ pub fn fitted(
     entry: &Entry,
 ) -> Result<Fit, LoadError>
     ensures { Answers (λ fit. fit) result
-        (fit_of dir.now row.effect (prefix.now ++ (field_of entry.now).name) (field_of entry.now) row.kind) }
+        (fit_of dir.now row.effect (prefix.now ++ (map_entry_of entry.now).name) (map_entry_of entry.now) row.kind) }
 {
     match row.kind {
         PropKind::Bool => truth_fit(alloc, prefix, entry),

@@ -1,6 +1,6 @@
 use Rattle.std.proofs.Common.{◌≡◌, map, drop, ◌++◌, Ok}
 use Rattle.bp_parser.specs.Trees.{tree_of, entry_of, trees_then, terms_then, entries_then, no_tree, no_term, no_entry}
-use Rattle.bp_values.specs.Values.{meaning, field_of, body}
+use Rattle.bp_values.specs.Values.{meaning, map_entry_of, body}
 use Rattle.bp_faults.specs.Answers.{then_do}
 use Rattle.bp_values.specs.Inside.{sum_so_far, HasIndices}
 use Rattle.bp_values.specs.Scopes.{pairs_of}
@@ -23,10 +23,11 @@ abbrev pub invariant-all_entries-entries : goal.invariant-all_entries-entries
 invariant-all_entries-entries l =
     val_entries (pairs_of l.scope) (entries_then (map entry_of l.entries) no_entry)
     ≡ then_do (val_entries (pairs_of l.scope) (entries_then (map entry_of (drop l.entry-index l.entries)) no_entry))
-    (λ rest. Ok (map field_of l.list.items ++ rest))
+    (λ rest. Ok (map map_entry_of l.list.items ++ rest))
 
 abbrev pub invariant-add_maps-terms : goal.invariant-add_maps-terms
 invariant-add_maps-terms l =
     HasIndices l.total
-    × (val_terms (pairs_of l.scope) (body (map field_of l.fn.first.items)) (terms_then (map term_of l.terms) no_term)
+    × (val_terms (pairs_of l.scope) (body (map map_entry_of l.fn.first.items))
+    (terms_then (map term_of l.terms) no_term)
     ≡ val_terms (pairs_of l.scope) (sum_so_far l.total) (terms_then (map term_of (drop l.at-index l.terms)) no_term))

@@ -3,7 +3,7 @@ use Rattle.std.proofs.lemmas.List.{map-append}
 use Rattle.bp_parser.specs.Trees.{map_of, entry_of, entries_then, no_entry}
 use Rattle.bp_parser.specs.declared.tree.Expr.{the_lemmas}
 use Rattle.bp_parser.specs.declared.tree.Expr.TheViews.{the_lemmas as the_views}
-use Rattle.bp_values.specs.Values.{field_of}
+use Rattle.bp_values.specs.Values.{map_entry_of}
 use Rattle.bp_values.specs.Scopes.{pairs_of}
 use Rattle.bp_values.specs.Inside.{known_of, is_noted, noted_entries}
 use Rattle.bp_values.specs.Meaning.{raw_of}
@@ -15,7 +15,7 @@ pub returns-clause-known : goal.returns-clause-known
 returns-clause-known c =
     let known = known_of c.args.state.now in
     let body = map_of c.args.body.now in
-    let fields = map field_of c.in_ok-entries.entries.items in
+    let fields = map map_entry_of c.in_ok-entries.entries.items in
     let same : entries_then (map entry_of c.as_slice.result.now) no_entry ≡ body.entries =
     search (rules, the_lemmas, the_views) in
     let kept : map raw_of c.push.new.self.items

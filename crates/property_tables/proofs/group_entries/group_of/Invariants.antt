@@ -1,5 +1,5 @@
 use Rattle.std.proofs.Common.{◌≡◌, map, drop}
-use Rattle.bp_values.specs.Values.{field_of, fields_then, no_field}
+use Rattle.bp_values.specs.Values.{map_entry_of, map_entries_then, no_map_entry}
 use Rattle.property_tables.specs.Meaning.{each_entry, entry_set, group_typed}
 use Rattle.property_tables.specs.Tables.{group_table}
 use Rattle.property_values.specs.Fits.{group_set}
@@ -7,6 +7,6 @@ use Rattle.property_tables.proofs.group_entries.group_of.Given as goal
 
 abbrev pub invariant-entries : goal.invariant-entries
 invariant-entries l =
-    group_typed l.dir l.prefix (fields_then (map field_of l.entries) no_field)
+    group_typed l.dir l.prefix (map_entries_then (map map_entry_of l.entries) no_map_entry)
     ≡ each_entry (entry_set group_set group_table l.dir l.prefix) l.props
-    (fields_then (map field_of (drop l.entry-index l.entries)) no_field)
+    (map_entries_then (map map_entry_of (drop l.entry-index l.entries)) no_map_entry)

@@ -1,5 +1,5 @@
 use Rattle.std.proofs.Common.{rules, ◌≡◌, map, Err}
-use Rattle.bp_values.specs.Values.{field_of, fields_then, no_field}
+use Rattle.bp_values.specs.Values.{map_entry_of, map_entries_then, no_map_entry}
 use Rattle.property_tables.specs.Meaning.{each_entry, module_entry}
 use Rattle.property_tables.proofs.Entries.{entry_put, entry_refused, handed_on}
 use Rattle.property_tables.proofs.module_entries.put_entries.Goals as goal
@@ -17,5 +17,5 @@ returns-in_err-module_entry c =
     (entry_refused (module_entry c.args.dir.now c.args.kind) c.args.entries.now c.entries.entry-index
     c.entry-item.result c.entries.props c.entries-test.true c.entry-item.is
     (each_entry (module_entry c.args.dir.now c.args.kind) c.args.props.now
-    (fields_then (map field_of c.args.entries.now) no_field)) c.in_err-module_entry.field-0.0
+    (map_entries_then (map map_entry_of c.args.entries.now) no_map_entry)) c.in_err-module_entry.field-0.0
     c.entries.invariant c.in_err-module_entry.ensures)
